@@ -1,0 +1,6 @@
+//! Draft.
+#![tactic(auto)]
+
+pub fn one() -> u8 {
+    1
+}
