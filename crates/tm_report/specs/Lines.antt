@@ -1,0 +1,40 @@
+-- the texts of lines and of reports
+use Rattle.std.specs.Prelude.{ℕ, List, [], ◌∷◌, ◌++◌, codes}
+use Rattle.std.specs.Fmt.{decimal}
+use Rattle.tm_report.specs.Words.{time_text, class_text}
+use Rattle.tm_report.specs.Replies.{reply_text}
+use Rattle.tm_report.specs.Covers.{cover_text}
+use Rattle.tm_report.specs.declared.lines.Line.{Line}
+use Rattle.tm_report.specs.declared.lines.Line.TheVariants.{Arm, Run, Idle, Stay, Wake, Cover, Refused, RefusedQueued, Left, End}
+
+-- the words of a line, parted by spaces, and the line feed that ends it
+abbrev pub line_text : Line → List ℕ
+line_text (Arm now cpu timer class wheel) =
+    codes "arm " ++ decimal now ++ codes " " ++ decimal cpu.0 ++ codes " " ++ decimal timer.0
+    ++ codes " " ++ class_text class ++ codes " " ++ time_text wheel ++ codes "\n"
+line_text (Run now runner timer home wheel reply) =
+    codes "run " ++ decimal now ++ codes " " ++ decimal runner.0 ++ codes " " ++ decimal timer.0
+    ++ codes " " ++ decimal home.0 ++ codes " " ++ time_text wheel ++ codes " " ++ reply_text reply ++ codes "\n"
+line_text (Idle now cpu until) =
+    codes "idle " ++ decimal now ++ codes " " ++ decimal cpu.0 ++ codes " " ++ time_text until ++ codes "\n"
+line_text (Stay now cpu first) =
+    codes "stay " ++ decimal now ++ codes " " ++ decimal cpu.0 ++ codes " " ++ time_text first ++ codes "\n"
+line_text (Wake now cpu) = codes "wake " ++ decimal now ++ codes " " ++ decimal cpu.0 ++ codes "\n"
+line_text (Cover now cpu wheel cover) =
+    codes "cover " ++ decimal now ++ codes " " ++ decimal cpu.0 ++ codes " " ++ time_text wheel
+    ++ codes " " ++ cover_text cover ++ codes "\n"
+line_text (Refused now cpu line number) =
+    codes "refused " ++ decimal now ++ codes " " ++ decimal cpu.0 ++ codes " " ++ decimal line
+    ++ codes " " ++ decimal number ++ codes "\n"
+line_text (RefusedQueued now cpu line number holder) =
+    codes "refused " ++ decimal now ++ codes " " ++ decimal cpu.0 ++ codes " " ++ decimal line
+    ++ codes " " ++ decimal number ++ codes " " ++ decimal holder.0 ++ codes "\n"
+line_text (Left timer cpu class wheel) =
+    codes "left " ++ decimal timer.0 ++ codes " " ++ decimal cpu.0 ++ codes " " ++ class_text class
+    ++ codes " " ++ time_text wheel ++ codes "\n"
+line_text (End now) = codes "end " ++ decimal now ++ codes "\n"
+
+-- the texts of the lines, one after the other
+abbrev pub report_text : List Line → List ℕ
+report_text [] = []
+report_text (line ∷ lines) = line_text line ++ report_text lines
