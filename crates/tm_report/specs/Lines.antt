@@ -1,5 +1,6 @@
 -- the texts of lines and of reports
-use Rattle.std.specs.Prelude.{ℕ, List, [], ◌∷◌, ◌++◌, codes}
+use Rattle.std.specs.Prelude.{ℕ, List, ◌++◌, codes}
+use Rattle.std.specs.List.{flat_map}
 use Rattle.std.specs.Fmt.{decimal}
 use Rattle.tm_report.specs.Words.{time_text, class_text}
 use Rattle.tm_report.specs.Replies.{reply_text}
@@ -8,7 +9,7 @@ use Rattle.tm_report.specs.declared.lines.Line.{Line}
 use Rattle.tm_report.specs.declared.lines.Line.TheVariants.{Arm, Run, Idle, Stay, Wake, Cover, Refused, RefusedQueued, Left, End}
 
 -- the words of a line, parted by spaces, and the line feed that ends it
-abbrev pub line_text : Line → List ℕ
+unfoldable pub line_text : Line → List ℕ
 line_text (Arm now cpu timer class wheel) =
     codes "arm " ++ decimal now ++ codes " " ++ decimal cpu.0 ++ codes " " ++ decimal timer.0
     ++ codes " " ++ class_text class ++ codes " " ++ time_text wheel ++ codes "\n"
@@ -36,5 +37,4 @@ line_text (End now) = codes "end " ++ decimal now ++ codes "\n"
 
 -- the texts of the lines, one after the other
 abbrev pub report_text : List Line → List ℕ
-report_text [] = []
-report_text (line ∷ lines) = line_text line ++ report_text lines
+report_text lines = flat_map line_text lines

@@ -1,6 +1,10 @@
 //! The report of a run: its lines, and their exact texts.
 #![tactic(auto)]
 
+mod drafts;
 mod lines;
+mod reports;
+mod texts;
 
 pub use lines::{Line, ShownCover, ShownReply};
+pub use reports::{Report, text_of};
