@@ -69,28 +69,28 @@ impl Draft {
         Ok(())
     }
 
-    /// The line that was begun is finished.
-    pub fn keep(&mut self)
+    /// What was begun is a finished line from here on.
+    pub fn finish(&mut self)
         ensures { self.new ≡ record { finished = self.old.finished ++ self.old.begun; begun = [] } }
     {
         self.finished = self.bytes.len();
     }
 
-    /// Takes away what stands of the line that was begun.
-    pub fn forget(&mut self)
+    /// Takes away what was begun.
+    pub fn discard(&mut self)
         ensures { self.new ≡ record { finished = self.old.finished; begun = [] } }
     {
         self.bytes.truncate(self.finished);
     }
 
-    /// All that is written.
+    /// The finished lines and what was begun.
     pub fn bytes(&self) -> &[u8]
         ensures { result.now ≡ self.now.finished ++ self.now.begun }
     {
         self.bytes.as_slice()
     }
 
-    /// All that is written.
+    /// The finished lines and what was begun, with no copy made.
     pub fn into_bytes(self) -> Vec<u8>
         ensures { result.items ≡ self.finished ++ self.begun }
     {

@@ -8,3 +8,6 @@ mod texts;
 
 pub use lines::{Line, ShownCover, ShownReply};
 pub use reports::{Report, text_of};
+
+#[cfg(test)]
+mod tests;

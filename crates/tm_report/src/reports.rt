@@ -51,10 +51,10 @@ impl Report {
         ensures err { OnErr result (self.new ≡ self.old) }
     {
         if let Err(refused) = write_line(&mut self.draft, line) {
-            self.draft.forget();
+            self.draft.discard();
             return Err(refused);
         }
-        self.draft.keep();
+        self.draft.finish();
         Ok(())
     }
 

@@ -1,20 +1,28 @@
 //! The text of each line.
-#![tactic(auto, unfolding(crate::specs::Lines::line_text))]
+#![tactic(auto, unfolding(crate::specs::Lines::words_text, crate::specs::Lines::line_text))]
 
 ghost use Rattle.std.specs.Prelude.{◌≡◌, ◌++◌, OnOk, codes};
 ghost use Rattle.std.specs.Fmt.{decimal};
 ghost use Rattle.tm_report.specs.Words.{time_text, class_text};
 ghost use Rattle.tm_report.specs.Replies.{reply_text};
 ghost use Rattle.tm_report.specs.Covers.{cover_text};
-ghost use Rattle.tm_report.specs.Lines.{line_text};
+ghost use Rattle.tm_report.specs.Lines.{words_text, line_text};
 
 use crate::drafts::Draft;
 use crate::lines::{Line, ShownCover, ShownReply};
 use tm_base::{Class, CpuId, Jiffy, NEVER, NoMemory, TimerId};
 
-/// Writes a line behind what the draft has of one.
+/// Writes a line behind what the draft has begun.
 pub fn write_line(draft: &mut Draft, line: &Line) -> Result<(), NoMemory>
     ensures ok { OnOk result (draft.new.begun ≡ draft.old.begun ++ line_text line.now) }
+    ensures kept { draft.new.finished ≡ draft.old.finished }
+{
+    write_words(draft, line)?;
+    draft.word(b"\n")
+}
+
+fn write_words(draft: &mut Draft, line: &Line) -> Result<(), NoMemory>
+    ensures ok { OnOk result (draft.new.begun ≡ draft.old.begun ++ words_text line.now) }
     ensures kept { draft.new.finished ≡ draft.old.finished }
 {
     match line {
@@ -32,10 +40,10 @@ pub fn write_line(draft: &mut Draft, line: &Line) -> Result<(), NoMemory>
             home,
             wheel,
             reply,
-        } => { write_run(draft, *now, *runner, *timer, *home, *wheel, reply) }
-        Line::Idle { now, cpu, until } => write_idle(draft, *now, *cpu, *until),
-        Line::Stay { now, cpu, first } => write_stay(draft, *now, *cpu, *first),
-        Line::Wake { now, cpu } => write_wake(draft, *now, *cpu),
+        } => write_run(draft, *now, *runner, *timer, *home, *wheel, reply),
+        Line::Idle { now, cpu, until } => write_event_at(draft, b"idle ", *now, *cpu, *until),
+        Line::Stay { now, cpu, first } => write_event_at(draft, b"stay ", *now, *cpu, *first),
+        Line::Wake { now, cpu } => write_event(draft, b"wake ", *now, *cpu),
         Line::Cover {
             now,
             cpu,
@@ -54,14 +62,14 @@ pub fn write_line(draft: &mut Draft, line: &Line) -> Result<(), NoMemory>
             line,
             number,
             holder,
-        } => { write_refused_queued(draft, *now, *cpu, *line, *number, *holder) }
+        } => write_refused_queued(draft, *now, *cpu, *line, *number, *holder),
         Line::Left {
             timer,
             cpu,
             class,
             wheel,
         } => write_left(draft, *timer, *cpu, *class, *wheel),
-        Line::End { now } => write_end(draft, *now),
+        Line::End { now } => word_and_number(draft, b"end ", *now),
     }
 }
 
@@ -73,14 +81,13 @@ fn write_arm(
     class: Class,
     wheel: Jiffy,
 ) -> Result<(), NoMemory>
-    ensures ok { OnOk result (draft.new.begun ≡ draft.old.begun ++ line_text (Line.Arm now cpu timer class wheel)) }
+    ensures ok { OnOk result (draft.new.begun ≡ draft.old.begun ++ words_text (Line.Arm now cpu timer class wheel)) }
     ensures kept { draft.new.finished ≡ draft.old.finished }
 {
     write_event(draft, b"arm ", now, cpu)?;
     next_number(draft, u64::from(timer.0))?;
     next_class(draft, class)?;
-    next_time(draft, wheel)?;
-    draft.word(b"\n")
+    next_time(draft, wheel)
 }
 
 fn write_run(
@@ -93,7 +100,7 @@ fn write_run(
     reply: &ShownReply,
 ) -> Result<(), NoMemory>
     ensures ok { OnOk result (draft.new.begun
-        ≡ draft.old.begun ++ line_text (Line.Run now runner timer home wheel reply.now)) }
+        ≡ draft.old.begun ++ words_text (Line.Run now runner timer home wheel reply.now)) }
     ensures kept { draft.new.finished ≡ draft.old.finished }
 {
     write_event(draft, b"run ", now, runner)?;
@@ -101,34 +108,7 @@ fn write_run(
     next_number(draft, u64::from(home.0))?;
     next_time(draft, wheel)?;
     draft.word(b" ")?;
-    write_reply(draft, reply)?;
-    draft.word(b"\n")
-}
-
-fn write_idle(draft: &mut Draft, now: Jiffy, cpu: CpuId, until: Jiffy) -> Result<(), NoMemory>
-    ensures ok { OnOk result (draft.new.begun ≡ draft.old.begun ++ line_text (Line.Idle now cpu until)) }
-    ensures kept { draft.new.finished ≡ draft.old.finished }
-{
-    write_event(draft, b"idle ", now, cpu)?;
-    next_time(draft, until)?;
-    draft.word(b"\n")
-}
-
-fn write_stay(draft: &mut Draft, now: Jiffy, cpu: CpuId, first: Jiffy) -> Result<(), NoMemory>
-    ensures ok { OnOk result (draft.new.begun ≡ draft.old.begun ++ line_text (Line.Stay now cpu first)) }
-    ensures kept { draft.new.finished ≡ draft.old.finished }
-{
-    write_event(draft, b"stay ", now, cpu)?;
-    next_time(draft, first)?;
-    draft.word(b"\n")
-}
-
-fn write_wake(draft: &mut Draft, now: Jiffy, cpu: CpuId) -> Result<(), NoMemory>
-    ensures ok { OnOk result (draft.new.begun ≡ draft.old.begun ++ line_text (Line.Wake now cpu)) }
-    ensures kept { draft.new.finished ≡ draft.old.finished }
-{
-    write_event(draft, b"wake ", now, cpu)?;
-    draft.word(b"\n")
+    write_reply(draft, reply)
 }
 
 fn write_cover(
@@ -138,14 +118,12 @@ fn write_cover(
     wheel: Jiffy,
     cover: &ShownCover,
 ) -> Result<(), NoMemory>
-    ensures ok { OnOk result (draft.new.begun ≡ draft.old.begun ++ line_text (Line.Cover now cpu wheel cover.now)) }
+    ensures ok { OnOk result (draft.new.begun ≡ draft.old.begun ++ words_text (Line.Cover now cpu wheel cover.now)) }
     ensures kept { draft.new.finished ≡ draft.old.finished }
 {
-    write_event(draft, b"cover ", now, cpu)?;
-    next_time(draft, wheel)?;
+    write_event_at(draft, b"cover ", now, cpu, wheel)?;
     draft.word(b" ")?;
-    write_shown_cover(draft, cover)?;
-    draft.word(b"\n")
+    write_shown_cover(draft, cover)
 }
 
 fn write_refused(
@@ -155,13 +133,12 @@ fn write_refused(
     line: u32,
     number: u8,
 ) -> Result<(), NoMemory>
-    ensures ok { OnOk result (draft.new.begun ≡ draft.old.begun ++ line_text (Line.Refused now cpu line number)) }
+    ensures ok { OnOk result (draft.new.begun ≡ draft.old.begun ++ words_text (Line.Refused now cpu line number)) }
     ensures kept { draft.new.finished ≡ draft.old.finished }
 {
     write_event(draft, b"refused ", now, cpu)?;
     next_number(draft, u64::from(line))?;
-    next_number(draft, u64::from(number))?;
-    draft.word(b"\n")
+    next_number(draft, u64::from(number))
 }
 
 fn write_refused_queued(
@@ -173,14 +150,11 @@ fn write_refused_queued(
     holder: CpuId,
 ) -> Result<(), NoMemory>
     ensures ok { OnOk result (draft.new.begun
-        ≡ draft.old.begun ++ line_text (Line.RefusedQueued now cpu line number holder)) }
+        ≡ draft.old.begun ++ words_text (Line.RefusedQueued now cpu line number holder)) }
     ensures kept { draft.new.finished ≡ draft.old.finished }
 {
-    write_event(draft, b"refused ", now, cpu)?;
-    next_number(draft, u64::from(line))?;
-    next_number(draft, u64::from(number))?;
-    next_number(draft, u64::from(holder.0))?;
-    draft.word(b"\n")
+    write_refused(draft, now, cpu, line, number)?;
+    next_number(draft, u64::from(holder.0))
 }
 
 fn write_left(
@@ -190,79 +164,83 @@ fn write_left(
     class: Class,
     wheel: Jiffy,
 ) -> Result<(), NoMemory>
-    ensures ok { OnOk result (draft.new.begun ≡ draft.old.begun ++ line_text (Line.Left timer cpu class wheel)) }
+    ensures ok { OnOk result (draft.new.begun ≡ draft.old.begun ++ words_text (Line.Left timer cpu class wheel)) }
     ensures kept { draft.new.finished ≡ draft.old.finished }
 {
-    draft.word(b"left ")?;
-    draft.number(u64::from(timer.0))?;
+    word_and_number(draft, b"left ", u64::from(timer.0))?;
     next_number(draft, u64::from(cpu.0))?;
     next_class(draft, class)?;
-    next_time(draft, wheel)?;
-    draft.word(b"\n")
+    next_time(draft, wheel)
 }
 
-fn write_end(draft: &mut Draft, now: Jiffy) -> Result<(), NoMemory>
-    ensures ok { OnOk result (draft.new.begun ≡ draft.old.begun ++ line_text (Line.End now)) }
-    ensures kept { draft.new.finished ≡ draft.old.finished }
-{
-    draft.word(b"end ")?;
-    draft.number(now)?;
-    draft.word(b"\n")
-}
-
-// What a job answered.
+// What a job answered, with no space around it.
 fn write_reply(draft: &mut Draft, reply: &ShownReply) -> Result<(), NoMemory>
     ensures ok { OnOk result (draft.new.begun ≡ draft.old.begun ++ reply_text reply.now) }
     ensures kept { draft.new.finished ≡ draft.old.finished }
 {
     match reply {
         ShownReply::Done => draft.word(b"done"),
-        ShownReply::Mark(number) => {
-            draft.word(b"mark")?;
-            next_number(draft, u64::from(*number))
-        }
+        ShownReply::Mark(number) => word_and_number(draft, b"mark ", u64::from(*number)),
         ShownReply::Again { class, wheel } => {
             draft.word(b"again")?;
             next_class(draft, *class)?;
             next_time(draft, *wheel)
         }
-        ShownReply::Skip { cpu } => {
-            draft.word(b"skip")?;
-            next_number(draft, u64::from(cpu.0))
-        }
+        ShownReply::Skip { cpu } => word_and_number(draft, b"skip ", u64::from(cpu.0)),
     }
 }
 
-// What answers for a timer.
+// What answers for a timer, with no space around it.
 fn write_shown_cover(draft: &mut Draft, cover: &ShownCover) -> Result<(), NoMemory>
     ensures ok { OnOk result (draft.new.begun ≡ draft.old.begun ++ cover_text cover.now) }
     ensures kept { draft.new.finished ≡ draft.old.finished }
 {
     match cover {
         ShownCover::Migrator { level, place, cpu } => {
-            draft.word(b"migrator")?;
-            next_number(draft, u64::from(*level))?;
-            draft.word(b":")?;
-            draft.number(u64::from(*place))?;
+            word_and_number(draft, b"migrator ", u64::from(*level))?;
+            word_and_number(draft, b":", u64::from(*place))?;
             next_number(draft, u64::from(cpu.0))
         }
         ShownCover::Wake { cpu, at } => {
-            draft.word(b"wake")?;
-            next_number(draft, u64::from(cpu.0))?;
+            word_and_number(draft, b"wake ", u64::from(cpu.0))?;
             next_time(draft, *at)
         }
     }
 }
 
-// The words with which the line of an event begins: its name with a space behind, the jiffy and the CPU.
+// The words with which most lines begin: their name, which ends in a space, the jiffy and the CPU.
 fn write_event(draft: &mut Draft, name: &[u8], now: Jiffy, cpu: CpuId) -> Result<(), NoMemory>
     ensures ok { OnOk result (draft.new.begun
         ≡ draft.old.begun ++ name.now ++ decimal now ++ codes " " ++ decimal cpu.0) }
     ensures kept { draft.new.finished ≡ draft.old.finished }
 {
-    draft.word(name)?;
-    draft.number(now)?;
+    word_and_number(draft, name, now)?;
     next_number(draft, u64::from(cpu.0))
+}
+
+// The same for an event with a wakeup or an expiry.
+fn write_event_at(
+    draft: &mut Draft,
+    name: &[u8],
+    now: Jiffy,
+    cpu: CpuId,
+    at: Jiffy,
+) -> Result<(), NoMemory>
+    ensures ok { OnOk result (draft.new.begun
+        ≡ draft.old.begun ++ name.now ++ decimal now ++ codes " " ++ decimal cpu.0 ++ codes " " ++ time_text at) }
+    ensures kept { draft.new.finished ≡ draft.old.finished }
+{
+    write_event(draft, name, now, cpu)?;
+    next_time(draft, at)
+}
+
+// A word as it is, and a number right behind it.
+fn word_and_number(draft: &mut Draft, word: &[u8], n: u64) -> Result<(), NoMemory>
+    ensures ok { OnOk result (draft.new.begun ≡ draft.old.begun ++ word.now ++ decimal n) }
+    ensures kept { draft.new.finished ≡ draft.old.finished }
+{
+    draft.word(word)?;
+    draft.number(n)
 }
 
 // A number as the next word, with the space before it.
