@@ -16,7 +16,8 @@ pub enum Line {
         class: Class,
         wheel: Jiffy,
     },
-    /// CPU `runner` took `timer` from the base of CPU `home` and ran its job, which answered `reply`.
+    /// CPU `runner` took `timer` from the base of CPU `home`, where it expired at `wheel`, and ran its job, which
+    /// answered `reply` (the kernel's `expire_timers`).
     Run {
         now: Jiffy,
         runner: CpuId,
@@ -25,7 +26,7 @@ pub enum Line {
         wheel: Jiffy,
         reply: ShownReply,
     },
-    /// CPU `cpu` went idle and wakes by itself at `until`.
+    /// CPU `cpu` went idle and wakes by itself at `until` (the kernel's `tmigr_cpu_deactivate`).
     Idle {
         now: Jiffy,
         cpu: CpuId,
@@ -37,7 +38,7 @@ pub enum Line {
         cpu: CpuId,
         first: Jiffy,
     },
-    /// CPU `cpu` left idle.
+    /// CPU `cpu` left idle (the kernel's `tmigr_cpu_activate`).
     Wake {
         now: Jiffy,
         cpu: CpuId,
@@ -84,7 +85,7 @@ pub enum ShownReply {
     Done,
     /// The job left this mark.
     Mark(u32),
-    /// The job armed its timer again, on the CPU that ran it; `wheel` is the new wheel expiry.
+    /// The job armed its timer again, on the CPU that ran it; `wheel` is the new wheel expiry, in jiffies.
     Again { class: Class, wheel: Jiffy },
     /// The job armed its timer again, which was queued on CPU `cpu` by then.
     Skip { cpu: CpuId },
@@ -96,6 +97,6 @@ pub enum ShownCover {
     /// The lowest active group of the CPU's path, number `place` of its `level` (both from 0, leaves at level 0),
     /// whose migrators lead to the active CPU `cpu`.
     Migrator { level: u8, place: u16, cpu: CpuId },
-    /// CPU `cpu` is idle and wakes by itself at `at`, in time for the timer.
+    /// CPU `cpu` is idle and wakes by itself at the jiffy `at`, in time for the timer.
     Wake { cpu: CpuId, at: Jiffy },
 }

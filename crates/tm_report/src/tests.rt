@@ -4,6 +4,10 @@ use tm_base::{Class, CpuId, NEVER, TimerId};
 
 #[test]
 fn texts_of_lines(rt: HostRuntime) -> Result<(), Fail> {
+    let again = ShownReply::Again {
+        class: Class::Global,
+        wheel: 168,
+    };
     let cases = [
         (arm(10, 1, 1, Class::Pinned, 216), "arm 10 1 1 pinned 216\n"),
         (
@@ -19,17 +23,7 @@ fn texts_of_lines(rt: HostRuntime) -> Result<(), Fail> {
             "run 61 0 1 0 61 mark 7\n",
         ),
         (
-            run(
-                61,
-                0,
-                0,
-                1,
-                61,
-                ShownReply::Again {
-                    class: Class::Global,
-                    wheel: 168,
-                },
-            ),
+            run(61, 0, 0, 1, 61, again),
             "run 61 0 0 1 61 again global 168\n",
         ),
         (
