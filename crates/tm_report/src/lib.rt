@@ -1,0 +1,13 @@
+//! The report of a run: its lines, and their exact texts.
+#![tactic(auto)]
+
+mod drafts;
+mod lines;
+mod reports;
+mod texts;
+
+pub use lines::{Line, ShownCover, ShownReply};
+pub use reports::{Report, text_of};
+
+#[cfg(test)]
+mod tests;

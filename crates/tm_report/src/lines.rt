@@ -1,0 +1,102 @@
+//! The lines of a report.
+
+use tm_base::{Class, CpuId, Jiffy, TimerId};
+
+/// One line of a report: what happened at the jiffy `now`, or what is left at the end.
+///
+/// Times are in jiffies. `wheel` is a wheel expiry, `until` a programmed wakeup and `first` a first event; each of
+/// them, and no `now`, is written `never` where it is `NEVER`.
+#[derive(Clone, Copy)]
+pub enum Line {
+    /// CPU `cpu` armed `timer`, which expires at `wheel`.
+    Arm {
+        now: Jiffy,
+        cpu: CpuId,
+        timer: TimerId,
+        class: Class,
+        wheel: Jiffy,
+    },
+    /// CPU `runner` took `timer` from the base of CPU `home`, where it expired at `wheel`, and ran its job, which
+    /// answered `reply` (the kernel's `expire_timers`).
+    Run {
+        now: Jiffy,
+        runner: CpuId,
+        timer: TimerId,
+        home: CpuId,
+        wheel: Jiffy,
+        reply: ShownReply,
+    },
+    /// CPU `cpu` went idle and wakes by itself at `until` (the kernel's `tmigr_cpu_deactivate`).
+    Idle {
+        now: Jiffy,
+        cpu: CpuId,
+        until: Jiffy,
+    },
+    /// CPU `cpu` tried to go idle and stays active, since its first event is at most one jiffy ahead.
+    Stay {
+        now: Jiffy,
+        cpu: CpuId,
+        first: Jiffy,
+    },
+    /// CPU `cpu` left idle (the kernel's `tmigr_cpu_activate`).
+    Wake {
+        now: Jiffy,
+        cpu: CpuId,
+    },
+    /// CPU `cpu` is idle, and `cover` answers for the first of its global timers, which expires at `wheel`.
+    Cover {
+        now: Jiffy,
+        cpu: CpuId,
+        wheel: Jiffy,
+        cover: ShownCover,
+    },
+    /// The operation on line `line` of the script, by CPU `cpu`, was refused; `number` is its `OpFault::number`, 1 to 5.
+    Refused {
+        now: Jiffy,
+        cpu: CpuId,
+        line: u32,
+        number: u8,
+    },
+    /// The same for `OpFault::Queued`, whose number is 6; CPU `holder` has the timer queued.
+    RefusedQueued {
+        now: Jiffy,
+        cpu: CpuId,
+        line: u32,
+        number: u8,
+        holder: CpuId,
+    },
+    /// At the end `timer` is still queued on CPU `cpu`.
+    Left {
+        timer: TimerId,
+        cpu: CpuId,
+        class: Class,
+        wheel: Jiffy,
+    },
+    /// The report ends.
+    End {
+        now: Jiffy,
+    },
+}
+
+/// What the job of a timer that was run answered, as a line shows it.
+#[derive(Clone, Copy)]
+pub enum ShownReply {
+    /// The job is done.
+    Done,
+    /// The job left this mark.
+    Mark(u32),
+    /// The job armed its timer again, on the CPU that ran it; `wheel` is the new wheel expiry, in jiffies.
+    Again { class: Class, wheel: Jiffy },
+    /// The job armed its timer again, which was queued on CPU `cpu` by then.
+    Skip { cpu: CpuId },
+}
+
+/// What answers for the first global timer of an idle CPU, as a line shows it.
+#[derive(Clone, Copy)]
+pub enum ShownCover {
+    /// The lowest active group of the CPU's path, number `place` of its `level` (both from 0, leaves at level 0),
+    /// whose migrators lead to the active CPU `cpu`.
+    Migrator { level: u8, place: u16, cpu: CpuId },
+    /// CPU `cpu` is idle and wakes by itself at the jiffy `at`, in time for the timer.
+    Wake { cpu: CpuId, at: Jiffy },
+}
