@@ -5,8 +5,8 @@ use Rattle.std.proofs.lemmas.Bool.{cases_eq, cases_lt, ne_eqb}
 use Rattle.std.proofs.lemmas.Nat.{or_shifted, and_mask, pow_below, pow_pos}
 use Rattle.std.proofs.lemmas.Nat.Bits.{bit_at_above, bit_at-trailing_zeros, bit_at-pow_other}
 use Rattle.group_word.specs.declared.state.GroupState.{GroupState}
-use Rattle.group_word.specs.Group.{IsActive, GroupLaw, lowest_child}
-use Rattle.group_word.specs.State.{IsLawful, IsStateOf, mark_of, word_of}
+use Rattle.group_word.specs.Group.{IsActive, GroupLaw}
+use Rattle.group_word.specs.State.{IsLawfulState, IsStateOf, lowest_child, mark_of, state_word}
 
 -- an active child is below 8
 is_child : (active m : ℕ) → active < 2 ^ 8 → IsActive active m → m < 8
@@ -16,7 +16,7 @@ is_child active m eight is = elim (cases_lt m 8) [
 ]
 
 -- so is a migrator
-pub migrator_child : (s : GroupState) → IsLawful s → (m : ℕ) → s.migrator ≡ Some m → m < 8
+pub migrator_child : (s : GroupState) → IsLawfulState s → (m : ℕ) → s.migrator ≡ Some m → m < 8
 migrator_child s law m e =
     is_child s.active m law.eight_children (subst (λ o. GroupLaw s.active o) e law.group)
 
@@ -35,7 +35,7 @@ fields active mark seq a m s =
     rw (high, middle, two, together) (omega (arith, or_shifted (seq * 256 + mark) 8 active a))
 
 -- a lawful state's word
-pub packed : (s : GroupState) → IsLawful s → bit_or (bit_or (s.seq * 65536 % 18446744073709551616) (mark_of s.migrator * 256 % 18446744073709551616)) s.active ≡ word_of s
+pub packed : (s : GroupState) → IsLawfulState s → bit_or (bit_or (s.seq * 65536 % 18446744073709551616) (mark_of s.migrator * 256 % 18446744073709551616)) s.active ≡ state_word s
 packed s law =
     fields s.active (mark_of s.migrator) s.seq law.eight_children (mark_fits s.migrator (migrator_child s law)) law.sequence
 

@@ -1,7 +1,7 @@
 -- a group of the hierarchy: the set of its active children, in a word whose bit k says whether child k is in it,
 -- and its migrator
-use Rattle.std.specs.Prelude.{◌≡◌, ◌≢◌, ◌↔◌, ◌==◌, ℕ, ◌^◌, ◌<◌, Option, Some, None, if◌then◌else◌, bit_or, bit_and}
-use Rattle.std.specs.Int.{bit_at, bit_not, trailing_zeros, w8}
+use Rattle.std.specs.Prelude.{◌≡◌, ◌≢◌, ◌↔◌, ℕ, ◌<◌, Option, Some, None}
+use Rattle.std.specs.Int.{bit_at}
 
 -- child k is active
 abbrev pub IsActive : ℕ → ℕ → Type 0
@@ -41,20 +41,3 @@ pub record PassesOn (before : Option ℕ) (k remaining : ℕ) (after : Option �
 abbrev pub LooksAfter : Option ℕ → ℕ → Type 0
 LooksAfter None k = Unit {0}
 LooksAfter (Some migrator) k = migrator ≡ k
-
--- the set with child k
-abbrev pub with_child : ℕ → ℕ → ℕ
-with_child active k = bit_or active (2 ^ k)
-
--- the set without child k
-abbrev pub without_child : ℕ → ℕ → ℕ
-without_child active k = bit_and active (bit_not w8 (2 ^ k))
-
--- the lowest child of the set
-abbrev pub lowest_child : ℕ → Option ℕ
-lowest_child active = if active == 0 then None else Some (trailing_zeros w8 active)
-
--- the migrator where child k has left, and this set remains
-abbrev pub migrator_without : Option ℕ → ℕ → ℕ → Option ℕ
-migrator_without None k remaining = None
-migrator_without (Some migrator) k remaining = if migrator == k then lowest_child remaining else Some migrator

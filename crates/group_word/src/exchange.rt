@@ -2,20 +2,20 @@
 
 ghost use Rattle.std.specs.Prelude.{◌≡◌, ◌-◌, ◌^◌, ◌<◌, ◌↔◌, IsTrue, is_none};
 ghost use Rattle.std.specs.Bool.{OnFalse};
-ghost use Rattle.group_word.specs.Group.{GroupLaw, Joins, Leaves, IsLowest, PassesOn, LooksAfter, lowest_child, migrator_without};
-ghost use Rattle.group_word.specs.State.{IsLawful, activated_state, swapped_state};
+ghost use Rattle.group_word.specs.Group.{GroupLaw, Joins, Leaves, IsLowest, PassesOn, LooksAfter};
+ghost use Rattle.group_word.specs.State.{IsLawfulState, activated_state, swapped_state, lowest_child, migrator_without};
 
 use crate::GroupState;
 
 /// The exchange of an activation (`tmigr_active_up`): the child, 0 to 7, joins the active set, and where there was no
 /// migrator it becomes it. The truth value says that there was none, so that the walk goes on to the parent.
 pub fn activated(state: GroupState, child: u8) -> (GroupState, bool)
-    requires lawful { IsLawful state }
+    requires lawful { IsLawfulState state }
     requires a_child { child < 8 }
     requires room { state.seq < 2 ^ 48 - 1 }
     ensures exact { result.0 ≡ activated_state state child }
     ensures joins { Joins state.active result.0.active child }
-    ensures lawful { IsLawful result.0 }
+    ensures lawful { IsLawfulState result.0 }
     ensures first { result.1 ≡ is_none state.migrator }
 {
     let next = GroupState {
@@ -30,13 +30,13 @@ pub fn activated(state: GroupState, child: u8) -> (GroupState, bool)
 /// active set, and where it was the migrator the lowest remaining child is, or none. Where `child_on` says that it was
 /// found active, only the sequence rises.
 pub fn swapped(state: GroupState, child: u8, child_on: bool) -> GroupState
-    requires lawful { IsLawful state }
+    requires lawful { IsLawfulState state }
     requires a_child { child < 8 }
     requires room { state.seq < 2 ^ 48 - 1 }
     ensures exact { result ≡ swapped_state state child child_on }
     ensures leaves { OnFalse child_on (Leaves state.active result.active child) }
-    ensures passes_on { OnFalse child_on (PassesOn state.migrator child result.active result.migrator) }
-    ensures lawful { IsLawful result }
+    ensures role { OnFalse child_on (PassesOn state.migrator child result.active result.migrator) }
+    ensures lawful { IsLawfulState result }
 {
     let seq = state.seq + 1;
     if child_on {

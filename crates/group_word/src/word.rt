@@ -4,15 +4,15 @@
 ghost use Rattle.std.specs.Prelude.{◌≡◌, ◌<◌, ◌↔◌, IfSome, IfNone, IsTrue, Some};
 ghost use Rattle.std.specs.Option.{ForSome};
 ghost use Rattle.group_word.specs.Group.{GroupLaw};
-ghost use Rattle.group_word.specs.State.{IsLawful, IsStateOf, mark_of, word_of};
+ghost use Rattle.group_word.specs.State.{IsLawfulState, IsStateOf, mark_of, state_word};
 
 use crate::GroupState;
 use crate::exchange::lowest;
 
 /// The word of a lawful state.
 pub fn pack(state: GroupState) -> u64
-    requires { IsLawful state }
-    ensures { result ≡ word_of state }
+    requires { IsLawfulState state }
+    ensures { result ≡ state_word state }
 {
     (state.seq << 16) | (u64::from(mark(state.migrator)) << 8) | u64::from(state.active)
 }
@@ -20,11 +20,12 @@ pub fn pack(state: GroupState) -> u64
 /// The lawful state that has this word, or None exactly where no lawful state has it.
 pub fn unpack(word: u64) -> Option<GroupState>
     ensures found { IfSome result (IsStateOf word) }
-    ensures only { (s : GroupState) → IsStateOf word s → result ≡ Some s }
+    ensures back { (s : GroupState) → IsStateOf word s → result ≡ Some s }
     ensures none { IfNone result ((s : GroupState) → IsStateOf word s → ⊥) }
 {
     let active = (word & 0xff) as u8;
     let bit = (word >> 8 & 0xff) as u8;
+    // Where this is the one bit of a migrator, it is the lowest child of the set that has this bit.
     let migrator = lowest(bit);
     if mark(migrator) == bit && meets_law(active, migrator) {
         Some(GroupState {

@@ -5,8 +5,8 @@ use Rattle.group_word.proofs.Words.{parts, migrator_back, state_back}
 use Rattle.group_word.proofs.word.unpack.Goals as goal
 use Rattle.group_word.proofs.word.unpack.Goals.{else-mark-bit-via-then-mark-bit+else-meets_law, else-mark-bit-via-else-mark-bit}
 
-pub returns-then-meets_law-clause-only : goal.returns-then-meets_law-clause-only
-returns-then-meets_law-clause-only c =
+pub returns-then-meets_law-clause-back : goal.returns-then-meets_law-clause-back
+returns-then-meets_law-clause-back c =
     λ s is. ap Some (state_back c.args.word s _ c.lowest-migrator.ensures.exact is)
 
 pub returns-else-mark-bit-clause-none : goal.returns-else-mark-bit-clause-none
@@ -20,5 +20,5 @@ returns-else-mark-bit-clause-none c = λ s is.
           absurd (w.if-mark-bit.false (c.mark.ensures ∙ (ap mark_of back ∙ sym read.1)))
     ]
 
-pub returns-else-mark-bit-clause-only : goal.returns-else-mark-bit-clause-only
-returns-else-mark-bit-clause-only c = λ s is. absurd (returns-else-mark-bit-clause-none c s is)
+pub returns-else-mark-bit-clause-back : goal.returns-else-mark-bit-clause-back
+returns-else-mark-bit-clause-back c = λ s is. absurd (returns-else-mark-bit-clause-none c s is)
