@@ -1,0 +1,3 @@
+pub mod EventMap
+pub mod Search
+pub mod Word

@@ -1,0 +1,67 @@
+ghost use Rattle.std.specs.Prelude.{◌≡◌};
+
+use super::*;
+use std::test::Fail;
+use tm_base::{CpuId, CpuSet};
+
+fn event(expiry: u64, cpu: u16, ignored: bool) -> Event
+    ensures { result ≡ record { expiry = expiry; cpu = record { 0 = cpu }; ignored = ignored } }
+{
+    Event {
+        expiry,
+        cpu: CpuId(cpu),
+        ignored,
+    }
+}
+
+#[test]
+fn words(rt: HostRuntime) -> Result<(), Fail> {
+    let cases = [
+        (0x0801_0000_0000_003d, Some(event(61, 1, false))),
+        (0x0c01_0000_0000_003d, Some(event(61, 1, true))),
+        (
+            0xffff_ffff_ffff_ffff,
+            Some(event(0xffff_ffff_ffff, 1023, true)),
+        ),
+        (0x0401_0000_0000_003d, None),
+        (0xf7ff_ffff_ffff_ffff, None),
+    ];
+    for (word, want) in cases {
+        assert_eq!(rt; unpack_event(word), want, "at {word}");
+    }
+    assert_eq!(rt;
+        pack_event(Some(event(61, 1, false))),
+        0x0801_0000_0000_003d
+    );
+    assert_eq!(rt; pack_event(None), 0);
+    Ok(())
+}
+
+#[test]
+fn slots(rt: HostRuntime) -> Result<(), Fail> {
+    let mut events = Events::new();
+    assert_eq!(rt; events.first(), None);
+    events.set(7, event(30, 7, false));
+    events.mark(7);
+    events.mark(1);
+    assert_eq!(rt; events.get(7), Some(event(30, 7, true)));
+    assert_eq!(rt; events.get(1), None);
+    events.clear(7);
+    assert_eq!(rt; events.get(7), None);
+    Ok(())
+}
+
+#[test]
+fn looks(rt: HostRuntime) -> Result<(), Fail> {
+    let mut events = Events::new();
+    events.set(2, event(61, 2, false));
+    events.set(6, event(61, 6, false));
+    events.set(7, event(30, 7, true));
+    assert_eq!(rt; events.first(), Some((2, event(61, 2, false))));
+    let mut tried = CpuSet::new();
+    assert_eq!(rt; events.due(60, &tried), None);
+    assert_eq!(rt; events.due(61, &tried), Some((2, event(61, 2, false))));
+    tried.add(CpuId(2));
+    assert_eq!(rt; events.due(61, &tried), Some((6, event(61, 6, false))));
+    Ok(())
+}

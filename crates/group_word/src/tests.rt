@@ -1,0 +1,63 @@
+use super::*;
+use std::test::Fail;
+
+fn state(active: u8, migrator: Option<u8>, seq: u64) -> GroupState {
+    GroupState {
+        active,
+        migrator,
+        seq,
+    }
+}
+
+#[test]
+fn words(rt: HostRuntime) -> Result<(), Fail> {
+    let three = GroupState {
+        active: 0b111,
+        migrator: Some(1),
+        seq: 5,
+    };
+    assert_eq!(rt; pack(three), 0x0000_0000_0005_0207);
+    let cases = [
+        (0x0000_0000_0005_0207, Some(three)),
+        (0x0000_0000_0000_0000, Some(state(0, None, 0))),
+        (
+            0xffff_ffff_ffff_80ff,
+            Some(state(0xff, Some(7), 0xffff_ffff_ffff)),
+        ),
+        (0x0000_0000_0005_0007, None),
+        (0x0000_0000_0005_0807, None),
+        (0x0000_0000_0005_0307, None),
+        (0x0000_0000_0005_0200, None),
+    ];
+    for (word, want) in cases {
+        assert_eq!(rt; unpack(word), want, "at {word}");
+    }
+    Ok(())
+}
+
+#[test]
+fn exchanges(rt: HostRuntime) -> Result<(), Fail> {
+    let empty = GroupState {
+        active: 0,
+        migrator: None,
+        seq: 8,
+    };
+    let three = GroupState {
+        active: 0b111,
+        migrator: Some(1),
+        seq: 5,
+    };
+    assert_eq!(rt; activated(empty, 3), (state(0b1000, Some(3), 9), true));
+    assert_eq!(rt; activated(three, 5), (state(0b10_0111, Some(1), 6), false));
+    assert_eq!(rt; swapped(three, 1, false), state(0b101, Some(0), 6));
+    assert_eq!(rt; swapped(three, 0, false), state(0b110, Some(1), 6));
+    assert_eq!(rt; swapped(three, 1, true), state(0b111, Some(1), 6));
+    assert_eq!(rt;
+        swapped(activated(empty, 3).0, 3, false),
+        state(0, None, 10)
+    );
+    assert!(rt; looks(three, 1));
+    assert!(rt; !looks(three, 0));
+    assert!(rt; looks(empty, 0));
+    Ok(())
+}
