@@ -52,7 +52,7 @@ pub fn read_all<S: Source>(alloc: Global, source: &mut S, most: usize) -> Result
 
     // Where the source tells its bytes and no fault comes, they decide.
     ensures answer { IfSome (S.left source.old) (λ bytes.
-        (HasRisen (S.faults source.old) (S.faults source.new) → ⊥) → IsAnswerTo bytes most result) }
+        ¬ HasRisen (S.faults source.old) (S.faults source.new) → IsAnswerTo bytes most result) }
 {
     let mut taken = Vec::new(alloc);
     while taken.len() <= most {

@@ -1,4 +1,4 @@
-use Rattle.std.proofs.Common.{arith, rules, ◌-◌, ◌≤◌, length}
+use Rattle.std.proofs.Common.{rules, ◌-◌, ◌≤◌, length}
 use Rattle.tm_io.proofs.Writing.{Appends-take}
 use Rattle.tm_io.proofs.sinks.write_all.Goals as goal
 

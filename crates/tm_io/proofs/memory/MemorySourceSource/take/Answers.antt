@@ -1,4 +1,3 @@
-use Rattle.std.proofs.Common.{rules}
 use Rattle.tm_io.proofs.Reading.{KeepsRest-part}
 use Rattle.tm_io.proofs.memory.MemorySourceSource.take.Goals as goal
 

@@ -1,4 +1,4 @@
-use Rattle.std.proofs.Common.{◌+◌, ◌-◌, ◌≤◌, ℕ, length, take, drop, sym, ◌∙◌, arith, length-take, length-drop}
+use Rattle.std.proofs.Common.{◌+◌, ◌-◌, ◌≤◌, ℕ, length, take, sym, ◌∙◌, arith, length-take, length-drop}
 use Rattle.std.proofs.lemmas.List.{drop_all}
 use Rattle.tm_io.proofs.Reading.{taken_at}
 use Rattle.tm_io.proofs.plain.PlainSourceSource.take.Goals as goal
