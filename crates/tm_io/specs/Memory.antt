@@ -9,6 +9,10 @@ pub record Plan : Type 0 where
   pub calls : ℕ
   pub faults : ℕ
 
+-- no call yet
+abbrev pub start : List ℕ → Plan
+start fails = record { fails = fails; calls = 0; faults = 0 }
+
 -- the number of the next call is one of those that fail
 abbrev pub fails_next : Plan → Bool
 fails_next plan = list_any (λ number. number == counted_up plan.calls) plan.fails
@@ -16,15 +20,19 @@ fails_next plan = list_any (λ number. number == counted_up plan.calls) plan.fai
 -- the plan after one more call
 abbrev pub after_call : Plan → Plan
 after_call plan =
-    record { fails = plan.fails; calls = counted_up plan.calls; faults = (if fails_next plan then counted_up plan.faults else plan.faults) }
+    record {
+      fails = plan.fails;
+      calls = counted_up plan.calls;
+      faults = (if fails_next plan then counted_up plan.faults else plan.faults);
+    }
 
--- a source in memory: the bytes that are left, how many it gives at most in a call, and which calls fail
+-- a source in memory: the bytes that are left, how many it gives at most in a call, which calls fail
 pub record Feed : Type 0 where
   pub left : List ℕ
   pub piece : ℕ
   pub plan : Plan
 
--- a sink in memory: the bytes that it holds, how many it takes at most in a call, and which calls fail
+-- a sink in memory: the bytes that it holds, how many it takes at most in a call, which calls fail
 pub record Store : Type 0 where
   pub held : List ℕ
   pub piece : ℕ

@@ -1,5 +1,5 @@
 -- What is taken from a source, whose bytes that are left are known or not.
-use Rattle.std.specs.Prelude.{◌≡◌, ◌⊎◌, ℕ, ◌+◌, ◌<◌, ◌≤◌, List, length, drop, Option, Result, Vec, MatchResult}
+use Rattle.std.specs.Prelude.{◌≡◌, ℕ, ◌+◌, ◌<◌, ◌≤◌, List, length, drop, Option, Result, Ok, Err, Vec, MatchResult, ⊤}
 use Rattle.std.specs.declared.alloc.Global.{Global}
 use Rattle.std.specs.Io.KnownBytes.{Consumes, IsAtEnd}
 use Rattle.tm_io.specs.declared.sources.ReadFault.{ReadFault}
@@ -23,12 +23,17 @@ TakesCount old new n = (bytes : List ℕ) × (length bytes ≡ n) × Consumes ol
 abbrev pub TakesUpTo : Option (List ℕ) → Option (List ℕ) → ℕ → Type 0
 TakesUpTo old new most = (n : ℕ) × (n ≤ most) × TakesCount old new n
 
--- what was taken when reading ended so: one byte more than `most` where they're too many, else at most `most`
+-- what was taken when reading ended so: one byte more than `most` where there are too many, else no
+-- more than `most`
 abbrev pub TakesBefore : ReadFault → Option (List ℕ) → Option (List ℕ) → ℕ → Type 0
 TakesBefore Read old new most = TakesUpTo old new most
 TakesBefore TooLong old new most = TakesCount old new (most + 1)
 TakesBefore NoMemory old new most = TakesUpTo old new most
 
--- the answer that these bytes have where no fault comes: themselves, or that they're too many, or want of memory
+-- the answer of a reading of these bytes in which no fault came: themselves where they are at most
+-- `most`, and else that they are too many; or want of memory
 abbrev pub IsAnswerTo : List ℕ → ℕ → Result (Vec ℕ Global) ReadFault → Type 0
-IsAnswerTo bytes most r = MatchResult r (λ got. (got.items ≡ bytes) × (length bytes ≤ most)) (λ fault. (fault ≡ NoMemory) ⊎ ((fault ≡ TooLong) × (most < length bytes)))
+IsAnswerTo bytes most (Ok got) = (got.items ≡ bytes) × (length bytes ≤ most)
+IsAnswerTo bytes most (Err Read) = ⊥
+IsAnswerTo bytes most (Err TooLong) = most < length bytes
+IsAnswerTo bytes most (Err NoMemory) = ⊤

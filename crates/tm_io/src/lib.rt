@@ -1,7 +1,8 @@
 //! The ends of tmig: sources of bytes and sinks for them, which may fail at any call.
 //!
-//! A source tells, where it can, which bytes are left, and a sink which bytes it holds. Each counts its faults, and a
-//! sink also counts the calls in which it took nothing, so that an answer other than Ok has a cause outside the caller.
+//! A source tells, where it can, which bytes are left, and a sink which bytes it holds. Each counts
+//! its faults, and a sink also counts the calls in which it took nothing, so that an answer other
+//! than Ok has a cause outside the caller.
 #![tactic(auto)]
 
 mod faults;

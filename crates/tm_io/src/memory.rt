@@ -6,7 +6,7 @@ ghost use Rattle.std.specs.Io.KnownBytes.{ReadConsumes, WriteAppends};
 ghost use Rattle.tm_io.specs.Counts.{HasRisen};
 ghost use Rattle.tm_io.specs.Sources.{KeepsRest};
 ghost use Rattle.tm_io.specs.Sinks.{CountsRefusal};
-ghost use Rattle.tm_io.specs.Memory.{Plan, fails_next, after_call, Feed, Store};
+ghost use Rattle.tm_io.specs.Memory.{Plan, start, fails_next, after_call, Feed, Store};
 
 use crate::{IoFault, PlainSink, PlainSource, Sink, Source};
 use std::alloc::Global;
@@ -31,7 +31,7 @@ impl Model for FaultPlan {
 impl FaultPlan {
     // No call yet.
     fn new(fails: Vec<u32>) -> FaultPlan
-        ensures { result ≡ record { fails = fails.items; calls = 0; faults = 0 } }
+        ensures { result ≡ start fails.items }
     {
         FaultPlan {
             fails,
@@ -81,11 +81,11 @@ impl Model for MemorySource {
 }
 
 impl MemorySource {
-    /// A source with all of these bytes left. It gives at most `piece` of them in a call; the calls whose numbers,
-    /// from 1, stand in `fails` fail and count.
+    /// A source with all of these bytes left. It gives at most `piece` of them in a call; the calls
+    /// whose numbers, from 1, stand in `fails` fail and count.
     pub fn new(bytes: Vec<u8>, piece: usize, fails: Vec<u32>) -> MemorySource
         requires { 0 < piece }
-        ensures { result ≡ record { left = bytes.items; piece = piece; plan = record { fails = fails.items; calls = 0; faults = 0 } } }
+        ensures { result ≡ record { left = bytes.items; piece = piece; plan = start fails.items } }
     {
         MemorySource {
             source: PlainSource::new(bytes),
@@ -104,11 +104,13 @@ impl Source for MemorySource {
         ensures within { IfOk result (λ n. n ≤ length room.new) }
         ensures taken { ReadConsumes (Some self.old.left) (Some self.new.left) result room.new }
         ensures rest { KeepsRest result room.old room.new }
-        ensures failed { IsErrOf result IoFault.Failed → HasRisen self.old.plan.faults self.new.plan.faults }
+        ensures failed { IsErrOf result IoFault.Failed
+            → HasRisen self.old.plan.faults self.new.plan.faults }
         ensures later { self.old.plan.faults ≤ self.new.plan.faults }
 
         ensures fails { IsErrOf result IoFault.Failed ↔ IsTrue (fails_next self.old.plan) }
-        ensures count { IfOk result (λ n. n ≡ min self.old.piece (min (length room.old) (length self.old.left))) }
+        ensures count { IfOk result (λ n.
+            n ≡ min self.old.piece (min (length room.old) (length self.old.left))) }
         ensures no_memory { IsErrOf result IoFault.NoMemory → ⊥ }
         ensures plan { self.new.plan ≡ after_call self.old.plan }
         ensures piece { self.new.piece ≡ self.old.piece }
@@ -121,8 +123,8 @@ impl Source for MemorySource {
     }
 }
 
-/// A sink that takes at most so many bytes in a call, and fails in given calls. It takes something of every piece that
-/// isn't empty, so its count of those of which it took nothing is 0.
+/// A sink that takes at most so many bytes in a call, and fails in given calls. It takes something
+/// of every piece that isn't empty, so its count of those of which it took nothing is 0.
 #[derive(Drop)]
 pub struct MemorySink {
     sink: PlainSink,
@@ -139,11 +141,11 @@ impl Model for MemorySink {
 }
 
 impl MemorySink {
-    /// A sink that holds nothing. It takes at most `piece` bytes in a call; the calls whose numbers, from 1, stand in
-    /// `fails` fail and count.
+    /// A sink that holds nothing. It takes at most `piece` bytes in a call; the calls whose numbers,
+    /// from 1, stand in `fails` fail and count.
     pub fn new(alloc: Global, piece: usize, fails: Vec<u32>) -> MemorySink
         requires { 0 < piece }
-        ensures { result ≡ record { held = []; piece = piece; plan = record { fails = fails.items; calls = 0; faults = 0 } } }
+        ensures { result ≡ record { held = []; piece = piece; plan = start fails.items } }
     {
         MemorySink {
             sink: PlainSink::new(alloc),
@@ -170,7 +172,8 @@ impl Sink for MemorySink {
     fn put(&mut self, bytes: &[u8]) -> Result<usize, IoFault>
         ensures within { IfOk result (λ n. n ≤ length bytes.now) }
         ensures put { WriteAppends (Some self.old.held) (Some self.new.held) result bytes.now }
-        ensures failed { IsErrOf result IoFault.Failed → HasRisen self.old.plan.faults self.new.plan.faults }
+        ensures failed { IsErrOf result IoFault.Failed
+            → HasRisen self.old.plan.faults self.new.plan.faults }
         ensures later { self.old.plan.faults ≤ self.new.plan.faults }
         ensures refused { CountsRefusal result bytes.now 0 0 }
 

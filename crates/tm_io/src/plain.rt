@@ -3,7 +3,6 @@
 ghost use Rattle.std.specs.Prelude.{◌≡◌, ◌≤◌, ◌++◌, [], ℕ, List, min, length, take, drop, vec_len, Some, Ok, IfOk, IfErr};
 ghost use Rattle.std.specs.Io.KnownBytes.{ReadConsumes};
 ghost use Rattle.tm_io.specs.Sources.{KeepsRest};
-ghost use Rattle.tm_io.specs.declared.faults.IoFault.TheVariants as faults;
 
 use crate::sources::fill_front;
 use crate::{IoFault, Sink, Source};
@@ -90,7 +89,7 @@ impl Sink for PlainSink {
 
     fn put(&mut self, bytes: &[u8]) -> Result<usize, IoFault>
         ensures ok { IfOk result (λ n. (n ≡ length bytes.now) × (self.new ≡ self.old ++ bytes.now)) }
-        ensures err { IfErr result (λ fault. (fault ≡ faults.NoMemory) × (self.new ≡ self.old)) }
+        ensures err { IfErr result (λ fault. (fault ≡ IoFault.NoMemory) × (self.new ≡ self.old)) }
     {
         self.bytes.extend_from_slice(bytes)?;
         Ok(bytes.len())

@@ -24,7 +24,8 @@ pub trait Sink {
         // After a refusal nothing was put.
         ensures put { WriteAppends (held self.old) (held self.new) result bytes.now }
 
-        ensures failed { IsErrOf result IoFault.Failed → HasRisen (faults self.old) (faults self.new) }
+        ensures failed { IsErrOf result IoFault.Failed
+            → HasRisen (faults self.old) (faults self.new) }
         ensures later { faults self.old ≤ faults self.new }
         ensures refused { CountsRefusal result bytes.now (refusals self.old) (refusals self.new) };
 }
@@ -55,13 +56,19 @@ const PIECE: usize = 4096;
 /// Writes all of the bytes, in pieces of at most 4,096.
 pub fn write_all<K: Sink>(sink: &mut K, bytes: &[u8]) -> Result<(), WriteFault>
     ensures ok { OnOk result (Appends (K.held sink.old) (K.held sink.new) bytes.now) }
-    ensures err { IfErr result (λ fault. AppendsFront (K.held sink.old) (K.held sink.new) fault.written bytes.now) }
+    ensures err { IfErr result (λ fault.
+        AppendsFront (K.held sink.old) (K.held sink.new) fault.written bytes.now) }
 
-    ensures failed { IfErr result (λ fault. fault.cause ≡ WriteCause.Failed → HasRisen (K.faults sink.old) (K.faults sink.new)) }
+    ensures failed { IfErr result (λ fault. fault.cause ≡ WriteCause.Failed
+        → HasRisen (K.faults sink.old) (K.faults sink.new)) }
     ensures later { K.faults sink.old ≤ K.faults sink.new }
-    ensures took_nothing { IfErr result (λ fault. fault.cause ≡ WriteCause.TookNothing → HasRisen (K.refusals sink.old) (K.refusals sink.new)) }
+
+    // The other count rises exactly where the sink took nothing.
+    ensures took_nothing { IfErr result (λ fault. fault.cause ≡ WriteCause.TookNothing
+        → HasRisen (K.refusals sink.old) (K.refusals sink.new)) }
     ensures took_some { MatchResult result (λ _. K.refusals sink.new ≡ K.refusals sink.old)
-        (λ fault. fault.cause ≢ WriteCause.TookNothing → K.refusals sink.new ≡ K.refusals sink.old) }
+        (λ fault. fault.cause ≢ WriteCause.TookNothing
+        → K.refusals sink.new ≡ K.refusals sink.old) }
 {
     let mut written = 0;
     while written < bytes.len() {
@@ -79,10 +86,13 @@ fn put_piece<K: Sink>(sink: &mut K, bytes: &[u8]) -> Result<usize, WriteCause>
     ensures within { IfOk result (λ n. n ≤ length bytes.now) }
     ensures some { IfOk result (λ n. 0 < n) }
     ensures put { WriteAppends (K.held sink.old) (K.held sink.new) result bytes.now }
-    ensures failed { IsErrOf result WriteCause.Failed → HasRisen (K.faults sink.old) (K.faults sink.new) }
+    ensures failed { IsErrOf result WriteCause.Failed
+        → HasRisen (K.faults sink.old) (K.faults sink.new) }
     ensures later { K.faults sink.old ≤ K.faults sink.new }
-    ensures took_nothing { IsErrOf result WriteCause.TookNothing → HasRisen (K.refusals sink.old) (K.refusals sink.new) }
-    ensures took_some { result ≢ Err WriteCause.TookNothing → K.refusals sink.new ≡ K.refusals sink.old }
+    ensures took_nothing { IsErrOf result WriteCause.TookNothing
+        → HasRisen (K.refusals sink.old) (K.refusals sink.new) }
+    ensures took_some { result ≢ Err WriteCause.TookNothing
+        → K.refusals sink.new ≡ K.refusals sink.old }
 {
     let piece = &bytes[..bytes.len().min(PIECE)];
     match sink.put(piece) {

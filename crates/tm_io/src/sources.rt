@@ -16,15 +16,16 @@ pub trait Source {
     /// How often it has failed: a count of 64 bits that never falls.
     ghost faults: { Self → ℕ };
 
-    /// Fills the front of the room with the next bytes and answers how many. It answers 0 for a room that isn't empty
-    /// only at the end of the input.
+    /// Fills the front of the room with the next bytes and answers how many. It answers 0 for a
+    /// room that isn't empty only at the end of the input.
     fn take(&mut self, room: &mut [u8]) -> Result<usize, IoFault>
         ensures within { IfOk result (λ n. n ≤ length room.new) }
         // After a refusal nothing was taken.
         ensures taken { ReadConsumes (left self.old) (left self.new) result room.new }
         ensures rest { KeepsRest result room.old room.new }
 
-        ensures failed { IsErrOf result IoFault.Failed → HasRisen (faults self.old) (faults self.new) }
+        ensures failed { IsErrOf result IoFault.Failed
+            → HasRisen (faults self.old) (faults self.new) }
         ensures later { faults self.old ≤ faults self.new };
 }
 
@@ -42,12 +43,16 @@ pub enum ReadFault {
 /// The most bytes that a source is asked for at once.
 const ROOM: usize = 4096;
 
-/// Reads a source to its end, which has to come within `most` bytes, in rooms of 4,096 bytes, or fewer where fewer
-/// are left of `most + 1`.
+/// Reads a source to its end, which has to come within `most` bytes. It asks for 4,096 bytes at
+/// once, or for fewer where fewer are left of `most + 1`.
 pub fn read_all<S: Source>(alloc: Global, source: &mut S, most: usize) -> Result<Vec<u8>, ReadFault>
-    ensures ok { IfOk result (λ bytes. TakesAll (S.left source.old) (S.left source.new) most bytes.items) }
-    ensures err { IfErr result (λ fault. TakesBefore fault (S.left source.old) (S.left source.new) most) }
-    ensures read { IsErrOf result ReadFault.Read → HasRisen (S.faults source.old) (S.faults source.new) }
+    ensures ok { IfOk result
+        (λ bytes. TakesAll (S.left source.old) (S.left source.new) most bytes.items) }
+    ensures err { IfErr result
+        (λ fault. TakesBefore fault (S.left source.old) (S.left source.new) most) }
+
+    ensures read { IsErrOf result ReadFault.Read
+        → HasRisen (S.faults source.old) (S.faults source.new) }
     ensures later { S.faults source.old ≤ S.faults source.new }
 
     // Where the source tells its bytes and no fault comes, they decide.
@@ -73,10 +78,12 @@ fn take_more<S: Source>(
     requires { vec_len taken.old ≤ most }
     ensures grows { IfOk result (λ n. vec_len taken.new ≡ vec_len taken.old + n) }
     ensures within { vec_len taken.new ≤ most + 1 }
-    ensures taken { (bytes : List ℕ) × (taken.new.items ≡ taken.old.items ++ bytes) × Consumes (S.left source.old) (S.left source.new) bytes }
+    ensures taken { (bytes : List ℕ) × (taken.new.items ≡ taken.old.items ++ bytes)
+        × Consumes (S.left source.old) (S.left source.new) bytes }
     ensures end { IfOk result (λ n. n ≡ 0 → IsAtEnd (S.left source.new)) }
     ensures err { OnErr result (taken.new.items ≡ taken.old.items) }
-    ensures read { IsErrOf result ReadFault.Read → HasRisen (S.faults source.old) (S.faults source.new) }
+    ensures read { IsErrOf result ReadFault.Read
+        → HasRisen (S.faults source.old) (S.faults source.new) }
     ensures not_too_long { IsErrOf result ReadFault.TooLong → ⊥ }
     ensures later { S.faults source.old ≤ S.faults source.new }
 {
