@@ -1,0 +1,5 @@
+pub mod Counts
+pub mod Sources
+pub mod Sinks
+pub mod Memory
+pub mod Standard
