@@ -8,3 +8,4 @@ pub mod Seats
 pub mod Trees
 pub mod Walks
 pub mod Stored
+pub mod Climbs

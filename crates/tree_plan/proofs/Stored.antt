@@ -1,16 +1,18 @@
 -- the stored groups and links say what the tree says
 use Rattle.std.proofs.Common.{◌≡◌, ℕ, zero, suc, ◌+◌, ◌-◌, ◌<◌, ◌≤◌, ◌⊎◌, inl, inr, ⊎_elim, List, [], ◌∷◌, ◌++◌, length, map, get_or, refl, sym, ◌∙◌, ap, subst, arith, zero-add, add-zero, length-append, ltb, cond}
-use Rattle.std.specs.Prelude.{◌*◌, Option, Some, None, slice_get, option_map, position}
+use Rattle.std.specs.Prelude.{◌*◌, Option, Some, None, slice_get, option_map, option_copied, position}
 use Rattle.std.proofs.lemmas.Bool.{cases_lt, cond-true, cond-false, lt-ltb, le-ltb}
-use Rattle.std.proofs.lemmas.Option.{none-some, same_Some, slice_get-map, slice_get_past}
-use Rattle.std.proofs.lemmas.List.{length-map}
+use Rattle.std.proofs.lemmas.Option.{none-some, same_Some, slice_get-map, slice_get_past, slice_get_read}
+use Rattle.std.specs.Borrow.{Bor}
+use Rattle.std.specs.Slice.{IsGetResult}
+use Rattle.std.proofs.lemmas.List.{length-map, map-append}
 use Rattle.tree_plan.specs.declared.cutting.Group.{Group}
 use Rattle.tree_plan.specs.declared.cutting.Link.{Link}
 use Rattle.tree_plan.specs.Shape.{Shape, Child, IsPlanned, IsWithinLimits, joined, tree_of}
 use Rattle.tree_plan.specs.Shape.Child.{of_cpu, of_group}
-use Rattle.tree_plan.specs.Paths.{cpu_count_of, group_count_of, level_count_of, groups_of, level_in, place_in, level_of, place_of, children_of, child_count_of, child_at, parent_of, bit_of}
-use Rattle.tree_plan.specs.Store.{listed, listed_levels, lengths, links_from, link_of, IsStored}
-use Rattle.tree_plan.proofs.Gets.{get_either, get_within, get_left, get_right}
+use Rattle.tree_plan.specs.Paths.{cpu_count_of, group_count_of, level_count_of, groups_of, level_in, place_in, level_of, place_of, children_of, child_count_of, child_at, parent_of, bit_in, bit_of}
+use Rattle.tree_plan.specs.Store.{listed, listed_levels, lengths, links_from, group_of, link_of, IsStored}
+use Rattle.tree_plan.proofs.Gets.{get_either, get_within, get_some, get_left, get_right}
 use Rattle.tree_plan.proofs.Seats.{has, seat_of, length-links_from}
 use Rattle.tree_plan.proofs.Stacks.{first_level, later_level}
 use Rattle.tree_plan.proofs.Trees.{group_at, apart, cpu_there, group_there, child_total, more_cpus, alone, cut_laws, edge_laws, level_laws}
@@ -66,13 +68,50 @@ get-listed_levels l (level ∷ above) g run e =
                 ∙ (get_right here later h ∙ (get-listed_levels (suc l) above h run high.2 ∙ (λ i. Some (record { level = at_level i; place = at_place i; children = length run })))))
         (get_either level (joined above) g run e)
 
+-- what a link says of a child, and what the want of one says
+by_parent : {P : Type 0} (t : Shape) (m : Child) → (parent_of t m ≡ None → P) → ((p : ℕ) → parent_of t m ≡ Some p → P) → P
+by_parent {P} t m none some = go (parent_of t m) refl
+  where
+    go : (o : Option ℕ) → parent_of t m ≡ o → P
+    go None e = none e
+    go (Some p) e = some p e
+
+link_to_parent : Shape → Child → ℕ → Link
+link_to_parent t m p = record { parent = record { 0 = p }; bit = bit_of t m }
+
+pub parent_linked : (t : Shape) (m : Child) (l : Link) → Some l ≡ link_of t m → Some (l.parent.0) ≡ parent_of t m
+unfolding link_to_parent
+parent_linked t m l e =
+    by_parent t m (λ none. absurd (none-some l (sym (e ∙ ap (option_map (link_to_parent t m)) none))))
+        (λ p some. ap (λ (k : Link). Some (k.parent.0)) (same_Some _ _ (e ∙ ap (option_map (link_to_parent t m)) some)) ∙ sym some)
+
+pub bit_linked : (t : Shape) (m : Child) (l : Link) → Some l ≡ link_of t m → l.bit ≡ bit_of t m
+unfolding link_to_parent
+bit_linked t m l e =
+    by_parent t m (λ none. absurd (none-some l (sym (e ∙ ap (option_map (link_to_parent t m)) none))))
+        (λ p some. ap (λ (k : Link). k.bit) (same_Some _ _ (e ∙ ap (option_map (link_to_parent t m)) some)))
+
+pub parent_unlinked : (t : Shape) (m : Child) → None ≡ link_of t m → parent_of t m ≡ None
+unfolding link_to_parent
+parent_unlinked t m e =
+    by_parent t m (λ none. none) (λ p some. absurd (none-some (link_to_parent t m p) (e ∙ ap (option_map (link_to_parent t m)) some)))
+
+pub bit_unlinked : (t : Shape) (m : Child) → None ≡ link_of t m → 0 ≡ bit_of t m
+unfolding bit_of bit_in
+bit_unlinked t m e = sym (ap (bit_in t m) (parent_unlinked t m e))
+
+-- what `get` and `copied` give of a list
+pub copied_get : {X : Type 0} (xs : List X) (i : ℕ) (r : Option (Bor X)) → IsGetResult xs i i r → option_copied r ≡ slice_get xs i
+copied_get xs i None h = sym (slice_get_past xs i h.3)
+copied_get xs i (Some x) h = sym (slice_get_read xs (length xs) i x.now refl h.3.0 h.1)
+
 pub planned_tree : (nodes cpus : ℕ) → IsWithinLimits nodes cpus → IsPlanned (tree_of nodes cpus)
 planned_tree nodes cpus limits = record { limits = limits; tree = refl }
 
 -- ---- what is stored of a planned tree
 
 module _ (t : Shape) (planned : IsPlanned t) where
-  listed_group : (g : ℕ) → g < group_count_of t → slice_get (listed_levels 0 (lengths t.levels)) g ≡ Some (record { level = level_of t g; place = place_of t g; children = child_count_of t g })
+  listed_group : (g : ℕ) → g < group_count_of t → slice_get (listed_levels 0 (lengths t.levels)) g ≡ Some (group_of t g)
   unfolding groups_of
   listed_group g inside =
       get-listed_levels 0 t.levels g (children_of t g) (group_at t planned g inside)
@@ -117,6 +156,18 @@ module _ (t : Shape) (planned : IsPlanned t) where
               ∙ unlinked (of_group g) ((edge_laws t planned).top_parent g (omega arith)))
           (cases_lt (suc g) (group_count_of t))
 
+  pub top_unlinked : (g : ℕ) → g < group_count_of t → None ≡ link_of t (of_group g) → g + 1 ≡ group_count_of t
+  top_unlinked g inside none =
+      ⊎_elim (λ below.
+        let up = (edge_laws t planned).group_parent g below in
+        absurd (none-some up.0 (sym (parent_unlinked t (of_group g) none) ∙ up.1)))
+          (λ top. omega arith)
+          (cases_lt (suc g) (group_count_of t))
+
+  pub no_top_linked : (g : ℕ) (l : Link) → Some l ≡ link_of t (of_group g) → g + 1 ≡ group_count_of t → ⊥
+  no_top_linked g l some last =
+      omega (arith, last, (edge_laws t planned).group_within g (l.parent.0) (sym (parent_linked t (of_group g) l some)))
+
 module _ (nodes cpus : ℕ) (groups : List Group) (links : List Link) (stored : IsStored nodes cpus groups links) (t : Shape) (view : tree_of nodes cpus ≡ t) where
   pub is_planned : IsPlanned t
   is_planned = subst IsPlanned view (planned_tree nodes cpus stored.limits)
@@ -129,7 +180,7 @@ module _ (nodes cpus : ℕ) (groups : List Group) (links : List Link) (stored : 
   cpu_total = ap cpu_count_of view
 
   -- a stored group
-  pub group_is : (g : ℕ) → g < group_count_of t → slice_get groups g ≡ Some (record { level = level_of t g; place = place_of t g; children = child_count_of t g })
+  pub group_is : (g : ℕ) → g < group_count_of t → slice_get groups g ≡ Some (group_of t g)
   group_is g inside =
       ap (λ gs. slice_get gs g) stored.all_groups ∙ (ap (λ (s : Shape). slice_get (listed_levels 0 (lengths s.levels)) g) view ∙ listed_group t is_planned g inside)
 
@@ -143,3 +194,49 @@ module _ (nodes cpus : ℕ) (groups : List Group) (links : List Link) (stored : 
   -- the link of a group
   pub group_link : (g : ℕ) → g < group_count_of t → slice_get links (nodes * cpus + g) ≡ link_of t (of_group g)
   group_link g inside = (λ i. slice_get (all_links i) (cpu_total i + g)) ∙ group_link_of t is_planned g inside
+
+  -- the last group is the top, on the highest level
+  pub top_level : (top : Group) → slice_get groups (length groups - 1) ≡ Some top → top.level + 1 ≡ level_count_of t
+  top_level top e =
+      let inside = get_within groups (length groups - 1) top e in
+      let g = length groups - 1 in
+      let within : g < group_count_of t = omega (arith, inside, group_total) in
+      let kept : level_of t g ≡ top.level = ap (λ (x : Group). x.level) (same_Some _ _ (sym (group_is g within) ∙ e)) in
+      omega (arith, kept, ((level_laws t is_planned).highest g within).1 (omega (arith, inside, group_total)))
+
+  pub no_level : slice_get groups (length groups - 1) ≡ None → 0 ≡ level_count_of t
+  no_level e =
+      ⊎_elim (λ some.
+        let top = get_some groups (length groups - 1) (omega (arith, group_total, (cut_laws t is_planned).some_group some)) in
+        absurd (none-some top.0 (sym e ∙ top.1)))
+          (λ none. omega arith)
+          (cases_lt 0 (level_count_of t))
+
+-- ---- a plan
+
+child_counts : (level place : ℕ) (ns : List ℕ) → map (λ (g : Group). g.children) (listed level place ns) ≡ ns
+unfolding listed
+child_counts level place [] = refl
+child_counts level place (n ∷ ns) = ap (λ ms. n ∷ ms) (child_counts level (suc place) ns)
+
+all_child_counts : (l : ℕ) (levels : List (List (List Child))) → map (λ (g : Group). g.children) (listed_levels l (lengths levels)) ≡ map length (joined levels)
+unfolding listed_levels
+all_child_counts l [] = refl
+all_child_counts l (level ∷ above) =
+    map-append (λ (g : Group). g.children) (listed l 0 (map length level)) (listed_levels (suc l) (lengths above))
+        ∙ ((λ i. child_counts l 0 (map length level) i ++ all_child_counts (suc l) above i) ∙ sym (map-append length level (joined above)))
+
+-- the groups that were cut are few
+pub plan_total : (nodes cpus : ℕ) (groups : List Group) → IsWithinLimits nodes cpus → groups ≡ listed_levels 0 (lengths (tree_of nodes cpus).levels) → length groups ≤ 192
+unfolding groups_of
+plan_total nodes cpus groups limits made =
+    omega (arith, ap length made, length-listed_levels 0 (tree_of nodes cpus).levels, (cut_laws (tree_of nodes cpus) (planned_tree nodes cpus limits)).at_most_192_groups)
+
+-- and with the links of their children they are the tree
+pub plan_stored : (nodes cpus : ℕ) (groups given : List Group) (links : List Link) → IsWithinLimits nodes cpus → groups ≡ listed_levels 0 (lengths (tree_of nodes cpus).levels) → given ≡ groups → links ≡ links_from 0 (map (λ (g : Group). g.children) given) → IsStored nodes cpus groups links
+unfolding groups_of
+plan_stored nodes cpus groups given links limits made same linked = record {
+  limits = limits;
+  all_groups = made;
+  all_links = linked ∙ ap (links_from 0) (ap (map (λ (g : Group). g.children)) (same ∙ made) ∙ all_child_counts 0 (tree_of nodes cpus).levels)
+}

@@ -4,7 +4,7 @@ use Rattle.std.specs.List.{range_with_len}
 use Rattle.tree_plan.specs.declared.cutting.Group.{Group}
 use Rattle.tree_plan.specs.declared.cutting.Link.{Link}
 use Rattle.tree_plan.specs.Shape.{Shape, Child, IsWithinLimits, tree_of}
-use Rattle.tree_plan.specs.Paths.{groups_of, parent_of, bit_of}
+use Rattle.tree_plan.specs.Paths.{groups_of, level_of, place_of, child_count_of, parent_of, bit_of}
 
 -- the lengths of n runs of eight of a list of m, as far as it goes
 unfoldable pub lengths_of : (n m : ℕ) → List ℕ
@@ -45,6 +45,10 @@ links_to g n = map (λ k. record { parent = record { 0 = g }; bit = k }) (range_
 unfoldable pub links_from : ℕ → List ℕ → List Link
 links_from g [] = []
 links_from g (n ∷ ns) = links_to g n ++ links_from (suc g) ns
+
+-- a group as it is kept
+abbrev pub group_of : Shape → ℕ → Group
+group_of t g = record { level = level_of t g; place = place_of t g; children = child_count_of t g }
 
 -- the link of a child to its parent, if it has one
 abbrev pub link_of : Shape → Child → Option Link

@@ -4,6 +4,7 @@ ghost use Rattle.std.specs.Prelude.{◌≡◌, ℕ, ◌+◌, ◌*◌, ◌<◌, �
 ghost use Rattle.tree_plan.specs.Shape.{Shape, IsWithinLimits, IsPlanned, tree_of};
 ghost use Rattle.tree_plan.specs.Shape.Child.{of_cpu, of_group};
 ghost use Rattle.tree_plan.specs.Paths.{cpu_count_of, group_count_of, level_count_of, level_of, place_of, child_count_of, parent_of, bit_of, group_at_of};
+ghost use Rattle.tree_plan.specs.Store.{group_of, link_of};
 
 use crate::cutting::{Group, Link, cut_groups, link_children};
 use std::alloc::Global;
@@ -78,7 +79,7 @@ impl Tree {
         requires { g.0 < group_count_of self.now }
         ensures { result ≡ level_of self.now g.0 }
     {
-        self.groups[usize::from(g.0)].level
+        self.group(g).level
     }
 
     /// The index of a group in its level.
@@ -86,7 +87,7 @@ impl Tree {
         requires { g.0 < group_count_of self.now }
         ensures { result ≡ place_of self.now g.0 }
     {
-        self.groups[usize::from(g.0)].place
+        self.group(g).place
     }
 
     /// The number of children of a group, 1 to 8. They have the child numbers from 0 on.
@@ -94,7 +95,7 @@ impl Tree {
         requires { g.0 < group_count_of self.now }
         ensures { result ≡ child_count_of self.now g.0 }
     {
-        self.groups[usize::from(g.0)].children
+        self.group(g).children
     }
 
     /// The group that has this group as a child. Only the top has none.
@@ -103,7 +104,10 @@ impl Tree {
         ensures parent { option_map (λ p. p.0) result ≡ parent_of self.now (of_group g.0) }
         ensures top { IsNone result ↔ (g.0 + 1 ≡ group_count_of self.now) }
     {
-        self.link_of_group(g).map(|link| link.parent)
+        let Some(link) = self.group_link(g) else {
+            return None;
+        };
+        Some(link.parent)
     }
 
     /// The child number of a group in its parent (the kernel keeps it as the one bit of `childmask`), 0 at the top.
@@ -111,7 +115,10 @@ impl Tree {
         requires { g.0 < group_count_of self.now }
         ensures { result ≡ bit_of self.now (of_group g.0) }
     {
-        self.link_of_group(g).map_or(0, |link| link.bit)
+        match self.group_link(g) {
+            Some(link) => link.bit,
+            None => 0,
+        }
     }
 
     /// The child number of a CPU in its leaf, 0 where it has none.
@@ -119,7 +126,10 @@ impl Tree {
         requires { c.0 < cpu_count_of self.now }
         ensures { result ≡ bit_of self.now (of_cpu c.0) }
     {
-        self.links.get(usize::from(c.0)).map_or(0, |link| link.bit)
+        match self.cpu_link(c) {
+            Some(link) => link.bit,
+            None => 0,
+        }
     }
 
     /// The group of a CPU's path at a level. None exactly where the tree has no such level.
@@ -128,19 +138,42 @@ impl Tree {
         ensures group { option_map (λ g. g.0) result ≡ group_at_of self.now c.0 level }
         ensures none { IsNone result ↔ (level_count_of self.now ≤ level) }
     {
-        let mut at = self.leaf(c)?;
-        for _ in 0..level {
-            at = self.parent(at)?;
+        let Some(link) = self.cpu_link(c) else {
+            return None;
+        };
+        let mut at = link.parent;
+        for _below in 0..level {
+            let Some(above) = self.parent(at) else {
+                return None;
+            };
+            at = above;
         }
         Some(at)
     }
 
-    /// The leaf of a CPU, None where it stands alone.
-    fn leaf(&self, c: CpuId) -> Option<GroupId> {
-        self.links.get(usize::from(c.0)).map(|link| link.parent)
+    /// A group as it is kept.
+    fn group(&self, g: GroupId) -> Group
+        requires { g.0 < group_count_of self.now }
+        ensures { result ≡ group_of self.now g.0 }
+    {
+        self.groups[usize::from(g.0)]
     }
 
-    fn link_of_group(&self, g: GroupId) -> Option<Link> {
+    /// The link of a CPU to its leaf, None where it stands alone.
+    fn cpu_link(&self, c: CpuId) -> Option<Link>
+        requires { c.0 < cpu_count_of self.now }
+        ensures link { result ≡ link_of self.now (of_cpu c.0) }
+        ensures planned { IsPlanned self.now }
+    {
+        self.links.get(usize::from(c.0)).copied()
+    }
+
+    /// The link of a group to its parent, None at the top.
+    fn group_link(&self, g: GroupId) -> Option<Link>
+        requires { g.0 < group_count_of self.now }
+        ensures link { result ≡ link_of self.now (of_group g.0) }
+        ensures planned { IsPlanned self.now }
+    {
         let cpus = usize::from(self.nodes) * usize::from(self.cpus);
         self.links.get(cpus + usize::from(g.0)).copied()
     }

@@ -5,9 +5,10 @@
 
 mod cutting;
 mod hierarchy;
-mod probe;
+mod laws;
 
 pub use hierarchy::{Tree, plan};
+pub use laws::{law_cuts, law_edges, law_levels, law_log2up, law_paths};
 
 #[cfg(test)]
 mod tests;
