@@ -1,5 +1,5 @@
 -- the groups that the code makes, level by level, are those of the tree
-use Rattle.std.proofs.Common.{◌≡◌, ℕ, zero, suc, ◌+◌, ◌-◌, ◌*◌, ◌/◌, ◌<◌, ◌≤◌, min, Bool, true, false, cond, eqb, List, [], ◌∷◌, ◌++◌, length, map, refl, sym, ◌∙◌, ap, arith, append_assoc, replicate, ltb, ◌⊎◌, inl, inr, ⊎_elim, subst, add-one, ◌≢◌}
+use Rattle.std.proofs.Common.{◌≡◌, ℕ, zero, suc, ◌+◌, ◌-◌, ◌*◌, ◌<◌, ◌≤◌, cond, eqb, List, [], ◌∷◌, ◌++◌, length, map, refl, sym, ◌∙◌, ap, arith, append_assoc, replicate, ltb, ◌⊎◌, ⊎_elim, add-one, ◌≢◌}
 use Rattle.std.proofs.lemmas.Bool.{cond_both, ne_eqb, eq-eqb, cond-true, cond-false}
 use Rattle.std.specs.Prelude.{flat_map, sum}
 use Rattle.std.specs.List.{range_with_len}
@@ -9,7 +9,7 @@ use Rattle.std.proofs.lemmas.List.FromFn.{length-range_with_len}
 use Rattle.std.proofs.lemmas.List.Sums.{sum_by-cons}
 use Rattle.tree_plan.specs.declared.cutting.Group.{Group}
 use Rattle.tree_plan.specs.Shape.{Child, IsWithinLimits, levels_for, levels_from, rows_at, numbered, cut, joined, node_cpus, tree_of}
-use Rattle.tree_plan.specs.Shape.Child.{of_cpu, of_group}
+use Rattle.tree_plan.specs.Shape.Child.{of_cpu}
 use Rattle.tree_plan.specs.Store.{groups_for, run_lengths, row_lengths_at, lengths, listed, listed_levels}
 use Rattle.tree_plan.proofs.Cuts.{length-joined, lengths-level, lengths-cuts, lengths-numbered, lengths-rows_at, map-cond}
 
@@ -28,13 +28,13 @@ lengths-levels_from inner (suc n) l first rows =
     let members = numbered first (map cut cutting) in
     let above = levels_from inner n (suc l) (first + length level) members in
     let here : map length level ≡ flat_map run_lengths (row_lengths_at inner l (map length rows)) =
-        lengths-level cutting ∙ ap (flat_map run_lengths) (lengths-rows_at inner l rows) in
+    lengths-level cutting ∙ ap (flat_map run_lengths) (lengths-rows_at inner l rows) in
     let next : map length members ≡ map groups_for (row_lengths_at inner l (map length rows)) =
-        lengths-numbered first (map cut cutting) ∙ (lengths-cuts cutting ∙ ap (map groups_for) (lengths-rows_at inner l rows)) in
+    lengths-numbered first (map cut cutting) ∙ (lengths-cuts cutting ∙ ap (map groups_for) (lengths-rows_at inner l rows)) in
     let rest : lengths above ≡ lengths_from inner n (suc l) (map groups_for (row_lengths_at inner l (map length rows))) =
-        lengths-levels_from inner n (suc l) (first + length level) members ∙ ap (lengths_from inner n (suc l)) next in
+    lengths-levels_from inner n (suc l) (first + length level) members ∙ ap (lengths_from inner n (suc l)) next in
     map-cond (λ (gs : List (List Child)). map length gs) (eqb (length (joined rows)) 1) [] (level ∷ above)
-        ∙ (λ i. cond (eqb (length-joined rows i) 1) [] (here i ∷ rest i))
+    ∙ (λ i. cond (eqb (length-joined rows i) 1) [] (here i ∷ rest i))
 
 lengths-nodes : (cpus : ℕ) (ns : List ℕ) → map length (map (λ n. map of_cpu (range_with_len (n * cpus) cpus)) ns) ≡ replicate (length ns) cpus
 lengths-nodes cpus [] = refl
@@ -74,11 +74,11 @@ built_more inner most l rows above old new room more climbed added =
     let next = map groups_for (row_lengths_at inner l rows) in
     let rest = listed_levels (l + 1) (lengths_from inner left (l + 1) next) in
     let all : lengths_from inner (most - l) l rows ≡ here ∷ lengths_from inner left (suc l) next =
-        ap (λ n. lengths_from inner n l rows) one_more ∙ cond-false (eqb (sum rows) 1) [] (here ∷ lengths_from inner left (suc l) next) (ne_eqb _ _ more) in
+    ap (λ n. lengths_from inner n l rows) one_more ∙ cond-false (eqb (sum rows) 1) [] (here ∷ lengths_from inner left (suc l) next) (ne_eqb _ _ more) in
     let after : listed_levels l (lengths_from inner (most - l) l rows) ≡ listed l 0 here ++ rest =
-        ap (listed_levels l) all ∙ ap (λ k. listed l 0 here ++ listed_levels k (lengths_from inner left k next)) (sym (add-one l)) in
+    ap (listed_levels l) all ∙ ap (λ k. listed l 0 here ++ listed_levels k (lengths_from inner left k next)) (sym (add-one l)) in
     ap (λ ns. new ++ listed_levels (l + 1) (lengths_from inner left (l + 1) ns)) climbed
-        ∙ (ap (λ gs. gs ++ rest) added ∙ (append_assoc old (listed l 0 here) rest ∙ ap (λ gs. old ++ gs) (sym after)))
+    ∙ (ap (λ gs. gs ++ rest) added ∙ (append_assoc old (listed l 0 here) rest ∙ ap (λ gs. old ++ gs) (sym after)))
 
 none_left : (inner n l : ℕ) (rows : List ℕ) → sum rows ≡ 1 → lengths_from inner n l rows ≡ []
 unfolding lengths_from
@@ -96,7 +96,7 @@ built_all inner n l rows gs h =
 pub lengths-tree_of : (nodes cpus : ℕ) → lengths (tree_of nodes cpus).levels ≡ lengths_from (levels_for cpus) (levels_for cpus + levels_for nodes) 0 (replicate nodes cpus)
 lengths-tree_of nodes cpus =
     lengths-levels_from (levels_for cpus) (levels_for cpus + levels_for nodes) 0 0 (node_cpus nodes cpus)
-        ∙ ap (lengths_from (levels_for cpus) (levels_for cpus + levels_for nodes) 0) (lengths-node_cpus nodes cpus)
+    ∙ ap (lengths_from (levels_for cpus) (levels_for cpus + levels_for nodes) 0) (lengths-node_cpus nodes cpus)
 
 sum-replicate : (n m : ℕ) → sum (replicate n m) ≡ n * m
 sum-replicate zero m = omega arith

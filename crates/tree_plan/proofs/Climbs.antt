@@ -5,8 +5,8 @@ use Rattle.std.proofs.lemmas.Bool.{cases_lt, true≢false}
 use Rattle.std.proofs.lemmas.Option.{none-some}
 use Rattle.tm_base.specs.declared.names.GroupId.{GroupId}
 use Rattle.tree_plan.specs.Shape.{Shape, IsPlanned}
-use Rattle.tree_plan.specs.Shape.Child.{of_cpu, of_group}
-use Rattle.tree_plan.specs.Paths.{cpu_count_of, group_count_of, level_count_of, parent_of, group_at_of}
+use Rattle.tree_plan.specs.Shape.Child.{of_group}
+use Rattle.tree_plan.specs.Paths.{cpu_count_of, level_count_of, parent_of, group_at_of}
 use Rattle.tree_plan.specs.Laws.{PathLaws}
 use Rattle.tree_plan.proofs.Trees.{cut_laws, edge_laws, level_laws}
 use Rattle.tree_plan.proofs.Walks.{path_laws}
@@ -25,14 +25,16 @@ unfolding group_at_of
 ended t c l zero none up = let low : 0 ≡ l = omega arith in ap (group_at_of t c) low ∙ none
 ended t c l (suc n) none up =
     ⊎_elim (λ later. let here : suc n ≡ l = omega arith in ap (group_at_of t c) here ∙ none)
-        (λ before. ap (option_and_then (λ g. parent_of t (of_group g))) (ended t c l n none before))
-        (cases_lt n l)
+    (λ before. ap (option_and_then (λ g. parent_of t (of_group g))) (ended t c l n none before))
+    (cases_lt n l)
 
 -- None exactly where there is no such level
 pub none_where : (t : Shape) → IsPlanned t → (c l : ℕ) → c < cpu_count_of t → (r : Option GroupId) → option_map (λ (g : GroupId). g.0) r ≡ group_at_of t c l → IsNone r ↔ (level_count_of t ≤ l)
-none_where t planned c l inside None e =
-    (λ _. ⊎_elim (λ low.
+none_where t planned c l inside None e = (
+  λ _. ⊎_elim (λ low.
       let group = (planned_paths t planned).there c l inside low in
-      absurd (none-some group.0 (e ∙ group.1))) (λ high. high) (cases_lt l (level_count_of t)), λ _. refl)
+      absurd (none-some group.0 (e ∙ group.1))) (λ high. high) (cases_lt l (level_count_of t)),
+  λ _. refl,
+)
 none_where t planned c l inside (Some g) e =
     (λ some. absurd (true≢false some), λ high. absurd (none-some (g.0) (sym (e ∙ (planned_paths t planned).beyond c l high))))

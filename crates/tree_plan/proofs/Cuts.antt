@@ -1,15 +1,14 @@
 -- cutting a list into runs: nothing is lost, and the lengths follow from the list's length
-use Rattle.std.proofs.Common.{◌≡◌, ℕ, zero, suc, ◌+◌, ◌-◌, ◌*◌, ◌/◌, ◌<◌, ◌≤◌, min, List, [], ◌∷◌, ◌++◌, length, map, take, drop, refl, sym, ◌∙◌, ap, arith, add-one, append_assoc, length-append, Bool, true, false, ltb, cond, subst}
+use Rattle.std.proofs.Common.{◌≡◌, ℕ, zero, suc, ◌+◌, ◌*◌, ◌<◌, ◌≤◌, List, [], ◌∷◌, ◌++◌, length, map, take, drop, refl, sym, ◌∙◌, ap, arith, length-append, Bool, true, false, ltb, cond, subst}
 use Rattle.std.specs.Prelude.{flat_map, sum, slice_get, Some}
 use Rattle.std.proofs.lemmas.Option.{none-some, same_Some}
-use Rattle.std.proofs.lemmas.Bool.{cond_both, ltb-true, ltb-false, cases_lt}
 use Rattle.std.specs.List.{range_with_len}
 use Rattle.std.proofs.lemmas.List.FromFn.{length-range_with_len}
 use Rattle.std.proofs.lemmas.List.Concat.{flat_map-append}
 use Rattle.std.proofs.lemmas.List.Sums.{sum_by-cons}
-use Rattle.std.proofs.lemmas.List.{append-nil, length-take, length-drop, length-map, take-append-drop, map-append}
+use Rattle.std.proofs.lemmas.List.{length-take, length-drop, length-map, take-append-drop, map-append}
 use Rattle.tree_plan.specs.Shape.{runs_of, cut, joined, Child, numbered, rows_at}
-use Rattle.tree_plan.specs.Shape.Child.{of_cpu, of_group}
+use Rattle.tree_plan.specs.Shape.Child.{of_group}
 use Rattle.tree_plan.specs.Store.{lengths_of, groups_for, run_lengths, row_lengths_at}
 
 pub length-runs_of : {A : Type 0} (n : ℕ) (xs : List A) → length (runs_of n xs) ≡ n

@@ -1,12 +1,11 @@
 -- the lengths of the runs that rows are cut into, as the code makes them
-use Rattle.std.proofs.Common.{◌≡◌, ℕ, zero, suc, ◌+◌, ◌-◌, ◌*◌, ◌/◌, ◌<◌, ◌≤◌, min, List, [], ◌∷◌, ◌++◌, length, map, refl, sym, ◌∙◌, ap, arith, add-one, append_assoc, get_or, drop}
+use Rattle.std.proofs.Common.{◌≡◌, ℕ, zero, suc, ◌+◌, ◌-◌, ◌<◌, ◌≤◌, min, List, [], ◌∷◌, ◌++◌, length, map, refl, sym, ◌∙◌, ap, arith, add-one, append_assoc, get_or, drop}
 use Rattle.std.specs.Prelude.{flat_map}
-use Rattle.std.specs.List.{range_with_len}
 use Rattle.std.proofs.lemmas.List.{append-nil, at_drop_more, at_drop_all, drop_all}
 use Rattle.std.proofs.lemmas.List.FromFn.{map-range_with_len_more}
 use Rattle.tree_plan.specs.declared.cutting.Link.{Link}
 use Rattle.tree_plan.specs.declared.cutting.Group.{Group}
-use Rattle.tree_plan.specs.Store.{lengths_of, groups_for, run_lengths, row_lengths_at, listed, listed_levels, links_to, links_from}
+use Rattle.tree_plan.specs.Store.{lengths_of, groups_for, run_lengths, listed, links_to, links_from}
 
 pub groups_more : (m : ℕ) → 0 < m → groups_for m ≡ suc (groups_for (m - 8))
 groups_more m h = omega arith
@@ -36,10 +35,10 @@ row_more level place left children old new some few added =
     let left_over : left - 8 ≡ left - children = omega arith in
     let group : ℕ → Group = λ n. record { level = level; place = place; children = n } in
     let after : listed level place (run_lengths left) ≡ group children ∷ listed level (place + 1) (run_lengths (left - children)) =
-        ap (listed level place) (run_more left some) ∙ rw (size, left_over, add-one) refl in
+    ap (listed level place) (run_more left some) ∙ rw (size, left_over, add-one) refl in
     ap (λ gs. gs ++ listed level (place + 1) (run_lengths (left - children))) added
-        ∙ append_assoc old (group children ∷ []) (listed level (place + 1) (run_lengths (left - children)))
-        ∙ ap (λ gs. old ++ gs) (sym after)
+    ∙ append_assoc old (group children ∷ []) (listed level (place + 1) (run_lengths (left - children)))
+    ∙ ap (λ gs. old ++ gs) (sym after)
 
 -- no more group of a row
 pub row_done : (level place left : ℕ) (gs : List Group) → left ≡ 0 → gs ++ listed level place (run_lengths left) ≡ gs
@@ -54,9 +53,9 @@ level_more level place next i rows old new within added behind =
     let all : flat_map run_lengths (drop i rows) ≡ run_lengths row ++ rest = at_drop_more (flat_map run_lengths) rows i 0 within in
     let at_next : place + length (run_lengths row) ≡ next = omega (arith, length-lengths_of (groups_for row) row) in
     let after : listed level place (flat_map run_lengths (drop i rows)) ≡ listed level place (run_lengths row) ++ listed level next rest =
-        ap (listed level place) all ∙ (listed-append level place (run_lengths row) rest ∙ ap (λ p. listed level place (run_lengths row) ++ listed level p rest) at_next) in
+    ap (listed level place) all ∙ (listed-append level place (run_lengths row) rest ∙ ap (λ p. listed level place (run_lengths row) ++ listed level p rest) at_next) in
     ap (λ gs. gs ++ listed level next rest) added
-        ∙ (append_assoc old (listed level place (run_lengths row)) (listed level next rest) ∙ ap (λ gs. old ++ gs) (sym after))
+    ∙ (append_assoc old (listed level place (run_lengths row)) (listed level next rest) ∙ ap (λ gs. old ++ gs) (sym after))
 
 -- no more row of a level
 pub level_done : (level place i : ℕ) (rows : List ℕ) (gs : List Group) → length rows ≤ i → gs ++ listed level place (flat_map run_lengths (drop i rows)) ≡ gs
@@ -73,7 +72,7 @@ unfolding links_to
 links_more g k old now new before added =
     let link : ℕ → Link = λ n. record { parent = record { 0 = g }; bit = n } in
     added ∙ (ap (λ ls. ls ++ (link k ∷ [])) before
-        ∙ (append_assoc old (links_to g k) (link k ∷ []) ∙ ap (λ ls. old ++ ls) (sym (map-range_with_len_more link 0 k k (omega arith)))))
+    ∙ (append_assoc old (links_to g k) (link k ∷ []) ∙ ap (λ ls. old ++ ls) (sym (map-range_with_len_more link 0 k k (omega arith)))))
 
 -- the links of one more group
 pub group_links_more : (i : ℕ) (groups : List Group) (d : Group) (old new : List Link) → i < length groups → new ≡ old ++ links_to i ((get_or groups i d).children) → new ++ links_from (i + 1) (map (λ (g : Group). g.children) (drop (i + 1) groups)) ≡ old ++ links_from i (map (λ (g : Group). g.children) (drop i groups))
@@ -83,7 +82,7 @@ group_links_more i groups d old new within added =
     let rest = links_from (i + 1) (sizes (drop (i + 1) groups)) in
     let here = links_to i ((get_or groups i d).children) in
     let after : links_from i (sizes (drop i groups)) ≡ here ++ rest =
-        at_drop_more (λ gs. links_from i (sizes gs)) groups i d within ∙ ap (λ n. here ++ links_from n (sizes (drop (i + 1) groups))) (sym (add-one i)) in
+    at_drop_more (λ gs. links_from i (sizes gs)) groups i d within ∙ ap (λ n. here ++ links_from n (sizes (drop (i + 1) groups))) (sym (add-one i)) in
     ap (λ ls. ls ++ rest) added ∙ (append_assoc old here rest ∙ ap (λ ls. old ++ ls) (sym after))
 
 pub group_links_done : (i : ℕ) (groups : List Group) (ls : List Link) → length groups ≤ i → ls ++ links_from i (map (λ (g : Group). g.children) (drop i groups)) ≡ ls

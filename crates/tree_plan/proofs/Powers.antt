@@ -1,5 +1,5 @@
 -- the binary logarithm rounded up, and the levels that follow from it
-use Rattle.std.proofs.Common.{◌≡◌, ℕ, zero, suc, ◌+◌, ◌*◌, ◌/◌, ◌^◌, ◌<◌, ◌≤◌, Bool, true, false, cond, eqb, ltb, leb, refl, sym, ◌∙◌, ap, subst, arith, add-zero, add-suc, zero-add, ⊎_elim}
+use Rattle.std.proofs.Common.{◌≡◌, ℕ, zero, suc, ◌+◌, ◌*◌, ◌/◌, ◌^◌, ◌<◌, ◌≤◌, true, eqb, leb, refl, sym, ◌∙◌, ap, subst, arith, add-zero, zero-add, ⊎_elim}
 use Rattle.std.specs.Prelude.{nat_le, if◌then◌else◌}
 use Rattle.std.proofs.lemmas.Bool.{leb-true, leb-false, eqb-true, agree_below_at, cond_both, cases_eq, cases_lt}
 use Rattle.std.proofs.lemmas.Bool.Decides.{nat_tests}

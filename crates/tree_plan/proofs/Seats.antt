@@ -1,9 +1,9 @@
 -- where a child stands: in which group and at which child number, found by search and listed by the links
-use Rattle.std.proofs.Common.{◌≡◌, ℕ, zero, suc, ◌+◌, ◌-◌, ◌<◌, ◌≤◌, ◌⊎◌, inl, inr, ⊎_elim, Bool, true, false, cond, eqb, ltb, ◌||◌, List, [], ◌∷◌, ◌++◌, length, map, get_or, Option, Some, None, refl, sym, ◌∙◌, ap, subst, arith, add-one, add-zero, length-append}
-use Rattle.std.specs.Prelude.{slice_get, flat_map, position}
-use Rattle.std.specs.List.{range_with_len, position_or_len, list_any}
+use Rattle.std.proofs.Common.{◌≡◌, ℕ, zero, suc, ◌+◌, ◌<◌, ⊎_elim, Bool, true, false, cond, ltb, List, [], ◌∷◌, ◌++◌, length, map, get_or, Some, None, refl, sym, ◌∙◌, ap, subst, arith, add-zero, length-append}
+use Rattle.std.specs.Prelude.{slice_get, position}
+use Rattle.std.specs.List.{position_or_len, list_any}
 use Rattle.std.proofs.lemmas.Option.{none-some, same_Some, slice_get-get_or, get_or_from_slice_get}
-use Rattle.std.proofs.lemmas.Bool.{eqb-true, eq-eqb, false_from_ne_true, false≢true, or_cases, or_left, or_right, lt-ltb, cond-true, cond-false, le-ltb}
+use Rattle.std.proofs.lemmas.Bool.{eqb-true, eq-eqb, false_from_ne_true, false≢true, or_cases, or_left, or_right, lt-ltb, cond-true}
 use Rattle.std.proofs.lemmas.List.FromFn.{length-map-range_with_len}
 use Rattle.std.proofs.lemmas.List.Sums.{position_or_len_is}
 use Rattle.std.proofs.lemmas.List.Quantifiers.{position-Some}
@@ -12,7 +12,7 @@ use Rattle.tree_plan.specs.Shape.{Child, joined}
 use Rattle.tree_plan.specs.Shape.Child.{of_cpu, of_group}
 use Rattle.tree_plan.specs.Paths.{same_child}
 use Rattle.tree_plan.specs.Store.{links_to, links_from}
-use Rattle.tree_plan.proofs.Gets.{get_left, get_right, get_either, get_within, get_some, get_range}
+use Rattle.tree_plan.proofs.Gets.{get_left, get_right, get_either, get_within, get_range}
 
 pub same_child-true : (a b : Child) → same_child a b ≡ true → a ≡ b
 unfolding same_child
@@ -34,8 +34,8 @@ has_from : (m : Child) (run : List Child) → has m run ≡ true → (k : ℕ) �
 has_from m [] e = absurd (false≢true e)
 has_from m (x ∷ run) e =
     ⊎_elim (λ here. (zero, ap Some (sym (same_child-true m x here))))
-        (λ later. let at = has_from m run later in (suc at.0, at.1))
-        (or_cases (same_child m x) (has m run) e)
+    (λ later. let at = has_from m run later in (suc at.0, at.1))
+    (or_cases (same_child m x) (has m run) e)
 
 has_at : (m : Child) (run : List Child) (k : ℕ) → slice_get run k ≡ Some m → has m run ≡ true
 has_at m [] k e = absurd (none-some m e)
@@ -52,18 +52,18 @@ pub found_group : (groups : List (List Child)) → Distinct groups → (p k : �
 found_group groups distinct p k m run here there =
     let inside : p < length groups = get_within groups p run here in
     let elsewhere : (q : ℕ) → q < p → has m (get_or groups q []) ≡ false = λ q before. false_from_ne_true _ (λ found.
-        let at = has_from m (get_or groups q []) found in
-        absurd (omega (arith, (distinct p q k at.0 m run (get_or groups q []) here there (slice_get-get_or groups q [] (omega arith)) at.1).0))) in
+    let at = has_from m (get_or groups q []) found in
+    absurd (omega (arith, (distinct p q k at.0 m run (get_or groups q []) here there (slice_get-get_or groups q [] (omega arith)) at.1).0))) in
     let first : position_or_len (has m) groups ≡ p =
-        position_or_len_is (has m) groups p [] (omega arith) elsewhere (λ _. subst (λ r. has m r ≡ true) (sym (get_or_from_slice_get groups p run [] here)) (has_at m run k there)) in
+    position_or_len_is (has m) groups p [] (omega arith) elsewhere (λ _. subst (λ r. has m r ≡ true) (sym (get_or_from_slice_get groups p run [] here)) (has_at m run k there)) in
     (λ i. cond (ltb (first i) (length groups)) (Some (first i)) None) ∙ cond-true (ltb p (length groups)) (Some p) None (lt-ltb p (length groups) inside)
 
 pub found_bit : (groups : List (List Child)) → Distinct groups → (p k : ℕ) (m : Child) (run : List Child) → slice_get groups p ≡ Some run → slice_get run k ≡ Some m → position_or_len (same_child m) run ≡ k
 found_bit groups distinct p k m run here there =
     let inside : k < length run = get_within run k m there in
     let elsewhere : (j : ℕ) → j < k → same_child m (get_or run j m) ≡ false = λ j before. false_from_ne_true _ (λ found.
-        let at : slice_get run j ≡ Some m = slice_get-get_or run j m (omega arith) ∙ ap Some (sym (same_child-true m (get_or run j m) found)) in
-        absurd (omega (arith, (distinct p p k j m run run here there here at).1))) in
+    let at : slice_get run j ≡ Some m = slice_get-get_or run j m (omega arith) ∙ ap Some (sym (same_child-true m (get_or run j m) found)) in
+    absurd (omega (arith, (distinct p p k j m run run here there here at).1))) in
     position_or_len_is (same_child m) run k m (omega arith) elsewhere (λ _. subst (λ x. same_child m x ≡ true) (sym (get_or_from_slice_get run k m m there)) (same_child-self m))
 
 -- a group that is found has the child
@@ -100,38 +100,38 @@ links_behind : (first : ℕ) (run : List Child) (groups : List (List Child)) (i 
 unfolding links_from
 links_behind first run groups i j at =
     ap (slice_get (links_to first (length run) ++ links_from (suc first) (map length groups))) (at ∙ ap (λ n. n + j) (sym (length-links_to first (length run))))
-        ∙ get_right (links_to first (length run)) (links_from (suc first) (map length groups)) j
+    ∙ get_right (links_to first (length run)) (links_from (suc first) (map length groups)) j
 
 -- the links of the first group
 links_in_front : (first : ℕ) (run : List Child) (groups : List (List Child)) (k : ℕ) → k < length run → slice_get (links_from first (map length (run ∷ groups))) k ≡ Some (link (first + 0) k)
 unfolding links_from
 links_in_front first run groups k inside =
     get_left (links_to first (length run)) (links_from (suc first) (map length groups)) k (link first k) (get-links_to first (length run) k inside)
-        ∙ ap (λ g. Some (link g k)) (sym (add-zero first))
+    ∙ ap (λ g. Some (link g k)) (sym (add-zero first))
 
 -- the child at an index of all children stands where the link at that index says
 pub seat_of : (first : ℕ) (groups : List (List Child)) (i : ℕ) (m : Child) → slice_get (joined groups) i ≡ Some m → Seat first groups i m
 seat_of first [] i m e = absurd (none-some m e)
 seat_of first (run ∷ groups) i m e =
     ⊎_elim (λ here. record {
-        group = 0;
-        bit = i;
-        run = run;
-        in_group = refl;
-        at_bit = here;
-        linked = links_in_front first run groups i (get_within run i m here)
-      })
-        (λ later.
-            let seat = seat_of (suc first) groups later.0 m later.2 in
-            record {
-              group = suc seat.group;
-              bit = seat.bit;
-              run = seat.run;
-              in_group = seat.in_group;
-              at_bit = seat.at_bit;
-              linked = links_behind first run groups i later.0 later.1 ∙ (seat.linked ∙ ap (λ g. Some (link g seat.bit)) (omega arith))
-            })
-        (get_either run (joined groups) i m e)
+      group = 0;
+      bit = i;
+      run = run;
+      in_group = refl;
+      at_bit = here;
+      linked = links_in_front first run groups i (get_within run i m here);
+    })
+    (λ later.
+    let seat = seat_of (suc first) groups later.0 m later.2 in
+    record {
+      group = suc seat.group;
+      bit = seat.bit;
+      run = seat.run;
+      in_group = seat.in_group;
+      at_bit = seat.at_bit;
+      linked = links_behind first run groups i later.0 later.1 ∙ (seat.linked ∙ ap (λ g. Some (link g seat.bit)) (omega arith));
+    })
+    (get_either run (joined groups) i m e)
 
 -- and so the other way round
 pub record Index (first : ℕ) (groups : List (List Child)) (p k : ℕ) (m : Child) : Type 0 where
@@ -146,14 +146,14 @@ index_of first (other ∷ groups) zero k m run here there =
     record {
       index = k;
       child = get_left other (joined groups) k m at;
-      linked = links_in_front first other groups k (get_within other k m at)
+      linked = links_in_front first other groups k (get_within other k m at);
     }
 index_of first (other ∷ groups) (suc p) k m run here there =
     let rest = index_of (suc first) groups p k m run here there in
     record {
       index = length other + rest.index;
       child = get_right other (joined groups) rest.index ∙ rest.child;
-      linked = links_behind first other groups (length other + rest.index) rest.index refl ∙ (rest.linked ∙ ap (λ g. Some (link g k)) (omega arith))
+      linked = links_behind first other groups (length other + rest.index) rest.index refl ∙ (rest.linked ∙ ap (λ g. Some (link g k)) (omega arith));
     }
 
 pub length-links_from : (first : ℕ) (groups : List (List Child)) → length (links_from first (map length groups)) ≡ length (joined groups)
@@ -161,7 +161,7 @@ unfolding links_from
 length-links_from first [] = refl
 length-links_from first (run ∷ groups) =
     length-append (links_to first (length run)) (links_from (suc first) (map length groups))
-        ∙ ((λ i. length-links_to first (length run) i + length-links_from (suc first) groups i) ∙ sym (length-append run (joined groups)))
+    ∙ ((λ i. length-links_to first (length run) i + length-links_from (suc first) groups i) ∙ sym (length-append run (joined groups)))
 
 -- children that all differ stand in one place each
 pub distinct_from : (groups : List (List Child)) → ((i j : ℕ) (m : Child) → slice_get (joined groups) i ≡ Some m → slice_get (joined groups) j ≡ Some m → i ≡ j) → Distinct groups
@@ -170,5 +170,5 @@ distinct_from groups apart p q k j m run other here there here' there' =
     let two = index_of 0 groups q j m other here' there' in
     let same = apart one.index two.index m one.child two.child in
     let links : link (0 + p) k ≡ link (0 + q) j =
-        same_Some _ _ (sym one.linked ∙ (ap (slice_get (links_from 0 (map length groups))) same ∙ two.linked)) in
+    same_Some _ _ (sym one.linked ∙ (ap (slice_get (links_from 0 (map length groups))) same ∙ two.linked)) in
     (omega (arith, ap (λ (l : Link). l.parent.0) links), ap (λ (l : Link). l.bit) links)

@@ -1,7 +1,7 @@
 -- the stored groups and links say what the tree says
-use Rattle.std.proofs.Common.{◌≡◌, ℕ, zero, suc, ◌+◌, ◌-◌, ◌<◌, ◌≤◌, ◌⊎◌, inl, inr, ⊎_elim, List, [], ◌∷◌, ◌++◌, length, map, get_or, refl, sym, ◌∙◌, ap, subst, arith, zero-add, add-zero, length-append, ltb, cond}
+use Rattle.std.proofs.Common.{◌≡◌, ℕ, zero, suc, ◌+◌, ◌-◌, ◌<◌, ◌≤◌, ⊎_elim, List, [], ◌∷◌, ◌++◌, length, map, refl, sym, ◌∙◌, ap, subst, arith, zero-add, add-zero, length-append}
 use Rattle.std.specs.Prelude.{◌*◌, Option, Some, None, slice_get, option_map, option_copied, position}
-use Rattle.std.proofs.lemmas.Bool.{cases_lt, cond-true, cond-false, lt-ltb, le-ltb}
+use Rattle.std.proofs.lemmas.Bool.{cases_lt}
 use Rattle.std.proofs.lemmas.Option.{none-some, same_Some, slice_get-map, slice_get_past, slice_get_read}
 use Rattle.std.specs.Borrow.{Bor}
 use Rattle.std.specs.Slice.{IsGetResult}
@@ -14,17 +14,8 @@ use Rattle.tree_plan.specs.Paths.{cpu_count_of, group_count_of, level_count_of, 
 use Rattle.tree_plan.specs.Store.{listed, listed_levels, lengths, links_from, group_of, link_of, IsStored}
 use Rattle.tree_plan.proofs.Gets.{get_either, get_within, get_some, get_left, get_right}
 use Rattle.tree_plan.proofs.Seats.{has, seat_of, length-links_from}
-use Rattle.tree_plan.proofs.Stacks.{first_level, later_level}
-use Rattle.tree_plan.proofs.Trees.{group_at, apart, cpu_there, group_there, child_total, more_cpus, alone, cut_laws, edge_laws, level_laws}
-
-first_place : (level : List (List Child)) (above : List (List (List Child))) (g : ℕ) → g < length level → place_in (level ∷ above) g ≡ g
-unfolding place_in
-first_place level above g inside = cond-true (ltb g (length level)) g (place_in above (g - length level)) (lt-ltb g (length level) inside)
-
-later_place : (level : List (List Child)) (above : List (List (List Child))) (g h : ℕ) → g ≡ length level + h → place_in (level ∷ above) g ≡ place_in above h
-unfolding place_in
-later_place level above g h at =
-    cond-false (ltb g (length level)) g (place_in above (g - length level)) (le-ltb g (length level) (omega arith)) ∙ ap (place_in above) (omega arith)
+use Rattle.tree_plan.proofs.Stacks.{first_level, later_level, first_place, later_place}
+use Rattle.tree_plan.proofs.Trees.{group_at, cpu_there, group_there, child_total, alone, cut_laws, edge_laws, level_laws}
 
 length-listed : (level place : ℕ) (ns : List ℕ) → length (listed level place ns) ≡ length ns
 unfolding listed
@@ -45,7 +36,7 @@ unfolding listed_levels
 length-listed_levels l [] = refl
 length-listed_levels l (level ∷ above) =
     length-append (listed l 0 (map length level)) (listed_levels (suc l) (lengths above))
-        ∙ ((λ i. (length-listed l 0 (map length level) ∙ length-map level length) i + length-listed_levels (suc l) above i) ∙ sym (length-append level (joined above)))
+    ∙ ((λ i. (length-listed l 0 (map length level) ∙ length-map level length) i + length-listed_levels (suc l) above i) ∙ sym (length-append level (joined above)))
 
 get-listed_levels : (l : ℕ) (levels : List (List (List Child))) (g : ℕ) (run : List Child) → slice_get (joined levels) g ≡ Some run → slice_get (listed_levels l (lengths levels)) g ≡ Some (record { level = l + level_in levels g; place = place_in levels g; children = length run })
 unfolding listed_levels
@@ -55,18 +46,18 @@ get-listed_levels l (level ∷ above) g run e =
     let later = listed_levels (suc l) (lengths above) in
     let count : length here ≡ length level = length-listed l 0 (map length level) ∙ length-map level length in
     ⊎_elim (λ low.
-        let inside = get_within level g run low in
-        let at_level : l ≡ l + level_in (level ∷ above) g = omega (arith, first_level level above g inside) in
-        let at_place : 0 + g ≡ place_in (level ∷ above) g = zero-add g ∙ sym (first_place level above g inside) in
-        get_left here later g (record { level = l; place = 0 + g; children = length run }) (get-listed l 0 (map length level) g (length run) (slice_get-map length level g ∙ ap (option_map length) low))
-            ∙ (λ i. Some (record { level = at_level i; place = at_place i; children = length run })))
-        (λ high.
-            let h = high.0 in
-            let at_level : suc l + level_in above h ≡ l + level_in (level ∷ above) g = omega (arith, later_level level above g h high.1) in
-            let at_place : place_in above h ≡ place_in (level ∷ above) g = sym (later_place level above g h high.1) in
-            ap (slice_get (here ++ later)) (high.1 ∙ ap (λ n. n + h) (sym count))
-                ∙ (get_right here later h ∙ (get-listed_levels (suc l) above h run high.2 ∙ (λ i. Some (record { level = at_level i; place = at_place i; children = length run })))))
-        (get_either level (joined above) g run e)
+    let inside = get_within level g run low in
+    let at_level : l ≡ l + level_in (level ∷ above) g = omega (arith, first_level level above g inside) in
+    let at_place : 0 + g ≡ place_in (level ∷ above) g = zero-add g ∙ sym (first_place level above g inside) in
+    get_left here later g (record { level = l; place = 0 + g; children = length run }) (get-listed l 0 (map length level) g (length run) (slice_get-map length level g ∙ ap (option_map length) low))
+    ∙ (λ i. Some (record { level = at_level i; place = at_place i; children = length run })))
+    (λ high.
+    let h = high.0 in
+    let at_level : suc l + level_in above h ≡ l + level_in (level ∷ above) g = omega (arith, later_level level above g h high.1) in
+    let at_place : place_in above h ≡ place_in (level ∷ above) g = sym (later_place level above g h high.1) in
+    ap (slice_get (here ++ later)) (high.1 ∙ ap (λ n. n + h) (sym count))
+    ∙ (get_right here later h ∙ (get-listed_levels (suc l) above h run high.2 ∙ (λ i. Some (record { level = at_level i; place = at_place i; children = length run })))))
+    (get_either level (joined above) g run e)
 
 -- what a link says of a child, and what the want of one says
 by_parent : {P : Type 0} (t : Shape) (m : Child) → (parent_of t m ≡ None → P) → ((p : ℕ) → parent_of t m ≡ Some p → P) → P
@@ -83,13 +74,13 @@ pub parent_linked : (t : Shape) (m : Child) (l : Link) → Some l ≡ link_of t 
 unfolding link_to_parent
 parent_linked t m l e =
     by_parent t m (λ none. absurd (none-some l (sym (e ∙ ap (option_map (link_to_parent t m)) none))))
-        (λ p some. ap (λ (k : Link). Some (k.parent.0)) (same_Some _ _ (e ∙ ap (option_map (link_to_parent t m)) some)) ∙ sym some)
+    (λ p some. ap (λ (k : Link). Some (k.parent.0)) (same_Some _ _ (e ∙ ap (option_map (link_to_parent t m)) some)) ∙ sym some)
 
 pub bit_linked : (t : Shape) (m : Child) (l : Link) → Some l ≡ link_of t m → l.bit ≡ bit_of t m
 unfolding link_to_parent
 bit_linked t m l e =
     by_parent t m (λ none. absurd (none-some l (sym (e ∙ ap (option_map (link_to_parent t m)) none))))
-        (λ p some. ap (λ (k : Link). k.bit) (same_Some _ _ (e ∙ ap (option_map (link_to_parent t m)) some)))
+    (λ p some. ap (λ (k : Link). k.bit) (same_Some _ _ (e ∙ ap (option_map (link_to_parent t m)) some)))
 
 pub parent_unlinked : (t : Shape) (m : Child) → None ≡ link_of t m → parent_of t m ≡ None
 unfolding link_to_parent
@@ -115,7 +106,7 @@ module _ (t : Shape) (planned : IsPlanned t) where
   unfolding groups_of
   listed_group g inside =
       get-listed_levels 0 t.levels g (children_of t g) (group_at t planned g inside)
-          ∙ ap (λ l. Some (record { level = l; place = place_of t g; children = child_count_of t g })) (zero-add (level_of t g))
+      ∙ ap (λ l. Some (record { level = l; place = place_of t g; children = child_count_of t g })) (zero-add (level_of t g))
 
   -- a child's link leads to where it stands
   listed_link : (i : ℕ) (m : Child) → slice_get (joined (groups_of t)) i ≡ Some m → slice_get (links_from 0 (map length (groups_of t))) i ≡ link_of t m
@@ -126,8 +117,8 @@ module _ (t : Shape) (planned : IsPlanned t) where
       let child : child_at t seat.group seat.bit ≡ Some m = ap (λ ms. slice_get ms seat.bit) run ∙ seat.at_bit in
       let to_group : ℕ → ℕ → Option Link = λ p k. Some (record { parent = record { 0 = p }; bit = k }) in
       seat.linked ∙ (ap (λ p. to_group p seat.bit) (zero-add seat.group)
-          ∙ (ap (to_group seat.group) (sym (edges.bit seat.group seat.bit m child))
-          ∙ ap (option_map (λ p. record { parent = record { 0 = p }; bit = bit_of t m })) (sym (edges.parent seat.group seat.bit m child))))
+      ∙ (ap (to_group seat.group) (sym (edges.bit seat.group seat.bit m child))
+      ∙ ap (option_map (λ p. record { parent = record { 0 = p }; bit = bit_of t m })) (sym (edges.parent seat.group seat.bit m child))))
 
   -- nobody has a parent in a tree without levels
   no_parent : (m : Child) → t.levels ≡ [] → parent_of t m ≡ None
@@ -144,25 +135,25 @@ module _ (t : Shape) (planned : IsPlanned t) where
   cpu_link_of : (c : ℕ) → c < cpu_count_of t → slice_get (links_from 0 (map length (groups_of t))) c ≡ link_of t (of_cpu c)
   cpu_link_of c inside =
       ⊎_elim (λ more. listed_link c (of_cpu c) (cpu_there t planned c more inside))
-          (λ few.
-              let none = alone t planned (omega (arith, inside)) in
-              ap (λ ls. slice_get ls c) (no_links none) ∙ unlinked (of_cpu c) (no_parent (of_cpu c) none))
-          (cases_lt 1 (cpu_count_of t))
+      (λ few.
+      let none = alone t planned (omega (arith, inside)) in
+      ap (λ ls. slice_get ls c) (no_links none) ∙ unlinked (of_cpu c) (no_parent (of_cpu c) none))
+      (cases_lt 1 (cpu_count_of t))
 
   group_link_of : (g : ℕ) → g < group_count_of t → slice_get (links_from 0 (map length (groups_of t))) (cpu_count_of t + g) ≡ link_of t (of_group g)
   group_link_of g inside =
       ⊎_elim (λ below. listed_link (cpu_count_of t + g) (of_group g) (group_there t planned g below))
-          (λ top. slice_get_past (links_from 0 (map length (groups_of t))) (cpu_count_of t + g) (omega (arith, length-links_from 0 (groups_of t), child_total t planned (omega arith)))
-              ∙ unlinked (of_group g) ((edge_laws t planned).top_parent g (omega arith)))
-          (cases_lt (suc g) (group_count_of t))
+      (λ top. slice_get_past (links_from 0 (map length (groups_of t))) (cpu_count_of t + g) (omega (arith, length-links_from 0 (groups_of t), child_total t planned (omega arith)))
+      ∙ unlinked (of_group g) ((edge_laws t planned).top_parent g (omega arith)))
+      (cases_lt (suc g) (group_count_of t))
 
   pub top_unlinked : (g : ℕ) → g < group_count_of t → None ≡ link_of t (of_group g) → g + 1 ≡ group_count_of t
   top_unlinked g inside none =
       ⊎_elim (λ below.
-        let up = (edge_laws t planned).group_parent g below in
-        absurd (none-some up.0 (sym (parent_unlinked t (of_group g) none) ∙ up.1)))
-          (λ top. omega arith)
-          (cases_lt (suc g) (group_count_of t))
+      let up = (edge_laws t planned).group_parent g below in
+      absurd (none-some up.0 (sym (parent_unlinked t (of_group g) none) ∙ up.1)))
+      (λ top. omega arith)
+      (cases_lt (suc g) (group_count_of t))
 
   pub no_top_linked : (g : ℕ) (l : Link) → Some l ≡ link_of t (of_group g) → g + 1 ≡ group_count_of t → ⊥
   no_top_linked g l some last =
@@ -207,10 +198,10 @@ module _ (nodes cpus : ℕ) (groups : List Group) (links : List Link) (stored : 
   pub no_level : slice_get groups (length groups - 1) ≡ None → 0 ≡ level_count_of t
   no_level e =
       ⊎_elim (λ some.
-        let top = get_some groups (length groups - 1) (omega (arith, group_total, (cut_laws t is_planned).some_group some)) in
-        absurd (none-some top.0 (sym e ∙ top.1)))
-          (λ none. omega arith)
-          (cases_lt 0 (level_count_of t))
+      let top = get_some groups (length groups - 1) (omega (arith, group_total, (cut_laws t is_planned).some_group some)) in
+      absurd (none-some top.0 (sym e ∙ top.1)))
+      (λ none. omega arith)
+      (cases_lt 0 (level_count_of t))
 
 -- ---- a plan
 
@@ -224,7 +215,7 @@ unfolding listed_levels
 all_child_counts l [] = refl
 all_child_counts l (level ∷ above) =
     map-append (λ (g : Group). g.children) (listed l 0 (map length level)) (listed_levels (suc l) (lengths above))
-        ∙ ((λ i. child_counts l 0 (map length level) i ++ all_child_counts (suc l) above i) ∙ sym (map-append length level (joined above)))
+    ∙ ((λ i. child_counts l 0 (map length level) i ++ all_child_counts (suc l) above i) ∙ sym (map-append length level (joined above)))
 
 -- the groups that were cut are few
 pub plan_total : (nodes cpus : ℕ) (groups : List Group) → IsWithinLimits nodes cpus → groups ≡ listed_levels 0 (lengths (tree_of nodes cpus).levels) → length groups ≤ 192
@@ -238,5 +229,5 @@ unfolding groups_of
 plan_stored nodes cpus groups given links limits made same linked = record {
   limits = limits;
   all_groups = made;
-  all_links = linked ∙ ap (links_from 0) (ap (map (λ (g : Group). g.children)) (same ∙ made) ∙ all_child_counts 0 (tree_of nodes cpus).levels)
+  all_links = linked ∙ ap (links_from 0) (ap (map (λ (g : Group). g.children)) (same ∙ made) ∙ all_child_counts 0 (tree_of nodes cpus).levels);
 }

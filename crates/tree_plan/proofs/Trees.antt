@@ -1,19 +1,19 @@
 -- the laws of planned trees on children, parents and levels
-use Rattle.std.proofs.Common.{◌≡◌, ℕ, zero, suc, ◌+◌, ◌-◌, ◌*◌, ◌<◌, ◌≤◌, ◌⊎◌, inl, inr, ⊎_elim, List, [], ◌∷◌, ◌++◌, length, map, get_or, refl, sym, ◌∙◌, ap, subst, arith, zero-add, length-append}
-use Rattle.std.specs.Prelude.{◌↔◌, Option, Some, None, slice_get, position, option_map}
-use Rattle.std.specs.List.{range_with_len, position_or_len}
+use Rattle.std.proofs.Common.{◌≡◌, ℕ, suc, ◌+◌, ◌-◌, ◌*◌, ◌<◌, ◌≤◌, ◌⊎◌, inl, inr, ⊎_elim, List, [], ◌∷◌, ◌++◌, length, map, refl, sym, ◌∙◌, ap, subst, arith, zero-add, length-append}
+use Rattle.std.specs.Prelude.{Option, Some, None, slice_get}
+use Rattle.std.specs.List.{range_with_len}
 use Rattle.std.proofs.lemmas.Bool.{cases_lt}
-use Rattle.std.proofs.lemmas.Option.{none-some, same_Some, slice_get-get_or, get_or_from_slice_get}
+use Rattle.std.proofs.lemmas.Option.{none-some, slice_get-get_or, get_or_from_slice_get}
 use Rattle.std.proofs.lemmas.List.FromFn.{length-map-range_with_len}
-use Rattle.tree_plan.specs.Shape.{Shape, Child, IsPlanned, IsWithinLimits, joined, levels_for, levels_from, node_cpus, tree_of}
+use Rattle.tree_plan.specs.Shape.{Shape, Child, IsPlanned, joined, levels_for, node_cpus, tree_of}
 use Rattle.tree_plan.specs.Shape.Child.{of_cpu, of_group}
-use Rattle.tree_plan.specs.Paths.{cpu_count_of, group_count_of, level_count_of, groups_of, level_in, level_of, children_of, child_count_of, child_at, parent_of, bit_in, bit_of}
+use Rattle.tree_plan.specs.Paths.{cpu_count_of, group_count_of, level_count_of, groups_of, level_of, children_of, child_count_of, child_at, parent_of, bit_in, bit_of}
 use Rattle.tree_plan.specs.Laws.{CutLaws, EdgeLaws, LevelLaws}
 use Rattle.std.proofs.lemmas.List.{get_or_past}
 use Rattle.tree_plan.proofs.Cuts.{IsRun, run_at}
 use Rattle.tree_plan.proofs.Gets.{get_either, get_within, get_some, get_range, from_range, get_left, get_right}
-use Rattle.tree_plan.proofs.Seats.{Distinct, Seat, has, found_group, found_bit, found_has, seat_of, index_of, distinct_from}
-use Rattle.tree_plan.proofs.Stacks.{IsStack, group_range, length-group_range, tree_stack, few_groups, all_members, level_below, highest_level, child_level, all_runs, levels_within}
+use Rattle.tree_plan.proofs.Seats.{Distinct, found_group, found_bit, found_has, seat_of, index_of, distinct_from}
+use Rattle.tree_plan.proofs.Stacks.{IsStack, group_range, length-group_range, tree_stack, few_groups, all_members, level_below, highest_level, child_level, all_runs, levels_within, same_place}
 use Rattle.tree_plan.proofs.Powers.{levels_of_node, levels_of_few}
 
 some_product : (n m : ℕ) → 1 ≤ n → 1 ≤ m → 1 ≤ n * m
@@ -78,15 +78,15 @@ module _ (t : Shape) (planned : IsPlanned t) where
   unfolding groups_of
   ranked i m e =
       ⊎_elim (λ more.
-        ⊎_elim (λ low.
-          let cpu = from_range of_cpu 0 (cpu_count_of t) i m low in
-          inl (i, cpu.1 ∙ ap of_cpu (zero-add i), refl, cpu.0))
-          (λ high.
-              let group = from_range of_group 0 (group_count_of t - 1) high.0 m high.2 in
-              inr (high.0, group.1 ∙ ap of_group (zero-add high.0), omega (arith, high.1, cpu_total), omega (arith, group.0)))
-          (get_either (map of_cpu (range_with_len 0 (cpu_count_of t))) (group_range 0 (group_count_of t - 1)) i m (subst (λ ms. slice_get ms i ≡ Some m) (all_children more).1 e)))
-          (λ few. absurd (none-some m (ap (λ levels. slice_get (joined (joined levels)) i) (sym (alone (omega (arith, some_cpus)))) ∙ e)))
-          (cases_lt 1 (cpu_count_of t))
+      ⊎_elim (λ low.
+      let cpu = from_range of_cpu 0 (cpu_count_of t) i m low in
+      inl (i, cpu.1 ∙ ap of_cpu (zero-add i), refl, cpu.0))
+      (λ high.
+      let group = from_range of_group 0 (group_count_of t - 1) high.0 m high.2 in
+      inr (high.0, group.1 ∙ ap of_group (zero-add high.0), omega (arith, high.1, cpu_total), omega (arith, group.0)))
+      (get_either (map of_cpu (range_with_len 0 (cpu_count_of t))) (group_range 0 (group_count_of t - 1)) i m (subst (λ ms. slice_get ms i ≡ Some m) (all_children more).1 e)))
+      (λ few. absurd (none-some m (ap (λ levels. slice_get (joined (joined levels)) i) (sym (alone (omega (arith, some_cpus)))) ∙ e)))
+      (cases_lt 1 (cpu_count_of t))
 
   rank_is : (i : ℕ) (m : Child) → slice_get (joined (groups_of t)) i ≡ Some m → i ≡ rank (cpu_count_of t) m
   unfolding rank
@@ -106,20 +106,20 @@ module _ (t : Shape) (planned : IsPlanned t) where
   pub cpu_there : (c : ℕ) → 1 < cpu_count_of t → c < cpu_count_of t → slice_get (joined (groups_of t)) c ≡ Some (of_cpu c)
   cpu_there c more inside =
       ap (λ ms. slice_get ms c) (all_children more).1
-          ∙ (get_left (map of_cpu (range_with_len 0 (cpu_count_of t))) (group_range 0 (group_count_of t - 1)) c (of_cpu (0 + c)) (get_range of_cpu 0 (cpu_count_of t) c inside)
-          ∙ ap (λ n. Some (of_cpu n)) (zero-add c))
+      ∙ (get_left (map of_cpu (range_with_len 0 (cpu_count_of t))) (group_range 0 (group_count_of t - 1)) c (of_cpu (0 + c)) (get_range of_cpu 0 (cpu_count_of t) c inside)
+      ∙ ap (λ n. Some (of_cpu n)) (zero-add c))
 
   pub group_there : (g : ℕ) → suc g < group_count_of t → slice_get (joined (groups_of t)) (cpu_count_of t + g) ≡ Some (of_group g)
   group_there g inside =
       let cpus = map of_cpu (range_with_len 0 (cpu_count_of t)) in
       (λ i. slice_get ((all_children (more_cpus (omega arith))).1 i) (sym cpu_total i + g))
-          ∙ (get_right cpus (group_range 0 (group_count_of t - 1)) g ∙ (get_range of_group 0 (group_count_of t - 1) g (omega arith) ∙ ap (λ n. Some (of_group n)) (zero-add g)))
+      ∙ (get_right cpus (group_range 0 (group_count_of t - 1)) g ∙ (get_range of_group 0 (group_count_of t - 1) g (omega arith) ∙ ap (λ n. Some (of_group n)) (zero-add g)))
 
   -- all children of all groups
   pub child_total : 0 < group_count_of t → length (joined (groups_of t)) ≡ cpu_count_of t + (group_count_of t - 1)
   child_total some =
       ap length (all_children (more_cpus some)).1
-          ∙ (length-append (map of_cpu (range_with_len 0 (cpu_count_of t))) (group_range 0 (group_count_of t - 1)) ∙ (λ i. cpu_total i + length-group_range 0 (group_count_of t - 1) i))
+      ∙ (length-append (map of_cpu (range_with_len 0 (cpu_count_of t))) (group_range 0 (group_count_of t - 1)) ∙ (λ i. cpu_total i + length-group_range 0 (group_count_of t - 1) i))
 
   -- ---- children
 
@@ -231,7 +231,7 @@ module _ (t : Shape) (planned : IsPlanned t) where
     top_parent = top_parent;
     cpu_within = cpu_within;
     group_within = group_within;
-    parent_within = λ p m e. (has_child p m e).0
+    parent_within = λ p m e. (has_child p m e).0;
   }
 
   -- ---- levels
@@ -241,17 +241,17 @@ module _ (t : Shape) (planned : IsPlanned t) where
   level_leaf c g e =
       let found = has_child g (of_cpu c) e in
       ⊎_elim (λ low. low.0) (λ high. absurd (cpu_no_group c (0 + high.0) high.1))
-          (child_level 0 (map of_cpu (range_with_len 0 (cpu_count_of t))) t.levels (planned_stack t planned) g found.1.0 (of_cpu c) (children_of t g) (group_at g found.0) found.1.1)
+      (child_level 0 (map of_cpu (range_with_len 0 (cpu_count_of t))) t.levels (planned_stack t planned) g found.1.0 (of_cpu c) (children_of t g) (group_at g found.0) found.1.1)
 
   level_up : (g p : ℕ) → parent_of t (of_group g) ≡ Some p → (g < p) × (level_of t p ≡ suc (level_of t g))
   unfolding groups_of
   level_up g p e =
       let found = has_child p (of_group g) e in
       ⊎_elim (λ low. absurd (cpu_no_group (0 + low.1.0) g (sym (from_range of_cpu 0 (cpu_count_of t) low.1.0 (of_group g) low.1.1).1)))
-          (λ high.
-              let same : high.0 ≡ g = omega (arith, same_group g (0 + high.0) high.1) in
-              (omega (arith, high.2), high.3 ∙ ap (λ h. suc (level_of t h)) same))
-          (child_level 0 (map of_cpu (range_with_len 0 (cpu_count_of t))) t.levels (planned_stack t planned) p found.1.0 (of_group g) (children_of t p) (group_at p found.0) found.1.1)
+      (λ high.
+      let same : high.0 ≡ g = omega (arith, same_group g (0 + high.0) high.1) in
+      (omega (arith, high.2), high.3 ∙ ap (λ h. suc (level_of t h)) same))
+      (child_level 0 (map of_cpu (range_with_len 0 (cpu_count_of t))) t.levels (planned_stack t planned) p found.1.0 (of_group g) (children_of t p) (group_at p found.0) found.1.1)
 
   pub level_laws : LevelLaws t
   unfolding groups_of
@@ -259,8 +259,9 @@ module _ (t : Shape) (planned : IsPlanned t) where
     leaf = level_leaf;
     parent = λ g p e. (level_up g p e).1;
     rising = λ g p e. (level_up g p e).0;
+    named = λ g h. same_place t.levels g h;
     within = λ g inside. level_below t.levels g inside;
-    highest = λ g inside. highest_level 0 (map of_cpu (range_with_len 0 (cpu_count_of t))) t.levels (planned_stack t planned) g inside
+    highest = λ g inside. highest_level 0 (map of_cpu (range_with_len 0 (cpu_count_of t))) t.levels (planned_stack t planned) g inside;
   }
 
   -- ---- what the groups are made of
@@ -272,7 +273,7 @@ module _ (t : Shape) (planned : IsPlanned t) where
   unfolding groups_of
   groups_few =
       let all : group_count_of t ≤ level_count_of t * cpu_count_of t =
-          subst (λ n. length (joined t.levels) ≤ level_count_of t * n) cpu_total (few_groups 0 (map of_cpu (range_with_len 0 (cpu_count_of t))) t.levels (planned_stack t planned)) in
+      subst (λ n. length (joined t.levels) ≤ level_count_of t * n) cpu_total (few_groups 0 (map of_cpu (range_with_len 0 (cpu_count_of t))) t.levels (planned_stack t planned)) in
       omega (arith, all, planned.limits.at_most_64_in_all, product_within (level_count_of t) (cpu_count_of t) 3 levels_few)
 
   pub cut_laws : CutLaws t
@@ -284,5 +285,5 @@ module _ (t : Shape) (planned : IsPlanned t) where
     some_child = λ g inside. (run_of g inside).some;
     at_most_8 = at_most_8;
     at_most_3_levels = levels_few;
-    at_most_192_groups = groups_few
+    at_most_192_groups = groups_few;
   }

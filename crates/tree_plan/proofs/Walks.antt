@@ -1,12 +1,12 @@
 -- the laws of paths follow from those of children, parents and levels
-use Rattle.std.proofs.Common.{◌≡◌, ℕ, zero, suc, ◌+◌, ◌-◌, ◌<◌, ◌≤◌, ◌⊎◌, inl, inr, ⊎_elim, List, [], ◌∷◌, length, refl, sym, ◌∙◌, ap, subst, arith, zero-add, add-zero}
+use Rattle.std.proofs.Common.{◌≡◌, ℕ, zero, suc, ◌+◌, ◌<◌, ◌≤◌, ⊎_elim, List, [], ◌∷◌, length, refl, sym, ◌∙◌, ap, arith, zero-add, add-zero}
 use Rattle.std.specs.Prelude.{Option, Some, None, slice_get, option_map, option_and_then, filter_map}
 use Rattle.std.specs.List.{range_with_len, cons_option}
 use Rattle.std.proofs.lemmas.Bool.{cases_lt}
 use Rattle.std.proofs.lemmas.Option.{none-some, same_Some, option_and_then_some, slice_get_past}
 use Rattle.tree_plan.specs.Shape.{Shape, Child}
 use Rattle.tree_plan.specs.Shape.Child.{of_cpu, of_group}
-use Rattle.tree_plan.specs.Paths.{cpu_count_of, group_count_of, level_count_of, level_of, child_at, parent_of, bit_of, group_at_of, child_towards, path_of}
+use Rattle.tree_plan.specs.Paths.{cpu_count_of, group_count_of, level_count_of, level_of, child_at, parent_of, bit_of, group_at_of, child_towards, path_of, IsBelow, IsUnder}
 use Rattle.tree_plan.specs.Laws.{CutLaws, EdgeLaws, LevelLaws, PathLaws}
 
 all_behind : {A : Type 0} (f : ℕ → Option A) (a n : ℕ) → ((k : ℕ) → k < suc n → (x : A) × (f (a + k) ≡ Some x)) → (k : ℕ) → k < n → (x : A) × (f (a + 1 + k) ≡ Some x)
@@ -25,7 +25,7 @@ get-filter_map f a (suc n) (suc i) all inside =
     let first = all 0 (omega arith) in
     let on : a + 1 + i ≡ a + suc i = omega arith in
     ap (λ o. slice_get (cons_option o (filter_map f (range_with_len (a + 1) n))) (suc i)) (ap f (sym (add-zero a)) ∙ first.1)
-        ∙ (get-filter_map f (a + 1) n i (all_behind f a n all) (omega arith) ∙ ap f on)
+    ∙ (get-filter_map f (a + 1) n i (all_behind f a n all) (omega arith) ∙ ap f on)
 
 length-filter_map : {A : Type 0} (f : ℕ → Option A) (a n : ℕ) → ((k : ℕ) → k < n → (x : A) × (f (a + k) ≡ Some x)) → length (filter_map f (range_with_len a n)) ≡ n
 length-filter_map f a zero all = refl
@@ -67,6 +67,23 @@ module _ (t : Shape) (cuts : CutLaws t) (edges : EdgeLaws t) (levels : LevelLaws
       let step = below c l g e in
       (of_group step.0, ap (option_map of_group) step.1, step.2, edges.child g (of_group step.0) step.2)
 
+  onwards : (c l : ℕ) (m : Child) → child_towards t c l ≡ Some m → group_at_of t c l ≡ parent_of t m
+  unfolding child_towards
+  onwards c zero m e = leaf c ∙ ap (parent_of t) (same_Some _ _ e)
+  onwards c (suc l) m e = by_group (group_at_of t c l) refl
+    where
+      by_group : (o : Option ℕ) → group_at_of t c l ≡ o → group_at_of t c (suc l) ≡ parent_of t m
+      by_group None below = absurd (none-some m (ap (option_map of_group) (sym below) ∙ e))
+      by_group (Some h) below = climb c l h below ∙ ap (parent_of t) (same_Some _ _ (ap (option_map of_group) (sym below) ∙ e))
+
+  below_at : (c g : ℕ) → IsBelow t c g → group_at_of t c (level_of t g) ≡ Some g
+  below_at c g on = ap (group_at_of t c) (level c on.0 g on.1) ∙ on.1
+
+  under : (c p : ℕ) (m : Child) → parent_of t m ≡ Some p → IsUnder t c m → child_towards t c (level_of t p) ≡ Some m
+  unfolding child_towards
+  under c p (of_cpu d) up same = ap (child_towards t c) (levels.leaf d p up) ∙ ap (λ n. Some (of_cpu n)) same
+  under c p (of_group g) up on = ap (child_towards t c) (levels.parent g p up) ∙ ap (option_map of_group) (below_at c g on)
+
   group_within : (c l g : ℕ) → group_at_of t c l ≡ Some g → g < group_count_of t
   group_within c l g e = let step = towards c l g e in edges.parent_within g step.0 step.2
 
@@ -91,8 +108,8 @@ module _ (t : Shape) (cuts : CutLaws t) (edges : EdgeLaws t) (levels : LevelLaws
   meet c d l zero same up = let none : 0 ≡ l = omega arith in ap (group_at_of t c) none ∙ (same ∙ ap (group_at_of t d) (sym none))
   meet c d l (suc n) same up =
       ⊎_elim (λ later. let here : suc n ≡ l = omega arith in ap (group_at_of t c) here ∙ (same ∙ ap (group_at_of t d) (sym here)))
-          (λ before. ap (option_and_then (λ g. parent_of t (of_group g))) (meet c d l n same before))
-          (cases_lt n l)
+      (λ before. ap (option_and_then (λ g. parent_of t (of_group g))) (meet c d l n same before))
+      (cases_lt n l)
 
   top : (c l g : ℕ) → c < cpu_count_of t → suc l ≡ level_count_of t → suc g ≡ group_count_of t → group_at_of t c l ≡ Some g
   top c l g inside highest last =
@@ -118,9 +135,9 @@ module _ (t : Shape) (cuts : CutLaws t) (edges : EdgeLaws t) (levels : LevelLaws
   some_cpu (suc l) g inside at =
       let first = edges.some_at g 0 (omega (arith, cuts.some_child g inside)) in
       below_child (suc l) g first.0 (edges.parent g 0 first.0 first.1) at (λ k h next within there.
-        let same : l ≡ k = omega arith in
-        let cpu = some_cpu l h within (there ∙ sym same) in
-        (cpu.0, cpu.1, ap (group_at_of t cpu.0) (sym same) ∙ cpu.2))
+      let same : l ≡ k = omega arith in
+      let cpu = some_cpu l h within (there ∙ sym same) in
+      (cpu.0, cpu.1, ap (group_at_of t cpu.0) (sym same) ∙ cpu.2))
 
   all_levels : (c : ℕ) → c < cpu_count_of t → (l : ℕ) → l < level_count_of t → (g : ℕ) × (group_at_of t c (0 + l) ≡ Some g)
   all_levels c inside l low = let here = there c l inside low in (here.0, ap (group_at_of t c) (zero-add l) ∙ here.1)
@@ -136,11 +153,11 @@ module _ (t : Shape) (cuts : CutLaws t) (edges : EdgeLaws t) (levels : LevelLaws
   unfolding path_of
   listed c l =
       ⊎_elim (λ inside.
-        ⊎_elim (λ low. get-filter_map (group_at_of t c) 0 (level_count_of t) l (all_levels c inside) low ∙ ap (group_at_of t c) (zero-add l))
-          (λ high. slice_get_past (filter_map (group_at_of t c) (range_with_len 0 (level_count_of t))) l (omega (arith, length-filter_map (group_at_of t c) 0 (level_count_of t) (all_levels c inside))) ∙ sym (beyond c l high))
-          (cases_lt l (level_count_of t)))
-          (λ outside. ap (λ gs. slice_get gs l) (none-filter_map (group_at_of t c) (range_with_len 0 (level_count_of t)) (nowhere c outside)) ∙ sym (nowhere c outside l))
-          (cases_lt c (cpu_count_of t))
+      ⊎_elim (λ low. get-filter_map (group_at_of t c) 0 (level_count_of t) l (all_levels c inside) low ∙ ap (group_at_of t c) (zero-add l))
+      (λ high. slice_get_past (filter_map (group_at_of t c) (range_with_len 0 (level_count_of t))) l (omega (arith, length-filter_map (group_at_of t c) 0 (level_count_of t) (all_levels c inside))) ∙ sym (beyond c l high))
+      (cases_lt l (level_count_of t)))
+      (λ outside. ap (λ gs. slice_get gs l) (none-filter_map (group_at_of t c) (range_with_len 0 (level_count_of t)) (nowhere c outside)) ∙ sym (nowhere c outside l))
+      (cases_lt c (cpu_count_of t))
 
   height : (c : ℕ) → c < cpu_count_of t → length (path_of t c) ≡ level_count_of t
   unfolding path_of
@@ -156,9 +173,12 @@ module _ (t : Shape) (cuts : CutLaws t) (edges : EdgeLaws t) (levels : LevelLaws
     cpu_within = cpu_within;
     group_within = group_within;
     towards = towards;
+    onwards = onwards;
+    below = below_at;
+    under = under;
     meet = λ c d l n g one two up. meet c d l n (one ∙ sym two) up;
     top = top;
     some_cpu = λ g inside. some_cpu (level_of t g) g inside refl;
     listed = listed;
-    height = height
+    height = height;
   }

@@ -1,9 +1,9 @@
 -- what holds of every planned tree, for walks up and down in it
-use Rattle.std.specs.Prelude.{◌≡◌, ◌↔◌, ℕ, suc, ◌+◌, ◌-◌, ◌*◌, ◌^◌, ◌<◌, ◌≤◌, ◌++◌, [], map, length, Option, Some, None, slice_get, option_map}
+use Rattle.std.specs.Prelude.{◌≡◌, ◌↔◌, ℕ, suc, ◌-◌, ◌^◌, ◌<◌, ◌≤◌, ◌++◌, [], map, length, Some, None, slice_get}
 use Rattle.std.specs.List.{range_with_len}
-use Rattle.tree_plan.specs.Shape.{Shape, Child, IsPlanned, joined, log2up}
+use Rattle.tree_plan.specs.Shape.{Shape, Child, joined, log2up}
 use Rattle.tree_plan.specs.Shape.Child.{of_cpu, of_group}
-use Rattle.tree_plan.specs.Paths.{cpu_count_of, group_count_of, level_count_of, groups_of, level_of, child_count_of, child_at, parent_of, bit_of, group_at_of, child_towards, path_of}
+use Rattle.tree_plan.specs.Paths.{cpu_count_of, group_count_of, level_count_of, groups_of, level_of, place_of, child_count_of, child_at, parent_of, bit_of, group_at_of, child_towards, path_of, IsBelow, IsUnder}
 
 -- the binary logarithm rounded up is the least m with 2 ^ m at least x
 pub record LogarithmLaws (x : ℕ) : Type 0 where
@@ -45,6 +45,8 @@ pub record LevelLaws (t : Shape) : Type 0 where
   pub parent : (g p : ℕ) → parent_of t (of_group g) ≡ Some p → level_of t p ≡ suc (level_of t g)
   pub rising : (g p : ℕ) → parent_of t (of_group g) ≡ Some p → g < p
   pub within : (g : ℕ) → g < group_count_of t → level_of t g < level_count_of t
+  -- a level and a place in it name one group
+  pub named : (g h : ℕ) → g < group_count_of t → h < group_count_of t → level_of t g ≡ level_of t h → place_of t g ≡ place_of t h → g ≡ h
   pub highest : (g : ℕ) → g < group_count_of t → (suc (level_of t g) ≡ level_count_of t) ↔ (suc g ≡ group_count_of t)
 
 -- a path climbs one level a step, and all paths end at the top
@@ -58,6 +60,10 @@ pub record PathLaws (t : Shape) : Type 0 where
   pub group_within : (c l g : ℕ) → group_at_of t c l ≡ Some g → g < group_count_of t
   -- the child through which the path goes stands in the group at its child number
   pub towards : (c l g : ℕ) → group_at_of t c l ≡ Some g → (m : Child) × (child_towards t c l ≡ Some m) × (parent_of t m ≡ Some g) × (child_at t g (bit_of t m) ≡ Some m)
+  -- and where the path goes through a child, it goes on in the child's parent
+  pub onwards : (c l : ℕ) (m : Child) → child_towards t c l ≡ Some m → group_at_of t c l ≡ parent_of t m
+  pub below : (c g : ℕ) → IsBelow t c g → group_at_of t c (level_of t g) ≡ Some g
+  pub under : (c p : ℕ) (m : Child) → parent_of t m ≡ Some p → IsUnder t c m → child_towards t c (level_of t p) ≡ Some m
   -- two paths that meet stay together
   pub meet : (c d l n g : ℕ) → group_at_of t c l ≡ Some g → group_at_of t d l ≡ Some g → l ≤ n → group_at_of t c n ≡ group_at_of t d n
   pub top : (c l g : ℕ) → c < cpu_count_of t → suc l ≡ level_count_of t → suc g ≡ group_count_of t → group_at_of t c l ≡ Some g

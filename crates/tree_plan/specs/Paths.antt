@@ -1,5 +1,5 @@
 -- what a tree says of its groups and CPUs
-use Rattle.std.specs.Prelude.{◌≡◌, ℕ, zero, suc, ◌+◌, ◌-◌, ◌*◌, ◌==◌, nat_lt, if◌then◌else◌, Bool, false, List, [], ◌∷◌, length, Option, Some, None, slice_get, slice_index_or, option_map, option_and_then, position, filter_map}
+use Rattle.std.specs.Prelude.{◌≡◌, ℕ, zero, suc, ◌-◌, ◌*◌, ◌==◌, nat_lt, if◌then◌else◌, Bool, false, List, [], ◌∷◌, length, Option, Some, None, slice_get, slice_index_or, option_map, option_and_then, position, filter_map}
 use Rattle.std.specs.List.{range_with_len, position_or_len, list_any}
 use Rattle.tree_plan.specs.Shape.{Shape, Child, joined}
 use Rattle.tree_plan.specs.Shape.Child.{of_cpu, of_group}
@@ -75,6 +75,11 @@ child_towards t c (suc l) = option_map of_group (group_at_of t c l)
 unfoldable pub path_of : Shape → ℕ → List ℕ
 path_of t c = filter_map (group_at_of t c) (range_with_len 0 (level_count_of t))
 
--- CPU c is below group g
+-- CPU c is below group g: the group is on its path
 abbrev pub IsBelow : Shape → (c g : ℕ) → Type 0
 IsBelow t c g = (l : ℕ) × (group_at_of t c l ≡ Some g)
+
+-- CPU c is this child or below it
+abbrev pub IsUnder : Shape → ℕ → Child → Type 0
+IsUnder t c (of_cpu d) = c ≡ d
+IsUnder t c (of_group g) = IsBelow t c g

@@ -55,6 +55,7 @@ levels_from inner (suc n) l first rows =
   where
     groups : List (List (List Child))
     groups = map cut (rows_at inner l rows)
+
     level : List (List Child)
     level = joined groups
 
@@ -69,7 +70,7 @@ abbrev pub tree_of : (nodes cpus : ℕ) → Shape
 tree_of nodes cpus = record {
   nodes = nodes;
   cpus = cpus;
-  levels = levels_from (levels_for cpus) (levels_for cpus + levels_for nodes) 0 0 (node_cpus nodes cpus)
+  levels = levels_from (levels_for cpus) (levels_for cpus + levels_for nodes) 0 0 (node_cpus nodes cpus);
 }
 
 -- the machines that a tree is planned for: 1 to 8 nodes of 1 to 64 CPUs each, and at most 64 CPUs in all

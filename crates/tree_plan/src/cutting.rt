@@ -50,7 +50,11 @@ fn cut_row(groups: &mut Vec<Group>, level: u8, first: u16, members: u8) -> Resul
     let mut left = members;
     while left > 0 {
         let children = left.min(8);
-        groups.push(Group { level, place, children })?;
+        groups.push(Group {
+            level,
+            place,
+            children,
+        })?;
         place += 1;
         left -= children;
     }
@@ -101,7 +105,12 @@ fn climb(rows: &mut Vec<u8>)
 
 /// Appends the groups of the next level, where the nodes have so many members left, and makes these groups the
 /// members of the level above.
-fn cut_next(groups: &mut Vec<Group>, level: u8, inner: u8, rows: &mut Vec<u8>) -> Result<(), NoMemory>
+fn cut_next(
+    groups: &mut Vec<Group>,
+    level: u8,
+    inner: u8,
+    rows: &mut Vec<u8>,
+) -> Result<(), NoMemory>
     requires some_row { 0 < vec_len rows.old }
     requires few { sum rows.old.items ≤ 64 }
     ensures groups { OnOk result (groups.new.items ≡ groups.old.items ++ listed level 0 (flat_map run_lengths (row_lengths_at inner level rows.old.items))) }

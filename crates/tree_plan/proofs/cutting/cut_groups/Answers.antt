@@ -17,7 +17,7 @@ loop-level-preserved c =
     let made = c.in_ok-cut_next.ensures in
     record {
       within = subst RowsWithin (sym made.rows) (next_within inner l.level l.rows.items l.invariant.within);
-      rest = built_more inner (inner + c.levels_for.result) l.level l.rows.items _ _ _ (omega arith) (λ one. c.if-members_of-eq1.false (c.members_of.ensures ∙ (ap sum c.as_slice.ensures.value ∙ one))) made.rows made.groups ∙ l.invariant.rest
+      rest = built_more inner (inner + c.levels_for.result) l.level l.rows.items _ _ _ (omega arith) (λ one. c.if-members_of-eq1.false (c.members_of.ensures ∙ (ap sum c.as_slice.ensures.value ∙ one))) made.rows made.groups ∙ l.invariant.rest;
     }
 
 pub returns : goal.returns
@@ -26,8 +26,8 @@ returns c =
     let inner = c.levels_for-inner.result in
     let left = inner + c.levels_for.result - l.level in
     let whole : listed_levels 0 (lengths_from inner (inner + c.levels_for.result) 0 c.in_ok-rows.rows.items) ≡ listed_levels 0 (lengths (tree_of c.args.nodes c.args.cpus).levels) =
-        built_from_start c.args.nodes c.args.cpus inner c.levels_for.result c.in_ok-rows.rows.items c.levels_for-inner.ensures c.levels_for.ensures (c.in_ok-rows.ensures.items_if_clones_equal (λ y same. same) ∙ ap (λ n. replicate n c.args.cpus) c.from.ensures) in
+    built_from_start c.args.nodes c.args.cpus inner c.levels_for.result c.in_ok-rows.rows.items c.levels_for-inner.ensures c.levels_for.ensures (c.in_ok-rows.ensures.items_if_clones_equal (λ y same. same) ∙ ap (λ n. replicate n c.args.cpus) c.from.ensures) in
     elim c.loop-level-test.branch [
-      else-loop-level-test w ↦ sym (built_all inner left l.level l.rows.items _ (inl (omega arith))) ∙ (l.invariant.rest ∙ whole)
+      | else-loop-level-test w ↦ sym (built_all inner left l.level l.rows.items _ (inl (omega arith))) ∙ (l.invariant.rest ∙ whole)
       | then-loop-level-test+then-members_of-eq1 w ↦ sym (built_all inner left l.level l.rows.items _ (inr (ap sum (sym w.as_slice.ensures.value) ∙ (sym w.members_of.ensures ∙ w.if-members_of-eq1.true)))) ∙ (l.invariant.rest ∙ whole)
     ]

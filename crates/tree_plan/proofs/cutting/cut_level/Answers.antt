@@ -9,7 +9,7 @@ loop-row-preserved c =
     let rows = c.args.rows.now in
     record {
       few = omega (arith, sum_by-drop_more (λ x. x) rows l.row-index 0 c.loop-row-test.true, c.in_ok-place.ensures.behind, l.invariant.few);
-      rest = level_more c.args.level l.place _ l.row-index rows _ _ c.loop-row-test.true c.in_ok-place.ensures.groups c.in_ok-place.ensures.behind ∙ l.invariant.rest
+      rest = level_more c.args.level l.place _ l.row-index rows _ _ c.loop-row-test.true c.in_ok-place.ensures.groups c.in_ok-place.ensures.behind ∙ l.invariant.rest;
     }
 
 pub returns : goal.returns

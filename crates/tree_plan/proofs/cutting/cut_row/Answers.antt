@@ -8,7 +8,7 @@ loop-left-preserved c =
     record {
       fits = omega arith;
       behind = omega (arith, c.min-children.ensures);
-      rest = row_more c.args.level l.place l.left c.min-children.result _ _ c.loop-left-test.true c.min-children.ensures c.in_ok-push.ensures.items ∙ l.invariant.rest
+      rest = row_more c.args.level l.place l.left c.min-children.result _ _ c.loop-left-test.true c.min-children.ensures c.in_ok-push.ensures.items ∙ l.invariant.rest;
     }
 
 pub returns-clause-groups : goal.returns-clause-groups

@@ -36,7 +36,7 @@ returns-in_default-parent-clause-none c =
     let t = c.args.self.now in
     let l = c.loop-below._below in
     none_where t c.cpu_link.ensures.planned c.args.c.0 c.args.level c.requires None
-        (sym (ended t c.args.c.0 (l + 1) c.args.level (climbed t c.args.c.0 l c.loop-below.at.0 None c.loop-below.invariant c.in_default-parent.ensures.parent) (omega arith)))
+    (sym (ended t c.args.c.0 (l + 1) c.args.level (climbed t c.args.c.0 l c.loop-below.at.0 None c.loop-below.invariant c.in_default-parent.ensures.parent) (omega arith)))
 
 pub loop-below-preserved : goal.loop-below-preserved
 loop-below-preserved c = climbed c.args.self.now c.args.c.0 c.loop-below._below c.loop-below.at.0 _ c.loop-below.invariant c.in-Some-parent.ensures.parent
