@@ -1,0 +1,11 @@
+pub mod Powers
+pub mod Lengths
+pub mod Cuts
+pub mod Building
+pub mod Stacks
+pub mod Gets
+pub mod Seats
+pub mod Trees
+pub mod Walks
+pub mod Stored
+pub mod Climbs

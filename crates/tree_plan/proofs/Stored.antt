@@ -1,0 +1,233 @@
+-- the stored groups and links say what the tree says
+use Rattle.std.proofs.Common.{◌≡◌, ℕ, zero, suc, ◌+◌, ◌-◌, ◌<◌, ◌≤◌, ⊎_elim, List, [], ◌∷◌, ◌++◌, length, map, refl, sym, ◌∙◌, ap, subst, arith, zero-add, add-zero, length-append}
+use Rattle.std.specs.Prelude.{◌*◌, Option, Some, None, slice_get, option_map, option_copied, position}
+use Rattle.std.proofs.lemmas.Bool.{cases_lt}
+use Rattle.std.proofs.lemmas.Option.{none-some, same_Some, slice_get-map, slice_get_past, slice_get_read}
+use Rattle.std.specs.Borrow.{Bor}
+use Rattle.std.specs.Slice.{IsGetResult}
+use Rattle.std.proofs.lemmas.List.{length-map, map-append}
+use Rattle.tree_plan.specs.declared.cutting.Group.{Group}
+use Rattle.tree_plan.specs.declared.cutting.Link.{Link}
+use Rattle.tree_plan.specs.Shape.{Shape, Child, IsPlanned, IsWithinLimits, joined, tree_of}
+use Rattle.tree_plan.specs.Shape.Child.{of_cpu, of_group}
+use Rattle.tree_plan.specs.Paths.{cpu_count_of, group_count_of, level_count_of, groups_of, level_in, place_in, level_of, place_of, children_of, child_count_of, child_at, parent_of, bit_in, bit_of}
+use Rattle.tree_plan.specs.Store.{listed, listed_levels, lengths, links_from, group_of, link_of, IsStored}
+use Rattle.tree_plan.proofs.Gets.{get_either, get_within, get_some, get_left, get_right}
+use Rattle.tree_plan.proofs.Seats.{has, seat_of, length-links_from}
+use Rattle.tree_plan.proofs.Stacks.{first_level, later_level, first_place, later_place}
+use Rattle.tree_plan.proofs.Trees.{group_at, cpu_there, group_there, child_total, alone, cut_laws, edge_laws, level_laws}
+
+length-listed : (level place : ℕ) (ns : List ℕ) → length (listed level place ns) ≡ length ns
+unfolding listed
+length-listed level place [] = refl
+length-listed level place (n ∷ ns) = ap suc (length-listed level (suc place) ns)
+
+get-listed : (level place : ℕ) (ns : List ℕ) (i n : ℕ) → slice_get ns i ≡ Some n → slice_get (listed level place ns) i ≡ Some (record { level = level; place = place + i; children = n })
+unfolding listed
+get-listed level place [] i n e = absurd (none-some n e)
+get-listed level place (m ∷ ns) zero n e =
+    λ i. Some (record { level = level; place = sym (add-zero place) i; children = same_Some m n e i })
+get-listed level place (m ∷ ns) (suc i) n e =
+    let on : suc place + i ≡ place + suc i = omega arith in
+    get-listed level (suc place) ns i n e ∙ ap (λ k. Some (record { level = level; place = k; children = n })) on
+
+length-listed_levels : (l : ℕ) (levels : List (List (List Child))) → length (listed_levels l (lengths levels)) ≡ length (joined levels)
+unfolding listed_levels
+length-listed_levels l [] = refl
+length-listed_levels l (level ∷ above) =
+    length-append (listed l 0 (map length level)) (listed_levels (suc l) (lengths above))
+    ∙ ((λ i. (length-listed l 0 (map length level) ∙ length-map level length) i + length-listed_levels (suc l) above i) ∙ sym (length-append level (joined above)))
+
+get-listed_levels : (l : ℕ) (levels : List (List (List Child))) (g : ℕ) (run : List Child) → slice_get (joined levels) g ≡ Some run → slice_get (listed_levels l (lengths levels)) g ≡ Some (record { level = l + level_in levels g; place = place_in levels g; children = length run })
+unfolding listed_levels
+get-listed_levels l [] g run e = absurd (none-some run e)
+get-listed_levels l (level ∷ above) g run e =
+    let here = listed l 0 (map length level) in
+    let later = listed_levels (suc l) (lengths above) in
+    let count : length here ≡ length level = length-listed l 0 (map length level) ∙ length-map level length in
+    ⊎_elim (λ low.
+    let inside = get_within level g run low in
+    let at_level : l ≡ l + level_in (level ∷ above) g = omega (arith, first_level level above g inside) in
+    let at_place : 0 + g ≡ place_in (level ∷ above) g = zero-add g ∙ sym (first_place level above g inside) in
+    get_left here later g (record { level = l; place = 0 + g; children = length run }) (get-listed l 0 (map length level) g (length run) (slice_get-map length level g ∙ ap (option_map length) low))
+    ∙ (λ i. Some (record { level = at_level i; place = at_place i; children = length run })))
+    (λ high.
+    let h = high.0 in
+    let at_level : suc l + level_in above h ≡ l + level_in (level ∷ above) g = omega (arith, later_level level above g h high.1) in
+    let at_place : place_in above h ≡ place_in (level ∷ above) g = sym (later_place level above g h high.1) in
+    ap (slice_get (here ++ later)) (high.1 ∙ ap (λ n. n + h) (sym count))
+    ∙ (get_right here later h ∙ (get-listed_levels (suc l) above h run high.2 ∙ (λ i. Some (record { level = at_level i; place = at_place i; children = length run })))))
+    (get_either level (joined above) g run e)
+
+-- what a link says of a child, and what the want of one says
+by_parent : {P : Type 0} (t : Shape) (m : Child) → (parent_of t m ≡ None → P) → ((p : ℕ) → parent_of t m ≡ Some p → P) → P
+by_parent {P} t m none some = go (parent_of t m) refl
+  where
+    go : (o : Option ℕ) → parent_of t m ≡ o → P
+    go None e = none e
+    go (Some p) e = some p e
+
+link_to_parent : Shape → Child → ℕ → Link
+link_to_parent t m p = record { parent = record { 0 = p }; bit = bit_of t m }
+
+pub parent_linked : (t : Shape) (m : Child) (l : Link) → Some l ≡ link_of t m → Some (l.parent.0) ≡ parent_of t m
+unfolding link_to_parent
+parent_linked t m l e =
+    by_parent t m (λ none. absurd (none-some l (sym (e ∙ ap (option_map (link_to_parent t m)) none))))
+    (λ p some. ap (λ (k : Link). Some (k.parent.0)) (same_Some _ _ (e ∙ ap (option_map (link_to_parent t m)) some)) ∙ sym some)
+
+pub bit_linked : (t : Shape) (m : Child) (l : Link) → Some l ≡ link_of t m → l.bit ≡ bit_of t m
+unfolding link_to_parent
+bit_linked t m l e =
+    by_parent t m (λ none. absurd (none-some l (sym (e ∙ ap (option_map (link_to_parent t m)) none))))
+    (λ p some. ap (λ (k : Link). k.bit) (same_Some _ _ (e ∙ ap (option_map (link_to_parent t m)) some)))
+
+pub parent_unlinked : (t : Shape) (m : Child) → None ≡ link_of t m → parent_of t m ≡ None
+unfolding link_to_parent
+parent_unlinked t m e =
+    by_parent t m (λ none. none) (λ p some. absurd (none-some (link_to_parent t m p) (e ∙ ap (option_map (link_to_parent t m)) some)))
+
+pub bit_unlinked : (t : Shape) (m : Child) → None ≡ link_of t m → 0 ≡ bit_of t m
+unfolding bit_of bit_in
+bit_unlinked t m e = sym (ap (bit_in t m) (parent_unlinked t m e))
+
+-- what `get` and `copied` give of a list
+pub copied_get : {X : Type 0} (xs : List X) (i : ℕ) (r : Option (Bor X)) → IsGetResult xs i i r → option_copied r ≡ slice_get xs i
+copied_get xs i None h = sym (slice_get_past xs i h.3)
+copied_get xs i (Some x) h = sym (slice_get_read xs (length xs) i x.now refl h.3.0 h.1)
+
+pub planned_tree : (nodes cpus : ℕ) → IsWithinLimits nodes cpus → IsPlanned (tree_of nodes cpus)
+planned_tree nodes cpus limits = record { limits = limits; tree = refl }
+
+-- ---- what is stored of a planned tree
+
+module _ (t : Shape) (planned : IsPlanned t) where
+  listed_group : (g : ℕ) → g < group_count_of t → slice_get (listed_levels 0 (lengths t.levels)) g ≡ Some (group_of t g)
+  unfolding groups_of
+  listed_group g inside =
+      get-listed_levels 0 t.levels g (children_of t g) (group_at t planned g inside)
+      ∙ ap (λ l. Some (record { level = l; place = place_of t g; children = child_count_of t g })) (zero-add (level_of t g))
+
+  -- a child's link leads to where it stands
+  listed_link : (i : ℕ) (m : Child) → slice_get (joined (groups_of t)) i ≡ Some m → slice_get (links_from 0 (map length (groups_of t))) i ≡ link_of t m
+  listed_link i m e =
+      let seat = seat_of 0 (groups_of t) i m e in
+      let edges = edge_laws t planned in
+      let run : children_of t seat.group ≡ seat.run = same_Some _ _ (sym (group_at t planned seat.group (get_within (groups_of t) seat.group seat.run seat.in_group)) ∙ seat.in_group) in
+      let child : child_at t seat.group seat.bit ≡ Some m = ap (λ ms. slice_get ms seat.bit) run ∙ seat.at_bit in
+      let to_group : ℕ → ℕ → Option Link = λ p k. Some (record { parent = record { 0 = p }; bit = k }) in
+      seat.linked ∙ (ap (λ p. to_group p seat.bit) (zero-add seat.group)
+      ∙ (ap (to_group seat.group) (sym (edges.bit seat.group seat.bit m child))
+      ∙ ap (option_map (λ p. record { parent = record { 0 = p }; bit = bit_of t m })) (sym (edges.parent seat.group seat.bit m child))))
+
+  -- nobody has a parent in a tree without levels
+  no_parent : (m : Child) → t.levels ≡ [] → parent_of t m ≡ None
+  unfolding parent_of groups_of
+  no_parent m none = ap (λ levels. position (has m) (joined levels)) none
+
+  no_links : t.levels ≡ [] → links_from 0 (map length (groups_of t)) ≡ []
+  unfolding groups_of links_from
+  no_links none = ap (λ levels. links_from 0 (map length (joined levels))) none
+
+  unlinked : (m : Child) → parent_of t m ≡ None → None ≡ link_of t m
+  unlinked m none = ap (option_map (λ p. record { parent = record { 0 = p }; bit = bit_of t m })) (sym none)
+
+  cpu_link_of : (c : ℕ) → c < cpu_count_of t → slice_get (links_from 0 (map length (groups_of t))) c ≡ link_of t (of_cpu c)
+  cpu_link_of c inside =
+      ⊎_elim (λ more. listed_link c (of_cpu c) (cpu_there t planned c more inside))
+      (λ few.
+      let none = alone t planned (omega (arith, inside)) in
+      ap (λ ls. slice_get ls c) (no_links none) ∙ unlinked (of_cpu c) (no_parent (of_cpu c) none))
+      (cases_lt 1 (cpu_count_of t))
+
+  group_link_of : (g : ℕ) → g < group_count_of t → slice_get (links_from 0 (map length (groups_of t))) (cpu_count_of t + g) ≡ link_of t (of_group g)
+  group_link_of g inside =
+      ⊎_elim (λ below. listed_link (cpu_count_of t + g) (of_group g) (group_there t planned g below))
+      (λ top. slice_get_past (links_from 0 (map length (groups_of t))) (cpu_count_of t + g) (omega (arith, length-links_from 0 (groups_of t), child_total t planned (omega arith)))
+      ∙ unlinked (of_group g) ((edge_laws t planned).top_parent g (omega arith)))
+      (cases_lt (suc g) (group_count_of t))
+
+  pub top_unlinked : (g : ℕ) → g < group_count_of t → None ≡ link_of t (of_group g) → g + 1 ≡ group_count_of t
+  top_unlinked g inside none =
+      ⊎_elim (λ below.
+      let up = (edge_laws t planned).group_parent g below in
+      absurd (none-some up.0 (sym (parent_unlinked t (of_group g) none) ∙ up.1)))
+      (λ top. omega arith)
+      (cases_lt (suc g) (group_count_of t))
+
+  pub no_top_linked : (g : ℕ) (l : Link) → Some l ≡ link_of t (of_group g) → g + 1 ≡ group_count_of t → ⊥
+  no_top_linked g l some last =
+      omega (arith, last, (edge_laws t planned).group_within g (l.parent.0) (sym (parent_linked t (of_group g) l some)))
+
+module _ (nodes cpus : ℕ) (groups : List Group) (links : List Link) (stored : IsStored nodes cpus groups links) (t : Shape) (view : tree_of nodes cpus ≡ t) where
+  pub is_planned : IsPlanned t
+  is_planned = subst IsPlanned view (planned_tree nodes cpus stored.limits)
+
+  pub group_total : length groups ≡ group_count_of t
+  unfolding groups_of
+  group_total = ap length stored.all_groups ∙ (length-listed_levels 0 (tree_of nodes cpus).levels ∙ ap (λ (s : Shape). length (joined s.levels)) view)
+
+  pub cpu_total : nodes * cpus ≡ cpu_count_of t
+  cpu_total = ap cpu_count_of view
+
+  -- a stored group
+  pub group_is : (g : ℕ) → g < group_count_of t → slice_get groups g ≡ Some (group_of t g)
+  group_is g inside =
+      ap (λ gs. slice_get gs g) stored.all_groups ∙ (ap (λ (s : Shape). slice_get (listed_levels 0 (lengths s.levels)) g) view ∙ listed_group t is_planned g inside)
+
+  all_links : links ≡ links_from 0 (map length (groups_of t))
+  all_links = stored.all_links ∙ ap (λ s. links_from 0 (map length (groups_of s))) view
+
+  -- the link of a CPU
+  pub cpu_link : (c : ℕ) → c < cpu_count_of t → slice_get links c ≡ link_of t (of_cpu c)
+  cpu_link c inside = ap (λ ls. slice_get ls c) all_links ∙ cpu_link_of t is_planned c inside
+
+  -- the link of a group
+  pub group_link : (g : ℕ) → g < group_count_of t → slice_get links (nodes * cpus + g) ≡ link_of t (of_group g)
+  group_link g inside = (λ i. slice_get (all_links i) (cpu_total i + g)) ∙ group_link_of t is_planned g inside
+
+  -- the last group is the top, on the highest level
+  pub top_level : (top : Group) → slice_get groups (length groups - 1) ≡ Some top → top.level + 1 ≡ level_count_of t
+  top_level top e =
+      let inside = get_within groups (length groups - 1) top e in
+      let g = length groups - 1 in
+      let within : g < group_count_of t = omega (arith, inside, group_total) in
+      let kept : level_of t g ≡ top.level = ap (λ (x : Group). x.level) (same_Some _ _ (sym (group_is g within) ∙ e)) in
+      omega (arith, kept, ((level_laws t is_planned).highest g within).1 (omega (arith, inside, group_total)))
+
+  pub no_level : slice_get groups (length groups - 1) ≡ None → 0 ≡ level_count_of t
+  no_level e =
+      ⊎_elim (λ some.
+      let top = get_some groups (length groups - 1) (omega (arith, group_total, (cut_laws t is_planned).some_group some)) in
+      absurd (none-some top.0 (sym e ∙ top.1)))
+      (λ none. omega arith)
+      (cases_lt 0 (level_count_of t))
+
+-- ---- a plan
+
+child_counts : (level place : ℕ) (ns : List ℕ) → map (λ (g : Group). g.children) (listed level place ns) ≡ ns
+unfolding listed
+child_counts level place [] = refl
+child_counts level place (n ∷ ns) = ap (λ ms. n ∷ ms) (child_counts level (suc place) ns)
+
+all_child_counts : (l : ℕ) (levels : List (List (List Child))) → map (λ (g : Group). g.children) (listed_levels l (lengths levels)) ≡ map length (joined levels)
+unfolding listed_levels
+all_child_counts l [] = refl
+all_child_counts l (level ∷ above) =
+    map-append (λ (g : Group). g.children) (listed l 0 (map length level)) (listed_levels (suc l) (lengths above))
+    ∙ ((λ i. child_counts l 0 (map length level) i ++ all_child_counts (suc l) above i) ∙ sym (map-append length level (joined above)))
+
+-- the groups that were cut are few
+pub plan_total : (nodes cpus : ℕ) (groups : List Group) → IsWithinLimits nodes cpus → groups ≡ listed_levels 0 (lengths (tree_of nodes cpus).levels) → length groups ≤ 192
+unfolding groups_of
+plan_total nodes cpus groups limits made =
+    omega (arith, ap length made, length-listed_levels 0 (tree_of nodes cpus).levels, (cut_laws (tree_of nodes cpus) (planned_tree nodes cpus limits)).at_most_192_groups)
+
+-- and with the links of their children they are the tree
+pub plan_stored : (nodes cpus : ℕ) (groups given : List Group) (links : List Link) → IsWithinLimits nodes cpus → groups ≡ listed_levels 0 (lengths (tree_of nodes cpus).levels) → given ≡ groups → links ≡ links_from 0 (map (λ (g : Group). g.children) given) → IsStored nodes cpus groups links
+unfolding groups_of
+plan_stored nodes cpus groups given links limits made same linked = record {
+  limits = limits;
+  all_groups = made;
+  all_links = linked ∙ ap (links_from 0) (ap (map (λ (g : Group). g.children)) (same ∙ made) ∙ all_child_counts 0 (tree_of nodes cpus).levels);
+}

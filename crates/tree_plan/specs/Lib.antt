@@ -1,0 +1,4 @@
+pub mod Shape
+pub mod Paths
+pub mod Laws
+pub mod Store

@@ -1,0 +1,85 @@
+-- what a tree says of its groups and CPUs
+use Rattle.std.specs.Prelude.{◌≡◌, ℕ, zero, suc, ◌-◌, ◌*◌, ◌==◌, nat_lt, if◌then◌else◌, Bool, false, List, [], ◌∷◌, length, Option, Some, None, slice_get, slice_index_or, option_map, option_and_then, position, filter_map}
+use Rattle.std.specs.List.{range_with_len, position_or_len, list_any}
+use Rattle.tree_plan.specs.Shape.{Shape, Child, joined}
+use Rattle.tree_plan.specs.Shape.Child.{of_cpu, of_group}
+
+unfoldable pub same_child : Child → Child → Bool
+same_child (of_cpu c) (of_cpu d) = c == d
+same_child (of_cpu c) (of_group g) = false
+same_child (of_group g) (of_cpu c) = false
+same_child (of_group g) (of_group h) = g == h
+
+-- all groups in the order of their numbers, which go level by level from the leaves. Each is the list of its children in the order of their child numbers
+unfoldable pub groups_of : Shape → List (List Child)
+groups_of t = joined t.levels
+
+abbrev pub cpu_count_of : Shape → ℕ
+cpu_count_of t = t.nodes * t.cpus
+
+abbrev pub group_count_of : Shape → ℕ
+group_count_of t = length (groups_of t)
+
+abbrev pub level_count_of : Shape → ℕ
+level_count_of t = length t.levels
+
+-- the level at which the g-th group of these levels stands, the lowest of them counted as 0
+unfoldable pub level_in : List (List (List Child)) → ℕ → ℕ
+level_in [] g = 0
+level_in (level ∷ above) g = if nat_lt g (length level) then 0 else (suc (level_in above (g - length level)))
+
+-- how many groups of its level stand before the g-th group of these levels
+unfoldable pub place_in : List (List (List Child)) → ℕ → ℕ
+place_in [] g = 0
+place_in (level ∷ above) g = if nat_lt g (length level) then g else place_in above (g - length level)
+
+abbrev pub level_of : Shape → ℕ → ℕ
+level_of t g = level_in t.levels g
+
+abbrev pub place_of : Shape → ℕ → ℕ
+place_of t g = place_in t.levels g
+
+unfoldable pub children_of : Shape → ℕ → List Child
+children_of t g = slice_index_or (groups_of t) g []
+
+abbrev pub child_count_of : Shape → ℕ → ℕ
+child_count_of t g = length (children_of t g)
+
+-- the child of group g with the child number k
+abbrev pub child_at : Shape → ℕ → ℕ → Option Child
+child_at t g k = slice_get (children_of t g) k
+
+-- the group that has this child: the leaf of a CPU, or the parent of a group
+unfoldable pub parent_of : Shape → Child → Option ℕ
+parent_of t m = position (λ children. list_any (same_child m) children) (groups_of t)
+
+-- the child number of m in this group, and 0 without a group
+unfoldable pub bit_in : Shape → Child → Option ℕ → ℕ
+bit_in t m None = 0
+bit_in t m (Some g) = position_or_len (same_child m) (children_of t g)
+
+unfoldable pub bit_of : Shape → Child → ℕ
+bit_of t m = bit_in t m (parent_of t m)
+
+-- the group of CPU c's path at level l: at level 0 its leaf, and then each time the parent
+unfoldable pub group_at_of : Shape → (c l : ℕ) → Option ℕ
+group_at_of t c zero = parent_of t (of_cpu c)
+group_at_of t c (suc l) = option_and_then (λ g. parent_of t (of_group g)) (group_at_of t c l)
+
+-- the child through which CPU c's path goes at level l: the CPU itself at a leaf, and the group one level below elsewhere
+unfoldable pub child_towards : Shape → (c l : ℕ) → Option Child
+child_towards t c zero = Some (of_cpu c)
+child_towards t c (suc l) = option_map of_group (group_at_of t c l)
+
+-- the path of CPU c: its groups from the leaf to the top
+unfoldable pub path_of : Shape → ℕ → List ℕ
+path_of t c = filter_map (group_at_of t c) (range_with_len 0 (level_count_of t))
+
+-- CPU c is below group g: the group is on its path
+abbrev pub IsBelow : Shape → (c g : ℕ) → Type 0
+IsBelow t c g = (l : ℕ) × (group_at_of t c l ≡ Some g)
+
+-- CPU c is this child or below it
+abbrev pub IsUnder : Shape → ℕ → Child → Type 0
+IsUnder t c (of_cpu d) = c ≡ d
+IsUnder t c (of_group g) = IsBelow t c g

@@ -1,0 +1,61 @@
+-- how a tree is kept: its groups in the order of their numbers, and for each child, the CPUs first and then the groups, the group that has it and its child number there
+use Rattle.std.specs.Prelude.{◌≡◌, ℕ, zero, suc, ◌+◌, ◌-◌, ◌/◌, min, nat_lt, if◌then◌else◌, List, [], ◌∷◌, ◌++◌, length, map, sum, Option, option_map}
+use Rattle.std.specs.List.{range_with_len}
+use Rattle.tree_plan.specs.declared.cutting.Group.{Group}
+use Rattle.tree_plan.specs.declared.cutting.Link.{Link}
+use Rattle.tree_plan.specs.Shape.{Shape, Child, IsWithinLimits, tree_of}
+use Rattle.tree_plan.specs.Paths.{groups_of, level_of, place_of, child_count_of, parent_of, bit_of}
+
+-- the lengths of n runs of eight of a list of m, as far as it goes
+unfoldable pub lengths_of : (n m : ℕ) → List ℕ
+lengths_of zero m = []
+lengths_of (suc n) m = min 8 m ∷ lengths_of n (m - 8)
+
+-- how many groups a row of m members is cut into, and how many children each of them has
+abbrev pub groups_for : ℕ → ℕ
+groups_for m = (m + 7) / 8
+
+abbrev pub run_lengths : ℕ → List ℕ
+run_lengths m = lengths_of (groups_for m) m
+
+-- how many members each row has that level l cuts, where the nodes have so many
+abbrev pub row_lengths_at : (inner l : ℕ) → List ℕ → List ℕ
+row_lengths_at inner l rows = if nat_lt l inner then rows else (sum rows ∷ [])
+
+-- groups of one level with these numbers of children, from a place in it on
+unfoldable pub listed : (level place : ℕ) → List ℕ → List Group
+listed level place [] = []
+listed level place (n ∷ ns) =
+    record { level = level; place = place; children = n } ∷ listed level (suc place) ns
+
+-- the groups of these levels, the lowest of which is `level`
+unfoldable pub listed_levels : ℕ → List (List ℕ) → List Group
+listed_levels level [] = []
+listed_levels level (ns ∷ above) = listed level 0 ns ++ listed_levels (suc level) above
+
+-- how many children each group of each level has
+abbrev pub lengths : List (List (List Child)) → List (List ℕ)
+lengths levels = map (λ level. map length level) levels
+
+-- the links of n children to group g
+unfoldable pub links_to : (g n : ℕ) → List Link
+links_to g n = map (λ k. record { parent = record { 0 = g }; bit = k }) (range_with_len 0 n)
+
+-- the links of the children of groups with these numbers of children, the first of which is group g
+unfoldable pub links_from : ℕ → List ℕ → List Link
+links_from g [] = []
+links_from g (n ∷ ns) = links_to g n ++ links_from (suc g) ns
+
+-- a group as it is kept
+abbrev pub group_of : Shape → ℕ → Group
+group_of t g = record { level = level_of t g; place = place_of t g; children = child_count_of t g }
+
+-- the link of a child to its parent, if it has one
+abbrev pub link_of : Shape → Child → Option Link
+link_of t m = option_map (λ p. record { parent = record { 0 = p }; bit = bit_of t m }) (parent_of t m)
+
+-- these are the groups and the links of the tree of this machine
+pub record IsStored (nodes cpus : ℕ) (groups : List Group) (links : List Link) : Type 0 where
+  pub limits : IsWithinLimits nodes cpus
+  pub all_groups : groups ≡ listed_levels 0 (lengths (tree_of nodes cpus).levels)
+  pub all_links : links ≡ links_from 0 (map length (groups_of (tree_of nodes cpus)))

@@ -1,0 +1,164 @@
+//! How a machine is cut into groups, and how every child is linked to its group.
+
+ghost use Rattle.std.specs.Prelude.{◌≡◌, ◌+◌, ◌*◌, ◌^◌, ◌<◌, ◌≤◌, [], ◌∷◌, ◌++◌, length, map, sum, flat_map, vec_len, IfOk, OnOk};
+ghost use Rattle.tree_plan.specs.Shape.{IsWithinLimits, levels_for, tree_of};
+ghost use Rattle.tree_plan.specs.Store.{groups_for, run_lengths, row_lengths_at, listed, listed_levels, lengths, links_to, links_from};
+
+use std::alloc::Global;
+use tm_base::{GroupId, NoMemory};
+
+/// A group of the tree, without what is active in it.
+#[derive(Clone, Copy, Debug)]
+pub(crate) struct Group {
+    /// Its level, 0 for a leaf.
+    pub(crate) level: u8,
+    /// How many groups of its level come before it.
+    pub(crate) place: u16,
+    /// How many children it has, 1 to 8.
+    pub(crate) children: u8,
+}
+
+/// The way from a child up to its group.
+#[derive(Clone, Copy, Debug)]
+pub(crate) struct Link {
+    /// The group that has the child.
+    pub(crate) parent: GroupId,
+    /// The child's number there, below 8.
+    pub(crate) bit: u8,
+}
+
+/// How many levels of eight to a group bring so many members down to one: ceil(log2up(members) / 3).
+pub(crate) fn levels_for(members: u8) -> u8
+    ensures { result ≡ levels_for members }
+{
+    match members {
+        0..=1 => 0,
+        2..=8 => 1,
+        9..=64 => 2,
+        _ => 3,
+    }
+}
+
+/// Appends the groups of one row of members, full ones as far as the row goes and one with what is left.
+/// Answers the place behind them in their level.
+fn cut_row(groups: &mut Vec<Group>, level: u8, first: u16, members: u8) -> Result<u16, NoMemory>
+    requires { first + members < 2 ^ 16 }
+    ensures groups { OnOk result (groups.new.items ≡ groups.old.items ++ listed level first (run_lengths members)) }
+    ensures behind { IfOk result (λ place. place ≡ first + groups_for members) }
+{
+    let mut place = first;
+    let mut left = members;
+    while left > 0 {
+        let children = left.min(8);
+        groups.push(Group {
+            level,
+            place,
+            children,
+        })?;
+        place += 1;
+        left -= children;
+    }
+    Ok(place)
+}
+
+/// Appends the groups of a level that cuts rows of so many members, at most 64 in all.
+fn cut_level(groups: &mut Vec<Group>, level: u8, rows: &[u8]) -> Result<(), NoMemory>
+    requires { sum rows.now ≤ 64 }
+    ensures { OnOk result (groups.new.items ≡ groups.old.items ++ listed level 0 (flat_map run_lengths rows.now)) }
+{
+    let mut place = 0;
+    for row in rows {
+        place = cut_row(groups, level, place, *row)?;
+    }
+    Ok(())
+}
+
+/// How many members all rows have.
+fn members_of(rows: &[u8]) -> u8
+    requires { sum rows.now ≤ 64 }
+    ensures { result ≡ sum rows.now }
+{
+    rows.iter().sum()
+}
+
+/// Puts the members of all rows into one from level `inner` on, where groups take their children from all nodes.
+fn merge_across(rows: &mut Vec<u8>, level: u8, inner: u8)
+    requires some_row { 0 < vec_len rows.old }
+    requires few { sum rows.old.items ≤ 64 }
+    ensures { rows.new.items ≡ row_lengths_at inner level rows.old.items }
+{
+    if level >= inner {
+        let members = members_of(rows.as_slice());
+        rows.truncate(1);
+        rows[0] = members;
+    }
+}
+
+/// Makes the groups of each row the members of the next level.
+fn climb(rows: &mut Vec<u8>)
+    ensures { rows.new.items ≡ map groups_for rows.old.items }
+{
+    for row in rows.iter_mut() {
+        *row = row.div_ceil(8);
+    }
+}
+
+/// Appends the groups of the next level, where the nodes have so many members left, and makes these groups the
+/// members of the level above.
+fn cut_next(
+    groups: &mut Vec<Group>,
+    level: u8,
+    inner: u8,
+    rows: &mut Vec<u8>,
+) -> Result<(), NoMemory>
+    requires some_row { 0 < vec_len rows.old }
+    requires few { sum rows.old.items ≤ 64 }
+    ensures groups { OnOk result (groups.new.items ≡ groups.old.items ++ listed level 0 (flat_map run_lengths (row_lengths_at inner level rows.old.items))) }
+    ensures rows { OnOk result (rows.new.items ≡ map groups_for (row_lengths_at inner level rows.old.items)) }
+{
+    merge_across(rows, level, inner);
+    cut_level(groups, level, rows.as_slice())?;
+    climb(rows);
+    Ok(())
+}
+
+/// The groups of the tree in the order of their numbers. As the kernel's `tmigr_setup_groups` it stops at the
+/// first level with one group.
+pub(crate) fn cut_groups(alloc: Global, nodes: u8, cpus: u8) -> Result<Vec<Group>, NoMemory>
+    requires { IsWithinLimits nodes cpus }
+    ensures { IfOk result (λ groups. groups.items ≡ listed_levels 0 (lengths (tree_of nodes cpus).levels)) }
+{
+    let inner = levels_for(cpus);
+    let most = inner + levels_for(nodes);
+    let mut rows = vec![in alloc; cpus; usize::from(nodes)]?;
+    let mut groups = Vec::new(alloc);
+    for level in 0..most {
+        if members_of(rows.as_slice()) == 1 {
+            break;
+        }
+        cut_next(&mut groups, level, inner, &mut rows)?;
+    }
+    Ok(groups)
+}
+
+/// Appends the links of a group's children.
+fn link_to(links: &mut Vec<Link>, parent: GroupId, children: u8) -> Result<(), NoMemory>
+    ensures { OnOk result (links.new.items ≡ links.old.items ++ links_to parent.0 children) }
+{
+    for bit in 0..children {
+        links.push(Link { parent, bit })?;
+    }
+    Ok(())
+}
+
+/// The link of every child: of the CPUs in ascending order, and then of the groups but for the top.
+pub(crate) fn link_children(alloc: Global, groups: &[Group]) -> Result<Vec<Link>, NoMemory>
+    requires { length groups.now < 2 ^ 16 }
+    ensures { IfOk result (λ links. links.items ≡ links_from 0 (map (λ g. g.children) groups.now)) }
+{
+    let mut links = Vec::new(alloc);
+    for (number, group) in groups.iter().enumerate() {
+        link_to(&mut links, GroupId(number as u16), group.children)?;
+    }
+    Ok(links)
+}

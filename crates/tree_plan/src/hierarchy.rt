@@ -1,0 +1,180 @@
+//! The planned tree and its readers.
+
+ghost use Rattle.std.specs.Prelude.{◌≡◌, ℕ, ◌+◌, ◌*◌, ◌<◌, ◌≤◌, ◌↔◌, length, map, IfOk, IsNone, option_map};
+ghost use Rattle.tree_plan.specs.Shape.{Shape, IsWithinLimits, IsPlanned, tree_of};
+ghost use Rattle.tree_plan.specs.Shape.Child.{of_cpu, of_group};
+ghost use Rattle.tree_plan.specs.Paths.{cpu_count_of, group_count_of, level_count_of, level_of, place_of, child_count_of, parent_of, bit_of, group_at_of};
+ghost use Rattle.tree_plan.specs.Store.{group_of, link_of};
+
+use crate::cutting::{Group, Link, cut_groups, link_children};
+use std::alloc::Global;
+use std::marker::Model;
+use tm_base::{CpuId, GroupId, NoMemory};
+
+/// The tree of a machine. Groups are numbered level by level from the leaves, and in a level in ascending order.
+#[derive(Debug, Drop)]
+pub struct Tree {
+    nodes: u8,
+    cpus: u8,
+    groups: Vec<Group>,
+    links: Vec<Link>,
+}
+
+impl Model for Tree {
+    ghost use Rattle.tree_plan.specs.Shape.{Shape, tree_of};
+    ghost use Rattle.tree_plan.specs.Store.{IsStored};
+
+    ghost Value = { Shape };
+
+    ghost view = { λ t. tree_of t.nodes t.cpus };
+
+    ghost invariant = { λ t. IsStored t.nodes t.cpus t.groups.items t.links.items };
+}
+
+/// Plans the tree of a machine of so many nodes with so many CPUs each: 1 to 8 nodes of 1 to 64 CPUs, and at
+/// most 64 CPUs in all. One CPU alone has no group. The only error is want of memory.
+pub fn plan(alloc: Global, nodes: u8, cpus: u8) -> Result<Tree, NoMemory>
+    requires { IsWithinLimits nodes cpus }
+    ensures tree { IfOk result (λ t. t ≡ tree_of nodes cpus) }
+    ensures planned { IfOk result IsPlanned }
+{
+    let groups = cut_groups(alloc, nodes, cpus)?;
+    let links = link_children(alloc, groups.as_slice())?;
+    Ok(Tree {
+        nodes,
+        cpus,
+        groups,
+        links,
+    })
+}
+
+impl Tree {
+    /// The number of CPUs, 1 to 64.
+    pub fn cpu_count(&self) -> u16
+        ensures count { result ≡ cpu_count_of self.now }
+        ensures planned { IsPlanned self.now }
+    {
+        u16::from(self.nodes) * u16::from(self.cpus)
+    }
+
+    /// The number of groups, 0 where there is one CPU alone.
+    pub fn group_count(&self) -> u16
+        ensures { result ≡ group_count_of self.now }
+    {
+        self.groups.len() as u16
+    }
+
+    /// The number of levels built, 0 where there is one CPU alone. Level 0 has the leaves.
+    pub fn levels(&self) -> u8
+        ensures { result ≡ level_count_of self.now }
+    {
+        match self.groups.last() {
+            Some(top) => top.level + 1,
+            None => 0,
+        }
+    }
+
+    /// The level of a group.
+    pub fn level(&self, g: GroupId) -> u8
+        requires { g.0 < group_count_of self.now }
+        ensures { result ≡ level_of self.now g.0 }
+    {
+        self.group(g).level
+    }
+
+    /// The index of a group in its level.
+    pub fn place(&self, g: GroupId) -> u16
+        requires { g.0 < group_count_of self.now }
+        ensures { result ≡ place_of self.now g.0 }
+    {
+        self.group(g).place
+    }
+
+    /// The number of children of a group, 1 to 8. They have the child numbers from 0 on.
+    pub fn children(&self, g: GroupId) -> u8
+        requires { g.0 < group_count_of self.now }
+        ensures { result ≡ child_count_of self.now g.0 }
+    {
+        self.group(g).children
+    }
+
+    /// The group that has this group as a child. Only the top has none.
+    pub fn parent(&self, g: GroupId) -> Option<GroupId>
+        requires { g.0 < group_count_of self.now }
+        ensures parent { option_map (λ p. p.0) result ≡ parent_of self.now (of_group g.0) }
+        ensures top { IsNone result ↔ (g.0 + 1 ≡ group_count_of self.now) }
+    {
+        let Some(link) = self.group_link(g) else {
+            return None;
+        };
+        Some(link.parent)
+    }
+
+    /// The child number of a group in its parent (the kernel keeps it as the one bit of `childmask`), 0 at the top.
+    pub fn bit(&self, g: GroupId) -> u8
+        requires { g.0 < group_count_of self.now }
+        ensures { result ≡ bit_of self.now (of_group g.0) }
+    {
+        match self.group_link(g) {
+            Some(link) => link.bit,
+            None => 0,
+        }
+    }
+
+    /// The child number of a CPU in its leaf, 0 where it has none.
+    pub fn cpu_bit(&self, c: CpuId) -> u8
+        requires { c.0 < cpu_count_of self.now }
+        ensures { result ≡ bit_of self.now (of_cpu c.0) }
+    {
+        match self.cpu_link(c) {
+            Some(link) => link.bit,
+            None => 0,
+        }
+    }
+
+    /// The group of a CPU's path at a level. None exactly where the tree has no such level.
+    pub fn group_at(&self, c: CpuId, level: u8) -> Option<GroupId>
+        requires { c.0 < cpu_count_of self.now }
+        ensures group { option_map (λ g. g.0) result ≡ group_at_of self.now c.0 level }
+        ensures none { IsNone result ↔ (level_count_of self.now ≤ level) }
+    {
+        let Some(link) = self.cpu_link(c) else {
+            return None;
+        };
+        let mut at = link.parent;
+        for _below in 0..level {
+            let Some(above) = self.parent(at) else {
+                return None;
+            };
+            at = above;
+        }
+        Some(at)
+    }
+
+    /// A group as it is kept.
+    fn group(&self, g: GroupId) -> Group
+        requires { g.0 < group_count_of self.now }
+        ensures { result ≡ group_of self.now g.0 }
+    {
+        self.groups[usize::from(g.0)]
+    }
+
+    /// The link of a CPU to its leaf, None where it stands alone.
+    fn cpu_link(&self, c: CpuId) -> Option<Link>
+        requires { c.0 < cpu_count_of self.now }
+        ensures link { result ≡ link_of self.now (of_cpu c.0) }
+        ensures planned { IsPlanned self.now }
+    {
+        self.links.get(usize::from(c.0)).copied()
+    }
+
+    /// The link of a group to its parent, None at the top.
+    fn group_link(&self, g: GroupId) -> Option<Link>
+        requires { g.0 < group_count_of self.now }
+        ensures link { result ≡ link_of self.now (of_group g.0) }
+        ensures planned { IsPlanned self.now }
+    {
+        let cpus = usize::from(self.nodes) * usize::from(self.cpus);
+        self.links.get(cpus + usize::from(g.0)).copied()
+    }
+}
