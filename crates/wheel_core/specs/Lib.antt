@@ -1,0 +1,2 @@
+pub mod WheelExpiry
+pub mod PlainBase

@@ -1,0 +1,99 @@
+-- timer bases as plain data: a list of items and a clock, how they are forwarded, added to and handed out
+use Rattle.std.specs.Prelude.{ℕ, ◌+◌, ◌≤◌, List, [], ◌∷◌, ◌++◌, Option, Some, None, min, max, nat_lt, nat_le, ◌==◌, if◌then◌else◌, find, filter}
+use Rattle.std.specs.Option.{ForSome}
+use Rattle.wheel_core.specs.WheelExpiry.{wheel_expiry_of, wheel_level_of}
+use Rattle.wheel_core.specs.declared.item.Item.{Item}
+
+-- the queued items in arming order, and the clock
+pub record PlainBase : Type 0 where
+  pub items : List Item
+  pub clock : ℕ
+
+-- nothing queued, at the start of time
+abbrev pub empty_base : PlainBase
+empty_base = record { items = []; clock = 0 }
+
+-- the sooner of an expiry and another one that may be there
+abbrev pub sooner : ℕ → Option ℕ → ℕ
+sooner wheel None = wheel
+sooner wheel (Some other) = min wheel other
+
+-- the least wheel expiry, none where nothing is queued
+abbrev pub least : List Item → Option ℕ
+least [] = None
+least (item ∷ items) = Some (sooner item.wheel (least items))
+
+-- no queued wheel expiry is below the clock
+abbrev pub NoneBehind : PlainBase → Type 0
+NoneBehind base = ForSome (least base.items) (λ wheel. base.clock ≤ wheel)
+
+-- FORWARDING: where the clock is behind now, it becomes the least wheel expiry if that isn't past now, and now otherwise
+abbrev pub clock_forwarded : (now clock : ℕ) → Option ℕ → ℕ
+clock_forwarded now clock None = if nat_lt clock now then now else clock
+clock_forwarded now clock (Some wheel) = if nat_lt clock now then (if nat_le wheel now then wheel else now) else clock
+
+abbrev pub forwarded : (now : ℕ) → PlainBase → PlainBase
+forwarded now base = record base { clock = clock_forwarded now base.clock (least base.items) }
+
+-- ADDING: the item that a timer becomes in a base of this clock goes to the end of the list
+abbrev pub placed : (clock id expires job arg : ℕ) → Item
+placed clock id expires job arg = record {
+  id = id;
+  expires = expires;
+  wheel = wheel_expiry_of expires clock;
+  level = wheel_level_of expires clock;
+  job = job;
+  arg = arg;
+}
+
+abbrev pub added : PlainBase → (id expires job arg : ℕ) → PlainBase
+added base id expires job arg = record base { items = base.items ++ placed base.clock id expires job arg ∷ [] }
+
+-- the queued item of an id
+abbrev pub item_of : (id : ℕ) → List Item → Option Item
+item_of id items = find (λ item. item.id == id) items
+
+-- the items without that of an id
+abbrev pub without : (id : ℕ) → List Item → List Item
+without id [] = []
+without id (item ∷ items) = if item.id == id then items else item ∷ without id items
+
+abbrev pub removed : (id : ℕ) → PlainBase → PlainBase
+removed id base = record base { items = without id base.items }
+
+-- the highest level in a list of items
+abbrev pub highest : List Item → ℕ
+highest [] = 0
+highest (item ∷ items) = max item.level (highest items)
+
+-- the last item of a list
+abbrev pub last_armed : List Item → Option Item
+last_armed [] = None
+last_armed (item ∷ items) = elim (last_armed items) [ None ↦ Some item | Some later ↦ Some later ]
+
+-- of the items of a wheel expiry those of the highest level, and of these the last armed
+unfoldable pub first_out : (wheel : ℕ) → List Item → Option Item
+first_out wheel items =
+    let bucket = filter (λ item. item.wheel == wheel) items in
+    last_armed (filter (λ item. item.level == highest bucket) bucket)
+
+-- HAND-OUT: what goes out next at a time, from the items of the least wheel expiry where that isn't past now
+abbrev pub out_at : (now : ℕ) → Option ℕ → List Item → Option Item
+out_at now None items = None
+out_at now (Some wheel) items = if nat_le wheel now then first_out wheel items else None
+
+abbrev pub next_out : (now : ℕ) → PlainBase → Option Item
+next_out now base = out_at now (least base.items) base.items
+
+-- the base after an item went out; the clock is then past its wheel expiry
+abbrev pub after_out : PlainBase → Option Item → PlainBase
+after_out base None = base
+after_out base (Some item) = record { items = without item.id base.items; clock = max base.clock (item.wheel + 1) }
+
+abbrev pub taken : (now : ℕ) → PlainBase → PlainBase
+taken now base = after_out base (next_out now base)
+
+-- the id of the first item in arming order
+abbrev pub oldest_of : List Item → Option ℕ
+oldest_of [] = None
+oldest_of (item ∷ items) = Some item.id
