@@ -1,2 +1,4 @@
 pub mod WheelExpiry
 pub mod PlainBase
+pub mod ListBase
+pub mod Scan

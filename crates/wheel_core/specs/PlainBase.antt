@@ -1,5 +1,5 @@
 -- timer bases as plain data: a list of items and a clock, how they are forwarded, added to and handed out
-use Rattle.std.specs.Prelude.{ℕ, ◌+◌, ◌≤◌, List, [], ◌∷◌, ◌++◌, Option, Some, None, min, max, nat_lt, nat_le, ◌==◌, if◌then◌else◌, find, filter}
+use Rattle.std.specs.Prelude.{◌≡◌, ℕ, ◌+◌, ◌^◌, ◌<◌, ◌≤◌, All, Contains, MatchOption, List, [], ◌∷◌, ◌++◌, Option, Some, None, min, max, nat_lt, nat_le, ◌==◌, unwrap_or, if◌then◌else◌, find, filter}
 use Rattle.std.specs.Option.{ForSome}
 use Rattle.wheel_core.specs.WheelExpiry.{wheel_expiry_of, wheel_level_of}
 use Rattle.wheel_core.specs.declared.item.Item.{Item}
@@ -8,6 +8,11 @@ use Rattle.wheel_core.specs.declared.item.Item.{Item}
 pub record PlainBase : Type 0 where
   pub items : List Item
   pub clock : ℕ
+
+-- a base as its callers see it: the plain base, and how many more items it has memory for
+pub record RoomyBase : Type 0 where
+  pub plain : PlainBase
+  pub spare : ℕ
 
 -- nothing queued, at the start of time
 abbrev pub empty_base : PlainBase
@@ -69,13 +74,15 @@ highest (item ∷ items) = max item.level (highest items)
 -- the last item of a list
 abbrev pub last_armed : List Item → Option Item
 last_armed [] = None
-last_armed (item ∷ items) = elim (last_armed items) [ None ↦ Some item | Some later ↦ Some later ]
+last_armed (item ∷ items) = Some (unwrap_or (last_armed items) item)
 
--- of the items of a wheel expiry those of the highest level, and of these the last armed
+-- of the items of the highest level the last armed
+abbrev pub last_of_highest : List Item → Option Item
+last_of_highest items = last_armed (filter (λ item. item.level == highest items) items)
+
+-- what goes out first of the items of a wheel expiry
 unfoldable pub first_out : (wheel : ℕ) → List Item → Option Item
-first_out wheel items =
-    let bucket = filter (λ item. item.wheel == wheel) items in
-    last_armed (filter (λ item. item.level == highest bucket) bucket)
+first_out wheel items = last_of_highest (filter (λ item. item.wheel == wheel) items)
 
 -- HAND-OUT: what goes out next at a time, from the items of the least wheel expiry where that isn't past now
 abbrev pub out_at : (now : ℕ) → Option ℕ → List Item → Option Item
@@ -97,3 +104,33 @@ taken now base = after_out base (next_out now base)
 abbrev pub oldest_of : List Item → Option ℕ
 oldest_of [] = None
 oldest_of (item ∷ items) = Some item.id
+
+-- the item is queued, due, and none goes out at an earlier expiry or at the same one from a higher level
+pub record IsDue (now : ℕ) (items : List Item) (item : Item) : Type 0 where
+  pub queued : Contains items item
+  pub due : item.wheel ≤ now
+  pub soonest : All (λ other. item.wheel ≤ other.wheel) items
+  pub highest : All (λ other. other.wheel ≡ item.wheel → other.level ≤ item.level) items
+
+-- nothing is due
+abbrev pub NoneDue : (now : ℕ) → List Item → Type 0
+NoneDue now items = All (λ item. now < item.wheel) items
+
+-- no two items have one id
+abbrev pub HasDistinctIds : List Item → Type 0
+HasDistinctIds [] = Unit {0}
+HasDistinctIds (item ∷ items) = (item_of item.id items ≡ None) × HasDistinctIds items
+
+-- an item's numbers are those that the wheel gives
+pub record IsPlaced (item : Item) : Type 0 where
+  pub wheel : item.wheel ≤ 2 ^ 47
+  pub level : item.level < 9
+
+-- what every base keeps of its items
+pub record IsSound (items : List Item) : Type 0 where
+  pub distinct : HasDistinctIds items
+  pub placed : All IsPlaced items
+
+-- the item that goes out is due, and none goes out only where none is due
+abbrev pub OutIsDue : (now : ℕ) → List Item → Option Item → Type 0
+OutIsDue now items out = MatchOption out (NoneDue now items) (IsDue now items)
