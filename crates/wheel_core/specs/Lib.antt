@@ -2,3 +2,4 @@ pub mod WheelExpiry
 pub mod PlainBase
 pub mod ListBase
 pub mod Scan
+pub mod Calls

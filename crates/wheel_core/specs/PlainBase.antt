@@ -14,6 +14,9 @@ pub record RoomyBase : Type 0 where
   pub plain : PlainBase
   pub spare : ℕ
 
+abbrev pub roomy : PlainBase → ℕ → RoomyBase
+roomy plain spare = record { plain = plain; spare = spare }
+
 -- nothing queued, at the start of time
 abbrev pub empty_base : PlainBase
 empty_base = record { items = []; clock = 0 }

@@ -7,7 +7,7 @@ use crate::{Item, NoRoom};
 ///
 /// Forwarding, adding, removing and hand-out are the plain base's `forwarded`, `added`, `removed`, `next_out` and
 /// `taken`.
-pub trait TimerBase {
+pub trait TimerBase: Drop {
     ghost use Rattle.std.specs.Prelude.{◌≡◌, ℕ, ◌+◌, ◌^◌, ◌<◌, None, OnOk, OnErr, length, max, is_some, if◌then◌else◌};
     ghost use Rattle.wheel_core.specs.WheelExpiry.{KeepsTime};
     ghost use Rattle.wheel_core.specs.PlainBase.{IsSound, NoneBehind, OutIsDue, PlainBase, added, forwarded, item_of, least, next_out, oldest_of, placed, removed, taken};

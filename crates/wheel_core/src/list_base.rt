@@ -117,11 +117,11 @@ impl TimerBase for ListBase {
         let Some(place) = scan.out else {
             return None;
         };
-        let item = self.items.remove(place);
+        let out = self.items.remove(place);
         self.first = scan.others;
-        self.clock = self.clock.max(item.wheel + 1);
+        self.clock = self.clock.max(out.wheel + 1);
         self.spare += 1;
-        Some(item)
+        Some(out)
     }
 
     fn reserve(&mut self, n: usize) -> Result<(), NoRoom> {
