@@ -8,7 +8,7 @@ use crate::{Item, NoRoom};
 /// Forwarding, adding, removing and hand-out are the plain base's `forwarded`, `added`, `removed`, `next_out` and
 /// `taken`.
 pub trait TimerBase: Drop {
-    ghost use Rattle.std.specs.Prelude.{◌≡◌, ℕ, ◌+◌, ◌^◌, ◌<◌, None, OnOk, OnErr, length, max, is_some, if◌then◌else◌};
+    ghost use Rattle.std.specs.Prelude.{◌≡◌, ℕ, ◌+◌, ◌^◌, ◌<◌, ◌≤◌, None, IsOk, OnOk, OnErr, length, max, is_some, if◌then◌else◌};
     ghost use Rattle.wheel_core.specs.WheelExpiry.{KeepsTime};
     ghost use Rattle.wheel_core.specs.PlainBase.{IsSound, NoneBehind, OutIsDue, PlainBase, added, forwarded, item_of, least, next_out, oldest_of, placed, removed, taken};
 
@@ -77,8 +77,9 @@ pub trait TimerBase: Drop {
         ensures base { base self.new ≡ taken now (base self.old) }
         ensures spare { spare self.new ≡ (if is_some result then spare self.old + 1 else spare self.old) };
 
-    /// Takes memory for `n` more items. Want of memory leaves all as before.
+    /// Takes memory for `n` more items, where there is less. Want of memory leaves all as before.
     fn reserve(&mut self, n: usize) -> Result<(), NoRoom>
+        ensures enough { n ≤ spare self.old → IsOk result }
         ensures ok { OnOk result (spare self.new ≡ max (spare self.old) n) }
         ensures err { OnErr result (spare self.new ≡ spare self.old) }
         ensures base { base self.new ≡ base self.old };
