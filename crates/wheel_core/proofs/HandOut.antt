@@ -4,11 +4,12 @@ use Rattle.std.specs.Prelude.{◌==◌, unwrap_or}
 use Rattle.std.specs.List.{filter, All, Contains}
 use Rattle.std.proofs.lemmas.List.Elements.{filter-append, filter_passes, All-nil, All-same, All-cons, All-head, All-tail, All-weaker, All-filter, All-contains, All-contains_itself, Contains-push, Contains-append_left, Contains-append_right}
 use Rattle.std.proofs.lemmas.Bool.{cases_Bool, cond-true, cond-false, both_ways, eq-eqb, ne_eqb, eqb-true, eqb-false, leb-true, leb-false}
+use Rattle.wheel_core.proofs.Ids.{item_queued}
 use Rattle.wheel_core.proofs.Leasts.{least_none, least_below, least_attained}
 use Rattle.std.proofs.lemmas.List.{append-nil}
 use Rattle.std.proofs.lemmas.Option.{none-some, same_Some}
 use Rattle.wheel_core.specs.declared.item.Item.{Item}
-use Rattle.wheel_core.specs.PlainBase.{NoneDue, OutIsDue, least, out_at, first_out, highest, last_armed, last_of_highest}
+use Rattle.wheel_core.specs.PlainBase.{HasDistinctIds, NoneDue, OutIsDue, least, out_at, first_out, highest, last_armed, last_of_highest}
 
 last_armed_push : (items : List Item) (item : Item) → last_armed (items ++ item ∷ []) ≡ Some item
 last_armed_push [] item = refl
@@ -121,16 +122,16 @@ goes_out wheel items item is =
     }
 
 -- what goes out at a time is due, and where nothing does nothing is due
-due_of : (now wheel : ℕ) (items : List Item) (out : Option Item) → first_out wheel items ≡ out → least items ≡ Some wheel
+due_of : (now wheel : ℕ) (items : List Item) (out : Option Item) → HasDistinctIds items → first_out wheel items ≡ out → least items ≡ Some wheel
     → wheel ≤ now → OutIsDue now items out
-due_of now wheel items None is first due = absurd (least_attained items wheel first (no_bucket wheel items is))
-due_of now wheel items (Some item) is first due =
+due_of now wheel items None distinct is first due = absurd (least_attained items wheel first (no_bucket wheel items is))
+due_of now wheel items (Some item) distinct is first due =
     let out = goes_out wheel items item is in
     let bucket = filter (λ other. other.wheel == wheel) items in
     let same = out.wheel_is in
     let level = out.level_is in
     record {
-      queued = out.queued;
+      queued = item_queued items item distinct out.queued;
       due = omega arith;
       soonest = All-weaker (λ other. wheel ≤ other.wheel) (λ other. item.wheel ≤ other.wheel) (λ other h. omega arith) items (least_below items wheel first);
       highest =
@@ -139,15 +140,15 @@ due_of now wheel items (Some item) is first due =
           (from_filter (λ other. other.wheel == wheel) (λ other. other.level ≤ highest bucket) items (highest_above bucket));
     }
 
-due_at : (now : ℕ) (items : List Item) (first : Option ℕ) → least items ≡ first → OutIsDue now items (out_at now first items)
-due_at now items None first =
+due_at : (now : ℕ) (items : List Item) (first : Option ℕ) → HasDistinctIds items → least items ≡ first → OutIsDue now items (out_at now first items)
+due_at now items None distinct first =
     let empty = least_none items first in
     All-same (λ item. now < item.wheel) items [] empty (All-nil (λ item. now < item.wheel))
-due_at now items (Some wheel) first =
+due_at now items (Some wheel) distinct first =
     elim (cases_Bool (leb wheel now)) [
       | inl due ↦
           let out = cond-true (leb wheel now) (first_out wheel items) None due in
-          subst (OutIsDue now items) (sym out) (due_of now wheel items (first_out wheel items) refl first (leb-true wheel now due))
+          subst (OutIsDue now items) (sym out) (due_of now wheel items (first_out wheel items) distinct refl first (leb-true wheel now due))
       | inr early ↦
           let out = cond-false (leb wheel now) (first_out wheel items) None early in
           let later = leb-false wheel now early in
@@ -156,8 +157,8 @@ due_at now items (Some wheel) first =
           subst (OutIsDue now items) (sym out) none
     ]
 
-pub out_is_due : (now : ℕ) (items : List Item) → OutIsDue now items (out_at now (least items) items)
-out_is_due now items = due_at now items (least items) refl
+pub out_is_due : (now : ℕ) (items : List Item) → HasDistinctIds items → OutIsDue now items (out_at now (least items) items)
+out_is_due now items distinct = due_at now items (least items) distinct refl
 
 -- one more item at the end of the list
 pub out_push_other : (wheel : ℕ) (items : List Item) (item : Item) → (item.wheel ≡ wheel → ⊥)

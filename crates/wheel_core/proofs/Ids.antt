@@ -1,7 +1,7 @@
 -- ids: looking one up and taking it out
 use Rattle.std.proofs.Common.{◌≡◌, ℕ, zero, suc, ◌<◌, ◌≤◌, Bool, true, false, List, [], ◌∷◌, ◌++◌, Option, Some, None, length, get_or, refl, ap, ◌∙◌, sym, inl, inr, ltb, arith}
 use Rattle.std.specs.Prelude.{◌==◌, MatchOption}
-use Rattle.std.specs.List.{remove, position, position_or_len, slice_get, All}
+use Rattle.std.specs.List.{remove, position, position_or_len, slice_get, All, Contains}
 use Rattle.std.proofs.lemmas.List.Quantifiers.{position-Some}
 use Rattle.std.proofs.lemmas.List.Folds.{find_at}
 use Rattle.std.proofs.lemmas.Bool.{cases_Bool, cond-true, cond-false, ltb-false, eq-eqb, ne_eqb, eqb-false}
@@ -104,6 +104,21 @@ one_place (first ∷ items) (suc place) item distinct at =
     let apart = ne_eqb first.id item.id (other_id first.id items place item distinct.0 at) in
     ap (λ rest. first ∷ rest) (one_place items place item distinct.1 at)
     ∙ sym (cond-false (first.id == item.id) items (first ∷ without item.id items) apart)
+
+-- an item that is queued is that of its id
+item_there : (items : List Item) (place : ℕ) (item : Item) → HasDistinctIds items → slice_get items place ≡ Some item
+    → item_of item.id items ≡ Some item
+item_there [] place item distinct at = absurd (none-some item at)
+item_there (first ∷ items) zero item distinct at =
+    let is = same_Some first item at in
+    cond-true (first.id == item.id) (Some first) (item_of item.id items) (eq-eqb first.id item.id (ap (λ i. i.id) is)) ∙ at
+item_there (first ∷ items) (suc place) item distinct at =
+    cond-false (first.id == item.id) (Some first) (item_of item.id items) (ne_eqb first.id item.id (other_id first.id items place item distinct.0 at))
+    ∙ item_there items place item distinct.1 at
+
+pub item_queued : (items : List Item) (item : Item) → HasDistinctIds items → Contains items item → item_of item.id items ≡ Some item
+item_queued items item distinct (place, within, is) =
+    item_there items place item distinct (slice_get-get_or items place item within ∙ ap Some is)
 
 -- no id comes twice, as an item comes or goes
 still_none : (id other : ℕ) (items : List Item) → item_of id items ≡ None → item_of id (without other items) ≡ None

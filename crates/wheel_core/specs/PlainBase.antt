@@ -1,5 +1,5 @@
 -- timer bases as plain data: a list of items and a clock, how they are forwarded, added to and handed out
-use Rattle.std.specs.Prelude.{◌≡◌, ℕ, ◌+◌, ◌^◌, ◌<◌, ◌≤◌, All, Contains, MatchOption, List, [], ◌∷◌, ◌++◌, Option, Some, None, min, max, nat_lt, nat_le, ◌==◌, unwrap_or, if◌then◌else◌, find, filter}
+use Rattle.std.specs.Prelude.{◌≡◌, ℕ, ◌+◌, ◌^◌, ◌<◌, ◌≤◌, All, MatchOption, List, [], ◌∷◌, ◌++◌, Option, Some, None, min, max, nat_lt, nat_le, ◌==◌, unwrap_or, if◌then◌else◌, find, filter}
 use Rattle.std.specs.Option.{ForSome}
 use Rattle.wheel_core.specs.WheelExpiry.{wheel_expiry_of, wheel_level_of}
 use Rattle.wheel_core.specs.declared.item.Item.{Item}
@@ -108,9 +108,9 @@ abbrev pub oldest_of : List Item → Option ℕ
 oldest_of [] = None
 oldest_of (item ∷ items) = Some item.id
 
--- the item is queued, due, and none goes out at an earlier expiry or at the same one from a higher level
+-- the item is that of its id, it is due, and none goes out at an earlier expiry or at the same one from a higher level
 pub record IsDue (now : ℕ) (items : List Item) (item : Item) : Type 0 where
-  pub queued : Contains items item
+  pub queued : item_of item.id items ≡ Some item
   pub due : item.wheel ≤ now
   pub soonest : All (λ other. item.wheel ≤ other.wheel) items
   pub highest : All (λ other. other.wheel ≡ item.wheel → other.level ≤ item.level) items

@@ -1,7 +1,7 @@
 //! One pass over a list of items.
 
 ghost use Rattle.std.specs.Prelude.{◌≡◌, ℕ, ◌+◌, ◌<◌, ◌==◌, Some, None, MatchOption, length, position, take};
-ghost use Rattle.wheel_core.specs.PlainBase.{OutIsDue, item_of, least, out_at, sooner};
+ghost use Rattle.wheel_core.specs.PlainBase.{HasDistinctIds, OutIsDue, item_of, least, out_at, sooner};
 ghost use Rattle.wheel_core.specs.Scan.{IsNext, IsPlaceOf, IsScan};
 
 use crate::Item;
@@ -106,7 +106,8 @@ fn scan_for(items: &[Item], wheel: u64) -> Scan
 /// What of a list goes out at a time, given its least wheel expiry. Where nothing is due no item is looked at.
 #[tactic(auto, using(crate::proofs::HandOut::out_is_due))]
 pub(crate) fn scan_at(items: &[Item], first: Option<u64>, now: u64) -> Scan
-    requires { first ≡ least items.now }
+    requires first { first ≡ least items.now }
+    requires distinct { HasDistinctIds items.now }
     ensures next { IsNext now items.now result }
     ensures due { OutIsDue now items.now (out_at now (least items.now) items.now) }
 {
