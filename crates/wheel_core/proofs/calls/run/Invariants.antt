@@ -1,0 +1,8 @@
+use Rattle.wheel_core.specs.PlainBase.{roomy}
+use Rattle.wheel_core.proofs.Runs.{RanSoFar}
+use Rattle.wheel_core.proofs.calls.run.Given as goal
+
+abbrev pub invariant-loop-call : goal.invariant-loop-call
+invariant-loop-call g l =
+    RanSoFar l.calls l.call-index l.answers.items (roomy (g.B.TimerBase.base l.fn.base) (g.B.TimerBase.spare l.fn.base))
+    (roomy (g.B.TimerBase.base l.base) (g.B.TimerBase.spare l.base))

@@ -1,0 +1,5 @@
+pub mod WheelExpiry
+pub mod PlainBase
+pub mod ListBase
+pub mod Scan
+pub mod Calls

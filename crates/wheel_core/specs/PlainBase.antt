@@ -1,0 +1,139 @@
+-- timer bases as plain data: a list of items and a clock, how they are forwarded, added to and handed out
+use Rattle.std.specs.Prelude.{◌≡◌, ℕ, ◌+◌, ◌^◌, ◌<◌, ◌≤◌, All, MatchOption, List, [], ◌∷◌, ◌++◌, Option, Some, None, min, max, nat_lt, nat_le, ◌==◌, unwrap_or, if◌then◌else◌, find, filter}
+use Rattle.std.specs.Option.{ForSome}
+use Rattle.wheel_core.specs.WheelExpiry.{wheel_expiry_of, wheel_level_of}
+use Rattle.wheel_core.specs.declared.item.Item.{Item}
+
+-- the queued items in arming order, and the clock
+pub record PlainBase : Type 0 where
+  pub items : List Item
+  pub clock : ℕ
+
+-- a base as its callers see it: the plain base, and how many more items it has memory for
+pub record RoomyBase : Type 0 where
+  pub plain : PlainBase
+  pub spare : ℕ
+
+abbrev pub roomy : PlainBase → ℕ → RoomyBase
+roomy plain spare = record { plain = plain; spare = spare }
+
+-- nothing queued, at the start of time
+abbrev pub empty_base : PlainBase
+empty_base = record { items = []; clock = 0 }
+
+-- the sooner of an expiry and another one that may be there
+abbrev pub sooner : ℕ → Option ℕ → ℕ
+sooner wheel None = wheel
+sooner wheel (Some other) = min wheel other
+
+-- the least wheel expiry, none where nothing is queued
+abbrev pub least : List Item → Option ℕ
+least [] = None
+least (item ∷ items) = Some (sooner item.wheel (least items))
+
+-- no queued wheel expiry is below the clock
+abbrev pub NoneBehind : PlainBase → Type 0
+NoneBehind base = ForSome (least base.items) (λ wheel. base.clock ≤ wheel)
+
+-- FORWARDING: where the clock is behind now, it becomes the least wheel expiry if that isn't past now, and now otherwise
+abbrev pub clock_forwarded : (now clock : ℕ) → Option ℕ → ℕ
+clock_forwarded now clock None = if nat_lt clock now then now else clock
+clock_forwarded now clock (Some wheel) = if nat_lt clock now then (if nat_le wheel now then wheel else now) else clock
+
+abbrev pub forwarded : (now : ℕ) → PlainBase → PlainBase
+forwarded now base = record base { clock = clock_forwarded now base.clock (least base.items) }
+
+-- ADDING: the item that a timer becomes in a base of this clock goes to the end of the list
+abbrev pub placed : (clock id expires job arg : ℕ) → Item
+placed clock id expires job arg = record {
+  id = id;
+  expires = expires;
+  wheel = wheel_expiry_of expires clock;
+  level = wheel_level_of expires clock;
+  job = job;
+  arg = arg;
+}
+
+abbrev pub added : PlainBase → (id expires job arg : ℕ) → PlainBase
+added base id expires job arg = record base { items = base.items ++ placed base.clock id expires job arg ∷ [] }
+
+-- the queued item of an id
+abbrev pub item_of : (id : ℕ) → List Item → Option Item
+item_of id items = find (λ item. item.id == id) items
+
+-- the items without that of an id
+abbrev pub without : (id : ℕ) → List Item → List Item
+without id [] = []
+without id (item ∷ items) = if item.id == id then items else item ∷ without id items
+
+abbrev pub removed : (id : ℕ) → PlainBase → PlainBase
+removed id base = record base { items = without id base.items }
+
+-- the highest level in a list of items
+abbrev pub highest : List Item → ℕ
+highest [] = 0
+highest (item ∷ items) = max item.level (highest items)
+
+-- the last item of a list
+abbrev pub last_armed : List Item → Option Item
+last_armed [] = None
+last_armed (item ∷ items) = Some (unwrap_or (last_armed items) item)
+
+-- of the items of the highest level the last armed
+abbrev pub last_of_highest : List Item → Option Item
+last_of_highest items = last_armed (filter (λ item. item.level == highest items) items)
+
+-- what goes out first of the items of a wheel expiry
+unfoldable pub first_out : (wheel : ℕ) → List Item → Option Item
+first_out wheel items = last_of_highest (filter (λ item. item.wheel == wheel) items)
+
+-- HAND-OUT: what goes out next at a time, from the items of the least wheel expiry where that isn't past now
+abbrev pub out_at : (now : ℕ) → Option ℕ → List Item → Option Item
+out_at now None items = None
+out_at now (Some wheel) items = if nat_le wheel now then first_out wheel items else None
+
+abbrev pub next_out : (now : ℕ) → PlainBase → Option Item
+next_out now base = out_at now (least base.items) base.items
+
+-- the base after an item went out; the clock is then past its wheel expiry
+abbrev pub after_out : PlainBase → Option Item → PlainBase
+after_out base None = base
+after_out base (Some item) = record { items = without item.id base.items; clock = max base.clock (item.wheel + 1) }
+
+abbrev pub taken : (now : ℕ) → PlainBase → PlainBase
+taken now base = after_out base (next_out now base)
+
+-- the id of the first item in arming order
+abbrev pub oldest_of : List Item → Option ℕ
+oldest_of [] = None
+oldest_of (item ∷ items) = Some item.id
+
+-- the item is that of its id, it is due, and none goes out at an earlier expiry or at the same one from a higher level
+pub record IsDue (now : ℕ) (items : List Item) (item : Item) : Type 0 where
+  pub queued : item_of item.id items ≡ Some item
+  pub due : item.wheel ≤ now
+  pub soonest : All (λ other. item.wheel ≤ other.wheel) items
+  pub highest : All (λ other. other.wheel ≡ item.wheel → other.level ≤ item.level) items
+
+-- nothing is due
+abbrev pub NoneDue : (now : ℕ) → List Item → Type 0
+NoneDue now items = All (λ item. now < item.wheel) items
+
+-- no two items have one id
+abbrev pub HasDistinctIds : List Item → Type 0
+HasDistinctIds [] = Unit {0}
+HasDistinctIds (item ∷ items) = (item_of item.id items ≡ None) × HasDistinctIds items
+
+-- an item's numbers are those that the wheel gives
+pub record IsPlaced (item : Item) : Type 0 where
+  pub wheel : item.wheel ≤ 2 ^ 47
+  pub level : item.level < 9
+
+-- what every base keeps of its items
+pub record IsSound (items : List Item) : Type 0 where
+  pub distinct : HasDistinctIds items
+  pub placed : All IsPlaced items
+
+-- the item that goes out is due, and none goes out only where none is due
+abbrev pub OutIsDue : (now : ℕ) → List Item → Option Item → Type 0
+OutIsDue now items out = MatchOption out (NoneDue now items) (IsDue now items)

@@ -1,0 +1,18 @@
+//! The rule of the timer wheel, and timer bases that keep it.
+#![tactic(auto)]
+
+mod base;
+mod calls;
+mod expiry;
+mod item;
+mod list_base;
+mod scan;
+
+pub use base::TimerBase;
+pub use calls::{BaseAnswer, BaseCall, run};
+pub use expiry::wheel_expiry;
+pub use item::{Item, NoRoom};
+pub use list_base::ListBase;
+
+#[cfg(test)]
+mod tests;

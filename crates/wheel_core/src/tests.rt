@@ -1,0 +1,164 @@
+use super::*;
+use std::test::Fail;
+
+// The asked expiry, the clock, and the wheel expiry and level that the rule gives.
+const TABLE: [(u64, u64, u64, u8); 9] = [
+    (72, 10, 73, 0),
+    (73, 10, 80, 1),
+    (513, 10, 520, 1),
+    (514, 10, 576, 2),
+    (132_120_575, 0, 132_120_576, 7),
+    (132_120_576, 0, 134_217_728, 8),
+    (1_056_964_617, 10, 1_073_741_824, 8),
+    (1_056_964_618, 10, 1_056_964_608, 8),
+    (61, 62, 62, 0),
+];
+
+#[test]
+fn wheel_table(rt: HostRuntime) -> Result<(), Fail> {
+    for (expires, clock, wheel, level) in TABLE {
+        assert!(rt; expires < 1 << 47 && clock < 1 << 47);
+        assert_eq!(rt;
+            wheel_expiry(expires, clock),
+            (wheel, level),
+            "{expires} at {clock}"
+        );
+        let mut base = ListBase::new(rt.alloc());
+        base.reserve(1)?;
+        base.forward(clock);
+        let item = base.add(7, expires, 3, 9);
+        assert_eq!(rt;
+            item,
+            Item {
+                id: 7,
+                expires,
+                wheel,
+                level,
+                job: 3,
+                arg: 9
+            },
+            "{expires} at {clock}"
+        );
+    }
+    Ok(())
+}
+
+fn item(id: u32, expires: u64, wheel: u64, level: u8) -> Item {
+    Item {
+        id,
+        expires,
+        wheel,
+        level,
+        job: 0,
+        arg: 0,
+    }
+}
+
+// Delay 0 right after a hand-out: the clock stands one past it, and so does the next wheel expiry.
+#[test]
+#[tactic(auto, unfolding(crate::specs::WheelExpiry::wheel_expiry_of, crate::specs::WheelExpiry::level_of_delay, crate::specs::WheelExpiry::wheel_level_of, crate::specs::PlainBase::first_out))]
+fn delay_zero(rt: HostRuntime) -> Result<(), Fail> {
+    let calls = [
+        BaseCall::Reserve { n: 2 },
+        BaseCall::Forward { now: 10 },
+        BaseCall::Add {
+            id: 0,
+            expires: 60,
+            job: 0,
+            arg: 0,
+        },
+        BaseCall::TakeNext { now: 61 },
+        BaseCall::Clock,
+        BaseCall::Forward { now: 61 },
+        BaseCall::Add {
+            id: 1,
+            expires: 61,
+            job: 0,
+            arg: 0,
+        },
+        BaseCall::TakeNext { now: 61 },
+        BaseCall::TakeNext { now: 62 },
+        BaseCall::Clock,
+    ];
+    let mut base = ListBase::new(rt.alloc());
+    let answers = run(rt.alloc(), &mut base, &calls)?;
+    let wanted = [
+        BaseAnswer::Done,
+        BaseAnswer::Done,
+        BaseAnswer::Added(item(0, 60, 61, 0)),
+        BaseAnswer::Found(Some(item(0, 60, 61, 0))),
+        BaseAnswer::Clock(62),
+        BaseAnswer::Done,
+        BaseAnswer::Added(item(1, 61, 62, 0)),
+        BaseAnswer::Found(None),
+        BaseAnswer::Found(Some(item(1, 61, 62, 0))),
+        BaseAnswer::Clock(63),
+    ];
+    assert_eq!(rt; answers.as_slice(), wanted.as_slice());
+    Ok(())
+}
+
+// Three timers at one wheel expiry: the higher level goes out first, and then the last armed.
+#[test]
+#[tactic(auto, unfolding(crate::specs::WheelExpiry::wheel_expiry_of, crate::specs::WheelExpiry::level_of_delay, crate::specs::WheelExpiry::wheel_level_of, crate::specs::PlainBase::first_out))]
+fn hand_out_order(rt: HostRuntime) -> Result<(), Fail> {
+    let calls = [
+        BaseCall::Reserve { n: 3 },
+        BaseCall::Forward { now: 10 },
+        BaseCall::Add {
+            id: 0,
+            expires: 73,
+            job: 0,
+            arg: 0,
+        },
+        BaseCall::Forward { now: 30 },
+        BaseCall::Add {
+            id: 1,
+            expires: 79,
+            job: 0,
+            arg: 0,
+        },
+        BaseCall::Add {
+            id: 2,
+            expires: 79,
+            job: 0,
+            arg: 0,
+        },
+        BaseCall::PeekNext { now: 79 },
+        BaseCall::PeekNext { now: 80 },
+        BaseCall::Oldest,
+        BaseCall::TakeNext { now: 80 },
+        BaseCall::TakeNext { now: 80 },
+        BaseCall::Len,
+        BaseCall::First,
+        BaseCall::Get { id: 1 },
+        BaseCall::Remove { id: 0 },
+        BaseCall::Remove { id: 1 },
+        BaseCall::TakeNext { now: 80 },
+        BaseCall::Clock,
+    ];
+    let mut base = ListBase::new(rt.alloc());
+    let answers = run(rt.alloc(), &mut base, &calls)?;
+    let wanted = [
+        BaseAnswer::Done,
+        BaseAnswer::Done,
+        BaseAnswer::Added(item(0, 73, 80, 1)),
+        BaseAnswer::Done,
+        BaseAnswer::Added(item(1, 79, 80, 0)),
+        BaseAnswer::Added(item(2, 79, 80, 0)),
+        BaseAnswer::Found(None),
+        BaseAnswer::Found(Some(item(0, 73, 80, 1))),
+        BaseAnswer::Oldest(Some(0)),
+        BaseAnswer::Found(Some(item(0, 73, 80, 1))),
+        BaseAnswer::Found(Some(item(2, 79, 80, 0))),
+        BaseAnswer::Len(1),
+        BaseAnswer::First(Some(80)),
+        BaseAnswer::Found(Some(item(1, 79, 80, 0))),
+        BaseAnswer::Found(None),
+        BaseAnswer::Found(Some(item(1, 79, 80, 0))),
+        BaseAnswer::Found(None),
+        BaseAnswer::Clock(81),
+    ];
+    assert_eq!(rt; answers.as_slice(), wanted.as_slice());
+    Ok(())
+}
