@@ -1,1 +1,3 @@
 pub mod Pigeonhole
+pub mod Bases
+pub mod Machine

@@ -1,0 +1,2 @@
+pub mod QuietCpu
+pub mod Quiet

@@ -1,6 +1,7 @@
 //! Draft.
 #![tactic(auto)]
 
-pub fn one() -> u8 {
-    1
-}
+mod quiet;
+mod quiet_cpu;
+
+pub use quiet::Quiet;

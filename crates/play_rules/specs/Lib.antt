@@ -1,0 +1,4 @@
+pub mod State
+pub mod Timers
+pub mod Play
+pub mod Prints

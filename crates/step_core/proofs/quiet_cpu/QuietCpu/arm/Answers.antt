@@ -1,0 +1,43 @@
+use Rattle.std.proofs.Common.{◌≡◌, ℕ, ◌+◌, ◌<◌, ◌≤◌, List, [], ◌∷◌, ◌++◌, Some, None, arith, sym, ap, subst, ◌∙◌}
+use Rattle.wheel_core.specs.declared.item.Item.{Item}
+use Rattle.wheel_core.specs.PlainBase.{PlainBase, NoneDue, forwarded, item_of, least, placed}
+use Rattle.step_core.specs.QuietCpu.{RoomyCpu}
+use Rattle.step_core.proofs.Bases.{room_left, none_behind, forwarded_high, placed_later, with_room, later_pushed}
+use Rattle.step_core.proofs.quiet_cpu.QuietCpu.arm.Goals as goal
+
+pub add-requires-clause-room : goal.add-requires-clause-room
+add-requires-clause-room g c =
+    let old = ap (λ (v : RoomyCpu). v.cpu.global) c.self.view_is in
+    let timers = ap (λ (v : RoomyCpu). v.timers) c.self.view_is in
+    let low : c.args.timer.0 < c.self.inside.timers = omega (arith, timers, c.requires.in_range) in
+    let free = ap (λ (b : PlainBase). item_of c.args.timer.0 b.items) old ∙ c.requires.not_queued in
+    let room = room_left _ _ _ _ c.self.invariant c.clock-sound.ensures.sound low free in
+    omega (arith, room, c.forward.ensures.spare)
+
+pub add-requires-clause-none_behind : goal.add-requires-clause-none_behind
+add-requires-clause-none_behind g c =
+    let old = ap (λ (v : RoomyCpu). v.cpu.global) c.self.view_is in
+    let Later : PlainBase → Type 0 = λ b. NoneDue c.args.now b.items in
+    let later = subst Later (sym old) c.requires.none_due in
+    let low : (g.B.TimerBase.base c.self.inside.global).clock ≤ c.args.now + 1 = omega (arith, ap (λ (b : PlainBase). b.clock) old, c.requires.clock) in
+    let Ahead : PlainBase → Type 0 = λ b. (x : ℕ) → least b.items ≡ Some x → b.clock ≤ x in
+    subst Ahead (sym c.forward.ensures.base) (none_behind _ _ _ later low)
+
+pub invariant_of-self : goal.invariant_of-self
+invariant_of-self g c =
+    let timers = ap (λ (v : RoomyCpu). v.timers) c.self.view_is in
+    let item = placed (g.B.TimerBase.base c.forward.new.self).clock c.from-2.result (c.args.now + c.from.result) 0 0 in
+    let grown = ap (λ (b : PlainBase). b.items) c.add.ensures.base ∙ ap (λ (b : PlainBase). b.items ++ item ∷ []) c.forward.ensures.base in
+    with_room _ (g.B.TimerBase.spare c.self.inside.global) _ _ _ item c.self.invariant grown
+      (omega (arith, timers, c.requires.in_range, c.from-2.ensures)) (omega (arith, c.add.ensures.spare, c.forward.ensures.spare))
+
+pub returns-clause-none_due : goal.returns-clause-none_due
+returns-clause-none_due g c =
+    let old = ap (λ (v : RoomyCpu). v.cpu.global) c.self.view_is in
+    let Later : PlainBase → Type 0 = λ b. NoneDue c.args.now b.items in
+    let later = subst Later (sym old) c.requires.none_due in
+    let item = placed (g.B.TimerBase.base c.forward.new.self).clock c.from-2.result (c.args.now + c.from.result) 0 0 in
+    let grown = ap (λ (b : PlainBase). b.items) c.add.ensures.base ∙ ap (λ (b : PlainBase). b.items ++ item ∷ []) c.forward.ensures.base in
+    let high : c.args.now ≤ (g.B.TimerBase.base c.forward.new.self).clock =
+      omega (arith, ap (λ (b : PlainBase). b.clock) c.forward.ensures.base, forwarded_high c.args.now (g.B.TimerBase.base c.self.inside.global).clock (g.B.TimerBase.base c.self.inside.global).items later) in
+    later_pushed _ _ _ item later grown (placed_later c.args.now (g.B.TimerBase.base c.forward.new.self).clock c.from-2.result c.from.result high c.add.ensures.keeps_time)

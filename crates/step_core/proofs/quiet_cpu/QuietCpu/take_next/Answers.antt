@@ -1,0 +1,19 @@
+use Rattle.std.proofs.Common.{◌≡◌, ◌+◌, sym, ap, ◌∙◌, subst, length, Option}
+use Rattle.std.specs.Prelude.{OnSome}
+use Rattle.wheel_core.specs.declared.item.Item.{Item}
+use Rattle.wheel_core.specs.PlainBase.{PlainBase, after_out}
+use Rattle.step_core.specs.QuietCpu.{RoomyCpu}
+use Rattle.step_core.proofs.Bases.{room_after_out, fewer_after_out}
+use Rattle.step_core.proofs.quiet_cpu.QuietCpu.take_next.Goals as goal
+
+pub invariant_of-self : goal.invariant_of-self
+invariant_of-self g c =
+    let out = c.take_next.ensures.base ∙ ap (λ (o : Option Item). after_out (g.B.TimerBase.base c.self.inside.global) o) (sym c.take_next.ensures.item) in
+    room_after_out _ _ _ _ _ _ c.self.invariant out c.take_next.ensures.spare
+
+pub returns-clause-fewer : goal.returns-clause-fewer
+returns-clause-fewer g c =
+    let out = c.take_next.ensures.base ∙ ap (λ (o : Option Item). after_out (g.B.TimerBase.base c.self.inside.global) o) (sym c.take_next.ensures.item) in
+    let old = ap (λ (v : RoomyCpu). v.cpu.global) c.self.view_is in
+    let Fewer : PlainBase → Type 0 = λ b. OnSome c.take_next.result (length (g.B.TimerBase.base c.take_next.new.self).items + 1 ≡ length b.items) in
+    subst Fewer old (fewer_after_out _ _ _ _ c.take_next.ensures.due out)

@@ -1,0 +1,83 @@
+//! One CPU of `Quiet`.
+
+ghost use Rattle.std.specs.Prelude.{◌≡◌, ℕ, ◌+◌, ◌^◌, ◌<◌, ◌≤◌, None, length, IfOk, IfSome, OnSome};
+ghost use Rattle.wheel_core.specs.PlainBase.{empty_base, NoneDue, OutIsDue, added, forwarded, item_of, next_out, placed, taken};
+ghost use Rattle.play_rules.specs.State.{new_cpu};
+
+use std::marker::Model;
+use tm_base::{Jiffy, NoMemory, TimerId};
+use wheel_core::{Item, TimerBase};
+
+/// A CPU with the base of its global timers, which has room for all timers.
+#[derive(Drop)]
+pub(crate) struct QuietCpu<B: TimerBase> {
+    global: B,
+    timers: u16,
+}
+
+impl<B: TimerBase> Model for QuietCpu<B> {
+    ghost use Rattle.step_core.specs.QuietCpu.{RoomyCpu, HasRoomForAll};
+
+    ghost Value = { RoomyCpu };
+
+    ghost view = { λ c. record { cpu = record { global = B.base c.global }; timers = c.timers } };
+
+    ghost invariant = { λ c. HasRoomForAll c.timers (B.base c.global).items (B.spare c.global) };
+}
+
+impl<B: TimerBase + Drop> QuietCpu<B> {
+    /// A CPU over an empty base at clock 0, in which it takes room for so many timers.
+    pub(crate) fn with(mut global: B, timers: u16) -> Result<QuietCpu<B>, NoMemory>
+        requires { B.base global ≡ empty_base }
+        ensures { IfOk result (λ c. c ≡ record { cpu = new_cpu; timers = timers }) }
+    {
+        if global.reserve(usize::from(timers)).is_err() {
+            return Err(NoMemory);
+        }
+        Ok(QuietCpu { global, timers })
+    }
+
+    /// Arms a timer that is queued nowhere on this CPU, `delay` jiffies ahead, and answers its wheel expiry.
+    pub(crate) fn arm(&mut self, now: Jiffy, timer: TimerId, delay: u32) -> Jiffy
+        requires in_range { timer.0 < self.old.timers }
+        requires not_queued { item_of timer.0 self.old.cpu.global.items ≡ None }
+        requires none_due { NoneDue now self.old.cpu.global.items }
+        requires clock { self.old.cpu.global.clock ≤ now + 1 }
+        requires in_time { now + 1 < 2 ^ 47 }
+        requires expires_in_time { now + delay < 2 ^ 47 }
+
+        ensures wheel { result ≡ (placed (forwarded now self.old.cpu.global).clock timer.0 (now + delay) 0 0).wheel }
+        ensures cpu { self.new.cpu ≡ record self.old.cpu { global = added (forwarded now self.old.cpu.global) timer.0 (now + delay) 0 0 } }
+        ensures timers { self.new.timers ≡ self.old.timers }
+        ensures none_due { NoneDue now self.new.cpu.global.items }
+        ensures clock { self.new.cpu.global.clock ≤ now + 1 }
+    {
+        // What every base keeps: no two items have one id.
+        let _sound = self.global.clock();
+        self.global.forward(now);
+        let expires = now + u64::from(delay);
+        self.global.add(u32::from(timer.0), expires, 0, 0).wheel
+    }
+
+    /// Takes out what goes out next at a time; None, with nothing changed, exactly where nothing is due.
+    pub(crate) fn take_next(&mut self, now: Jiffy) -> Option<Item>
+        requires { self.old.cpu.global.clock ≤ now + 1 }
+
+        ensures item { result ≡ next_out now self.old.cpu.global }
+        ensures due { OutIsDue now self.old.cpu.global.items result }
+        ensures cpu { self.new.cpu ≡ record self.old.cpu { global = taken now self.old.cpu.global } }
+        ensures timers { self.new.timers ≡ self.old.timers }
+        ensures clock { self.new.cpu.global.clock ≤ now + 1 }
+        ensures fewer { OnSome result (length self.new.cpu.global.items + 1 ≡ length self.old.cpu.global.items) }
+        ensures number { IfSome result (λ item. item.id < self.old.timers) }
+    {
+        self.global.take_next(now)
+    }
+
+    /// The queued item of a timer.
+    pub(crate) fn get(&self, timer: TimerId) -> Option<Item>
+        ensures { result ≡ item_of timer.0 self.now.cpu.global.items }
+    {
+        self.global.get(u32::from(timer.0))
+    }
+}

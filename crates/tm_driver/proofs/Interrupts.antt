@@ -1,0 +1,116 @@
+-- one CPU's interrupt, timer by timer
+use Rattle.std.proofs.Common.{◌≡◌, ◌≢◌, ℕ, ◌+◌, ◌<◌, zero, suc, List, [], ◌∷◌, ◌++◌, Option, Some, None, length, get_or, set, refl, sym, ◌∙◌, ap, subst, arith}
+use Rattle.std.specs.Option.{option_map}
+use Rattle.std.proofs.lemmas.List.{append-nil, set-get_or, get_or-set_other, length-set}
+use Rattle.tm_base.specs.declared.names.TimerId.{TimerId}
+use Rattle.wheel_core.specs.declared.item.Item.{Item}
+use Rattle.wheel_core.specs.PlainBase.{PlainBase, NoneDue, after_out, next_out, taken}
+use Rattle.tm_report.specs.declared.lines.Line.{Line}
+use Rattle.tm_report.specs.declared.lines.Line.TheVariants as lines
+use Rattle.tm_report.specs.declared.lines.ShownReply.TheVariants.{Done}
+use Rattle.tm_report.specs.Lines.{line_text, report_text}
+use Rattle.play_rules.specs.State.{Cpu, State, cpu_at, with_cpu, new_cpu}
+use Rattle.play_rules.specs.Timers.{due_on, handed_out}
+use Rattle.play_rules.specs.Play.{Played, silent, printing, and_then, run_line, run_item, run_due, interrupt, cpu_id, timer_id}
+use Rattle.play_rules.specs.Prints.{Prints}
+use Rattle.step_core.specs.Quiet.{shown_of}
+use Rattle.tm_driver.specs.Conditions.{SameOthers}
+use Rattle.tm_driver.proofs.Parts.{Continues, continues_then, continues_end}
+
+-- what is shown of an item that goes out
+pub record Shows (o : Option Item) (timer : TimerId) (wheel : ℕ) : Type 0 where
+  pub item : Item
+  pub is : o ≡ Some item
+  pub timer_is : timer ≡ timer_id item.id
+  pub wheel_is : wheel ≡ item.wheel
+
+pub shown_some : (o : Option Item) (timer : TimerId) (wheel : ℕ) → Some (timer, wheel) ≡ option_map shown_of o → Shows o timer wheel
+shown_some None timer wheel h = absurd (cc)
+shown_some (Some item) timer wheel h =
+    let pair : (timer, wheel) ≡ (timer_id item.id, item.wheel) = cc in
+    record { item = item; is = refl; timer_is = ap (λ (p : TimerId × ℕ). p.0) pair; wheel_is = ap (λ (p : TimerId × ℕ). p.1) pair }
+
+pub shown_none : (o : Option Item) → None ≡ option_map shown_of o → o ≡ None
+shown_none None h = refl
+shown_none (Some item) h = absurd (cc)
+
+-- nothing goes out where nothing is due
+pub run_due_none : (n home runner : ℕ) (s : State) → due_on s home ≡ None → run_due n home runner s ≡ silent s
+unfolding run_due
+run_due_none zero home runner s none = refl
+run_due_none (suc n) home runner s none = ap (λ (o : Option Item). run_item o home runner (run_due n home runner) s) none
+
+pub run_due_some : (n home runner : ℕ) (s : State) (item : Item) → due_on s home ≡ Some item
+    → run_due (n + 1) home runner s ≡ and_then (printing (run_line s home runner item) (handed_out s home)) (run_due n home runner)
+unfolding run_due
+run_due_some n home runner s item is =
+    let next : n + 1 ≡ suc n = omega arith in
+    ap (λ (k : ℕ). run_due k home runner s) next ∙ ap (λ (o : Option Item). run_item o home runner (run_due n home runner) s) is
+
+pub handed_out_none : (s : State) (c : ℕ) → due_on s c ≡ None → handed_out s c ≡ s
+handed_out_none s c none =
+    ap (λ (o : Option Item). with_cpu s c (record (cpu_at s c) { global = after_out (cpu_at s c).global o })) none
+    ∙ ap (λ (cs : List Cpu). record s { cpus = cs }) (set-get_or s.cpus c new_cpu)
+
+pub handed_out_others : (s : State) (c : ℕ) → SameOthers c s (handed_out s c)
+handed_out_others s c = record {
+  clock = refl;
+  timers = refl;
+  count = length-set s.cpus c _;
+  others = λ d other. get_or-set_other s.cpus c d _ new_cpu other;
+}
+
+pub same_others_first : (c : ℕ) (s : State) → SameOthers c s s
+same_others_first c s = record { clock = refl; timers = refl; count = refl; others = λ d other. refl }
+
+pub same_others_then : (c : ℕ) (s t u : State) → SameOthers c s t → SameOthers c t u → SameOthers c s u
+same_others_then c s t u first second = record {
+  clock = second.clock ∙ first.clock;
+  timers = second.timers ∙ first.timers;
+  count = second.count ∙ first.count;
+  others = λ d other. second.others d other ∙ first.others d other;
+}
+
+-- how far an interrupt has come
+pub record InterruptSoFar (c now : ℕ) (start : State) (old : List ℕ) (s : State) (text : List ℕ) : Type 0 where
+  pub rest : Continues (interrupt c s) text (interrupt c start) old
+  pub others : SameOthers c start s
+  pub clock_is : now ≡ s.clock
+
+pub one_more : (c now : ℕ) (start : State) (old : List ℕ) (s : State) (text : List ℕ) (next : State) (new : List ℕ) (line : Line) (item : Item)
+    → InterruptSoFar c now start old s text → due_on s c ≡ Some item
+    → length (cpu_at next c).global.items + 1 ≡ length (cpu_at s c).global.items
+    → next ≡ handed_out s c → line ≡ run_line s c c item → new ≡ text ++ line_text line
+    → InterruptSoFar c now start old next new
+one_more c now start old s text next new line item far is fewer after shown pushed =
+    let n = length (cpu_at next c).global.items in
+    let whole = interrupt c start in
+    let unfolded = ap (λ (k : ℕ). run_due k c c s) (sym fewer) ∙ run_due_some n c c s item is in
+    let P : Played → Type 0 = λ p. Continues p text whole old in
+    let now_is = subst P unfolded far.rest in
+    let printed : Prints (printing (run_line s c c item) (handed_out s c)) text new next = record {
+        text = pushed ∙ ap (λ (l : Line). text ++ line_text l) shown ∙ ap (λ (t : List ℕ). text ++ t) (sym (append-nil (line_text (run_line s c c item))));
+        state = after;
+      } in
+    record {
+      rest = continues_then (printing (run_line s c c item) (handed_out s c)) (run_due n c c) whole old text new next now_is printed;
+      others = same_others_then c start s next far.others (let P : State → Type 0 = λ t. SameOthers c s t in subst P (sym after) (handed_out_others s c));
+      clock_is = far.clock_is ∙ sym (ap (λ (t : State). t.clock) after);
+    }
+
+pub interrupt_done : (c now : ℕ) (start : State) (old : List ℕ) (s : State) (text : List ℕ) (next : State)
+    → InterruptSoFar c now start old s text → due_on s c ≡ None → next ≡ handed_out s c → Prints (interrupt c start) old text next
+interrupt_done c now start old s text next far none after =
+    let whole = interrupt c start in
+    let P : Played → Type 0 = λ p. Continues p text whole old in
+    let same = after ∙ handed_out_none s c none in
+    let Q : State → Type 0 = λ t. Prints whole old text t in
+    subst Q (sym same) (continues_end s whole old text (subst P (run_due_none (length (cpu_at s c).global.items) c c s none) far.rest))
+
+-- the line that is pushed is the item's
+pub line_is : (s : State) (c now : ℕ) (timer : TimerId) (wheel : ℕ) (item : Item) → now ≡ s.clock → timer ≡ timer_id item.id → wheel ≡ item.wheel
+    → lines.Run now (cpu_id c) timer (cpu_id c) wheel Done ≡ run_line s c c item
+line_is s c now timer wheel item clock_is timer_is wheel_is =
+    ap (λ (k : ℕ). lines.Run k (cpu_id c) timer (cpu_id c) wheel Done) clock_is
+    ∙ ap (λ (t : TimerId). lines.Run s.clock (cpu_id c) t (cpu_id c) wheel Done) timer_is
+    ∙ ap (λ (w : ℕ). lines.Run s.clock (cpu_id c) (timer_id item.id) (cpu_id c) w Done) wheel_is

@@ -1,0 +1,8 @@
+//! Playing a script: moment by moment, into a report.
+#![tactic(auto)]
+
+mod closing;
+mod moments;
+mod playing;
+
+pub use playing::play;

@@ -1,0 +1,29 @@
+//! A whole play.
+
+ghost use Rattle.std.specs.Prelude.{◌≡◌, ◌++◌, IfOk, OnOk};
+ghost use Rattle.tm_script.specs.Form.{IsOfForm};
+ghost use Rattle.play_rules.specs.Play.{play_of, play_text};
+
+use crate::closing::close;
+use crate::moments::moments;
+use std::alloc::Global;
+use step_core::Quiet;
+use tm_base::NoMemory;
+use tm_report::Report;
+use tm_script::Script;
+
+/// Plays a script from jiffy 0 to its end, and adds the lines of the play to the report, in their order. It answers the
+/// machine as it stands at the end. Want of memory may leave some of the lines in the report.
+///
+/// Every jiffy is a moment: the CPUs, by ascending number, hand out what is due, and then the script's operations of
+/// that jiffy are done in line order. At the end come a line for each timer that is still queued, and a last one.
+pub fn play(alloc: Global, script: &Script, report: &mut Report) -> Result<Quiet, NoMemory>
+    requires { IsOfForm script.now }
+    ensures text { OnOk result (report.new ≡ report.old ++ play_text script.now) }
+    ensures state { IfOk result (λ quiet. quiet ≡ (play_of script.now).state) }
+{
+    let mut quiet = Quiet::new(alloc, script.cpus, script.timers)?;
+    moments(&mut quiet, script, report)?;
+    close(&quiet, script.timers, script.end, report)?;
+    Ok(quiet)
+}
