@@ -1,14 +1,14 @@
 -- what holds of a base's items as timers are added and taken out
-use Rattle.std.proofs.Common.{◌≡◌, ◌≢◌, ◌≤◌, ◌<◌, ◌+◌, ◌-◌, ◌^◌, ℕ, List, [], ◌∷◌, ◌++◌, length, arith, Bool, true, false, cond, eqb, refl, subst, sym, ap, ◌∙◌, inl, inr, suc, Option, Some, None, min, max, ltb, leb, map, find, get_or, zero, is_some}
-use Rattle.std.specs.Prelude.{◌⊎◌, All, Contains, MatchOption, OnSome}
+use Rattle.std.proofs.Common.{◌≡◌, ◌≤◌, ◌<◌, ◌+◌, ◌-◌, ℕ, List, [], ◌∷◌, ◌++◌, length, arith, true, false, cond, eqb, refl, subst, sym, ap, inl, inr, suc, Option, Some, None, min, map, get_or, zero, is_some}
+use Rattle.std.specs.Prelude.{IfSome, OnSome}
 use Rattle.std.specs.List.{AllByRecursion}
 use Rattle.std.proofs.lemmas.Bool.{ne_eqb, eq-eqb, cases_eq, cases_lt}
 use Rattle.std.proofs.lemmas.Bool.Decides.{nat_tests}
 use Rattle.std.proofs.lemmas.List.{length_push}
 use Rattle.std.proofs.lemmas.List.Elements.{recursion_from_All, All-from_recursion, All-push}
 use Rattle.wheel_core.specs.declared.item.Item.{Item}
-use Rattle.wheel_core.specs.WheelExpiry.{KeepsTime, cutoff, greatest_timeout, wheel_expiry_of, wheel_level_of}
-use Rattle.wheel_core.specs.PlainBase.{PlainBase, IsDue, IsSound, HasDistinctIds, NoneDue, OutIsDue, after_out, clock_forwarded, item_of, least, sooner, without, placed}
+use Rattle.wheel_core.specs.WheelExpiry.{KeepsTime, cutoff}
+use Rattle.wheel_core.specs.PlainBase.{PlainBase, IsSound, HasDistinctIds, NoneDue, OutIsDue, after_out, clock_forwarded, item_of, least, sooner, without, placed}
 use Rattle.step_core.specs.QuietCpu.{HasRoomForAll}
 use Rattle.step_core.proofs.Pigeonhole.{IsWithout, AreDistinct, AllBelow, pigeonhole}
 
@@ -19,8 +19,9 @@ none_without : (v : ℕ) (items : List Item) → item_of v items ≡ None → Is
 none_without v [] h = tt
 none_without v (item ∷ items) h =
     elim (cases_eq item.id v) [
-      inl same ↦ absurd (let found : item_of v (item ∷ items) ≡ Some item = rw (eq-eqb item.id v same) refl in cc)
-    | inr other ↦ (other, none_without v items (rw (ne_eqb item.id v other) at h)) ]
+      | inl same ↦ absurd (let found : item_of v (item ∷ items) ≡ Some item = rw (eq-eqb item.id v same) refl in cc)
+      | inr other ↦ (other, none_without v items (rw (ne_eqb item.id v other) at h))
+    ]
 
 ids_distinct : (items : List Item) → HasDistinctIds items → AreDistinct (map id_of items)
 ids_distinct [] h = tt
@@ -47,8 +48,9 @@ least_past : (now : ℕ) (items : List Item) → AllByRecursion (λ item. now < 
 least_past now [] h wheel is = absurd (cc)
 least_past now (item ∷ items) h wheel is =
     elim (least items) as (λ (m : Option ℕ). ((w : ℕ) → m ≡ Some w → now < w) → Some (sooner item.wheel m) ≡ Some wheel → now < wheel) [
-      None ↦ λ later same. let e : item.wheel ≡ wheel = cc in omega (arith, h.0)
-    | Some other ↦ λ later same. let e : min item.wheel other ≡ wheel = cc in omega (arith, h.0, later other refl) ]
+      | None ↦ λ later same. let e : item.wheel ≡ wheel = cc in omega (arith, h.0)
+      | Some other ↦ λ later same. let e : min item.wheel other ≡ wheel = cc in omega (arith, h.0, later other refl)
+    ]
     (least_past now items h.1) is
 
 -- so nothing is behind the forwarded clock
@@ -63,33 +65,38 @@ pub forwarded_high : (now clock : ℕ) (items : List Item) → NoneDue now items
 forwarded_high now clock items later =
     let past = least_past now items (recursion_from_All (λ (item : Item). now < item.wheel) items later) in
     elim (least items) as (λ (m : Option ℕ). ((wheel : ℕ) → m ≡ Some wheel → now < wheel) → now ≤ clock_forwarded now clock m) [
-      None ↦ λ h. grind (arith, nat_tests)
-    | Some wheel ↦ λ h. let at = h wheel refl in grind (arith, nat_tests) ] past
+      | None ↦ λ h. grind (arith, nat_tests)
+      | Some wheel ↦ λ h. let at = h wheel refl in grind (arith, nat_tests)
+    ] past
 
 -- and the forwarded clock is at most one jiffy ahead
 pub forwarded_low : (now clock : ℕ) (items : List Item) → NoneDue now items → clock ≤ now + 1
     → clock_forwarded now clock (least items) ≤ now + 1
 forwarded_low now clock items later low =
     elim (least items) as (λ (m : Option ℕ). clock_forwarded now clock m ≤ now + 1) [
-      None ↦ grind (arith, nat_tests)
-    | Some wheel ↦ grind (arith, nat_tests) ]
+      | None ↦ grind (arith, nat_tests)
+      | Some wheel ↦ grind (arith, nat_tests)
+    ]
 
 -- a timer that is armed at the time now goes out later
 pub placed_later : (now clock id delay : ℕ) → now ≤ clock → KeepsTime (now + delay) clock → now < (placed clock id (now + delay) 0 0).wheel
 placed_later now clock id delay low kept =
     elim (cases_lt (now + delay) clock) [
-      inl behind ↦ omega (arith, kept.not_before_clock)
-    | inr before ↦ (elim (cases_lt (now + delay - clock) cutoff) [
-          inl near ↦ omega (arith, kept.never_early before near)
-        | inr far ↦ omega (arith, kept.at_cutoff (omega arith)) ]) ]
+      | inl behind ↦ omega (arith, kept.not_before_clock)
+      | inr before ↦ (elim (cases_lt (now + delay - clock) cutoff) [
+        | inl near ↦ omega (arith, kept.never_early before near)
+        | inr far ↦ omega (arith, kept.at_cutoff (omega arith))
+      ])
+    ]
 
 -- taking out at most one item of an id
 pub fewer_without : (id : ℕ) (items : List Item) → length items ≤ length (without id items) + 1
 fewer_without id [] = omega arith
 fewer_without id (item ∷ items) =
     elim (cases_eq item.id id) [
-      inl same ↦ rw (eq-eqb item.id id same) (omega arith)
-    | inr other ↦ rw (ne_eqb item.id id other) (omega (arith, fewer_without id items)) ]
+      | inl same ↦ rw (eq-eqb item.id id same) (omega arith)
+      | inr other ↦ rw (ne_eqb item.id id other) (omega (arith, fewer_without id items))
+    ]
 
 pub all_without : (P : Item → Type 0) (id : ℕ) (items : List Item) → AllByRecursion P items → AllByRecursion P (without id items)
 all_without P id [] h = tt
@@ -102,12 +109,27 @@ length_without_at [] item k low is = absurd (omega (arith, low))
 length_without_at (x ∷ xs) item zero low is = rw (eq-eqb x.id item.id (ap id_of is)) (omega arith)
 length_without_at (x ∷ xs) item (suc k) low is =
     elim (cases_eq x.id item.id) [
-      inl same ↦ rw (eq-eqb x.id item.id same) (omega arith)
-    | inr other ↦ rw (ne_eqb x.id item.id other) (let rest = length_without_at xs item k (omega (arith, low)) is in omega (arith, rest)) ]
+      | inl same ↦ rw (eq-eqb x.id item.id same) (omega arith)
+      | inr other ↦ rw (ne_eqb x.id item.id other) (let rest = length_without_at xs item k (omega (arith, low)) is in omega (arith, rest))
+    ]
 
--- what is queued is taken out
-pub length_without : (items : List Item) (item : Item) → Contains items item → length (without item.id items) + 1 ≡ length items
-length_without items item h = length_without_at items item h.0 h.1 h.2
+-- the queued item of an id is taken out
+pub length_without : (id : ℕ) (items : List Item) (item : Item) → item_of id items ≡ Some item → length (without id items) + 1 ≡ length items
+length_without id [] item is = absurd (cc)
+length_without id (x ∷ xs) item is =
+    elim (cases_eq x.id id) [
+      | inl same ↦ rw (eq-eqb x.id id same) (omega arith)
+      | inr other ↦ rw (ne_eqb x.id id other) (let rest = length_without id xs item (rw (ne_eqb x.id id other) at is) in omega (arith, rest))
+    ]
+
+-- what holds of all items holds of it
+pub found_too : (P : Item → Type 0) (id : ℕ) (items : List Item) (item : Item) → AllByRecursion P items → item_of id items ≡ Some item → P item
+found_too P id [] item each is = absurd (cc)
+found_too P id (x ∷ xs) item each is =
+    elim (cases_eq x.id id) [
+      | inl same ↦ (let here : Some x ≡ Some item = rw (eq-eqb x.id id same) at is in let it : x ≡ item = cc in subst P it each.0)
+      | inr other ↦ found_too P id xs item each.1 (rw (ne_eqb x.id id other) at is)
+    ]
 
 -- one more item, which has a number and finds room
 pub with_room : (timers spare left : ℕ) (items new : List Item) (item : Item) → HasRoomForAll timers items spare → new ≡ items ++ item ∷ []
@@ -136,7 +158,7 @@ room_after_out timers spare left base new (Some item) room is one =
     let numbers = recursion_from_All (λ (other : Item). other.id < timers) base.items room.numbers in
     subst P (sym is) (record {
       numbers = All-from_recursion (λ (other : Item). other.id < timers) (without item.id base.items)
-        (all_without (λ (other : Item). other.id < timers) item.id base.items numbers);
+          (all_without (λ (other : Item). other.id < timers) item.id base.items numbers);
       room = omega (arith, room.room, one, fewer_without item.id base.items);
     })
 
@@ -145,4 +167,11 @@ pub fewer_after_out : (now : ℕ) (base new : PlainBase) (out : Option Item) →
 fewer_after_out now base new None due is = tt
 fewer_after_out now base new (Some item) due is =
     let P : PlainBase → Type 0 = λ b. length b.items + 1 ≡ length base.items in
-    subst P (sym is) (length_without base.items item due.queued)
+    subst P (sym is) (length_without item.id base.items item due.queued)
+
+-- the number of what goes out is that of a timer
+pub number_out : (now timers spare : ℕ) (base : PlainBase) (out : Option Item) → HasRoomForAll timers base.items spare → OutIsDue now base.items out
+    → IfSome out (λ item. item.id < timers)
+number_out now timers spare base None room due = tt
+number_out now timers spare base (Some item) room due =
+    found_too (λ (other : Item). other.id < timers) item.id base.items item (recursion_from_All (λ (other : Item). other.id < timers) base.items room.numbers) due.queued

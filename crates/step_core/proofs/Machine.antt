@@ -1,12 +1,12 @@
 -- the CPUs of the machine as a play sees them
-use Rattle.std.proofs.Common.{◌≡◌, ◌<◌, ◌≤◌, ◌+◌, ℕ, zero, suc, List, [], ◌∷◌, Option, Some, None, length, map, get_or, set, drop, replicate, refl, sym, ap, subst, ◌∙◌, arith}
-use Rattle.std.proofs.lemmas.List.{map-set, get_or-map, get_or-set_same, get_or-set_other, length-map, length-replicate, length-set}
+use Rattle.std.proofs.Common.{◌≡◌, ◌<◌, ◌+◌, ℕ, zero, suc, List, [], ◌∷◌, Option, Some, None, length, get_or, set, drop, replicate, refl, sym, ap, subst, ◌∙◌, arith}
+use Rattle.std.proofs.lemmas.List.{map-set, get_or-map, get_or-set_same, length-map, length-replicate, length-set}
 use Rattle.std.proofs.lemmas.List.Elements.{All-replicate}
-use Rattle.std.proofs.Math.Seq.{drop-cons, drop-length}
+use Rattle.std.proofs.Math.Seq.{drop-cons}
 use Rattle.wheel_core.specs.declared.item.Item.{Item}
 use Rattle.wheel_core.specs.PlainBase.{item_of}
 use Rattle.play_rules.specs.State.{Cpu, State, cpu_at, new_cpu, start, with_cpu}
-use Rattle.play_rules.specs.Timers.{Queued, here_or, queued_from, queued_on}
+use Rattle.play_rules.specs.Timers.{Queued, here_or, queued_from}
 use Rattle.step_core.specs.QuietCpu.{RoomyCpu}
 use Rattle.std.specs.Option.{option_map}
 use Rattle.step_core.specs.Quiet.{cpu_of, cpus_of, place_of, IsCpuAt, IsLawful}

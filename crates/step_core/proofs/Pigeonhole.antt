@@ -1,6 +1,5 @@
 -- distinct numbers below n are at most n
-use Rattle.std.proofs.Common.{◌≡◌, ◌≢◌, ◌≤◌, ◌<◌, ◌+◌, ◌-◌, ℕ, List, [], ◌∷◌, length, arith, Bool, true, false, cond, eqb, not, refl, subst, sym, ap, ◌∙◌, inl, inr, zero, suc}
-use Rattle.std.specs.Prelude.{◌⊎◌}
+use Rattle.std.proofs.Common.{◌≡◌, ◌≢◌, ◌≤◌, ◌<◌, ◌+◌, ℕ, List, [], ◌∷◌, length, arith, true, false, cond, eqb, refl, subst, ap, inl, inr, zero, suc}
 use Rattle.std.proofs.lemmas.Bool.{ne_eqb, eq-eqb, cases_eq}
 
 -- none of the numbers is v
@@ -49,16 +48,18 @@ unfolding without
 one_less v [] h = omega arith
 one_less v (x ∷ xs) h =
     elim (cases_eq x v) [
-      inl same ↦ rw (eq-eqb x v same) (let P : ℕ → Type 0 = λ w. IsWithout w xs in let gone = same_without v xs (subst P same h.0) in omega (arith, ap length gone))
-    | inr other ↦ rw (ne_eqb x v other) (let rest = one_less v xs h.1 in omega (arith, rest)) ]
+      | inl same ↦ rw (eq-eqb x v same) (let P : ℕ → Type 0 = λ w. IsWithout w xs in let gone = same_without v xs (subst P same h.0) in omega (arith, ap length gone))
+      | inr other ↦ rw (ne_eqb x v other) (let rest = one_less v xs h.1 in omega (arith, rest))
+    ]
 
 below_without : (n : ℕ) (xs : List ℕ) → AllBelow (suc n) xs → AllBelow n (without n xs)
 unfolding without
 below_without n [] h = tt
 below_without n (x ∷ xs) h =
     elim (cases_eq x n) [
-      inl same ↦ rw (eq-eqb x n same) (below_without n xs h.1)
-    | inr other ↦ rw (ne_eqb x n other) (let here : x < n = omega (arith, h.0) in (here, below_without n xs h.1)) ]
+      | inl same ↦ rw (eq-eqb x n same) (below_without n xs h.1)
+      | inr other ↦ rw (ne_eqb x n other) (let here : x < n = omega (arith, h.0) in (here, below_without n xs h.1))
+    ]
 
 -- distinct numbers below n are at most n
 pub pigeonhole : (n : ℕ) (xs : List ℕ) → AreDistinct xs → AllBelow n xs → length xs ≤ n

@@ -1,5 +1,5 @@
 -- a CPU of `Quiet`, and what it keeps of its base
-use Rattle.std.specs.Prelude.{◌≡◌, ℕ, ◌+◌, ◌<◌, ◌≤◌, All, List, length}
+use Rattle.std.specs.Prelude.{ℕ, ◌+◌, ◌<◌, ◌≤◌, All, List, length}
 use Rattle.wheel_core.specs.declared.item.Item.{Item}
 use Rattle.play_rules.specs.State.{Cpu}
 

@@ -1,5 +1,5 @@
 -- the interrupts of all CPUs, one CPU after the other
-use Rattle.std.proofs.Common.{◌≡◌, ◌≢◌, ℕ, ◌+◌, ◌-◌, ◌<◌, ◌≤◌, zero, suc, List, Option, length, refl, sym, ◌∙◌, ap, subst, arith, inl, inr}
+use Rattle.std.proofs.Common.{◌≡◌, ℕ, ◌+◌, ◌-◌, ◌<◌, ◌≤◌, zero, suc, List, refl, sym, ◌∙◌, ap, subst, arith, inl, inr}
 use Rattle.std.proofs.lemmas.Bool.{cases_eq}
 use Rattle.wheel_core.specs.PlainBase.{NoneDue}
 use Rattle.play_rules.specs.State.{Cpu, State, cpu_at}
@@ -17,7 +17,7 @@ pub record InterruptsSoFar (n now : ℕ) (start : State) (old : List ℕ) (c : �
 pub before_all : (n now : ℕ) (start : State) (old : List ℕ) → now ≡ start.clock → InterruptsSoFar n now start old 0 start old
 before_all n now start old clock_is = record {
   rest = (let all : n - 0 ≡ n = omega arith in let P : ℕ → Type 0 = λ k. Continues (interrupts k 0 start) old (interrupts n 0 start) old in
-    subst P (sym all) (continues_first (interrupts n 0 start) old));
+      subst P (sym all) (continues_first (interrupts n 0 start) old));
   none_due = λ c low. absurd (omega (arith, low));
   same = record { clock = refl; timers = refl; count = refl };
   clock_is = clock_is;
@@ -42,11 +42,12 @@ after_one n now start old c s text next new far low printed none others =
     record {
       rest = continues_then (interrupt c s) (interrupts (n - (c + 1)) (c + 1)) whole old text new next now_is printed;
       none_due = λ d below. elim (cases_eq d c) [
-          inl same ↦ (let Q : ℕ → Type 0 = λ k. NoneDue next.clock (cpu_at next k).global.items in subst Q (sym same) none)
+        | inl same ↦ (let Q : ℕ → Type 0 = λ k. NoneDue next.clock (cpu_at next k).global.items in subst Q (sym same) none)
         | inr other ↦ (
             let Q : Cpu → Type 0 = λ cpu. NoneDue next.clock cpu.global.items in
             let R : ℕ → Type 0 = λ k. NoneDue k (cpu_at s d).global.items in
-            subst Q (sym (others.others d other)) (subst R (sym others.clock) (far.none_due d (omega (arith, below, other))))) ];
+            subst Q (sym (others.others d other)) (subst R (sym others.clock) (far.none_due d (omega (arith, below, other)))))
+      ];
       same = record {
         clock = others.clock ∙ far.same.clock;
         timers = others.timers ∙ far.same.timers;

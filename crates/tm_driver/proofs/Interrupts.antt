@@ -1,14 +1,14 @@
 -- one CPU's interrupt, timer by timer
-use Rattle.std.proofs.Common.{◌≡◌, ◌≢◌, ℕ, ◌+◌, ◌<◌, zero, suc, List, [], ◌∷◌, ◌++◌, Option, Some, None, length, get_or, set, refl, sym, ◌∙◌, ap, subst, arith}
+use Rattle.std.proofs.Common.{◌≡◌, ℕ, ◌+◌, zero, suc, List, ◌++◌, Option, Some, None, length, refl, sym, ◌∙◌, ap, subst, arith}
 use Rattle.std.specs.Option.{option_map}
 use Rattle.std.proofs.lemmas.List.{append-nil, set-get_or, get_or-set_other, length-set}
 use Rattle.tm_base.specs.declared.names.TimerId.{TimerId}
 use Rattle.wheel_core.specs.declared.item.Item.{Item}
-use Rattle.wheel_core.specs.PlainBase.{PlainBase, NoneDue, after_out, next_out, taken}
+use Rattle.wheel_core.specs.PlainBase.{after_out}
 use Rattle.tm_report.specs.declared.lines.Line.{Line}
 use Rattle.tm_report.specs.declared.lines.Line.TheVariants as lines
 use Rattle.tm_report.specs.declared.lines.ShownReply.TheVariants.{Done}
-use Rattle.tm_report.specs.Lines.{line_text, report_text}
+use Rattle.tm_report.specs.Lines.{line_text}
 use Rattle.play_rules.specs.State.{Cpu, State, cpu_at, with_cpu, new_cpu}
 use Rattle.play_rules.specs.Timers.{due_on, handed_out}
 use Rattle.play_rules.specs.Play.{Played, silent, printing, and_then, run_line, run_item, run_due, interrupt, cpu_id, timer_id}
@@ -89,9 +89,9 @@ one_more c now start old s text next new line item far is fewer after shown push
     let P : Played → Type 0 = λ p. Continues p text whole old in
     let now_is = subst P unfolded far.rest in
     let printed : Prints (printing (run_line s c c item) (handed_out s c)) text new next = record {
-        text = pushed ∙ ap (λ (l : Line). text ++ line_text l) shown ∙ ap (λ (t : List ℕ). text ++ t) (sym (append-nil (line_text (run_line s c c item))));
-        state = after;
-      } in
+      text = pushed ∙ ap (λ (l : Line). text ++ line_text l) shown ∙ ap (λ (t : List ℕ). text ++ t) (sym (append-nil (line_text (run_line s c c item))));
+      state = after;
+    } in
     record {
       rest = continues_then (printing (run_line s c c item) (handed_out s c)) (run_due n c c) whole old text new next now_is printed;
       others = same_others_then c start s next far.others (let P : State → Type 0 = λ t. SameOthers c s t in subst P (sym after) (handed_out_others s c));

@@ -1,7 +1,6 @@
 -- the moments of a play, one after the other
-use Rattle.std.proofs.Common.{◌≡◌, ℕ, ◌+◌, ◌-◌, ◌<◌, ◌≤◌, zero, suc, Bool, true, false, List, [], ◌∷◌, length, refl, sym, ◌∙◌, ap, subst, arith, if◌then◌else◌, eqb, cond}
+use Rattle.std.proofs.Common.{◌≡◌, ℕ, ◌+◌, ◌-◌, ◌<◌, ◌≤◌, zero, suc, true, false, List, [], ◌∷◌, length, sym, ◌∙◌, ap, subst, arith, eqb, cond}
 use Rattle.std.specs.Prelude.{All}
-use Rattle.std.specs.List.{AllByRecursion}
 use Rattle.std.proofs.lemmas.List.Elements.{recursion_from_All, All-from_recursion}
 use Rattle.tm_script.specs.declared.syntax.Op.{Op}
 use Rattle.tm_script.specs.declared.syntax.Moment.{Moment}
@@ -25,22 +24,24 @@ ops_of_form cpus timers now [] h = λ k d low. absurd (omega (arith, low))
 ops_of_form cpus timers now (m ∷ ms) h =
     let each = recursion_from_All (IsMomentOfForm cpus timers) (m ∷ ms) h in
     elim (eqb m.at now) as (λ b. All (IsOpOfForm cpus timers) (cond b m.ops [])) [
-      true ↦ each.0.ops
-    | false ↦ λ k d low. absurd (omega (arith, low)) ]
+      | true ↦ each.0.ops
+      | false ↦ λ k d low. absurd (omega (arith, low))
+    ]
 
 pub left_of_form : (cpus timers now : ℕ) (left : List Moment) → All (IsMomentOfForm cpus timers) left → All (IsMomentOfForm cpus timers) (moments_after now left)
 left_of_form cpus timers now [] h = h
 left_of_form cpus timers now (m ∷ ms) h =
     let each = recursion_from_All (IsMomentOfForm cpus timers) (m ∷ ms) h in
     elim (eqb m.at now) as (λ b. All (IsMomentOfForm cpus timers) (cond b ms (m ∷ ms))) [
-      true ↦ All-from_recursion (IsMomentOfForm cpus timers) ms each.1
-    | false ↦ h ]
+      | true ↦ All-from_recursion (IsMomentOfForm cpus timers) ms each.1
+      | false ↦ h
+    ]
 
 pub before_moments : (cpus timers n : ℕ) (ms : List Moment) (start : State) (old : List ℕ) → All (IsMomentOfForm cpus timers) ms
     → length start.cpus ≡ cpus → start.timers ≡ timers → start.clock ≡ 0 → MomentsSoFar cpus timers n ms start old 0 ms start old
 before_moments cpus timers n ms start old of_form count timers_are clock = record {
   rest = (let all : n - 0 ≡ n = omega arith in let P : ℕ → Type 0 = λ k. Continues (moments k 0 ms start) old (moments n 0 ms start) old in
-    subst P (sym all) (continues_first (moments n 0 ms start) old));
+      subst P (sym all) (continues_first (moments n 0 ms start) old));
   of_form = of_form;
   count = count;
   timers_are = timers_are;
@@ -67,7 +68,7 @@ after_moment cpus timers n ms start old now left s text ops set later next new f
     let R : State → Type 0 = λ t. Prints (moment (ops_at now left) t) text new next in
     let there : Prints (moment (ops_at now left) (at_clock now s)) text new next = subst R set_is (subst Q ops_is printed) in
     let rest = continues_then (moment (ops_at now left) (at_clock now s)) (moments (n - (now + 1)) (now + 1) (moments_after now left))
-      (moments n 0 ms start) old text new next (subst P (moments_next n now left s low) far.rest) there in
+    (moments n 0 ms start) old text new next (subst P (moments_next n now left s low) far.rest) there in
     let S : List Moment → Type 0 = λ xs. Continues (moments (n - (now + 1)) (now + 1) xs next) new (moments n 0 ms start) old in
     let T : List Moment → Type 0 = λ xs. All (IsMomentOfForm cpus timers) xs in
     record {

@@ -1,7 +1,7 @@
 -- the lines of the timers that are left, one timer after the other
-use Rattle.std.proofs.Common.{◌≡◌, ℕ, ◌+◌, ◌-◌, ◌<◌, ◌≤◌, zero, suc, List, [], ◌∷◌, ◌++◌, Option, Some, None, refl, sym, ◌∙◌, ap, subst, arith, append_assoc, append-nil}
+use Rattle.std.proofs.Common.{◌≡◌, ℕ, ◌+◌, ◌-◌, ◌<◌, ◌≤◌, zero, suc, List, [], ◌++◌, Option, Some, None, refl, sym, ◌∙◌, ap, arith, append_assoc, append-nil}
 use Rattle.tm_report.specs.declared.lines.Line.{Line}
-use Rattle.tm_report.specs.Lines.{line_text, report_text}
+use Rattle.tm_report.specs.Lines.{report_text}
 use Rattle.play_rules.specs.State.{State}
 use Rattle.play_rules.specs.Timers.{Queued, queued_on}
 use Rattle.play_rules.specs.Play.{left, left_or}

@@ -1,13 +1,13 @@
 -- the operations of a moment, one after the other
-use Rattle.std.proofs.Common.{◌≡◌, ℕ, ◌+◌, ◌<◌, ◌≤◌, suc, List, [], ◌∷◌, length, drop, get_or, refl, sym, ◌∙◌, ap, subst, arith}
+use Rattle.std.proofs.Common.{◌≡◌, ℕ, ◌+◌, ◌<◌, ◌≤◌, suc, List, ◌∷◌, length, drop, get_or, sym, ◌∙◌, ap, subst, arith}
 use Rattle.std.proofs.lemmas.List.{drop_all}
 use Rattle.std.proofs.Math.Seq.{drop-cons}
 use Rattle.tm_script.specs.declared.syntax.Op.{Op}
 use Rattle.play_rules.specs.State.{State}
-use Rattle.play_rules.specs.Play.{Played, silent, and_then, operation, operations}
+use Rattle.play_rules.specs.Play.{operation, operations}
 use Rattle.play_rules.specs.Prints.{Prints}
 use Rattle.tm_driver.specs.Conditions.{NothingDueBelow, SameMachine}
-use Rattle.tm_driver.proofs.Parts.{Continues, continues_first, continues_then, continues_end}
+use Rattle.tm_driver.proofs.Parts.{Continues, continues_then, continues_end}
 
 pub record OperationsSoFar (ops : List Op) (now : ℕ) (start : State) (old : List ℕ) (i : ℕ) (s : State) (text : List ℕ) : Type 0 where
   pub rest : Continues (operations (drop i ops) s) text (operations ops start) old

@@ -1,11 +1,9 @@
 -- parts of a play, one after the other
-use Rattle.std.proofs.Common.{◌≡◌, ℕ, ◌+◌, zero, suc, List, [], ◌∷◌, ◌++◌, Option, Some, None, refl, sym, ◌∙◌, ap, subst, append_assoc, append-nil, arith}
+use Rattle.std.proofs.Common.{◌≡◌, ℕ, List, [], ◌∷◌, ◌++◌, refl, sym, ◌∙◌, ap, append_assoc, append-nil}
 use Rattle.tm_report.specs.declared.lines.Line.{Line}
 use Rattle.tm_report.specs.Lines.{line_text, report_text}
-use Rattle.wheel_core.specs.declared.item.Item.{Item}
 use Rattle.play_rules.specs.State.{State}
-use Rattle.play_rules.specs.Timers.{due_on, handed_out}
-use Rattle.play_rules.specs.Play.{Played, silent, printing, and_then, run_line, run_item, run_due, interrupts, operations, operation, interrupt}
+use Rattle.play_rules.specs.Play.{Played, silent, and_then}
 use Rattle.play_rules.specs.Prints.{Prints}
 
 -- the text of lines and then others
@@ -28,7 +26,7 @@ continues_then p f whole old text new s c done =
     let same : f s ≡ f p.state = ap f done.state in
     record {
       text = ap (λ t. t ++ report_text (f s).lines) done.text ∙ append_assoc text (report_text p.lines) (report_text (f s).lines) ∙ ap (λ (q : Played). text ++ (report_text p.lines ++ report_text q.lines)) same
-        ∙ ap (λ t. text ++ t) (sym (report_text-append p.lines (f p.state).lines)) ∙ c.text;
+          ∙ ap (λ t. text ++ t) (sym (report_text-append p.lines (f p.state).lines)) ∙ c.text;
       state = ap (λ (q : Played). q.state) same ∙ c.state;
     }
 

@@ -36,7 +36,12 @@ fn left_over(quiet: &Quiet, timers: u16, report: &mut Report) -> Result<(), NoMe
 }
 
 /// The last lines of a play: the timers that are still queued, and the end.
-pub(crate) fn close(quiet: &Quiet, timers: u16, end: Jiffy, report: &mut Report) -> Result<(), NoMemory>
+pub(crate) fn close(
+    quiet: &Quiet,
+    timers: u16,
+    end: Jiffy,
+    report: &mut Report,
+) -> Result<(), NoMemory>
     ensures { OnOk result (report.new ≡ report.old ++ report_text (left timers 0 quiet.now ++ lines.End end ∷ [])) }
 {
     left_over(quiet, timers, report)?;

@@ -66,7 +66,14 @@ fn operation(quiet: &mut Quiet, now: Jiffy, op: &Op, report: &mut Report) -> Res
 }
 
 /// A CPU arms a timer.
-fn arm(quiet: &mut Quiet, now: Jiffy, op: &Op, timer: TimerId, delay: u32, report: &mut Report) -> Result<(), NoMemory>
+fn arm(
+    quiet: &mut Quiet,
+    now: Jiffy,
+    op: &Op,
+    timer: TimerId,
+    delay: u32,
+    report: &mut Report,
+) -> Result<(), NoMemory>
     requires cpu_in_range { op.now.cpu.0 < length quiet.old.cpus }
     requires timer_in_range { timer.0 < quiet.old.timers }
     requires near { delay ≤ 62 }
@@ -100,7 +107,12 @@ fn arm(quiet: &mut Quiet, now: Jiffy, op: &Op, timer: TimerId, delay: u32, repor
 }
 
 /// Operations, in line order.
-fn operations(quiet: &mut Quiet, now: Jiffy, ops: &[Op], report: &mut Report) -> Result<(), NoMemory>
+fn operations(
+    quiet: &mut Quiet,
+    now: Jiffy,
+    ops: &[Op],
+    report: &mut Report,
+) -> Result<(), NoMemory>
     requires of_form { All (IsOpOfForm (length quiet.old.cpus) quiet.old.timers) ops.now }
     requires now { now ≡ quiet.old.clock }
     requires early { now ≤ 10000 }
@@ -115,7 +127,13 @@ fn operations(quiet: &mut Quiet, now: Jiffy, ops: &[Op], report: &mut Report) ->
 }
 
 /// The interrupts of a moment and then its operations.
-fn moment(quiet: &mut Quiet, now: Jiffy, cpus: u8, ops: &[Op], report: &mut Report) -> Result<(), NoMemory>
+fn moment(
+    quiet: &mut Quiet,
+    now: Jiffy,
+    cpus: u8,
+    ops: &[Op],
+    report: &mut Report,
+) -> Result<(), NoMemory>
     requires of_form { All (IsOpOfForm (length quiet.old.cpus) quiet.old.timers) ops.now }
     requires all { cpus ≡ length quiet.old.cpus }
     requires now { now ≡ quiet.old.clock }
@@ -148,7 +166,11 @@ fn still_to_come(left: &[Moment], now: Jiffy) -> &[Moment]
 }
 
 /// All moments of a script: every jiffy from 0 to its end.
-pub(crate) fn moments(quiet: &mut Quiet, script: &Script, report: &mut Report) -> Result<(), NoMemory>
+pub(crate) fn moments(
+    quiet: &mut Quiet,
+    script: &Script,
+    report: &mut Report,
+) -> Result<(), NoMemory>
     requires of_form { IsOfForm script.now }
     requires start { quiet.old ≡ start script.now.cpus script.now.timers }
     ensures prints { OnOk result (Prints (moments (script.now.end + 1) 0 script.now.moments quiet.old) report.old report.new quiet.new) }

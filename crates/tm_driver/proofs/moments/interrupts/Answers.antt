@@ -14,7 +14,7 @@ loop-cpu-preserved c =
     let Drained : ℕ → Type 0 = λ k. NoneDue c.interrupt.new.quiet.clock (cpu_at c.interrupt.new.quiet k).global.items in
     let Others : ℕ → Type 0 = λ k. SameOthers k c.loop-cpu.quiet c.interrupt.new.quiet in
     after_one _ _ _ _ _ _ _ _ _ c.loop-cpu.invariant c.loop-cpu-test.true (subst Printed c.from.ensures done.prints)
-      (subst Drained c.from.ensures done.none_due) (subst Others c.from.ensures done.others)
+    (subst Drained c.from.ensures done.none_due) (subst Others c.from.ensures done.others)
 
 pub returns-clause-prints : goal.returns-clause-prints
 returns-clause-prints c = after_all _ _ _ _ _ _ _ c.loop-cpu.invariant c.loop-cpu-test.false

@@ -1,4 +1,4 @@
-use Rattle.std.proofs.Common.{◌≡◌, ℕ, List, length, ap, sym, subst, ◌∙◌}
+use Rattle.std.proofs.Common.{ℕ, List, length, ap, sym, subst, ◌∙◌}
 use Rattle.std.specs.Prelude.{All}
 use Rattle.tm_script.specs.declared.syntax.Op.{Op}
 use Rattle.tm_script.specs.Form.{IsOpOfForm}
@@ -21,7 +21,7 @@ pub loop-now-preserved : goal.loop-now-preserved
 loop-now-preserved c =
     let done = c.in_ok-moment.ensures in
     after_moment _ _ _ _ _ _ _ _ _ _ c.ops_due.result.now c.set_clock.new.self _ _ _ c.loop-now.invariant c.loop-now-test.true c.set_clock.ensures c.ops_due.ensures
-      c.still_to_come-left.ensures done.prints done.same
+    c.still_to_come-left.ensures done.prints done.same
 
 pub returns-clause-prints : goal.returns-clause-prints
 returns-clause-prints c = after_moments _ _ _ _ _ _ _ _ _ _ c.loop-now.invariant c.loop-now-test.false

@@ -1,4 +1,4 @@
-use Rattle.std.proofs.Common.{◌≡◌, ℕ, ◌+◌, ◌∙◌, ap, sym, subst}
+use Rattle.std.proofs.Common.{ℕ, ◌+◌, ◌∙◌, ap, sym, subst}
 use Rattle.wheel_core.specs.PlainBase.{NoneDue, added, forwarded, item_of}
 use Rattle.play_rules.specs.State.{Cpu, State}
 use Rattle.step_core.proofs.Machine.{cpu_read, cpu_reread, cpu_written, nowhere, none_placed}
@@ -20,8 +20,8 @@ arm-requires-clause-none_due c =
 pub returns-clause-armed : goal.returns-clause-armed
 returns-clause-armed c =
     cpu_written _ _ _ _ _ _ _ _ (λ (cpu : Cpu). record cpu { global = added (forwarded c.args.self.now.clock cpu.global) c.args.timer.0 (c.args.self.now.clock + c.args.delay) 0 0 })
-      c.self.view_is c.requires.cpu_in_range c.from.ensures c.index_mut.ensures.value
-      (c.arm.ensures.cpu ∙ ap (λ (s : State). record c.index_mut.result.now.cpu { global = added (forwarded s.clock c.index_mut.result.now.cpu.global) c.args.timer.0 (s.clock + c.args.delay) 0 0 }) c.self.view_is)
+    c.self.view_is c.requires.cpu_in_range c.from.ensures c.index_mut.ensures.value
+    (c.arm.ensures.cpu ∙ ap (λ (s : State). record c.index_mut.result.now.cpu { global = added (forwarded s.clock c.index_mut.result.now.cpu.global) c.args.timer.0 (s.clock + c.args.delay) 0 0 }) c.self.view_is)
 
 pub returns-clause-none_due : goal.returns-clause-none_due
 returns-clause-none_due c =

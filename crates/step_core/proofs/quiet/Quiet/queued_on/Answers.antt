@@ -1,4 +1,4 @@
-use Rattle.std.proofs.Common.{◌≡◌, ◌∙◌, Option, Some, None, ap, sym}
+use Rattle.std.proofs.Common.{◌∙◌, Option, ap, sym}
 use Rattle.std.specs.Option.{option_map}
 use Rattle.wheel_core.specs.PlainBase.{item_of}
 use Rattle.play_rules.specs.State.{Cpu}

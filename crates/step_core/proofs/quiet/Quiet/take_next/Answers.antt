@@ -1,4 +1,4 @@
-use Rattle.std.proofs.Common.{◌≡◌, ◌+◌, ◌∙◌, ap, length}
+use Rattle.std.proofs.Common.{◌+◌, ◌∙◌, ap, length}
 use Rattle.wheel_core.specs.PlainBase.{taken}
 use Rattle.play_rules.specs.State.{Cpu, State}
 use Rattle.step_core.proofs.Machine.{cpu_read, cpu_reread, cpu_written}
@@ -7,7 +7,7 @@ use Rattle.step_core.proofs.quiet.Quiet.take_next.Goals as goal
 pub returns-clause-state : goal.returns-clause-state
 returns-clause-state c =
     cpu_written _ _ _ _ _ _ _ _ (λ (cpu : Cpu). record cpu { global = taken c.args.self.now.clock cpu.global }) c.self.view_is c.requires c.from.ensures c.index_mut.ensures.value
-      (c.take_next.ensures.cpu ∙ ap (λ (s : State). record c.index_mut.result.now.cpu { global = taken s.clock c.index_mut.result.now.cpu.global }) c.self.view_is)
+    (c.take_next.ensures.cpu ∙ ap (λ (s : State). record c.index_mut.result.now.cpu { global = taken s.clock c.index_mut.result.now.cpu.global }) c.self.view_is)
 
 pub returns-clause-fewer : goal.returns-clause-fewer
 returns-clause-fewer c =

@@ -1,6 +1,5 @@
-use Rattle.std.proofs.Common.{◌≡◌, ℕ, ◌+◌, ◌<◌, ◌≤◌, List, [], ◌∷◌, ◌++◌, Some, None, arith, sym, ap, subst, ◌∙◌}
-use Rattle.wheel_core.specs.declared.item.Item.{Item}
-use Rattle.wheel_core.specs.PlainBase.{PlainBase, NoneDue, forwarded, item_of, least, placed}
+use Rattle.std.proofs.Common.{◌≡◌, ℕ, ◌+◌, ◌<◌, ◌≤◌, [], ◌∷◌, ◌++◌, Some, arith, sym, ap, subst, ◌∙◌}
+use Rattle.wheel_core.specs.PlainBase.{PlainBase, NoneDue, item_of, least, placed}
 use Rattle.step_core.specs.QuietCpu.{RoomyCpu}
 use Rattle.step_core.proofs.Bases.{room_left, none_behind, forwarded_high, placed_later, with_room, later_pushed}
 use Rattle.step_core.proofs.quiet_cpu.QuietCpu.arm.Goals as goal
@@ -29,7 +28,7 @@ invariant_of-self g c =
     let item = placed (g.B.TimerBase.base c.forward.new.self).clock c.from-2.result (c.args.now + c.from.result) 0 0 in
     let grown = ap (λ (b : PlainBase). b.items) c.add.ensures.base ∙ ap (λ (b : PlainBase). b.items ++ item ∷ []) c.forward.ensures.base in
     with_room _ (g.B.TimerBase.spare c.self.inside.global) _ _ _ item c.self.invariant grown
-      (omega (arith, timers, c.requires.in_range, c.from-2.ensures)) (omega (arith, c.add.ensures.spare, c.forward.ensures.spare))
+    (omega (arith, timers, c.requires.in_range, c.from-2.ensures)) (omega (arith, c.add.ensures.spare, c.forward.ensures.spare))
 
 pub returns-clause-none_due : goal.returns-clause-none_due
 returns-clause-none_due g c =
@@ -39,5 +38,5 @@ returns-clause-none_due g c =
     let item = placed (g.B.TimerBase.base c.forward.new.self).clock c.from-2.result (c.args.now + c.from.result) 0 0 in
     let grown = ap (λ (b : PlainBase). b.items) c.add.ensures.base ∙ ap (λ (b : PlainBase). b.items ++ item ∷ []) c.forward.ensures.base in
     let high : c.args.now ≤ (g.B.TimerBase.base c.forward.new.self).clock =
-      omega (arith, ap (λ (b : PlainBase). b.clock) c.forward.ensures.base, forwarded_high c.args.now (g.B.TimerBase.base c.self.inside.global).clock (g.B.TimerBase.base c.self.inside.global).items later) in
+    omega (arith, ap (λ (b : PlainBase). b.clock) c.forward.ensures.base, forwarded_high c.args.now (g.B.TimerBase.base c.self.inside.global).clock (g.B.TimerBase.base c.self.inside.global).items later) in
     later_pushed _ _ _ item later grown (placed_later c.args.now (g.B.TimerBase.base c.forward.new.self).clock c.from-2.result c.from.result high c.add.ensures.keeps_time)

@@ -1,9 +1,9 @@
-use Rattle.std.proofs.Common.{◌≡◌, ◌+◌, sym, ap, ◌∙◌, subst, length, Option}
-use Rattle.std.specs.Prelude.{OnSome}
+use Rattle.std.proofs.Common.{◌≡◌, ℕ, ◌+◌, ◌<◌, sym, ap, ◌∙◌, subst, length, Option}
+use Rattle.std.specs.Prelude.{IfSome, OnSome}
 use Rattle.wheel_core.specs.declared.item.Item.{Item}
 use Rattle.wheel_core.specs.PlainBase.{PlainBase, after_out}
 use Rattle.step_core.specs.QuietCpu.{RoomyCpu}
-use Rattle.step_core.proofs.Bases.{room_after_out, fewer_after_out}
+use Rattle.step_core.proofs.Bases.{room_after_out, fewer_after_out, number_out}
 use Rattle.step_core.proofs.quiet_cpu.QuietCpu.take_next.Goals as goal
 
 pub invariant_of-self : goal.invariant_of-self
@@ -17,3 +17,9 @@ returns-clause-fewer g c =
     let old = ap (λ (v : RoomyCpu). v.cpu.global) c.self.view_is in
     let Fewer : PlainBase → Type 0 = λ b. OnSome c.take_next.result (length (g.B.TimerBase.base c.take_next.new.self).items + 1 ≡ length b.items) in
     subst Fewer old (fewer_after_out _ _ _ _ c.take_next.ensures.due out)
+
+pub returns-clause-number : goal.returns-clause-number
+returns-clause-number g c =
+    let timers = ap (λ (v : RoomyCpu). v.timers) c.self.view_is in
+    let Low : ℕ → Type 0 = λ n. IfSome c.take_next.result (λ item. item.id < n) in
+    subst Low timers (number_out _ _ _ (g.B.TimerBase.base c.self.inside.global) _ c.self.invariant c.take_next.ensures.due)
