@@ -26,13 +26,13 @@ after_call plan =
       faults = (if fails_next plan then counted_up plan.faults else plan.faults);
     }
 
--- a source in memory: the bytes that are left, how many it gives at most in a call, which calls fail
+-- a source in memory: the bytes that are left, at most how many it gives in a call, which calls fail
 pub record Feed : Type 0 where
   pub left : List ℕ
   pub piece : ℕ
   pub plan : Plan
 
--- a sink in memory: the bytes that it holds, how many it takes at most in a call, which calls fail
+-- a sink in memory: the bytes that it holds, at most how many it takes in a call, which calls fail
 pub record Store : Type 0 where
   pub held : List ℕ
   pub piece : ℕ

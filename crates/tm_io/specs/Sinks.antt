@@ -3,12 +3,13 @@ use Rattle.std.specs.Prelude.{◌≡◌, ℕ, ◌<◌, List, length, take, Optio
 use Rattle.std.specs.Io.KnownBytes.{Appends}
 use Rattle.tm_io.specs.Counts.{HasRisen}
 
--- a put that answers so took nothing of bytes that aren't none
+-- a put that answers so took nothing, though there were bytes
 abbrev pub TakesNothing : {E : Type 0} → Result ℕ E → List ℕ → Type 0
 TakesNothing r bytes = (r ≡ Ok 0) × (0 < length bytes)
 
 -- the count of such puts rises exactly where this was one
-pub record CountsRefusal {E : Type 0} (r : Result ℕ E) (bytes : List ℕ) (before after : ℕ) : Type 0 where
+pub record CountsRefusal {E : Type 0} (r : Result ℕ E) (bytes : List ℕ) (before after : ℕ)
+    : Type 0 where
   pub rises : TakesNothing r bytes → HasRisen before after
   pub stays : ¬ TakesNothing r bytes → after ≡ before
 

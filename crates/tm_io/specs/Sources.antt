@@ -5,7 +5,7 @@ use Rattle.std.specs.Io.KnownBytes.{Consumes, IsAtEnd}
 use Rattle.tm_io.specs.declared.sources.ReadFault.{ReadFault}
 use Rattle.tm_io.specs.declared.sources.ReadFault.TheVariants.{Read, TooLong, NoMemory}
 
--- behind the n bytes that a call gave, or all of it after a refusal, the room is as it was
+-- behind the n bytes that a call gave, and all of it after an Err, the room is as it was
 abbrev pub KeepsRest : {E : Type 0} → Result ℕ E → List ℕ → List ℕ → Type 0
 KeepsRest r old new = MatchResult r (λ n. drop n new ≡ drop n old) (λ _. new ≡ old)
 

@@ -1,11 +1,11 @@
-//! Why a call on a source or a sink was refused.
+//! Why a call on a source or a sink failed.
 
 ghost use Rattle.std.specs.Prelude.{◌≡◌};
 ghost use Rattle.tm_io.specs.declared.faults.IoFault.TheVariants as faults;
 
 use std::alloc::AllocError;
 
-/// Why a source gave nothing, or a sink took nothing, in a call. Neither changes what is left or held.
+/// Why a source gave nothing, or a sink took nothing, in a call. What they tell stays the same.
 #[derive(Clone, Copy, Debug, PartialEq, Eq)]
 pub enum IoFault {
     /// The source or the sink failed, and its count of faults rose.

@@ -1,4 +1,4 @@
-//! A source and a sink in memory that give or take bytes in pieces, and fail in the calls that they are told.
+//! A source and a sink in memory that go by pieces, and fail in the calls that they are told.
 
 ghost use Rattle.std.specs.Prelude.{◌≡◌, ◌==◌, ◌<◌, ◌≤◌, ◌++◌, ◌^◌, ◌-◌, ◌↔◌, [], ℕ, List, min, length, take, drop, Some, IsTrue, IfOk, OnOk, OnErr, IsErrOf, MatchResult};
 ghost use Rattle.std.specs.List.{list_any};
@@ -81,8 +81,8 @@ impl Model for MemorySource {
 }
 
 impl MemorySource {
-    /// A source with all of these bytes left. It gives at most `piece` of them in a call; the calls
-    /// whose numbers, from 1, stand in `fails` fail and count.
+    /// A source with all of these bytes left. It gives at most `piece` of them in a call; the
+    /// calls whose numbers, from 1, stand in `fails` fail and count.
     pub fn new(bytes: Vec<u8>, piece: usize, fails: Vec<u32>) -> MemorySource
         requires { 0 < piece }
         ensures { result ≡ record { left = bytes.items; piece = piece; plan = start fails.items } }
@@ -141,8 +141,8 @@ impl Model for MemorySink {
 }
 
 impl MemorySink {
-    /// A sink that holds nothing. It takes at most `piece` bytes in a call; the calls whose numbers,
-    /// from 1, stand in `fails` fail and count.
+    /// A sink that holds nothing. It takes at most `piece` bytes in a call; the calls whose
+    /// numbers, from 1, stand in `fails` fail and count.
     pub fn new(alloc: Global, piece: usize, fails: Vec<u32>) -> MemorySink
         requires { 0 < piece }
         ensures { result ≡ record { held = []; piece = piece; plan = start fails.items } }

@@ -88,7 +88,8 @@ impl Sink for PlainSink {
     ghost refusals = { λ _. 0 };
 
     fn put(&mut self, bytes: &[u8]) -> Result<usize, IoFault>
-        ensures ok { IfOk result (λ n. (n ≡ length bytes.now) × (self.new ≡ self.old ++ bytes.now)) }
+        ensures ok { IfOk result (λ n.
+            (n ≡ length bytes.now) × (self.new ≡ self.old ++ bytes.now)) }
         ensures err { IfErr result (λ fault. (fault ≡ IoFault.NoMemory) × (self.new ≡ self.old)) }
     {
         self.bytes.extend_from_slice(bytes)?;

@@ -18,10 +18,10 @@ pub trait Sink {
     /// How often it took nothing of a piece that wasn't empty: a count of 64 bits that never falls.
     ghost refusals: { Self → ℕ };
 
-    /// Appends a front of the bytes and answers its length.
+    /// Appends a front of the bytes and answers its length. It may be shorter than they are.
     fn put(&mut self, bytes: &[u8]) -> Result<usize, IoFault>
         ensures within { IfOk result (λ n. n ≤ length bytes.now) }
-        // After a refusal nothing was put.
+        // After an Err nothing was put.
         ensures put { WriteAppends (held self.old) (held self.new) result bytes.now }
 
         ensures failed { IsErrOf result IoFault.Failed
@@ -50,10 +50,10 @@ pub struct WriteFault {
     pub cause: WriteCause,
 }
 
-/// The most bytes that a sink is handed at once.
+// The most bytes that a sink is handed at once.
 const PIECE: usize = 4096;
 
-/// Writes all of the bytes, in pieces of at most 4,096.
+/// Writes all of the bytes, in pieces of at most 4,096. What the sink took before an Err it keeps.
 pub fn write_all<K: Sink>(sink: &mut K, bytes: &[u8]) -> Result<(), WriteFault>
     ensures ok { OnOk result (Appends (K.held sink.old) (K.held sink.new) bytes.now) }
     ensures err { IfErr result (λ fault.

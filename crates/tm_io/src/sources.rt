@@ -20,7 +20,7 @@ pub trait Source {
     /// room that isn't empty only at the end of the input.
     fn take(&mut self, room: &mut [u8]) -> Result<usize, IoFault>
         ensures within { IfOk result (λ n. n ≤ length room.new) }
-        // After a refusal nothing was taken.
+        // After an Err nothing was taken.
         ensures taken { ReadConsumes (left self.old) (left self.new) result room.new }
         ensures rest { KeepsRest result room.old room.new }
 
@@ -40,8 +40,8 @@ pub enum ReadFault {
     NoMemory,
 }
 
-/// The most bytes that a source is asked for at once.
-const ROOM: usize = 4096;
+// The most bytes that a source is asked for at once.
+pub(crate) const ROOM: usize = 4096;
 
 /// Reads a source to its end, which has to come within `most` bytes. It asks for 4,096 bytes at
 /// once, or for fewer where fewer are left of `most + 1`.

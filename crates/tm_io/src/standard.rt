@@ -10,7 +10,7 @@ ghost use Rattle.tm_io.specs.Sources.{KeepsRest};
 ghost use Rattle.tm_io.specs.Sinks.{CountsRefusal};
 ghost use Rattle.tm_io.specs.Standard.{Reading, Writing};
 
-use crate::sources::fill_front;
+use crate::sources::{ROOM, fill_front};
 use crate::{IoFault, Sink, Source};
 use std::io;
 use std::io::{Read, Write};
@@ -30,9 +30,6 @@ impl<R: Read> Model for StdSource<R> {
 
     ghost invariant = { λ s. s.faults < 2 ^ 64 };
 }
-
-/// The most bytes that a reader is asked for at once.
-const ROOM: usize = 4096;
 
 impl<R: Read> StdSource<R> {
     /// The source of what this reader gives from here on.
