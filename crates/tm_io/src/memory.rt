@@ -12,7 +12,7 @@ use crate::{IoFault, PlainSink, PlainSource, Sink, Source};
 use std::alloc::Global;
 use std::marker::Model;
 
-// Which calls fail.
+// Which calls fail. The count of calls stands still at its type's end, past every number in `fails`.
 #[derive(Drop)]
 struct FaultPlan {
     fails: Vec<u32>,
@@ -57,7 +57,7 @@ impl FaultPlan {
     }
 }
 
-// Whether a number is one of those.
+// Whether a number is among those.
 fn contains_number(numbers: &[u32], number: u64) -> bool
     ensures { result ≡ list_any (λ other. other == number) numbers.now }
 {
