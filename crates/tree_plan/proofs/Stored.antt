@@ -1,7 +1,7 @@
 -- the stored groups and links say what the tree says
 use Rattle.std.proofs.Common.{◌≡◌, ℕ, zero, suc, ◌+◌, ◌-◌, ◌<◌, ◌≤◌, ⊎_elim, List, [], ◌∷◌, ◌++◌, length, map, refl, sym, ◌∙◌, ap, subst, arith, zero-add, add-zero, length-append}
-use Rattle.std.specs.Prelude.{◌*◌, Option, Some, None, slice_get, option_map, option_copied, position}
-use Rattle.std.proofs.lemmas.Bool.{cases_lt}
+use Rattle.std.specs.Prelude.{◌*◌, ◌↔◌, Bool, true, false, is_some, Option, Some, None, slice_get, option_map, option_copied, position}
+use Rattle.std.proofs.lemmas.Bool.{cases_lt, true≢false}
 use Rattle.std.proofs.lemmas.Option.{none-some, same_Some, slice_get-map, slice_get_past, slice_get_read}
 use Rattle.std.specs.Borrow.{Bor}
 use Rattle.std.specs.Slice.{IsGetResult}
@@ -67,23 +67,20 @@ by_parent {P} t m none some = go (parent_of t m) refl
     go None e = none e
     go (Some p) e = some p e
 
-link_to_parent : Shape → Child → ℕ → Link
+abbrev link_to_parent : Shape → Child → ℕ → Link
 link_to_parent t m p = record { parent = record { 0 = p }; bit = bit_of t m }
 
 pub parent_linked : (t : Shape) (m : Child) (l : Link) → Some l ≡ link_of t m → Some (l.parent.0) ≡ parent_of t m
-unfolding link_to_parent
 parent_linked t m l e =
     by_parent t m (λ none. absurd (none-some l (sym (e ∙ ap (option_map (link_to_parent t m)) none))))
     (λ p some. ap (λ (k : Link). Some (k.parent.0)) (same_Some _ _ (e ∙ ap (option_map (link_to_parent t m)) some)) ∙ sym some)
 
 pub bit_linked : (t : Shape) (m : Child) (l : Link) → Some l ≡ link_of t m → l.bit ≡ bit_of t m
-unfolding link_to_parent
 bit_linked t m l e =
     by_parent t m (λ none. absurd (none-some l (sym (e ∙ ap (option_map (link_to_parent t m)) none))))
     (λ p some. ap (λ (k : Link). k.bit) (same_Some _ _ (e ∙ ap (option_map (link_to_parent t m)) some)))
 
 pub parent_unlinked : (t : Shape) (m : Child) → None ≡ link_of t m → parent_of t m ≡ None
-unfolding link_to_parent
 parent_unlinked t m e =
     by_parent t m (λ none. none) (λ p some. absurd (none-some (link_to_parent t m p) (e ∙ ap (option_map (link_to_parent t m)) some)))
 
@@ -147,17 +144,19 @@ module _ (t : Shape) (planned : IsPlanned t) where
       ∙ unlinked (of_group g) ((edge_laws t planned).top_parent g (omega arith)))
       (cases_lt (suc g) (group_count_of t))
 
-  pub top_unlinked : (g : ℕ) → g < group_count_of t → None ≡ link_of t (of_group g) → g + 1 ≡ group_count_of t
-  top_unlinked g inside none =
-      ⊎_elim (λ below.
-      let up = (edge_laws t planned).group_parent g below in
-      absurd (none-some up.0 (sym (parent_unlinked t (of_group g) none) ∙ up.1)))
-      (λ top. omega arith)
-      (cases_lt (suc g) (group_count_of t))
-
-  pub no_top_linked : (g : ℕ) (l : Link) → Some l ≡ link_of t (of_group g) → g + 1 ≡ group_count_of t → ⊥
-  no_top_linked g l some last =
-      omega (arith, last, (edge_laws t planned).group_within g (l.parent.0) (sym (parent_linked t (of_group g) l some)))
+  -- a group has no link exactly where it is the top
+  pub top_where : (g : ℕ) → g < group_count_of t → (linked : Bool) → linked ≡ is_some (link_of t (of_group g)) → (linked ≡ false) ↔ (g + 1 ≡ group_count_of t)
+  top_where g inside linked e =
+      by_parent t (of_group g)
+      (λ none. (
+        λ _. ⊎_elim (λ below.
+            let up = (edge_laws t planned).group_parent g below in
+            absurd (none-some up.0 (sym none ∙ up.1))) (λ top. omega arith) (cases_lt (suc g) (group_count_of t)),
+        λ _. e ∙ ap (λ o. is_some (option_map (link_to_parent t (of_group g)) o)) none,
+      ))
+      (λ p some.
+      let linked_is : linked ≡ true = e ∙ ap (λ o. is_some (option_map (link_to_parent t (of_group g)) o)) some in
+      (λ not_linked. absurd (true≢false (sym linked_is ∙ not_linked)), λ last. absurd (omega (arith, last, (edge_laws t planned).group_within g p some))))
 
 module _ (nodes cpus : ℕ) (groups : List Group) (links : List Link) (stored : IsStored nodes cpus groups links) (t : Shape) (view : tree_of nodes cpus ≡ t) where
   pub is_planned : IsPlanned t
