@@ -1,9 +1,9 @@
 -- what holds of every planned tree, for walks up and down in it
-use Rattle.std.specs.Prelude.{◌≡◌, ◌↔◌, ℕ, suc, ◌-◌, ◌*◌, ◌^◌, ◌<◌, ◌≤◌, ◌++◌, [], map, length, Option, Some, None, slice_get}
+use Rattle.std.specs.Prelude.{◌≡◌, ◌↔◌, ℕ, suc, ◌-◌, ◌^◌, ◌<◌, ◌≤◌, ◌++◌, [], map, length, Some, None, slice_get}
 use Rattle.std.specs.List.{range_with_len}
 use Rattle.tree_plan.specs.Shape.{Shape, Child, joined, log2up}
 use Rattle.tree_plan.specs.Shape.Child.{of_cpu, of_group}
-use Rattle.tree_plan.specs.Paths.{cpu_count_of, group_count_of, level_count_of, groups_of, level_of, place_of, child_count_of, child_at, parent_of, bit_of, group_at_of, child_towards, path_of, IsBelow, IsUnder}
+use Rattle.tree_plan.specs.Paths.{cpu_count_of, group_count_of, level_count_of, groups_of, level_of, place_of, child_count_of, child_at, parent_of, bit_of, group_at_of, child_towards, path_of, IsTop, IsBelow, IsUnder}
 
 -- the binary logarithm rounded up is the least m with 2 ^ m at least x
 pub record LogarithmLaws (x : ℕ) : Type 0 where
@@ -36,10 +36,10 @@ pub record EdgeLaws (t : Shape) : Type 0 where
   pub bit_within : (p : ℕ) (m : Child) → parent_of t m ≡ Some p → bit_of t m < child_count_of t p
   pub bit_below_8 : (m : Child) → bit_of t m < 8
   pub some_at : (p k : ℕ) → k < child_count_of t p → (m : Child) × (child_at t p k ≡ Some m)
-  -- every CPU of a tree with groups has a parent, and every group but the top, which is the last
+  -- every CPU of a tree with groups has a parent, and every group but the top
   pub cpu_parent : (c : ℕ) → c < cpu_count_of t → 0 < level_count_of t → (g : ℕ) × (parent_of t (of_cpu c) ≡ Some g)
   pub group_parent : (g : ℕ) → suc g < group_count_of t → (p : ℕ) × (parent_of t (of_group g) ≡ Some p)
-  pub top_parent : (g : ℕ) → suc g ≡ group_count_of t → parent_of t (of_group g) ≡ None
+  pub top_parent : (g : ℕ) → IsTop t g → parent_of t (of_group g) ≡ None
   -- and nothing else has one
   pub cpu_within : (c g : ℕ) → parent_of t (of_cpu c) ≡ Some g → c < cpu_count_of t
   pub group_within : (g p : ℕ) → parent_of t (of_group g) ≡ Some p → suc g < group_count_of t
@@ -52,7 +52,7 @@ pub record LevelLaws (t : Shape) : Type 0 where
   pub rising : (g p : ℕ) → parent_of t (of_group g) ≡ Some p → g < p
   pub within : (g : ℕ) → g < group_count_of t → level_of t g < level_count_of t
   pub highest : (g : ℕ) → g < group_count_of t →
-      (suc (level_of t g) ≡ level_count_of t) ↔ (suc g ≡ group_count_of t)
+      (suc (level_of t g) ≡ level_count_of t) ↔ IsTop t g
   -- a level and a place in it name one group
   pub named : (g h : ℕ) → g < group_count_of t → h < group_count_of t →
       level_of t g ≡ level_of t h → place_of t g ≡ place_of t h → g ≡ h
@@ -72,14 +72,16 @@ pub record PathLaws (t : Shape) : Type 0 where
       (m : Child) × (child_towards t c l ≡ Some m) × (parent_of t m ≡ Some g) × (child_at t g (bit_of t m) ≡ Some m)
   -- where a path goes through a child, it goes on in the child's parent
   pub onwards : (c l : ℕ) (m : Child) → child_towards t c l ≡ Some m → group_at_of t c l ≡ parent_of t m
+  pub reached : (c l : ℕ) (m : Child) → child_towards t c l ≡ Some m → IsUnder t c m
   -- a CPU is below a group where its path has the group at the group's level, and so with children
   pub below : (c g : ℕ) → IsBelow t c g → group_at_of t c (level_of t g) ≡ Some g
-  pub under : (c p : ℕ) (m : Child) → parent_of t m ≡ Some p → IsUnder t c m → child_towards t c (level_of t p) ≡ Some m
+  pub under : (c p : ℕ) (m : Child) → parent_of t m ≡ Some p → IsUnder t c m →
+      child_towards t c (level_of t p) ≡ Some m
   -- two paths that meet stay together
   pub meet : (c d l n g : ℕ) → group_at_of t c l ≡ Some g → group_at_of t d l ≡ Some g → l ≤ n →
       group_at_of t c n ≡ group_at_of t d n
   -- each path ends at the one top
-  pub top : (c l g : ℕ) → c < cpu_count_of t → suc l ≡ level_count_of t → suc g ≡ group_count_of t →
+  pub top : (c l g : ℕ) → c < cpu_count_of t → suc l ≡ level_count_of t → IsTop t g →
       group_at_of t c l ≡ Some g
   -- every group is on the path of some CPU
   pub some_cpu : (g : ℕ) → g < group_count_of t →

@@ -62,6 +62,10 @@ bit_in t m (Some g) = position_or_len (same_child m) (children_of t g)
 unfoldable pub bit_of : Shape → Child → ℕ
 bit_of t m = bit_in t m (parent_of t m)
 
+-- group g is the top, which has the last number
+abbrev pub IsTop : Shape → ℕ → Type 0
+IsTop t g = suc g ≡ group_count_of t
+
 -- the group of CPU c's path at level l: at level 0 its leaf, and then each time the parent
 unfoldable pub group_at_of : Shape → (c l : ℕ) → Option ℕ
 group_at_of t c zero = parent_of t (of_cpu c)

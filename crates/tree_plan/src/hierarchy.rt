@@ -3,7 +3,7 @@
 ghost use Rattle.std.specs.Prelude.{◌≡◌, ℕ, ◌+◌, ◌*◌, ◌<◌, ◌≤◌, ◌↔◌, length, map, IfOk, IsNone, option_map};
 ghost use Rattle.tree_plan.specs.Shape.{Shape, IsWithinLimits, IsPlanned, tree_of};
 ghost use Rattle.tree_plan.specs.Shape.Child.{of_cpu, of_group};
-ghost use Rattle.tree_plan.specs.Paths.{cpu_count_of, group_count_of, level_count_of, level_of, place_of, child_count_of, parent_of, bit_of, group_at_of};
+ghost use Rattle.tree_plan.specs.Paths.{cpu_count_of, group_count_of, level_count_of, level_of, place_of, child_count_of, parent_of, bit_of, group_at_of, IsTop};
 ghost use Rattle.tree_plan.specs.Store.{group_of, link_of};
 
 use crate::cutting::{Group, Link, cut_groups, link_children};
@@ -103,7 +103,7 @@ impl Tree {
     pub fn parent(&self, g: GroupId) -> Option<GroupId>
         requires { g.0 < group_count_of self.now }
         ensures parent { option_map (λ p. p.0) result ≡ parent_of self.now (of_group g.0) }
-        ensures top { IsNone result ↔ (g.0 + 1 ≡ group_count_of self.now) }
+        ensures top { IsNone result ↔ IsTop self.now g.0 }
     {
         self.group_link(g).map(|link| link.parent)
     }
