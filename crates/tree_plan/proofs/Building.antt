@@ -19,7 +19,8 @@ lengths_from inner zero l rows = []
 lengths_from inner (suc n) l rows =
     cond (eqb (sum rows) 1) [] (flat_map run_lengths (row_lengths_at inner l rows) ∷ lengths_from inner n (suc l) (map groups_for (row_lengths_at inner l rows)))
 
-pub lengths-levels_from : (inner n l first : ℕ) (rows : List (List Child)) → lengths (levels_from inner n l first rows) ≡ lengths_from inner n l (map length rows)
+pub lengths-levels_from : (inner n l first : ℕ) (rows : List (List Child)) →
+    lengths (levels_from inner n l first rows) ≡ lengths_from inner n l (map length rows)
 unfolding levels_from lengths_from
 lengths-levels_from inner zero l first rows = refl
 lengths-levels_from inner (suc n) l first rows =
@@ -36,7 +37,8 @@ lengths-levels_from inner (suc n) l first rows =
     map-cond (λ (gs : List (List Child)). map length gs) (eqb (length (joined rows)) 1) [] (level ∷ above)
     ∙ (λ i. cond (eqb (length-joined rows i) 1) [] (here i ∷ rest i))
 
-lengths-nodes : (cpus : ℕ) (ns : List ℕ) → map length (map (λ n. map of_cpu (range_with_len (n * cpus) cpus)) ns) ≡ replicate (length ns) cpus
+lengths-nodes : (cpus : ℕ) (ns : List ℕ) →
+    map length (map (λ n. map of_cpu (range_with_len (n * cpus) cpus)) ns) ≡ replicate (length ns) cpus
 lengths-nodes cpus [] = refl
 lengths-nodes cpus (n ∷ ns) =
     λ i. (length-map (range_with_len (n * cpus) cpus) of_cpu ∙ length-range_with_len (n * cpus) cpus) i ∷ lengths-nodes cpus ns i
@@ -58,14 +60,18 @@ pub record RowsWithin (rows : List ℕ) : Type 0 where
 rows_at_within : (inner l : ℕ) (rows : List ℕ) → RowsWithin rows → RowsWithin (row_lengths_at inner l rows)
 rows_at_within inner l rows h = cond_both (ltb l inner) rows (sum rows ∷ []) RowsWithin (λ _. h) (λ _. record { some = omega arith; few = omega (arith, h.few, sum_by-cons (λ n. n) (sum rows) []) })
 
-pub next_within : (inner l : ℕ) (rows : List ℕ) → RowsWithin rows → RowsWithin (map groups_for (row_lengths_at inner l rows))
+pub next_within : (inner l : ℕ) (rows : List ℕ) → RowsWithin rows →
+    RowsWithin (map groups_for (row_lengths_at inner l rows))
 next_within inner l rows h =
     let cutting = rows_at_within inner l rows h in
     let ms = row_lengths_at inner l rows in
     record { some = omega (arith, length-map ms groups_for, cutting.some); few = omega (arith, sum-groups_for ms, cutting.few) }
 
 -- what is still to be built, where the level just built is taken off it
-pub built_more : (inner most l : ℕ) (rows above : List ℕ) (old new : List Group) → l < most → sum rows ≢ 1 → above ≡ map groups_for (row_lengths_at inner l rows) → new ≡ old ++ listed l 0 (flat_map run_lengths (row_lengths_at inner l rows)) → new ++ listed_levels (l + 1) (lengths_from inner (most - (l + 1)) (l + 1) above) ≡ old ++ listed_levels l (lengths_from inner (most - l) l rows)
+pub built_more : (inner most l : ℕ) (rows above : List ℕ) (old new : List Group) → l < most → sum rows ≢ 1 →
+    above ≡ map groups_for (row_lengths_at inner l rows) →
+    new ≡ old ++ listed l 0 (flat_map run_lengths (row_lengths_at inner l rows)) →
+    new ++ listed_levels (l + 1) (lengths_from inner (most - (l + 1)) (l + 1) above) ≡ old ++ listed_levels l (lengths_from inner (most - l) l rows)
 unfolding listed_levels lengths_from
 built_more inner most l rows above old new room more climbed added =
     let left = most - (l + 1) in
@@ -86,14 +92,16 @@ none_left inner zero l rows one = refl
 none_left inner (suc n) l rows one = cond-true (eqb (sum rows) 1) [] (flat_map run_lengths (row_lengths_at inner l rows) ∷ lengths_from inner n (suc l) (map groups_for (row_lengths_at inner l rows))) (eq-eqb _ _ one)
 
 -- nothing is left to be built
-pub built_all : (inner n l : ℕ) (rows : List ℕ) (gs : List Group) → n ≡ 0 ⊎ sum rows ≡ 1 → gs ++ listed_levels l (lengths_from inner n l rows) ≡ gs
+pub built_all : (inner n l : ℕ) (rows : List ℕ) (gs : List Group) → n ≡ 0 ⊎ sum rows ≡ 1 →
+    gs ++ listed_levels l (lengths_from inner n l rows) ≡ gs
 unfolding listed_levels lengths_from
 built_all inner n l rows gs h =
     let nothing : lengths_from inner n l rows ≡ [] = ⊎_elim (λ z. ap (λ m. lengths_from inner m l rows) z) (none_left inner n l rows) h in
     ap (λ ls. gs ++ listed_levels l ls) nothing ∙ append-nil gs
 
 -- the lengths of the groups of the tree
-pub lengths-tree_of : (nodes cpus : ℕ) → lengths (tree_of nodes cpus).levels ≡ lengths_from (levels_for cpus) (levels_for cpus + levels_for nodes) 0 (replicate nodes cpus)
+pub lengths-tree_of : (nodes cpus : ℕ) →
+    lengths (tree_of nodes cpus).levels ≡ lengths_from (levels_for cpus) (levels_for cpus + levels_for nodes) 0 (replicate nodes cpus)
 lengths-tree_of nodes cpus =
     lengths-levels_from (levels_for cpus) (levels_for cpus + levels_for nodes) 0 0 (node_cpus nodes cpus)
     ∙ ap (lengths_from (levels_for cpus) (levels_for cpus + levels_for nodes) 0) (lengths-node_cpus nodes cpus)
@@ -107,6 +115,8 @@ pub nodes_within : (nodes cpus : ℕ) → IsWithinLimits nodes cpus → RowsWith
 nodes_within nodes cpus h = record { some = omega (arith, length-replicate nodes cpus, h.some_node); few = omega (arith, sum-replicate nodes cpus, h.at_most_64_in_all) }
 
 -- all levels from the nodes' CPUs on
-pub built_from_start : (nodes cpus inner outer : ℕ) (rows : List ℕ) → inner ≡ levels_for cpus → outer ≡ levels_for nodes → rows ≡ replicate nodes cpus → listed_levels 0 (lengths_from inner (inner + outer) 0 rows) ≡ listed_levels 0 (lengths (tree_of nodes cpus).levels)
+pub built_from_start : (nodes cpus inner outer : ℕ) (rows : List ℕ) → inner ≡ levels_for cpus →
+    outer ≡ levels_for nodes → rows ≡ replicate nodes cpus →
+    listed_levels 0 (lengths_from inner (inner + outer) 0 rows) ≡ listed_levels 0 (lengths (tree_of nodes cpus).levels)
 built_from_start nodes cpus inner outer rows p q r =
     (λ i. listed_levels 0 (lengths_from (p i) (p i + q i) 0 (r i))) ∙ ap (listed_levels 0) (sym (lengths-tree_of nodes cpus))

@@ -15,7 +15,8 @@ pub planned_paths : (t : Shape) → IsPlanned t → PathLaws t
 planned_paths t planned = path_laws t (cut_laws t planned) (edge_laws t planned) (level_laws t planned)
 
 -- the parent is the group one level higher
-pub climbed : (t : Shape) (c l g : ℕ) (o : Option ℕ) → group_at_of t c l ≡ Some g → o ≡ parent_of t (of_group g) → group_at_of t c (l + 1) ≡ o
+pub climbed : (t : Shape) (c l g : ℕ) (o : Option ℕ) → group_at_of t c l ≡ Some g → o ≡ parent_of t (of_group g) →
+    group_at_of t c (l + 1) ≡ o
 unfolding group_at_of
 climbed t c l g o here up = ap (group_at_of t c) (add-one l) ∙ (ap (option_and_then (λ h. parent_of t (of_group h))) here ∙ sym up)
 
@@ -29,7 +30,8 @@ ended t c l (suc n) none up =
     (cases_lt n l)
 
 -- None exactly where there is no such level
-pub none_where : (t : Shape) → IsPlanned t → (c l : ℕ) → c < cpu_count_of t → (r : Option GroupId) → option_map (λ (g : GroupId). g.0) r ≡ group_at_of t c l → IsNone r ↔ (level_count_of t ≤ l)
+pub none_where : (t : Shape) → IsPlanned t → (c l : ℕ) → c < cpu_count_of t → (r : Option GroupId) →
+    option_map (λ (g : GroupId). g.0) r ≡ group_at_of t c l → IsNone r ↔ (level_count_of t ≤ l)
 none_where t planned c l inside None e = (
   λ _. ⊎_elim (λ low.
       let group = (planned_paths t planned).there c l inside low in

@@ -54,7 +54,8 @@ pub AllRuns-append : {A : Type 0} (xss yss : List (List A)) → AllRuns xss → 
 AllRuns-append [] yss h k = k
 AllRuns-append (xs ∷ xss) yss h k = (h.0, AllRuns-append xss yss h.1 k)
 
-pub run_at : {A : Type 0} (xss : List (List A)) (p : ℕ) (xs : List A) → AllRuns xss → slice_get xss p ≡ Some xs → IsRun xs
+pub run_at : {A : Type 0} (xss : List (List A)) (p : ℕ) (xs : List A) → AllRuns xss → slice_get xss p ≡ Some xs →
+    IsRun xs
 run_at [] p xs h e = absurd (none-some xs e)
 run_at (ys ∷ xss) zero xs h e = subst IsRun (same_Some _ _ e) h.0
 run_at (ys ∷ xss) (suc p) xs h e = run_at xss p xs h.1 e
@@ -87,7 +88,8 @@ pub runs-level : {A : Type 0} (rows : List (List A)) → AllRuns (joined (map cu
 runs-level [] = tt
 runs-level (row ∷ rows) = AllRuns-append (cut row) (joined (map cut rows)) (runs-cut row) (runs-level rows)
 
-pub lengths-level : {A : Type 0} (rows : List (List A)) → map length (joined (map cut rows)) ≡ flat_map run_lengths (map length rows)
+pub lengths-level : {A : Type 0} (rows : List (List A)) →
+    map length (joined (map cut rows)) ≡ flat_map run_lengths (map length rows)
 lengths-level [] = refl
 lengths-level (row ∷ rows) =
     map-append length (cut row) (joined (map cut rows)) ∙ (λ i. lengths-cut row i ++ lengths-level rows i)
@@ -96,17 +98,20 @@ pub lengths-cuts : {A : Type 0} (rows : List (List A)) → map length (map cut r
 lengths-cuts [] = refl
 lengths-cuts (row ∷ rows) = λ i. length-cut row i ∷ lengths-cuts rows i
 
-pub lengths-numbered : (first : ℕ) (rows : List (List (List Child))) → map length (numbered first rows) ≡ map length rows
+pub lengths-numbered : (first : ℕ) (rows : List (List (List Child))) →
+    map length (numbered first rows) ≡ map length rows
 unfolding numbered
 lengths-numbered first [] = refl
 lengths-numbered first (groups ∷ rows) =
     λ i. (length-map (range_with_len first (length groups)) of_group ∙ length-range_with_len first (length groups)) i ∷ lengths-numbered (first + length groups) rows i
 
-pub map-cond : {X Y : Type 0} (f : X → Y) (b : Bool) (xs ys : List X) → map f (cond b xs ys) ≡ cond b (map f xs) (map f ys)
+pub map-cond : {X Y : Type 0} (f : X → Y) (b : Bool) (xs ys : List X) →
+    map f (cond b xs ys) ≡ cond b (map f xs) (map f ys)
 map-cond f true xs ys = refl
 map-cond f false xs ys = refl
 
-pub lengths-rows_at : (inner l : ℕ) (rows : List (List Child)) → map length (rows_at inner l rows) ≡ row_lengths_at inner l (map length rows)
+pub lengths-rows_at : (inner l : ℕ) (rows : List (List Child)) →
+    map length (rows_at inner l rows) ≡ row_lengths_at inner l (map length rows)
 unfolding rows_at
 lengths-rows_at inner l rows =
     map-cond length (ltb l inner) rows (joined rows ∷ []) ∙ ap (λ n. cond (ltb l inner) (map length rows) (n ∷ [])) (length-joined rows)

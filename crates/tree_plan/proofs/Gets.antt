@@ -5,7 +5,8 @@ use Rattle.std.specs.List.{range_with_len}
 use Rattle.std.proofs.lemmas.List.FromFn.{length-map-range_with_len}
 use Rattle.std.proofs.lemmas.Option.{none-some, same_Some}
 
-pub get_left : {A : Type 0} (xs ys : List A) (i : ℕ) (x : A) → slice_get xs i ≡ Some x → slice_get (xs ++ ys) i ≡ Some x
+pub get_left : {A : Type 0} (xs ys : List A) (i : ℕ) (x : A) → slice_get xs i ≡ Some x →
+    slice_get (xs ++ ys) i ≡ Some x
 get_left [] ys i x e = absurd (none-some x e)
 get_left (y ∷ xs) ys zero x e = e
 get_left (y ∷ xs) ys (suc i) x e = get_left xs ys i x e
@@ -17,7 +18,8 @@ get_right (x ∷ xs) ys i =
     ap (slice_get (x ∷ (xs ++ ys))) at ∙ get_right xs ys i
 
 -- an element of joined lists stands in the first or in the second
-pub get_either : {A : Type 0} (xs ys : List A) (i : ℕ) (x : A) → slice_get (xs ++ ys) i ≡ Some x → (slice_get xs i ≡ Some x) ⊎ ((j : ℕ) × (i ≡ length xs + j) × (slice_get ys j ≡ Some x))
+pub get_either : {A : Type 0} (xs ys : List A) (i : ℕ) (x : A) → slice_get (xs ++ ys) i ≡ Some x →
+    (slice_get xs i ≡ Some x) ⊎ ((j : ℕ) × (i ≡ length xs + j) × (slice_get ys j ≡ Some x))
 get_either [] ys i x e = inr (i, omega arith, e)
 get_either (y ∷ xs) ys zero x e = inl e
 get_either (y ∷ xs) ys (suc i) x e =
@@ -33,13 +35,15 @@ get_some [] i h = absurd (omega arith)
 get_some (x ∷ xs) zero h = (x, refl)
 get_some (x ∷ xs) (suc i) h = get_some xs i (omega arith)
 
-pub get_range : {A : Type 0} (f : ℕ → A) (a n i : ℕ) → i < n → slice_get (map f (range_with_len a n)) i ≡ Some (f (a + i))
+pub get_range : {A : Type 0} (f : ℕ → A) (a n i : ℕ) → i < n →
+    slice_get (map f (range_with_len a n)) i ≡ Some (f (a + i))
 get_range f a zero i h = absurd (omega arith)
 get_range f a (suc n) zero h = ap (λ k. Some (f k)) (sym (add-zero a))
 get_range f a (suc n) (suc i) h = let on : a + 1 + i ≡ a + suc i = omega arith in get_range f (a + 1) n i (omega arith) ∙ ap (λ k. Some (f k)) on
 
 -- what a range of numbers has at an index
-pub from_range : {A : Type 0} (f : ℕ → A) (a n i : ℕ) (x : A) → slice_get (map f (range_with_len a n)) i ≡ Some x → (i < n) × (x ≡ f (a + i))
+pub from_range : {A : Type 0} (f : ℕ → A) (a n i : ℕ) (x : A) → slice_get (map f (range_with_len a n)) i ≡ Some x →
+    (i < n) × (x ≡ f (a + i))
 from_range f a n i x e =
     let inside : i < n = omega (arith, get_within _ i x e, length-map-range_with_len f a n) in
     (inside, same_Some _ _ (sym e ∙ get_range f a n i inside))

@@ -21,14 +21,17 @@ length-lengths_of zero m = refl
 length-lengths_of (suc n) m = ap suc (length-lengths_of n (m - 8))
 
 -- the groups of a level from one run on, and then those of the runs behind it
-pub listed-append : (level place : ℕ) (ns ms : List ℕ) → listed level place (ns ++ ms) ≡ listed level place ns ++ listed level (place + length ns) ms
+pub listed-append : (level place : ℕ) (ns ms : List ℕ) →
+    listed level place (ns ++ ms) ≡ listed level place ns ++ listed level (place + length ns) ms
 unfolding listed
 listed-append level place [] ms = ap (λ p. listed level p ms) (omega arith)
 listed-append level place (n ∷ ns) ms =
     ap (λ gs. record { level = level; place = place; children = n } ∷ gs) (listed-append level (suc place) ns ms ∙ ap (λ p. listed level (suc place) ns ++ listed level p ms) (omega arith))
 
 -- one more group of a row
-pub row_more : (level place left children : ℕ) (old new : List Group) → 0 < left → children ≡ min left 8 → new ≡ old ++ (record { level = level; place = place; children = children } ∷ []) → new ++ listed level (place + 1) (run_lengths (left - children)) ≡ old ++ listed level place (run_lengths left)
+pub row_more : (level place left children : ℕ) (old new : List Group) → 0 < left → children ≡ min left 8 →
+    new ≡ old ++ (record { level = level; place = place; children = children } ∷ []) →
+    new ++ listed level (place + 1) (run_lengths (left - children)) ≡ old ++ listed level place (run_lengths left)
 unfolding listed
 row_more level place left children old new some few added =
     let size : min 8 left ≡ children = omega arith in
@@ -46,7 +49,9 @@ unfolding listed lengths_of
 row_done level place left gs none = ap (λ n. gs ++ listed level place (run_lengths n)) none ∙ append-nil gs
 
 -- one more row of a level
-pub level_more : (level place next i : ℕ) (rows : List ℕ) (old new : List Group) → i < length rows → new ≡ old ++ listed level place (run_lengths (get_or rows i 0)) → next ≡ place + groups_for (get_or rows i 0) → new ++ listed level next (flat_map run_lengths (drop (i + 1) rows)) ≡ old ++ listed level place (flat_map run_lengths (drop i rows))
+pub level_more : (level place next i : ℕ) (rows : List ℕ) (old new : List Group) → i < length rows →
+    new ≡ old ++ listed level place (run_lengths (get_or rows i 0)) → next ≡ place + groups_for (get_or rows i 0) →
+    new ++ listed level next (flat_map run_lengths (drop (i + 1) rows)) ≡ old ++ listed level place (flat_map run_lengths (drop i rows))
 level_more level place next i rows old new within added behind =
     let row = get_or rows i 0 in
     let rest = flat_map run_lengths (drop (i + 1) rows) in
@@ -58,7 +63,8 @@ level_more level place next i rows old new within added behind =
     ∙ (append_assoc old (listed level place (run_lengths row)) (listed level next rest) ∙ ap (λ gs. old ++ gs) (sym after))
 
 -- no more row of a level
-pub level_done : (level place i : ℕ) (rows : List ℕ) (gs : List Group) → length rows ≤ i → gs ++ listed level place (flat_map run_lengths (drop i rows)) ≡ gs
+pub level_done : (level place i : ℕ) (rows : List ℕ) (gs : List Group) → length rows ≤ i →
+    gs ++ listed level place (flat_map run_lengths (drop i rows)) ≡ gs
 unfolding listed
 level_done level place i rows gs done = ap (λ ns. gs ++ listed level place ns) (at_drop_all (flat_map run_lengths) rows i done) ∙ append-nil gs
 
@@ -67,7 +73,8 @@ unfolding links_to
 links_none g old = sym (append-nil old)
 
 -- one more link to a group
-pub links_more : (g k : ℕ) (old now new : List Link) → now ≡ old ++ links_to g k → new ≡ now ++ (record { parent = record { 0 = g }; bit = k } ∷ []) → new ≡ old ++ links_to g (k + 1)
+pub links_more : (g k : ℕ) (old now new : List Link) → now ≡ old ++ links_to g k →
+    new ≡ now ++ (record { parent = record { 0 = g }; bit = k } ∷ []) → new ≡ old ++ links_to g (k + 1)
 unfolding links_to
 links_more g k old now new before added =
     let link : ℕ → Link = λ n. record { parent = record { 0 = g }; bit = n } in
@@ -75,7 +82,9 @@ links_more g k old now new before added =
     ∙ (append_assoc old (links_to g k) (link k ∷ []) ∙ ap (λ ls. old ++ ls) (sym (map-range_with_len_more link 0 k k (omega arith)))))
 
 -- the links of one more group
-pub group_links_more : (i : ℕ) (groups : List Group) (d : Group) (old new : List Link) → i < length groups → new ≡ old ++ links_to i ((get_or groups i d).children) → new ++ links_from (i + 1) (map (λ (g : Group). g.children) (drop (i + 1) groups)) ≡ old ++ links_from i (map (λ (g : Group). g.children) (drop i groups))
+pub group_links_more : (i : ℕ) (groups : List Group) (d : Group) (old new : List Link) → i < length groups →
+    new ≡ old ++ links_to i ((get_or groups i d).children) →
+    new ++ links_from (i + 1) (map (λ (g : Group). g.children) (drop (i + 1) groups)) ≡ old ++ links_from i (map (λ (g : Group). g.children) (drop i groups))
 unfolding links_from
 group_links_more i groups d old new within added =
     let sizes : List Group → List ℕ = λ gs. map (λ (g : Group). g.children) gs in
@@ -85,7 +94,8 @@ group_links_more i groups d old new within added =
     at_drop_more (λ gs. links_from i (sizes gs)) groups i d within ∙ ap (λ n. here ++ links_from n (sizes (drop (i + 1) groups))) (sym (add-one i)) in
     ap (λ ls. ls ++ rest) added ∙ (append_assoc old here rest ∙ ap (λ ls. old ++ ls) (sym after))
 
-pub group_links_done : (i : ℕ) (groups : List Group) (ls : List Link) → length groups ≤ i → ls ++ links_from i (map (λ (g : Group). g.children) (drop i groups)) ≡ ls
+pub group_links_done : (i : ℕ) (groups : List Group) (ls : List Link) → length groups ≤ i →
+    ls ++ links_from i (map (λ (g : Group). g.children) (drop i groups)) ≡ ls
 unfolding links_from
 group_links_done i groups ls done =
     ap (λ gs. ls ++ links_from i (map (λ (g : Group). g.children) gs)) (drop_all i groups done) ∙ append-nil ls

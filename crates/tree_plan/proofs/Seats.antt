@@ -48,7 +48,8 @@ abbrev pub Distinct : List (List Child) → Type 0
 Distinct groups = (p q k j : ℕ) (m : Child) (run other : List Child) → slice_get groups p ≡ Some run → slice_get run k ≡ Some m → slice_get groups q ≡ Some other → slice_get other j ≡ Some m → (p ≡ q) × (k ≡ j)
 
 -- the group that has a child is found where the child stands
-pub found_group : (groups : List (List Child)) → Distinct groups → (p k : ℕ) (m : Child) (run : List Child) → slice_get groups p ≡ Some run → slice_get run k ≡ Some m → position (has m) groups ≡ Some p
+pub found_group : (groups : List (List Child)) → Distinct groups → (p k : ℕ) (m : Child) (run : List Child) →
+    slice_get groups p ≡ Some run → slice_get run k ≡ Some m → position (has m) groups ≡ Some p
 found_group groups distinct p k m run here there =
     let inside : p < length groups = get_within groups p run here in
     let elsewhere : (q : ℕ) → q < p → has m (get_or groups q []) ≡ false = λ q before. false_from_ne_true _ (λ found.
@@ -58,7 +59,8 @@ found_group groups distinct p k m run here there =
     position_or_len_is (has m) groups p [] (omega arith) elsewhere (λ _. subst (λ r. has m r ≡ true) (sym (get_or_from_slice_get groups p run [] here)) (has_at m run k there)) in
     (λ i. cond (ltb (first i) (length groups)) (Some (first i)) None) ∙ cond-true (ltb p (length groups)) (Some p) None (lt-ltb p (length groups) inside)
 
-pub found_bit : (groups : List (List Child)) → Distinct groups → (p k : ℕ) (m : Child) (run : List Child) → slice_get groups p ≡ Some run → slice_get run k ≡ Some m → position_or_len (same_child m) run ≡ k
+pub found_bit : (groups : List (List Child)) → Distinct groups → (p k : ℕ) (m : Child) (run : List Child) →
+    slice_get groups p ≡ Some run → slice_get run k ≡ Some m → position_or_len (same_child m) run ≡ k
 found_bit groups distinct p k m run here there =
     let inside : k < length run = get_within run k m there in
     let elsewhere : (j : ℕ) → j < k → same_child m (get_or run j m) ≡ false = λ j before. false_from_ne_true _ (λ found.
@@ -67,7 +69,8 @@ found_bit groups distinct p k m run here there =
     position_or_len_is (same_child m) run k m (omega arith) elsewhere (λ _. subst (λ x. same_child m x ≡ true) (sym (get_or_from_slice_get run k m m there)) (same_child-self m))
 
 -- a group that is found has the child
-pub found_has : (groups : List (List Child)) (p : ℕ) (m : Child) → position (has m) groups ≡ Some p → (run : List Child) × (k : ℕ) × (slice_get groups p ≡ Some run) × (slice_get run k ≡ Some m)
+pub found_has : (groups : List (List Child)) (p : ℕ) (m : Child) → position (has m) groups ≡ Some p →
+    (run : List Child) × (k : ℕ) × (slice_get groups p ≡ Some run) × (slice_get run k ≡ Some m)
 found_has groups p m e =
     let found = position-Some (has m) groups p [] e in
     let at = has_from m (get_or groups p []) found.1 in
@@ -96,21 +99,24 @@ pub record Seat (first : ℕ) (groups : List (List Child)) (i : ℕ) (m : Child)
   pub linked : slice_get (links_from first (map length groups)) i ≡ Some (link (first + group) bit)
 
 -- the links behind those of the first group
-links_behind : (first : ℕ) (run : List Child) (groups : List (List Child)) (i j : ℕ) → i ≡ length run + j → slice_get (links_from first (map length (run ∷ groups))) i ≡ slice_get (links_from (suc first) (map length groups)) j
+links_behind : (first : ℕ) (run : List Child) (groups : List (List Child)) (i j : ℕ) → i ≡ length run + j →
+    slice_get (links_from first (map length (run ∷ groups))) i ≡ slice_get (links_from (suc first) (map length groups)) j
 unfolding links_from
 links_behind first run groups i j at =
     ap (slice_get (links_to first (length run) ++ links_from (suc first) (map length groups))) (at ∙ ap (λ n. n + j) (sym (length-links_to first (length run))))
     ∙ get_right (links_to first (length run)) (links_from (suc first) (map length groups)) j
 
 -- the links of the first group
-links_in_front : (first : ℕ) (run : List Child) (groups : List (List Child)) (k : ℕ) → k < length run → slice_get (links_from first (map length (run ∷ groups))) k ≡ Some (link (first + 0) k)
+links_in_front : (first : ℕ) (run : List Child) (groups : List (List Child)) (k : ℕ) → k < length run →
+    slice_get (links_from first (map length (run ∷ groups))) k ≡ Some (link (first + 0) k)
 unfolding links_from
 links_in_front first run groups k inside =
     get_left (links_to first (length run)) (links_from (suc first) (map length groups)) k (link first k) (get-links_to first (length run) k inside)
     ∙ ap (λ g. Some (link g k)) (sym (add-zero first))
 
 -- the child at an index of all children stands where the link at that index says
-pub seat_of : (first : ℕ) (groups : List (List Child)) (i : ℕ) (m : Child) → slice_get (joined groups) i ≡ Some m → Seat first groups i m
+pub seat_of : (first : ℕ) (groups : List (List Child)) (i : ℕ) (m : Child) → slice_get (joined groups) i ≡ Some m →
+    Seat first groups i m
 seat_of first [] i m e = absurd (none-some m e)
 seat_of first (run ∷ groups) i m e =
     ⊎_elim (λ here. record {
@@ -139,7 +145,8 @@ pub record Index (first : ℕ) (groups : List (List Child)) (p k : ℕ) (m : Chi
   pub child : slice_get (joined groups) index ≡ Some m
   pub linked : slice_get (links_from first (map length groups)) index ≡ Some (link (first + p) k)
 
-pub index_of : (first : ℕ) (groups : List (List Child)) (p k : ℕ) (m : Child) (run : List Child) → slice_get groups p ≡ Some run → slice_get run k ≡ Some m → Index first groups p k m
+pub index_of : (first : ℕ) (groups : List (List Child)) (p k : ℕ) (m : Child) (run : List Child) →
+    slice_get groups p ≡ Some run → slice_get run k ≡ Some m → Index first groups p k m
 index_of first [] p k m run here there = absurd (none-some run here)
 index_of first (other ∷ groups) zero k m run here there =
     let at : slice_get other k ≡ Some m = subst (λ r. slice_get r k ≡ Some m) (sym (same_Some _ _ here)) there in
@@ -156,7 +163,8 @@ index_of first (other ∷ groups) (suc p) k m run here there =
       linked = links_behind first other groups (length other + rest.index) rest.index refl ∙ (rest.linked ∙ ap (λ g. Some (link g k)) (omega arith));
     }
 
-pub length-links_from : (first : ℕ) (groups : List (List Child)) → length (links_from first (map length groups)) ≡ length (joined groups)
+pub length-links_from : (first : ℕ) (groups : List (List Child)) →
+    length (links_from first (map length groups)) ≡ length (joined groups)
 unfolding links_from
 length-links_from first [] = refl
 length-links_from first (run ∷ groups) =
@@ -164,7 +172,9 @@ length-links_from first (run ∷ groups) =
     ∙ ((λ i. length-links_to first (length run) i + length-links_from (suc first) groups i) ∙ sym (length-append run (joined groups)))
 
 -- children that all differ stand in one place each
-pub distinct_from : (groups : List (List Child)) → ((i j : ℕ) (m : Child) → slice_get (joined groups) i ≡ Some m → slice_get (joined groups) j ≡ Some m → i ≡ j) → Distinct groups
+pub distinct_from : (groups : List (List Child)) →
+    ((i j : ℕ) (m : Child) → slice_get (joined groups) i ≡ Some m → slice_get (joined groups) j ≡ Some m → i ≡ j) →
+    Distinct groups
 distinct_from groups apart p q k j m run other here there here' there' =
     let one = index_of 0 groups p k m run here there in
     let two = index_of 0 groups q j m other here' there' in

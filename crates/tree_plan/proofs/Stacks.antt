@@ -38,12 +38,14 @@ range-append a (suc n) m =
     let on : a + 1 + n ≡ a + suc n = omega arith in
     ap (range_with_len a) longer ∙ (λ i. a ∷ (range-append (a + 1) n m ∙ ap (λ k. range_with_len (a + 1) n ++ range_with_len k m) on) i)
 
-pub group_range-append : (first n m : ℕ) → group_range first (n + m) ≡ group_range first n ++ group_range (first + n) m
+pub group_range-append : (first n m : ℕ) →
+    group_range first (n + m) ≡ group_range first n ++ group_range (first + n) m
 group_range-append first n m =
     ap (map of_group) (range-append first n m) ∙ map-append of_group (range_with_len first n) (range_with_len (first + n) m)
 
 -- the members of the next level are the numbers of all groups of this one
-joined-numbered : (first : ℕ) (rows : List (List (List Child))) → joined (numbered first rows) ≡ group_range first (length (joined rows))
+joined-numbered : (first : ℕ) (rows : List (List (List Child))) →
+    joined (numbered first rows) ≡ group_range first (length (joined rows))
 unfolding numbered
 joined-numbered first [] = refl
 joined-numbered first (groups ∷ rows) =
@@ -82,18 +84,21 @@ some_groups [] ms e h = absurd (omega (arith, ap length e))
 some_groups (run ∷ level) ms e h = omega arith
 
 -- as many members as groups below them
-length-members : (first : ℕ) (rows : List (List (List Child))) → length (joined (numbered first rows)) ≡ length (joined rows)
+length-members : (first : ℕ) (rows : List (List (List Child))) →
+    length (joined (numbered first rows)) ≡ length (joined rows)
 length-members first rows =
     ap length (joined-numbered first rows) ∙ (length-map (range_with_len first (length (joined rows))) of_group ∙ length-range_with_len first (length (joined rows)))
 
-some_members : (inner l first : ℕ) (rows : List (List Child)) → 1 ≤ length (joined rows) → 1 ≤ length (joined (numbered first (map cut (rows_at inner l rows))))
+some_members : (inner l first : ℕ) (rows : List (List Child)) → 1 ≤ length (joined rows) →
+    1 ≤ length (joined (numbered first (map cut (rows_at inner l rows))))
 some_members inner l first rows some =
     let groups = map cut (rows_at inner l rows) in
     let level : 1 ≤ length (joined groups) = some_groups (joined groups) (joined rows) (joined-level (rows_at inner l rows) ∙ joined-rows_at inner l rows) some in
     omega (arith, length-members first groups)
 
 -- across nodes: all members are one row
-across : (inner n l first : ℕ) (rows : List (List Child)) → inner ≤ l → 1 ≤ length (joined rows) → length (joined rows) ≤ 8 ^ n → IsStack first (joined rows) (levels_from inner n l first rows)
+across : (inner n l first : ℕ) (rows : List (List Child)) → inner ≤ l → 1 ≤ length (joined rows) →
+    length (joined rows) ≤ 8 ^ n → IsStack first (joined rows) (levels_from inner n l first rows)
 unfolding levels_from rows_at
 across inner zero l first rows high some few = omega arith
 across inner (suc n) l first rows high some few =
@@ -113,7 +118,8 @@ length-at_most : {A : Type 0} (m : ℕ) (rows : List (List A)) → AtMost m rows
 length-at_most m [] h = omega arith
 length-at_most m (row ∷ rows) h = omega (arith, length-append row (joined rows), length-at_most m rows h.1, suc-mul (length rows) m, h.0)
 
-at_most_next : (m first : ℕ) (rows : List (List Child)) → AtMost (m * 8) rows → AtMost m (numbered first (map cut rows))
+at_most_next : (m first : ℕ) (rows : List (List Child)) → AtMost (m * 8) rows →
+    AtMost m (numbered first (map cut rows))
 unfolding numbered
 at_most_next m first [] h = tt
 at_most_next m first (row ∷ rows) h = (
@@ -127,7 +133,9 @@ same_rows first [] = refl
 same_rows first (groups ∷ rows) = ap suc (same_rows (first + length groups) rows)
 
 -- within nodes: k levels until each row has one member, and then across nodes
-within : (inner k outer n l first : ℕ) (rows : List (List Child)) → l + k ≡ inner → n ≡ k + outer → AtMost (8 ^ k) rows → length rows ≤ 8 ^ outer → 1 ≤ length (joined rows) → IsStack first (joined rows) (levels_from inner n l first rows)
+within : (inner k outer n l first : ℕ) (rows : List (List Child)) → l + k ≡ inner → n ≡ k + outer →
+    AtMost (8 ^ k) rows → length rows ≤ 8 ^ outer → 1 ≤ length (joined rows) →
+    IsStack first (joined rows) (levels_from inner n l first rows)
 unfolding rows_at
 within inner zero outer n l first rows here all few_rows nodes some =
     across inner n l first rows (omega arith) some (omega (arith, length-at_most 1 rows few_rows, ap (λ m. 8 ^ m) all, ap (λ m. 8 ^ m) (zero-add outer)))
@@ -143,7 +151,8 @@ within inner (suc k) outer (suc n) l first rows here all few_rows nodes some =
 
 -- ---- the tree of a machine
 
-joined-nodes : (cpus a k : ℕ) → joined (map (λ n. map of_cpu (range_with_len (n * cpus) cpus)) (range_with_len a k)) ≡ map of_cpu (range_with_len (a * cpus) (k * cpus))
+joined-nodes : (cpus a k : ℕ) →
+    joined (map (λ n. map of_cpu (range_with_len (n * cpus) cpus)) (range_with_len a k)) ≡ map of_cpu (range_with_len (a * cpus) (k * cpus))
 joined-nodes cpus a zero = let none : 0 ≡ 0 * cpus = omega arith in ap (λ n. map of_cpu (range_with_len (a * cpus) n)) none
 joined-nodes cpus a (suc k) =
     let here = range_with_len (a * cpus) cpus in
@@ -161,7 +170,8 @@ at_most_weaker m k [] le h = tt
 at_most_weaker m k (row ∷ rows) le h = (omega (arith, h.0), at_most_weaker m k rows le h.1)
 
 -- the levels of a machine stand on its CPUs
-pub tree_stack : (nodes cpus : ℕ) → 1 ≤ nodes * cpus → IsStack 0 (map of_cpu (range_with_len 0 (nodes * cpus))) (tree_of nodes cpus).levels
+pub tree_stack : (nodes cpus : ℕ) → 1 ≤ nodes * cpus →
+    IsStack 0 (map of_cpu (range_with_len 0 (nodes * cpus))) (tree_of nodes cpus).levels
 unfolding node_cpus
 tree_stack nodes cpus some =
     let inner = levels_for cpus in
@@ -186,7 +196,8 @@ pub length-group_range : (first n : ℕ) → length (group_range first n) ≡ n
 length-group_range first n = length-map (range_with_len first n) of_group ∙ length-range_with_len first n
 
 -- each level has at most as many groups as the first has members
-pub few_groups : (first : ℕ) (ms : List Child) (levels : List (List (List Child))) → IsStack first ms levels → length (joined levels) ≤ length levels * length ms
+pub few_groups : (first : ℕ) (ms : List Child) (levels : List (List (List Child))) → IsStack first ms levels →
+    length (joined levels) ≤ length levels * length ms
 few_groups first ms [] h = omega arith
 few_groups first ms (level ∷ above) h =
     let size = length-group_range first (length level) in
@@ -196,7 +207,9 @@ few_groups first ms (level ∷ above) h =
     omega (arith, rest, fits, length-append level (joined above), suc-mul (length above) (length ms), mul-le-mul_left (length above) fits)
 
 -- the members of the first of these levels and then all groups but the top are the children of all groups
-pub all_members : (first : ℕ) (ms : List Child) (levels : List (List (List Child))) → IsStack first ms levels → 1 < length ms → (1 ≤ length (joined levels)) × (joined (joined levels) ≡ ms ++ group_range first (length (joined levels) - 1))
+pub all_members : (first : ℕ) (ms : List Child) (levels : List (List (List Child))) → IsStack first ms levels →
+    1 < length ms →
+    (1 ≤ length (joined levels)) × (joined (joined levels) ≡ ms ++ group_range first (length (joined levels) - 1))
 all_members first ms [] h more = absurd (omega arith)
 all_members first ms (level ∷ []) h more =
     let one : length level ≡ 1 = sym (length-group_range first (length level)) ∙ h.1 in
@@ -215,33 +228,39 @@ all_members first ms (level ∷ (next ∷ above)) h more =
 -- ---- levels
 
 -- a group of the first level stands at level 0, and every other one level higher than it stands above the first
-pub first_level : (level : List (List Child)) (above : List (List (List Child))) (g : ℕ) → g < length level → level_in (level ∷ above) g ≡ 0
+pub first_level : (level : List (List Child)) (above : List (List (List Child))) (g : ℕ) → g < length level →
+    level_in (level ∷ above) g ≡ 0
 unfolding level_in
 first_level level above g inside = cond-true (ltb g (length level)) 0 (suc (level_in above (g - length level))) (lt-ltb g (length level) inside)
 
-pub later_level : (level : List (List Child)) (above : List (List (List Child))) (g h : ℕ) → g ≡ length level + h → level_in (level ∷ above) g ≡ suc (level_in above h)
+pub later_level : (level : List (List Child)) (above : List (List (List Child))) (g h : ℕ) → g ≡ length level + h →
+    level_in (level ∷ above) g ≡ suc (level_in above h)
 unfolding level_in
 later_level level above g h at =
     cond-false (ltb g (length level)) 0 (suc (level_in above (g - length level))) (le-ltb g (length level) (omega arith)) ∙ ap (λ n. suc (level_in above n)) (omega arith)
 
-pub level_below : (levels : List (List (List Child))) (g : ℕ) → g < length (joined levels) → level_in levels g < length levels
+pub level_below : (levels : List (List (List Child))) (g : ℕ) → g < length (joined levels) →
+    level_in levels g < length levels
 level_below [] g h = absurd (omega arith)
 level_below (level ∷ above) g h =
     ⊎_elim (λ here. omega (arith, first_level level above g here))
     (λ later. omega (arith, later_level level above g (g - length level) (omega arith), level_below above (g - length level) (omega (arith, length-append level (joined above)))))
     (cases_lt g (length level))
 
-pub first_place : (level : List (List Child)) (above : List (List (List Child))) (g : ℕ) → g < length level → place_in (level ∷ above) g ≡ g
+pub first_place : (level : List (List Child)) (above : List (List (List Child))) (g : ℕ) → g < length level →
+    place_in (level ∷ above) g ≡ g
 unfolding place_in
 first_place level above g inside = cond-true (ltb g (length level)) g (place_in above (g - length level)) (lt-ltb g (length level) inside)
 
-pub later_place : (level : List (List Child)) (above : List (List (List Child))) (g h : ℕ) → g ≡ length level + h → place_in (level ∷ above) g ≡ place_in above h
+pub later_place : (level : List (List Child)) (above : List (List (List Child))) (g h : ℕ) → g ≡ length level + h →
+    place_in (level ∷ above) g ≡ place_in above h
 unfolding place_in
 later_place level above g h at =
     cond-false (ltb g (length level)) g (place_in above (g - length level)) (le-ltb g (length level) (omega arith)) ∙ ap (place_in above) (omega arith)
 
 -- a level and a place in it name one group
-pub same_place : (levels : List (List (List Child))) (g h : ℕ) → g < length (joined levels) → h < length (joined levels) → level_in levels g ≡ level_in levels h → place_in levels g ≡ place_in levels h → g ≡ h
+pub same_place : (levels : List (List (List Child))) (g h : ℕ) → g < length (joined levels) →
+    h < length (joined levels) → level_in levels g ≡ level_in levels h → place_in levels g ≡ place_in levels h → g ≡ h
 same_place [] g h inside inside' levels places = absurd (omega arith)
 same_place (level ∷ above) g h inside inside' levels places =
     let size = length-append level (joined above) in
@@ -262,7 +281,9 @@ same_place (level ∷ above) g h inside inside' levels places =
     (cases_lt g (length level))
 
 -- only the last group stands at the highest level
-pub highest_level : (first : ℕ) (ms : List Child) (levels : List (List (List Child))) → IsStack first ms levels → (g : ℕ) → g < length (joined levels) → (suc (level_in levels g) ≡ length levels) ↔ (suc g ≡ length (joined levels))
+pub highest_level : (first : ℕ) (ms : List Child) (levels : List (List (List Child))) → IsStack first ms levels →
+    (g : ℕ) → g < length (joined levels) →
+    (suc (level_in levels g) ≡ length levels) ↔ (suc g ≡ length (joined levels))
 highest_level first ms [] h g inside = absurd (omega arith)
 highest_level first ms (level ∷ []) h g inside =
     let one : length level ≡ 1 = sym (length-group_range first (length level)) ∙ h.1 in
@@ -282,7 +303,8 @@ highest_level first ms (level ∷ (next ∷ above)) h g inside =
     (cases_lt g (length level))
 
 -- a child of the first level is a member, and a child of each other is a group, one level lower and with a smaller number
-pub child_level : (first : ℕ) (ms : List Child) (levels : List (List (List Child))) → IsStack first ms levels → (p k : ℕ) (m : Child) (run : List Child) → slice_get (joined levels) p ≡ Some run → slice_get run k ≡ Some m →
+pub child_level : (first : ℕ) (ms : List Child) (levels : List (List (List Child))) → IsStack first ms levels →
+    (p k : ℕ) (m : Child) (run : List Child) → slice_get (joined levels) p ≡ Some run → slice_get run k ≡ Some m →
     ((level_in levels p ≡ 0) × ((i : ℕ) × (slice_get ms i ≡ Some m))) ⊎ ((g : ℕ) × (m ≡ of_group (first + g)) × (g < p) × (level_in levels p ≡ suc (level_in levels g)))
 child_level first ms [] h p k m run here there = absurd (none-some run here)
 child_level first ms (level ∷ above) h p k m run here there =
@@ -303,7 +325,8 @@ child_level first ms (level ∷ above) h p k m run here there =
     (get_either level (joined above) p run here)
 
 -- every group of every level is a run
-pub all_runs : (first : ℕ) (ms : List Child) (levels : List (List (List Child))) → IsStack first ms levels → AllRuns (joined levels)
+pub all_runs : (first : ℕ) (ms : List Child) (levels : List (List (List Child))) → IsStack first ms levels →
+    AllRuns (joined levels)
 all_runs first ms [] h = tt
 all_runs first ms (level ∷ above) h =
     AllRuns-append level (joined above) h.0.runs (all_runs (first + length level) (group_range first (length level)) above h.1)

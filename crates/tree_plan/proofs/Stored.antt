@@ -1,7 +1,7 @@
 -- the stored groups and links say what the tree says
 use Rattle.std.proofs.Common.{◌≡◌, ℕ, zero, suc, ◌+◌, ◌-◌, ◌<◌, ◌≤◌, ⊎_elim, List, [], ◌∷◌, ◌++◌, length, map, refl, sym, ◌∙◌, ap, subst, arith, zero-add, add-zero, length-append}
-use Rattle.std.specs.Prelude.{◌*◌, Option, Some, None, slice_get, option_map, option_copied, position}
-use Rattle.std.proofs.lemmas.Bool.{cases_lt}
+use Rattle.std.specs.Prelude.{◌*◌, ◌↔◌, Bool, true, false, is_some, Option, Some, None, slice_get, option_map, option_copied, position}
+use Rattle.std.proofs.lemmas.Bool.{cases_lt, true≢false}
 use Rattle.std.proofs.lemmas.Option.{none-some, same_Some, slice_get-map, slice_get_past, slice_get_read}
 use Rattle.std.specs.Borrow.{Bor}
 use Rattle.std.specs.Slice.{IsGetResult}
@@ -10,7 +10,7 @@ use Rattle.tree_plan.specs.declared.cutting.Group.{Group}
 use Rattle.tree_plan.specs.declared.cutting.Link.{Link}
 use Rattle.tree_plan.specs.Shape.{Shape, Child, IsPlanned, IsWithinLimits, joined, tree_of}
 use Rattle.tree_plan.specs.Shape.Child.{of_cpu, of_group}
-use Rattle.tree_plan.specs.Paths.{cpu_count_of, group_count_of, level_count_of, groups_of, level_in, place_in, level_of, place_of, children_of, child_count_of, child_at, parent_of, bit_in, bit_of}
+use Rattle.tree_plan.specs.Paths.{cpu_count_of, group_count_of, level_count_of, groups_of, level_in, place_in, level_of, place_of, children_of, child_count_of, child_at, parent_of, bit_in, bit_of, IsTop}
 use Rattle.tree_plan.specs.Store.{listed, listed_levels, lengths, links_from, group_of, link_of, IsStored}
 use Rattle.tree_plan.proofs.Gets.{get_either, get_within, get_some, get_left, get_right}
 use Rattle.tree_plan.proofs.Seats.{has, seat_of, length-links_from}
@@ -22,7 +22,8 @@ unfolding listed
 length-listed level place [] = refl
 length-listed level place (n ∷ ns) = ap suc (length-listed level (suc place) ns)
 
-get-listed : (level place : ℕ) (ns : List ℕ) (i n : ℕ) → slice_get ns i ≡ Some n → slice_get (listed level place ns) i ≡ Some (record { level = level; place = place + i; children = n })
+get-listed : (level place : ℕ) (ns : List ℕ) (i n : ℕ) → slice_get ns i ≡ Some n →
+    slice_get (listed level place ns) i ≡ Some (record { level = level; place = place + i; children = n })
 unfolding listed
 get-listed level place [] i n e = absurd (none-some n e)
 get-listed level place (m ∷ ns) zero n e =
@@ -31,14 +32,17 @@ get-listed level place (m ∷ ns) (suc i) n e =
     let on : suc place + i ≡ place + suc i = omega arith in
     get-listed level (suc place) ns i n e ∙ ap (λ k. Some (record { level = level; place = k; children = n })) on
 
-length-listed_levels : (l : ℕ) (levels : List (List (List Child))) → length (listed_levels l (lengths levels)) ≡ length (joined levels)
+length-listed_levels : (l : ℕ) (levels : List (List (List Child))) →
+    length (listed_levels l (lengths levels)) ≡ length (joined levels)
 unfolding listed_levels
 length-listed_levels l [] = refl
 length-listed_levels l (level ∷ above) =
     length-append (listed l 0 (map length level)) (listed_levels (suc l) (lengths above))
     ∙ ((λ i. (length-listed l 0 (map length level) ∙ length-map level length) i + length-listed_levels (suc l) above i) ∙ sym (length-append level (joined above)))
 
-get-listed_levels : (l : ℕ) (levels : List (List (List Child))) (g : ℕ) (run : List Child) → slice_get (joined levels) g ≡ Some run → slice_get (listed_levels l (lengths levels)) g ≡ Some (record { level = l + level_in levels g; place = place_in levels g; children = length run })
+get-listed_levels : (l : ℕ) (levels : List (List (List Child))) (g : ℕ) (run : List Child) →
+    slice_get (joined levels) g ≡ Some run →
+    slice_get (listed_levels l (lengths levels)) g ≡ Some (record { level = l + level_in levels g; place = place_in levels g; children = length run })
 unfolding listed_levels
 get-listed_levels l [] g run e = absurd (none-some run e)
 get-listed_levels l (level ∷ above) g run e =
@@ -60,30 +64,28 @@ get-listed_levels l (level ∷ above) g run e =
     (get_either level (joined above) g run e)
 
 -- what a link says of a child, and what the want of one says
-by_parent : {P : Type 0} (t : Shape) (m : Child) → (parent_of t m ≡ None → P) → ((p : ℕ) → parent_of t m ≡ Some p → P) → P
+by_parent : {P : Type 0} (t : Shape) (m : Child) → (parent_of t m ≡ None → P) →
+    ((p : ℕ) → parent_of t m ≡ Some p → P) → P
 by_parent {P} t m none some = go (parent_of t m) refl
   where
     go : (o : Option ℕ) → parent_of t m ≡ o → P
     go None e = none e
     go (Some p) e = some p e
 
-link_to_parent : Shape → Child → ℕ → Link
+abbrev link_to_parent : Shape → Child → ℕ → Link
 link_to_parent t m p = record { parent = record { 0 = p }; bit = bit_of t m }
 
 pub parent_linked : (t : Shape) (m : Child) (l : Link) → Some l ≡ link_of t m → Some (l.parent.0) ≡ parent_of t m
-unfolding link_to_parent
 parent_linked t m l e =
     by_parent t m (λ none. absurd (none-some l (sym (e ∙ ap (option_map (link_to_parent t m)) none))))
     (λ p some. ap (λ (k : Link). Some (k.parent.0)) (same_Some _ _ (e ∙ ap (option_map (link_to_parent t m)) some)) ∙ sym some)
 
 pub bit_linked : (t : Shape) (m : Child) (l : Link) → Some l ≡ link_of t m → l.bit ≡ bit_of t m
-unfolding link_to_parent
 bit_linked t m l e =
     by_parent t m (λ none. absurd (none-some l (sym (e ∙ ap (option_map (link_to_parent t m)) none))))
     (λ p some. ap (λ (k : Link). k.bit) (same_Some _ _ (e ∙ ap (option_map (link_to_parent t m)) some)))
 
 pub parent_unlinked : (t : Shape) (m : Child) → None ≡ link_of t m → parent_of t m ≡ None
-unfolding link_to_parent
 parent_unlinked t m e =
     by_parent t m (λ none. none) (λ p some. absurd (none-some (link_to_parent t m p) (e ∙ ap (option_map (link_to_parent t m)) some)))
 
@@ -92,7 +94,8 @@ unfolding bit_of bit_in
 bit_unlinked t m e = sym (ap (bit_in t m) (parent_unlinked t m e))
 
 -- what `get` and `copied` give of a list
-pub copied_get : {X : Type 0} (xs : List X) (i : ℕ) (r : Option (Bor X)) → IsGetResult xs i i r → option_copied r ≡ slice_get xs i
+pub copied_get : {X : Type 0} (xs : List X) (i : ℕ) (r : Option (Bor X)) → IsGetResult xs i i r →
+    option_copied r ≡ slice_get xs i
 copied_get xs i None h = sym (slice_get_past xs i h.3)
 copied_get xs i (Some x) h = sym (slice_get_read xs (length xs) i x.now refl h.3.0 h.1)
 
@@ -102,14 +105,16 @@ planned_tree nodes cpus limits = record { limits = limits; tree = refl }
 -- ---- what is stored of a planned tree
 
 module _ (t : Shape) (planned : IsPlanned t) where
-  listed_group : (g : ℕ) → g < group_count_of t → slice_get (listed_levels 0 (lengths t.levels)) g ≡ Some (group_of t g)
+  listed_group : (g : ℕ) → g < group_count_of t →
+      slice_get (listed_levels 0 (lengths t.levels)) g ≡ Some (group_of t g)
   unfolding groups_of
   listed_group g inside =
       get-listed_levels 0 t.levels g (children_of t g) (group_at t planned g inside)
       ∙ ap (λ l. Some (record { level = l; place = place_of t g; children = child_count_of t g })) (zero-add (level_of t g))
 
   -- a child's link leads to where it stands
-  listed_link : (i : ℕ) (m : Child) → slice_get (joined (groups_of t)) i ≡ Some m → slice_get (links_from 0 (map length (groups_of t))) i ≡ link_of t m
+  listed_link : (i : ℕ) (m : Child) → slice_get (joined (groups_of t)) i ≡ Some m →
+      slice_get (links_from 0 (map length (groups_of t))) i ≡ link_of t m
   listed_link i m e =
       let seat = seat_of 0 (groups_of t) i m e in
       let edges = edge_laws t planned in
@@ -132,7 +137,8 @@ module _ (t : Shape) (planned : IsPlanned t) where
   unlinked : (m : Child) → parent_of t m ≡ None → None ≡ link_of t m
   unlinked m none = ap (option_map (λ p. record { parent = record { 0 = p }; bit = bit_of t m })) (sym none)
 
-  cpu_link_of : (c : ℕ) → c < cpu_count_of t → slice_get (links_from 0 (map length (groups_of t))) c ≡ link_of t (of_cpu c)
+  cpu_link_of : (c : ℕ) → c < cpu_count_of t →
+      slice_get (links_from 0 (map length (groups_of t))) c ≡ link_of t (of_cpu c)
   cpu_link_of c inside =
       ⊎_elim (λ more. listed_link c (of_cpu c) (cpu_there t planned c more inside))
       (λ few.
@@ -140,24 +146,28 @@ module _ (t : Shape) (planned : IsPlanned t) where
       ap (λ ls. slice_get ls c) (no_links none) ∙ unlinked (of_cpu c) (no_parent (of_cpu c) none))
       (cases_lt 1 (cpu_count_of t))
 
-  group_link_of : (g : ℕ) → g < group_count_of t → slice_get (links_from 0 (map length (groups_of t))) (cpu_count_of t + g) ≡ link_of t (of_group g)
+  group_link_of : (g : ℕ) → g < group_count_of t →
+      slice_get (links_from 0 (map length (groups_of t))) (cpu_count_of t + g) ≡ link_of t (of_group g)
   group_link_of g inside =
       ⊎_elim (λ below. listed_link (cpu_count_of t + g) (of_group g) (group_there t planned g below))
       (λ top. slice_get_past (links_from 0 (map length (groups_of t))) (cpu_count_of t + g) (omega (arith, length-links_from 0 (groups_of t), child_total t planned (omega arith)))
       ∙ unlinked (of_group g) ((edge_laws t planned).top_parent g (omega arith)))
       (cases_lt (suc g) (group_count_of t))
 
-  pub top_unlinked : (g : ℕ) → g < group_count_of t → None ≡ link_of t (of_group g) → g + 1 ≡ group_count_of t
-  top_unlinked g inside none =
-      ⊎_elim (λ below.
-      let up = (edge_laws t planned).group_parent g below in
-      absurd (none-some up.0 (sym (parent_unlinked t (of_group g) none) ∙ up.1)))
-      (λ top. omega arith)
-      (cases_lt (suc g) (group_count_of t))
-
-  pub no_top_linked : (g : ℕ) (l : Link) → Some l ≡ link_of t (of_group g) → g + 1 ≡ group_count_of t → ⊥
-  no_top_linked g l some last =
-      omega (arith, last, (edge_laws t planned).group_within g (l.parent.0) (sym (parent_linked t (of_group g) l some)))
+  -- a group has no link exactly where it is the top
+  pub top_where : (g : ℕ) → g < group_count_of t → (linked : Bool) → linked ≡ is_some (link_of t (of_group g)) →
+      (linked ≡ false) ↔ IsTop t g
+  top_where g inside linked e =
+      by_parent t (of_group g)
+      (λ none. (
+        λ _. ⊎_elim (λ below.
+            let up = (edge_laws t planned).group_parent g below in
+            absurd (none-some up.0 (sym none ∙ up.1))) (λ top. omega arith) (cases_lt (suc g) (group_count_of t)),
+        λ _. e ∙ ap (λ o. is_some (option_map (link_to_parent t (of_group g)) o)) none,
+      ))
+      (λ p some.
+      let linked_is : linked ≡ true = e ∙ ap (λ o. is_some (option_map (link_to_parent t (of_group g)) o)) some in
+      (λ not_linked. absurd (true≢false (sym linked_is ∙ not_linked)), λ last. absurd (omega (arith, last, (edge_laws t planned).group_within g p some))))
 
 module _ (nodes cpus : ℕ) (groups : List Group) (links : List Link) (stored : IsStored nodes cpus groups links) (t : Shape) (view : tree_of nodes cpus ≡ t) where
   pub is_planned : IsPlanned t
@@ -210,7 +220,8 @@ unfolding listed
 child_counts level place [] = refl
 child_counts level place (n ∷ ns) = ap (λ ms. n ∷ ms) (child_counts level (suc place) ns)
 
-all_child_counts : (l : ℕ) (levels : List (List (List Child))) → map (λ (g : Group). g.children) (listed_levels l (lengths levels)) ≡ map length (joined levels)
+all_child_counts : (l : ℕ) (levels : List (List (List Child))) →
+    map (λ (g : Group). g.children) (listed_levels l (lengths levels)) ≡ map length (joined levels)
 unfolding listed_levels
 all_child_counts l [] = refl
 all_child_counts l (level ∷ above) =
@@ -218,13 +229,16 @@ all_child_counts l (level ∷ above) =
     ∙ ((λ i. child_counts l 0 (map length level) i ++ all_child_counts (suc l) above i) ∙ sym (map-append length level (joined above)))
 
 -- the groups that were cut are few
-pub plan_total : (nodes cpus : ℕ) (groups : List Group) → IsWithinLimits nodes cpus → groups ≡ listed_levels 0 (lengths (tree_of nodes cpus).levels) → length groups ≤ 192
+pub plan_total : (nodes cpus : ℕ) (groups : List Group) → IsWithinLimits nodes cpus →
+    groups ≡ listed_levels 0 (lengths (tree_of nodes cpus).levels) → length groups ≤ 192
 unfolding groups_of
 plan_total nodes cpus groups limits made =
     omega (arith, ap length made, length-listed_levels 0 (tree_of nodes cpus).levels, (cut_laws (tree_of nodes cpus) (planned_tree nodes cpus limits)).at_most_192_groups)
 
 -- and with the links of their children they are the tree
-pub plan_stored : (nodes cpus : ℕ) (groups given : List Group) (links : List Link) → IsWithinLimits nodes cpus → groups ≡ listed_levels 0 (lengths (tree_of nodes cpus).levels) → given ≡ groups → links ≡ links_from 0 (map (λ (g : Group). g.children) given) → IsStored nodes cpus groups links
+pub plan_stored : (nodes cpus : ℕ) (groups given : List Group) (links : List Link) → IsWithinLimits nodes cpus →
+    groups ≡ listed_levels 0 (lengths (tree_of nodes cpus).levels) → given ≡ groups →
+    links ≡ links_from 0 (map (λ (g : Group). g.children) given) → IsStored nodes cpus groups links
 unfolding groups_of
 plan_stored nodes cpus groups given links limits made same linked = record {
   limits = limits;

@@ -19,18 +19,21 @@ use Rattle.tree_plan.proofs.Powers.{levels_of_node, levels_of_few}
 some_product : (n m : ℕ) → 1 ≤ n → 1 ≤ m → 1 ≤ n * m
 some_product n m p q = grind arith
 
-cpus_of : ℕ → List Child
-cpus_of n = map of_cpu (range_with_len 0 n)
+-- the CPUs of a tree in ascending order
+abbrev pub all_cpus : Shape → List Child
+all_cpus t = map of_cpu (range_with_len 0 (cpu_count_of t))
 
-pub planned_stack : (t : Shape) → IsPlanned t → IsStack 0 (map of_cpu (range_with_len 0 (cpu_count_of t))) t.levels
+pub planned_stack : (t : Shape) → IsPlanned t → IsStack 0 (all_cpus t) t.levels
 planned_stack t planned =
-    subst (λ (s : Shape). IsStack 0 (map of_cpu (range_with_len 0 (cpu_count_of t))) s.levels) (sym planned.tree) (tree_stack t.nodes t.cpus (some_product t.nodes t.cpus planned.limits.some_node planned.limits.some_cpu))
+    subst (λ (s : Shape). IsStack 0 (all_cpus t) s.levels) (sym planned.tree) (tree_stack t.nodes t.cpus (some_product t.nodes t.cpus planned.limits.some_node planned.limits.some_cpu))
 
-no_levels : (first : ℕ) (ms : List Child) (levels : List (List (List Child))) → IsStack first ms levels → length ms ≡ 1 → levels ≡ []
+no_levels : (first : ℕ) (ms : List Child) (levels : List (List (List Child))) → IsStack first ms levels →
+    length ms ≡ 1 → levels ≡ []
 no_levels first ms [] h one = refl
 no_levels first ms (level ∷ above) h one = absurd (omega (arith, h.0.more))
 
-some_level : (first : ℕ) (ms : List Child) (levels : List (List (List Child))) → IsStack first ms levels → 1 < length ms → 0 < length levels
+some_level : (first : ℕ) (ms : List Child) (levels : List (List (List Child))) → IsStack first ms levels →
+    1 < length ms → 0 < length levels
 some_level first ms [] h more = absurd (omega arith)
 some_level first ms (level ∷ above) h more = omega arith
 
@@ -57,24 +60,26 @@ cpu_no_group : (c g : ℕ) → of_cpu c ≡ of_group g → ⊥
 cpu_no_group c g e = cc
 
 module _ (t : Shape) (planned : IsPlanned t) where
-  cpu_total : length (map of_cpu (range_with_len 0 (cpu_count_of t))) ≡ cpu_count_of t
+  cpu_total : length (all_cpus t) ≡ cpu_count_of t
   cpu_total = length-map-range_with_len of_cpu 0 (cpu_count_of t)
 
   some_cpus : 1 ≤ cpu_count_of t
   some_cpus = some_product t.nodes t.cpus planned.limits.some_node planned.limits.some_cpu
 
   pub alone : cpu_count_of t ≡ 1 → t.levels ≡ []
-  alone one = no_levels 0 (map of_cpu (range_with_len 0 (cpu_count_of t))) t.levels (planned_stack t planned) (cpu_total ∙ one)
+  alone one = no_levels 0 (all_cpus t) t.levels (planned_stack t planned) (cpu_total ∙ one)
 
   pub grouped : 1 < cpu_count_of t → 0 < level_count_of t
-  grouped more = some_level 0 (map of_cpu (range_with_len 0 (cpu_count_of t))) t.levels (planned_stack t planned) (omega (arith, cpu_total))
+  grouped more = some_level 0 (all_cpus t) t.levels (planned_stack t planned) (omega (arith, cpu_total))
 
-  all_children : 1 < cpu_count_of t → (1 ≤ group_count_of t) × (joined (groups_of t) ≡ map of_cpu (range_with_len 0 (cpu_count_of t)) ++ group_range 0 (group_count_of t - 1))
+  all_children : 1 < cpu_count_of t →
+      (1 ≤ group_count_of t) × (joined (groups_of t) ≡ all_cpus t ++ group_range 0 (group_count_of t - 1))
   unfolding groups_of
-  all_children more = all_members 0 (map of_cpu (range_with_len 0 (cpu_count_of t))) t.levels (planned_stack t planned) (omega (arith, cpu_total))
+  all_children more = all_members 0 (all_cpus t) t.levels (planned_stack t planned) (omega (arith, cpu_total))
 
   -- where a child stands among all children
-  pub ranked : (i : ℕ) (m : Child) → slice_get (joined (groups_of t)) i ≡ Some m → ((c : ℕ) × (m ≡ of_cpu c) × (i ≡ c) × (c < cpu_count_of t)) ⊎ ((g : ℕ) × (m ≡ of_group g) × (i ≡ cpu_count_of t + g) × (suc g < group_count_of t))
+  pub ranked : (i : ℕ) (m : Child) → slice_get (joined (groups_of t)) i ≡ Some m →
+      ((c : ℕ) × (m ≡ of_cpu c) × (i ≡ c) × (c < cpu_count_of t)) ⊎ ((g : ℕ) × (m ≡ of_group g) × (i ≡ cpu_count_of t + g) × (suc g < group_count_of t))
   unfolding groups_of
   ranked i m e =
       ⊎_elim (λ more.
@@ -84,7 +89,7 @@ module _ (t : Shape) (planned : IsPlanned t) where
       (λ high.
       let group = from_range of_group 0 (group_count_of t - 1) high.0 m high.2 in
       inr (high.0, group.1 ∙ ap of_group (zero-add high.0), omega (arith, high.1, cpu_total), omega (arith, group.0)))
-      (get_either (map of_cpu (range_with_len 0 (cpu_count_of t))) (group_range 0 (group_count_of t - 1)) i m (subst (λ ms. slice_get ms i ≡ Some m) (all_children more).1 e)))
+      (get_either (all_cpus t) (group_range 0 (group_count_of t - 1)) i m (subst (λ ms. slice_get ms i ≡ Some m) (all_children more).1 e)))
       (λ few. absurd (none-some m (ap (λ levels. slice_get (joined (joined levels)) i) (sym (alone (omega (arith, some_cpus)))) ∙ e)))
       (cases_lt 1 (cpu_count_of t))
 
@@ -103,15 +108,17 @@ module _ (t : Shape) (planned : IsPlanned t) where
   more_cpus some =
       ⊎_elim (λ more. more) (λ few. absurd (omega (arith, some, ap (λ levels. length (joined levels)) (alone (omega (arith, some_cpus)))))) (cases_lt 1 (cpu_count_of t))
 
-  pub cpu_there : (c : ℕ) → 1 < cpu_count_of t → c < cpu_count_of t → slice_get (joined (groups_of t)) c ≡ Some (of_cpu c)
+  pub cpu_there : (c : ℕ) → 1 < cpu_count_of t → c < cpu_count_of t →
+      slice_get (joined (groups_of t)) c ≡ Some (of_cpu c)
   cpu_there c more inside =
       ap (λ ms. slice_get ms c) (all_children more).1
-      ∙ (get_left (map of_cpu (range_with_len 0 (cpu_count_of t))) (group_range 0 (group_count_of t - 1)) c (of_cpu (0 + c)) (get_range of_cpu 0 (cpu_count_of t) c inside)
+      ∙ (get_left (all_cpus t) (group_range 0 (group_count_of t - 1)) c (of_cpu (0 + c)) (get_range of_cpu 0 (cpu_count_of t) c inside)
       ∙ ap (λ n. Some (of_cpu n)) (zero-add c))
 
-  pub group_there : (g : ℕ) → suc g < group_count_of t → slice_get (joined (groups_of t)) (cpu_count_of t + g) ≡ Some (of_group g)
+  pub group_there : (g : ℕ) → suc g < group_count_of t →
+      slice_get (joined (groups_of t)) (cpu_count_of t + g) ≡ Some (of_group g)
   group_there g inside =
-      let cpus = map of_cpu (range_with_len 0 (cpu_count_of t)) in
+      let cpus = all_cpus t in
       (λ i. slice_get ((all_children (more_cpus (omega arith))).1 i) (sym cpu_total i + g))
       ∙ (get_right cpus (group_range 0 (group_count_of t - 1)) g ∙ (get_range of_group 0 (group_count_of t - 1) g (omega arith) ∙ ap (λ n. Some (of_group n)) (zero-add g)))
 
@@ -119,7 +126,7 @@ module _ (t : Shape) (planned : IsPlanned t) where
   pub child_total : 0 < group_count_of t → length (joined (groups_of t)) ≡ cpu_count_of t + (group_count_of t - 1)
   child_total some =
       ap length (all_children (more_cpus some)).1
-      ∙ (length-append (map of_cpu (range_with_len 0 (cpu_count_of t))) (group_range 0 (group_count_of t - 1)) ∙ (λ i. cpu_total i + length-group_range 0 (group_count_of t - 1) i))
+      ∙ (length-append (all_cpus t) (group_range 0 (group_count_of t - 1)) ∙ (λ i. cpu_total i + length-group_range 0 (group_count_of t - 1) i))
 
   -- ---- children
 
@@ -139,7 +146,7 @@ module _ (t : Shape) (planned : IsPlanned t) where
   pub run_of : (p : ℕ) → p < group_count_of t → IsRun (children_of t p)
   unfolding groups_of
   run_of p inside =
-      run_at (groups_of t) p (children_of t p) (all_runs 0 (map of_cpu (range_with_len 0 (cpu_count_of t))) t.levels (planned_stack t planned)) (group_at p inside)
+      run_at (groups_of t) p (children_of t p) (all_runs 0 (all_cpus t) t.levels (planned_stack t planned)) (group_at p inside)
 
   pub at_most_8 : (p : ℕ) → child_count_of t p ≤ 8
   at_most_8 p =
@@ -157,7 +164,8 @@ module _ (t : Shape) (planned : IsPlanned t) where
       ap (bit_in t m) (parent_is p k m e) ∙ found_bit (groups_of t) apart p k m (children_of t p) (group_at p (group_of_child p k m e)) e
 
   -- a parent has the child somewhere
-  pub has_child : (p : ℕ) (m : Child) → parent_of t m ≡ Some p → (p < group_count_of t) × ((k : ℕ) × (child_at t p k ≡ Some m))
+  pub has_child : (p : ℕ) (m : Child) → parent_of t m ≡ Some p →
+      (p < group_count_of t) × ((k : ℕ) × (child_at t p k ≡ Some m))
   unfolding parent_of children_of
   has_child p m e =
       let found = found_has (groups_of t) p m e in
@@ -241,7 +249,7 @@ module _ (t : Shape) (planned : IsPlanned t) where
   level_leaf c g e =
       let found = has_child g (of_cpu c) e in
       ⊎_elim (λ low. low.0) (λ high. absurd (cpu_no_group c (0 + high.0) high.1))
-      (child_level 0 (map of_cpu (range_with_len 0 (cpu_count_of t))) t.levels (planned_stack t planned) g found.1.0 (of_cpu c) (children_of t g) (group_at g found.0) found.1.1)
+      (child_level 0 (all_cpus t) t.levels (planned_stack t planned) g found.1.0 (of_cpu c) (children_of t g) (group_at g found.0) found.1.1)
 
   level_up : (g p : ℕ) → parent_of t (of_group g) ≡ Some p → (g < p) × (level_of t p ≡ suc (level_of t g))
   unfolding groups_of
@@ -251,7 +259,7 @@ module _ (t : Shape) (planned : IsPlanned t) where
       (λ high.
       let same : high.0 ≡ g = omega (arith, same_group g (0 + high.0) high.1) in
       (omega (arith, high.2), high.3 ∙ ap (λ h. suc (level_of t h)) same))
-      (child_level 0 (map of_cpu (range_with_len 0 (cpu_count_of t))) t.levels (planned_stack t planned) p found.1.0 (of_group g) (children_of t p) (group_at p found.0) found.1.1)
+      (child_level 0 (all_cpus t) t.levels (planned_stack t planned) p found.1.0 (of_group g) (children_of t p) (group_at p found.0) found.1.1)
 
   pub level_laws : LevelLaws t
   unfolding groups_of
@@ -261,7 +269,7 @@ module _ (t : Shape) (planned : IsPlanned t) where
     rising = λ g p e. (level_up g p e).0;
     named = λ g h. same_place t.levels g h;
     within = λ g inside. level_below t.levels g inside;
-    highest = λ g inside. highest_level 0 (map of_cpu (range_with_len 0 (cpu_count_of t))) t.levels (planned_stack t planned) g inside;
+    highest = λ g inside. highest_level 0 (all_cpus t) t.levels (planned_stack t planned) g inside;
   }
 
   -- ---- what the groups are made of
@@ -273,7 +281,7 @@ module _ (t : Shape) (planned : IsPlanned t) where
   unfolding groups_of
   groups_few =
       let all : group_count_of t ≤ level_count_of t * cpu_count_of t =
-      subst (λ n. length (joined t.levels) ≤ level_count_of t * n) cpu_total (few_groups 0 (map of_cpu (range_with_len 0 (cpu_count_of t))) t.levels (planned_stack t planned)) in
+      subst (λ n. length (joined t.levels) ≤ level_count_of t * n) cpu_total (few_groups 0 (all_cpus t) t.levels (planned_stack t planned)) in
       omega (arith, all, planned.limits.at_most_64_in_all, product_within (level_count_of t) (cpu_count_of t) 3 levels_few)
 
   pub cut_laws : CutLaws t

@@ -1,5 +1,5 @@
 -- the laws of paths follow from those of children, parents and levels
-use Rattle.std.proofs.Common.{◌≡◌, ℕ, zero, suc, ◌+◌, ◌<◌, ◌≤◌, ⊎_elim, List, [], ◌∷◌, length, refl, sym, ◌∙◌, ap, arith, zero-add, add-zero}
+use Rattle.std.proofs.Common.{◌≡◌, ℕ, zero, suc, ◌+◌, ◌<◌, ◌≤◌, ⊎_elim, List, [], ◌∷◌, length, refl, sym, ◌∙◌, ap, subst, arith, zero-add, add-zero}
 use Rattle.std.specs.Prelude.{Option, Some, None, slice_get, option_map, option_and_then, filter_map}
 use Rattle.std.specs.List.{range_with_len, cons_option}
 use Rattle.std.proofs.lemmas.Bool.{cases_lt}
@@ -9,14 +9,16 @@ use Rattle.tree_plan.specs.Shape.Child.{of_cpu, of_group}
 use Rattle.tree_plan.specs.Paths.{cpu_count_of, group_count_of, level_count_of, level_of, child_at, parent_of, bit_of, group_at_of, child_towards, path_of, IsBelow, IsUnder}
 use Rattle.tree_plan.specs.Laws.{CutLaws, EdgeLaws, LevelLaws, PathLaws}
 
-all_behind : {A : Type 0} (f : ℕ → Option A) (a n : ℕ) → ((k : ℕ) → k < suc n → (x : A) × (f (a + k) ≡ Some x)) → (k : ℕ) → k < n → (x : A) × (f (a + 1 + k) ≡ Some x)
+all_behind : {A : Type 0} (f : ℕ → Option A) (a n : ℕ) → ((k : ℕ) → k < suc n → (x : A) × (f (a + k) ≡ Some x)) →
+    (k : ℕ) → k < n → (x : A) × (f (a + 1 + k) ≡ Some x)
 all_behind f a n all k inside =
     let here = all (suc k) (omega arith) in
     let on : a + 1 + k ≡ a + suc k = omega arith in
     (here.0, ap f on ∙ here.1)
 
 -- numbers at which f has something give a list of that
-get-filter_map : {A : Type 0} (f : ℕ → Option A) (a n i : ℕ) → ((k : ℕ) → k < n → (x : A) × (f (a + k) ≡ Some x)) → i < n → slice_get (filter_map f (range_with_len a n)) i ≡ f (a + i)
+get-filter_map : {A : Type 0} (f : ℕ → Option A) (a n i : ℕ) → ((k : ℕ) → k < n → (x : A) × (f (a + k) ≡ Some x)) →
+    i < n → slice_get (filter_map f (range_with_len a n)) i ≡ f (a + i)
 get-filter_map f a zero i all inside = absurd (omega arith)
 get-filter_map f a (suc n) zero all inside =
     let first = all 0 (omega arith) in
@@ -27,7 +29,8 @@ get-filter_map f a (suc n) (suc i) all inside =
     ap (λ o. slice_get (cons_option o (filter_map f (range_with_len (a + 1) n))) (suc i)) (ap f (sym (add-zero a)) ∙ first.1)
     ∙ (get-filter_map f (a + 1) n i (all_behind f a n all) (omega arith) ∙ ap f on)
 
-length-filter_map : {A : Type 0} (f : ℕ → Option A) (a n : ℕ) → ((k : ℕ) → k < n → (x : A) × (f (a + k) ≡ Some x)) → length (filter_map f (range_with_len a n)) ≡ n
+length-filter_map : {A : Type 0} (f : ℕ → Option A) (a n : ℕ) → ((k : ℕ) → k < n → (x : A) × (f (a + k) ≡ Some x)) →
+    length (filter_map f (range_with_len a n)) ≡ n
 length-filter_map f a zero all = refl
 length-filter_map f a (suc n) all =
     let first = all 0 (omega arith) in
@@ -48,7 +51,8 @@ module _ (t : Shape) (cuts : CutLaws t) (edges : EdgeLaws t) (levels : LevelLaws
   climb c l g e = ap (option_and_then (λ h. parent_of t (of_group h))) e
 
   -- the group one level below on a path
-  below : (c l g : ℕ) → group_at_of t c (suc l) ≡ Some g → (h : ℕ) × (group_at_of t c l ≡ Some h) × (parent_of t (of_group h) ≡ Some g)
+  below : (c l g : ℕ) → group_at_of t c (suc l) ≡ Some g →
+      (h : ℕ) × (group_at_of t c l ≡ Some h) × (parent_of t (of_group h) ≡ Some g)
   unfolding group_at_of
   below c l g e = option_and_then_some (λ h. parent_of t (of_group h)) (group_at_of t c l) g e (λ h at up. (h, at, up))
 
@@ -60,7 +64,8 @@ module _ (t : Shape) (cuts : CutLaws t) (edges : EdgeLaws t) (levels : LevelLaws
   cpu_within c zero g e = edges.cpu_within c g (sym (leaf c) ∙ e)
   cpu_within c (suc l) g e = let step = below c l g e in cpu_within c l step.0 step.1
 
-  towards : (c l g : ℕ) → group_at_of t c l ≡ Some g → (m : Child) × (child_towards t c l ≡ Some m) × (parent_of t m ≡ Some g) × (child_at t g (bit_of t m) ≡ Some m)
+  towards : (c l g : ℕ) → group_at_of t c l ≡ Some g →
+      (m : Child) × (child_towards t c l ≡ Some m) × (parent_of t m ≡ Some g) × (child_at t g (bit_of t m) ≡ Some m)
   unfolding child_towards
   towards c zero g e = let up = sym (leaf c) ∙ e in (of_cpu c, refl, up, edges.child g (of_cpu c) up)
   towards c (suc l) g e =
@@ -75,6 +80,15 @@ module _ (t : Shape) (cuts : CutLaws t) (edges : EdgeLaws t) (levels : LevelLaws
       by_group : (o : Option ℕ) → group_at_of t c l ≡ o → group_at_of t c (suc l) ≡ parent_of t m
       by_group None below = absurd (none-some m (ap (option_map of_group) (sym below) ∙ e))
       by_group (Some h) below = climb c l h below ∙ ap (parent_of t) (same_Some _ _ (ap (option_map of_group) (sym below) ∙ e))
+
+  reached : (c l : ℕ) (m : Child) → child_towards t c l ≡ Some m → IsUnder t c m
+  unfolding child_towards
+  reached c zero m e = subst (IsUnder t c) (same_Some _ _ e) refl
+  reached c (suc l) m e = by_group (group_at_of t c l) refl
+    where
+      by_group : (o : Option ℕ) → group_at_of t c l ≡ o → IsUnder t c m
+      by_group None below = absurd (none-some m (ap (option_map of_group) (sym below) ∙ e))
+      by_group (Some h) below = subst (IsUnder t c) (same_Some _ _ (ap (option_map of_group) (sym below) ∙ e)) (l, below)
 
   below_at : (c g : ℕ) → IsBelow t c g → group_at_of t c (level_of t g) ≡ Some g
   below_at c g on = ap (group_at_of t c) (level c on.0 g on.1) ∙ on.1
@@ -111,7 +125,8 @@ module _ (t : Shape) (cuts : CutLaws t) (edges : EdgeLaws t) (levels : LevelLaws
       (λ before. ap (option_and_then (λ g. parent_of t (of_group g))) (meet c d l n same before))
       (cases_lt n l)
 
-  top : (c l g : ℕ) → c < cpu_count_of t → suc l ≡ level_count_of t → suc g ≡ group_count_of t → group_at_of t c l ≡ Some g
+  top : (c l g : ℕ) → c < cpu_count_of t → suc l ≡ level_count_of t → suc g ≡ group_count_of t →
+      group_at_of t c l ≡ Some g
   top c l g inside highest last =
       let here = there c l inside (omega arith) in
       let within = group_within c l here.0 here.1 in
@@ -119,7 +134,9 @@ module _ (t : Shape) (cuts : CutLaws t) (edges : EdgeLaws t) (levels : LevelLaws
       here.1 ∙ ap Some same
 
   -- below the first child of a group
-  below_child : (l g : ℕ) (m : Child) → parent_of t m ≡ Some g → level_of t g ≡ l → ((l' h : ℕ) → l ≡ suc l' → h < group_count_of t → level_of t h ≡ l' → (c : ℕ) × (c < cpu_count_of t) × (group_at_of t c l' ≡ Some h)) → (c : ℕ) × (c < cpu_count_of t) × (group_at_of t c l ≡ Some g)
+  below_child : (l g : ℕ) (m : Child) → parent_of t m ≡ Some g → level_of t g ≡ l →
+      ((l' h : ℕ) → l ≡ suc l' → h < group_count_of t → level_of t h ≡ l' → (c : ℕ) × (c < cpu_count_of t) × (group_at_of t c l' ≡ Some h)) →
+      (c : ℕ) × (c < cpu_count_of t) × (group_at_of t c l ≡ Some g)
   below_child l g (of_cpu c) up at rest =
       let low : 0 ≡ l = sym (levels.leaf c g up) ∙ at in
       (c, edges.cpu_within c g up, ap (group_at_of t c) (sym low) ∙ (leaf c ∙ up))
@@ -128,7 +145,8 @@ module _ (t : Shape) (cuts : CutLaws t) (edges : EdgeLaws t) (levels : LevelLaws
       let cpu = rest (level_of t h) h high (omega (arith, edges.group_within h g up)) refl in
       (cpu.0, cpu.1, ap (group_at_of t cpu.0) high ∙ (climb cpu.0 (level_of t h) h cpu.2 ∙ up))
 
-  some_cpu : (l g : ℕ) → g < group_count_of t → level_of t g ≡ l → (c : ℕ) × (c < cpu_count_of t) × (group_at_of t c l ≡ Some g)
+  some_cpu : (l g : ℕ) → g < group_count_of t → level_of t g ≡ l →
+      (c : ℕ) × (c < cpu_count_of t) × (group_at_of t c l ≡ Some g)
   some_cpu zero g inside at =
       let first = edges.some_at g 0 (omega (arith, cuts.some_child g inside)) in
       below_child zero g first.0 (edges.parent g 0 first.0 first.1) at (λ l h low within there. absurd (omega arith))
@@ -139,7 +157,8 @@ module _ (t : Shape) (cuts : CutLaws t) (edges : EdgeLaws t) (levels : LevelLaws
       let cpu = some_cpu l h within (there ∙ sym same) in
       (cpu.0, cpu.1, ap (group_at_of t cpu.0) (sym same) ∙ cpu.2))
 
-  all_levels : (c : ℕ) → c < cpu_count_of t → (l : ℕ) → l < level_count_of t → (g : ℕ) × (group_at_of t c (0 + l) ≡ Some g)
+  all_levels : (c : ℕ) → c < cpu_count_of t → (l : ℕ) → l < level_count_of t →
+      (g : ℕ) × (group_at_of t c (0 + l) ≡ Some g)
   all_levels c inside l low = let here = there c l inside low in (here.0, ap (group_at_of t c) (zero-add l) ∙ here.1)
 
   nowhere : (c : ℕ) → cpu_count_of t ≤ c → (l : ℕ) → group_at_of t c l ≡ None
@@ -174,6 +193,7 @@ module _ (t : Shape) (cuts : CutLaws t) (edges : EdgeLaws t) (levels : LevelLaws
     group_within = group_within;
     towards = towards;
     onwards = onwards;
+    reached = reached;
     below = below_at;
     under = under;
     meet = λ c d l n g one two up. meet c d l n (one ∙ sym two) up;

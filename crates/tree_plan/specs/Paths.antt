@@ -10,7 +10,8 @@ same_child (of_cpu c) (of_group g) = false
 same_child (of_group g) (of_cpu c) = false
 same_child (of_group g) (of_group h) = g == h
 
--- all groups in the order of their numbers, which go level by level from the leaves. Each is the list of its children in the order of their child numbers
+-- all groups in the order of their numbers, which go level by level from the leaves.
+-- Each is the list of its children in the order of their child numbers
 unfoldable pub groups_of : Shape → List (List Child)
 groups_of t = joined t.levels
 
@@ -61,12 +62,16 @@ bit_in t m (Some g) = position_or_len (same_child m) (children_of t g)
 unfoldable pub bit_of : Shape → Child → ℕ
 bit_of t m = bit_in t m (parent_of t m)
 
+-- group g is the top, which has the last number
+abbrev pub IsTop : Shape → ℕ → Type 0
+IsTop t g = suc g ≡ group_count_of t
+
 -- the group of CPU c's path at level l: at level 0 its leaf, and then each time the parent
 unfoldable pub group_at_of : Shape → (c l : ℕ) → Option ℕ
 group_at_of t c zero = parent_of t (of_cpu c)
 group_at_of t c (suc l) = option_and_then (λ g. parent_of t (of_group g)) (group_at_of t c l)
 
--- the child through which CPU c's path goes at level l: the CPU itself at a leaf, and the group one level below elsewhere
+-- the child through which CPU c's path goes at level l: the CPU itself at a leaf, and elsewhere the group one level below
 unfoldable pub child_towards : Shape → (c l : ℕ) → Option Child
 child_towards t c zero = Some (of_cpu c)
 child_towards t c (suc l) = option_map of_group (group_at_of t c l)

@@ -43,11 +43,13 @@ numbered first [] = []
 numbered first (groups ∷ rows) =
     map of_group (range_with_len first (length groups)) ∷ numbered (first + length groups) rows
 
--- the rows that level l cuts: the members of each node below the number of levels within a node, and all members in one row from there on
+-- the rows that level l cuts: the members of each node below the number of levels within a node,
+-- and all members in one row from there on
 unfoldable pub rows_at : (inner l : ℕ) → List (List Child) → List (List Child)
 rows_at inner l rows = if nat_lt l inner then rows else joined rows ∷ []
 
--- level l and at most n - 1 levels above it, as long as more than one member is left. Each level is the list of its groups, and each group the list of its children; `first` is the number of the first group of level l
+-- level l and the levels above it, at most n of them, until one member is left. A level is the list of its groups,
+-- and a group the list of its children; `first` is the number of the first group of level l
 unfoldable pub levels_from : (inner n l first : ℕ) → List (List Child) → List (List (List Child))
 levels_from inner zero l first rows = []
 levels_from inner (suc n) l first rows =
@@ -65,7 +67,7 @@ pub record Shape : Type 0 where
   pub cpus : ℕ
   pub levels : List (List (List Child))
 
--- the tree of a machine
+-- the tree of a machine, whose levels begin with its CPUs
 abbrev pub tree_of : (nodes cpus : ℕ) → Shape
 tree_of nodes cpus = record {
   nodes = nodes;

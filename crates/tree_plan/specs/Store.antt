@@ -1,4 +1,5 @@
--- how a tree is kept: its groups in the order of their numbers, and for each child, the CPUs first and then the groups, the group that has it and its child number there
+-- how a tree is kept: its groups in the order of their numbers, and for each child, the CPUs first and then the
+-- groups, the group that has it and its child number there
 use Rattle.std.specs.Prelude.{◌≡◌, ℕ, zero, suc, ◌+◌, ◌-◌, ◌/◌, min, nat_lt, if◌then◌else◌, List, [], ◌∷◌, ◌++◌, length, map, sum, Option, option_map}
 use Rattle.std.specs.List.{range_with_len}
 use Rattle.tree_plan.specs.declared.cutting.Group.{Group}

@@ -7,6 +7,9 @@ ghost use Rattle.tree_plan.specs.Store.{groups_for, run_lengths, row_lengths_at,
 use std::alloc::Global;
 use tm_base::{GroupId, NoMemory};
 
+/// How many children a group has at most (the kernel's `TMIGR_CHILDREN_PER_GROUP`).
+const CHILDREN_PER_GROUP: u8 = 8;
+
 /// A group of the tree, without what is active in it.
 #[derive(Clone, Copy, Debug)]
 pub(crate) struct Group {
@@ -27,7 +30,8 @@ pub(crate) struct Link {
     pub(crate) bit: u8,
 }
 
-/// How many levels of eight to a group bring so many members down to one: ceil(log2up(members) / 3).
+/// How many levels of eight to a group bring so many members down to one, ceil(log2up(members) / 3), as the
+/// kernel's `tmigr_init` counts them for the CPUs of a node and for the nodes.
 pub(crate) fn levels_for(members: u8) -> u8
     ensures { result ≡ levels_for members }
 {
@@ -39,8 +43,8 @@ pub(crate) fn levels_for(members: u8) -> u8
     }
 }
 
-/// Appends the groups of one row of members, full ones as far as the row goes and one with what is left.
-/// Answers the place behind them in their level.
+/// Appends the groups of one row of members, full ones as far as the row goes and one with what is left. `first`
+/// is the place of the first of them in its level; the answer is the place behind the last.
 fn cut_row(groups: &mut Vec<Group>, level: u8, first: u16, members: u8) -> Result<u16, NoMemory>
     requires { first + members < 2 ^ 16 }
     ensures groups { OnOk result (groups.new.items ≡ groups.old.items ++ listed level first (run_lengths members)) }
@@ -49,7 +53,7 @@ fn cut_row(groups: &mut Vec<Group>, level: u8, first: u16, members: u8) -> Resul
     let mut place = first;
     let mut left = members;
     while left > 0 {
-        let children = left.min(8);
+        let children = left.min(CHILDREN_PER_GROUP);
         groups.push(Group {
             level,
             place,
@@ -81,7 +85,8 @@ fn members_of(rows: &[u8]) -> u8
     rows.iter().sum()
 }
 
-/// Puts the members of all rows into one from level `inner` on, where groups take their children from all nodes.
+/// Puts the members of all rows into one from level `inner` on, where groups take their children from all nodes
+/// (the kernel's `tmigr_crossnode_level`).
 fn merge_across(rows: &mut Vec<u8>, level: u8, inner: u8)
     requires some_row { 0 < vec_len rows.old }
     requires few { sum rows.old.items ≤ 64 }
@@ -99,7 +104,7 @@ fn climb(rows: &mut Vec<u8>)
     ensures { rows.new.items ≡ map groups_for rows.old.items }
 {
     for row in rows.iter_mut() {
-        *row = row.div_ceil(8);
+        *row = row.div_ceil(CHILDREN_PER_GROUP);
     }
 }
 

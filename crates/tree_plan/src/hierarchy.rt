@@ -3,7 +3,7 @@
 ghost use Rattle.std.specs.Prelude.{◌≡◌, ℕ, ◌+◌, ◌*◌, ◌<◌, ◌≤◌, ◌↔◌, length, map, IfOk, IsNone, option_map};
 ghost use Rattle.tree_plan.specs.Shape.{Shape, IsWithinLimits, IsPlanned, tree_of};
 ghost use Rattle.tree_plan.specs.Shape.Child.{of_cpu, of_group};
-ghost use Rattle.tree_plan.specs.Paths.{cpu_count_of, group_count_of, level_count_of, level_of, place_of, child_count_of, parent_of, bit_of, group_at_of};
+ghost use Rattle.tree_plan.specs.Paths.{cpu_count_of, group_count_of, level_count_of, level_of, place_of, child_count_of, parent_of, bit_of, group_at_of, IsTop};
 ghost use Rattle.tree_plan.specs.Store.{group_of, link_of};
 
 use crate::cutting::{Group, Link, cut_groups, link_children};
@@ -11,7 +11,7 @@ use std::alloc::Global;
 use std::marker::Model;
 use tm_base::{CpuId, GroupId, NoMemory};
 
-/// The tree of a machine. Groups are numbered level by level from the leaves, and in a level in ascending order.
+/// The tree of a machine. A contract sees it as its `Shape`: the machine and the levels of groups. Groups are numbered level by level from the leaves, and in a level in ascending order.
 #[derive(Debug, Drop)]
 pub struct Tree {
     nodes: u8,
@@ -32,7 +32,8 @@ impl Model for Tree {
 }
 
 /// Plans the tree of a machine of so many nodes with so many CPUs each: 1 to 8 nodes of 1 to 64 CPUs, and at
-/// most 64 CPUs in all. One CPU alone has no group. The only error is want of memory.
+/// most 64 CPUs in all. It is the one that the kernel's `tmigr_setup_groups` builds where all CPUs join in
+/// ascending order before the start, but one CPU alone has no group. The only error is want of memory.
 pub fn plan(alloc: Global, nodes: u8, cpus: u8) -> Result<Tree, NoMemory>
     requires { IsWithinLimits nodes cpus }
     ensures tree { IfOk result (λ t. t ≡ tree_of nodes cpus) }
@@ -102,12 +103,9 @@ impl Tree {
     pub fn parent(&self, g: GroupId) -> Option<GroupId>
         requires { g.0 < group_count_of self.now }
         ensures parent { option_map (λ p. p.0) result ≡ parent_of self.now (of_group g.0) }
-        ensures top { IsNone result ↔ (g.0 + 1 ≡ group_count_of self.now) }
+        ensures top { IsNone result ↔ IsTop self.now g.0 }
     {
-        let Some(link) = self.group_link(g) else {
-            return None;
-        };
-        Some(link.parent)
+        self.group_link(g).map(|link| link.parent)
     }
 
     /// The child number of a group in its parent (the kernel keeps it as the one bit of `childmask`), 0 at the top.
