@@ -8,7 +8,7 @@ use crate::{Item, NoRoom};
 /// Forwarding, adding, removing and hand-out are the plain base's `forwarded`, `added`, `removed`, `next_out` and
 /// `taken`.
 pub trait TimerBase: Drop {
-    ghost use Rattle.std.specs.Prelude.{◌≡◌, ℕ, ◌+◌, ◌^◌, ◌<◌, ◌≤◌, None, IsOk, OnOk, OnErr, length, max, is_some, if◌then◌else◌};
+    ghost use Rattle.std.specs.Prelude.{◌≡◌, ℕ, ◌+◌, ◌^◌, ◌<◌, ◌≤◌, None, IfNone, IsOk, OnOk, OnErr, length, max, is_some, if◌then◌else◌};
     ghost use Rattle.wheel_core.specs.WheelExpiry.{KeepsTime};
     ghost use Rattle.wheel_core.specs.PlainBase.{IsSound, NoneBehind, OutIsDue, PlainBase, added, forwarded, item_of, least, next_out, oldest_of, placed, removed, taken};
 
@@ -58,6 +58,7 @@ pub trait TimerBase: Drop {
     fn remove(&mut self, id: u32) -> Option<Item>
         ensures item { result ≡ item_of id (base self.old).items }
         ensures base { base self.new ≡ removed id (base self.old) }
+        ensures none { IfNone result (base self.new ≡ base self.old) }
         ensures spare { spare self.new ≡ (if is_some result then spare self.old + 1 else spare self.old) };
 
     /// The item that `take_next` would take out; None exactly where none is due.

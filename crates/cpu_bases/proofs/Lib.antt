@@ -1,0 +1,5 @@
+pub mod Keyed
+pub mod Legal
+pub mod Agreeing
+pub mod Consistent
+pub mod Steps
