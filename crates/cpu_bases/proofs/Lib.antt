@@ -3,3 +3,4 @@ pub mod Legal
 pub mod Agreeing
 pub mod Consistent
 pub mod Steps
+pub mod Runs

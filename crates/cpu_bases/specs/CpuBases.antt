@@ -1,5 +1,5 @@
 -- the bases of a CPU as plain data, and what each call makes of them
-use Rattle.std.specs.Prelude.{ℕ, ◌+◌, ◌-◌, ◌^◌, ◌<◌, ◌≤◌, List, [], ◌∷◌, ◌++◌, Option, Some, None, All, nat_lt, option_map, unwrap_or, if◌then◌else◌}
+use Rattle.std.specs.Prelude.{ℕ, ◌+◌, ◌-◌, ◌^◌, ◌<◌, ◌≤◌, List, [], ◌∷◌, ◌++◌, Option, Some, None, All, max, nat_lt, option_map, unwrap_or, if◌then◌else◌}
 use Rattle.tm_base.specs.declared.names.TheConstants.{NEVER}
 use Rattle.tm_base.specs.declared.names.Class.{Class}
 use Rattle.tm_base.specs.declared.names.Class.TheVariants.{Pinned, Global}
@@ -66,6 +66,11 @@ room_out_of class (Some item) room = room_gone class room
 abbrev pub room_handed_out : Class → Option Item → Room → Room
 room_handed_out class None room = room_written room
 room_handed_out class (Some item) room = room_gone class room
+
+-- the room after so much was asked for
+abbrev pub room_reserved : (timers entries : ℕ) → Room → Room
+room_reserved timers entries room =
+    record { pinned = max room.pinned timers; global = max room.global timers; entries = max room.entries entries }
 
 -- room for so many timers in each base, and for so many entries
 pub record HasRoom (timers entries : ℕ) (room : Room) : Type 0 where

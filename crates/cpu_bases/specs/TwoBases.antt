@@ -1,5 +1,5 @@
 -- two bases with their room, by class
-use Rattle.std.specs.Prelude.{◌≡◌, ℕ, ◌+◌, ◌-◌, ◌≤◌, List, [], ◌∷◌, Option, Some, None}
+use Rattle.std.specs.Prelude.{◌≡◌, ℕ, ◌+◌, ◌-◌, ◌≤◌, List, [], ◌∷◌, max, Option, Some, None}
 use Rattle.tm_base.specs.declared.names.Class.{Class}
 use Rattle.tm_base.specs.declared.names.Class.TheVariants.{Pinned, Global}
 use Rattle.wheel_core.specs.declared.item.Item.{Item}
@@ -44,6 +44,10 @@ without_oldest (item ∷ items) base = roomy (removed item.id base.plain) (base.
 abbrev pub with_out : Option (Class × Item) → (id : ℕ) → TwoBases → TwoBases
 with_out None id two = two
 with_out (Some (class, item)) id two = with_roomy class (roomy (removed id (roomy_of class two).plain) ((roomy_of class two).spare + 1)) two
+
+-- and after room for so many was asked for
+abbrev pub reserved : (n : ℕ) → TwoBases → TwoBases
+reserved n two = record { pinned = roomy two.pinned.plain (max two.pinned.spare n); global = roomy two.global.plain (max two.global.spare n) }
 
 -- each base has room for so many
 abbrev pub HasSpare : (n : ℕ) → TwoBases → Type 0

@@ -2,7 +2,7 @@
 
 ghost use Rattle.std.specs.Prelude.{◌≡◌, ◌+◌, ◌-◌, ◌^◌, ◌<◌, [], None, IsOk, OnOk};
 ghost use Rattle.wheel_core.specs.PlainBase.{NoneBehind, next_out};
-ghost use Rattle.cpu_bases.specs.CpuBases.{HasRoom, IsConsistent, NoLessRoom, armed, base_of, cancelled, class_in, entry_of, events_of, found_in, handed_out, item_in, item_queued, moved_in, moved_out, oldest_in, room_handed_out, room_of, room_out, room_out_of, room_queued, ticked_entry};
+ghost use Rattle.cpu_bases.specs.CpuBases.{HasRoom, IsConsistent, NoLessRoom, armed, base_of, cancelled, class_in, entry_of, events_of, found_in, handed_out, item_in, item_queued, moved_in, moved_out, oldest_in, room_handed_out, room_of, room_out, room_out_of, room_queued, room_reserved, ticked_entry};
 ghost use Rattle.cpu_bases.specs.Journals.{LegalUpTo};
 
 use crate::pair::Pair;
@@ -90,7 +90,7 @@ impl<B: TimerBase> Bases<B> {
     /// and the journal as they were; some of the room may have been made.
     pub fn reserve(&mut self, timers: usize, entries: usize) -> Result<(), NoMemory>
         ensures enough { HasRoom timers entries self.old.room → IsOk result }
-        ensures ok { OnOk result (HasRoom timers entries self.new.room) }
+        ensures ok { OnOk result (self.new.room ≡ room_reserved timers entries self.old.room) }
         ensures plain { self.new.plain ≡ self.old.plain }
         ensures room { NoLessRoom self.old.room self.new.room }
     {

@@ -2,10 +2,15 @@
 #![tactic(auto)]
 
 mod bases;
+mod calls;
 mod entry;
 mod journal;
 mod pair;
 
 pub use bases::Bases;
+pub use calls::{BasesAnswer, BasesCall, run};
 pub use entry::{Act, Entry, NextEvents};
 pub use journal::Journal;
+
+#[cfg(test)]
+mod tests;

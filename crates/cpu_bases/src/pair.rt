@@ -3,7 +3,7 @@
 ghost use Rattle.std.specs.Prelude.{◌≡◌, ◌^◌, ◌<◌, None, OnOk, IsOk, option_map};
 ghost use Rattle.wheel_core.specs.PlainBase.{NoneBehind, OutIsDue, forwarded, item_of, least, next_out, placed, roomy, taken};
 ghost use Rattle.cpu_bases.specs.CpuBases.{first_of, oldest_in};
-ghost use Rattle.cpu_bases.specs.TwoBases.{HasSpare, OnlyGrows, roomy_of, with_item, with_out, with_roomy, without_item, without_oldest};
+ghost use Rattle.cpu_bases.specs.TwoBases.{HasSpare, OnlyGrows, reserved, roomy_of, with_item, with_out, with_roomy, without_item, without_oldest};
 
 use std::marker::Model;
 use tm_base::{Class, Jiffy, NoMemory};
@@ -155,7 +155,7 @@ impl<B: TimerBase> Pair<B> {
 
     pub(crate) fn reserve(&mut self, n: usize) -> Result<(), NoMemory>
         ensures enough { HasSpare n self.old → IsOk result }
-        ensures ok { OnOk result (HasSpare n self.new) }
+        ensures ok { OnOk result (self.new ≡ reserved n self.old) }
         ensures grows { OnlyGrows self.old self.new }
     {
         if self.pinned.reserve(n).is_err() {
