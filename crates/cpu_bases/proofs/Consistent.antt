@@ -1,5 +1,5 @@
 -- bases and journal stay consistent through each kind of entry
-use Rattle.std.proofs.Common.{◌≡◌, ℕ, ◌^◌, ◌<◌, true, false, List, [], ◌∷◌, ◌++◌, Option, Some, None, refl, ap, subst, sym, ◌∙◌, arith}
+use Rattle.std.proofs.Common.{◌≡◌, ℕ, ◌^◌, ◌<◌, ◌≤◌, true, false, List, [], ◌∷◌, ◌++◌, Option, Some, None, refl, ap, subst, sym, ◌∙◌, arith}
 use Rattle.std.specs.Prelude.{map, IsSomeAnd, option_map}
 use Rattle.std.proofs.lemmas.Option.{none-some}
 use Rattle.std.specs.List.{All}
@@ -16,7 +16,7 @@ use Rattle.cpu_bases.specs.declared.entry.Act.{Act}
 use Rattle.cpu_bases.specs.declared.entry.Entry.{Entry}
 use Rattle.cpu_bases.specs.Journals.{Agrees, EachMayFollow, EndsOne, MayFollow, arming_of, ended, of_class, queued_after, queued_by, same_class, told_by_entry, told_by_item}
 use Rattle.cpu_bases.specs.CpuBases.{BaseFits, CpuBases, FitsCpu, IsConsistent, base_of, class_in, entry_of, first_of, gone, item_queued, queued, ticked_entry, with_base, written}
-use Rattle.cpu_bases.proofs.Keyed.{found_kept, found_whole, kept_drop, kept_other, none_whole}
+use Rattle.cpu_bases.proofs.Keyed.{found_all, found_kept, found_whole, kept_drop, kept_other, none_whole}
 use Rattle.cpu_bases.proofs.Legal.{distinct_from, ended_is, follow_push, queued_push}
 use Rattle.cpu_bases.proofs.Agreeing.{all_without, agreed_found, agreed_gone, agreed_later, agreed_none, agreed_push}
 
@@ -55,6 +55,11 @@ fits_with Pinned base entry bases own others Pinned = own
 fits_with Pinned base entry bases own others Global = others Global
 fits_with Global base entry bases own others Pinned = others Pinned
 fits_with Global base entry bases own others Global = own
+
+in_time_with : (class : Class) (base : PlainBase) (entry : Entry) (bases : CpuBases) → All (λ e. e.wheel ≤ 2 ^ 47) bases.journal
+    → entry.wheel ≤ 2 ^ 47 → All (λ e. e.wheel ≤ 2 ^ 47) (written entry (with_base class base bases)).journal
+in_time_with Pinned base entry bases all here = All-push (λ e. e.wheel ≤ 2 ^ 47) bases.journal entry all here
+in_time_with Global base entry bases all here = All-push (λ e. e.wheel ≤ 2 ^ 47) bases.journal entry all here
 
 -- what the other class's base agrees with hasn't changed
 still_agrees : (k : Class) (items : List Item) (journal : List Entry) (entry : Entry) (queued : List Entry)
@@ -98,8 +103,8 @@ pub keeps_queued : (act : Act) (line at time : ℕ) (class : Class) (timer expir
     → ((queued : List Entry) (entry : Entry) → arming_of entry.timer.0 queued ≡ None → MayFollow act queued entry)
     → ((queued : List Entry) (entry : Entry) → queued_after act queued entry ≡ queued ++ entry ∷ [])
     → IsConsistent bases → class_in timer bases ≡ None → timer < 2 ^ 16 → expires < 2 ^ 47 → time < 2 ^ 47
-    → IsConsistent (queued act line at time class timer expires job arg by bases)
-keeps_queued act line at time class timer expires job arg by bases follows longer consistent none timer_fits expires_fits time_fits =
+    → (item_queued time class timer expires job arg bases).wheel ≤ 2 ^ 47 → IsConsistent (queued act line at time class timer expires job arg by bases)
+keeps_queued act line at time class timer expires job arg by bases follows longer consistent none timer_fits expires_fits time_fits wheel_fits =
     let base = base_of class bases in
     let item = item_queued time class timer expires job arg bases in
     let entry = entry_of act line at class item by in
@@ -124,8 +129,9 @@ keeps_queued act line at time class timer expires job arg by bases follows longe
           fits_with class (added (forwarded time base) timer expires job arg) entry bases
           (record {
             clock = forwarded_in_time time base.clock (least base.items) time_fits fits.clock;
-            items = All-push FitsCpu base.items item fits.items (record { timer = timer_fits; expires = expires_fits });
+            items = All-push FitsCpu base.items item fits.items (record { timer = timer_fits; expires = expires_fits; wheel = wheel_fits });
           }) consistent.fits;
+      in_time = in_time_with class (added (forwarded time base) timer expires job arg) entry bases consistent.in_time wheel_fits;
     }
 
 -- GOING, by an act that is an end
@@ -171,6 +177,9 @@ keeps_gone act line at class item by base bases follows shorter consistent found
             clock = clock_fits;
             items = subst (All FitsCpu) (sym left) (all_without FitsCpu item.id items (consistent.fits class).items);
           }) consistent.fits;
+      in_time =
+          in_time_with class base entry bases consistent.in_time
+          (found_all (λ i. i.id) FitsCpu item.id items item (consistent.fits class).items found).wheel;
     }
 
 -- DRAINED: nothing of the class is due
@@ -179,8 +188,8 @@ base_written Pinned entry bases = refl
 base_written Global entry bases = refl
 
 pub keeps_ticked : (now : ℕ) (class : Class) (by : CpuId) (bases : CpuBases) → IsConsistent bases → NoneDue now (base_of class bases).items
-    → IsConsistent (written (ticked_entry now class by) bases)
-keeps_ticked now class by bases consistent none =
+    → now ≤ 2 ^ 47 → IsConsistent (written (ticked_entry now class by) bases)
+keeps_ticked now class by bases consistent none now_fits =
     let entry = ticked_entry now class by in
     let before = queued_by bases.journal in
     record {
@@ -191,4 +200,5 @@ keeps_ticked now class by bases consistent none =
           subst (λ base. Agrees k base.items (bases.journal ++ entry ∷ [])) (sym (base_written k entry bases))
           (still_agrees k (base_of k bases).items bases.journal entry before refl refl (consistent.agrees k));
       fits = λ k. subst BaseFits (sym (base_written k entry bases)) (consistent.fits k);
+      in_time = All-push (λ e. e.wheel ≤ 2 ^ 47) bases.journal entry consistent.in_time now_fits;
     }

@@ -3,9 +3,9 @@ use Rattle.std.proofs.Common.{◌≡◌, ℕ, ◌<◌, ◌≤◌, ◌+◌, List,
 use Rattle.std.proofs.lemmas.List.{take_more}
 use Rattle.cpu_bases.specs.declared.calls.BasesCall.{BasesCall}
 use Rattle.cpu_bases.specs.declared.calls.BasesAnswer.{BasesAnswer}
-use Rattle.cpu_bases.specs.CpuBases.{CpuBases, RoomyBases}
+use Rattle.cpu_bases.specs.CpuBases.{RoomyBases}
 use Rattle.cpu_bases.specs.Journals.{LegalUpTo}
-use Rattle.cpu_bases.specs.Calls.{InOrder, MayCallAll, StandsAfterSome, StaysLegal, after, after_all, answer_of, answers_to, time_after, time_of}
+use Rattle.cpu_bases.specs.Calls.{InOrder, MayCallAll, StandsAfterSome, after, after_all, answer_of, answers_to, time_after, time_of}
 
 -- the answers so far and those to what is left are those to all; what is left may be called, and keeps what is legal so
 pub record RanSoFar (list : List BasesCall) (i : ℕ) (told : List BasesAnswer) (start bases : RoomyBases) : Type 0 where

@@ -7,6 +7,7 @@ use Rattle.tm_base.specs.declared.names.Class.{Class}
 use Rattle.tm_base.specs.declared.names.Class.TheVariants.{Pinned, Global}
 use Rattle.tm_base.specs.declared.names.CpuId.{CpuId}
 use Rattle.wheel_core.specs.declared.item.Item.{Item}
+use Rattle.wheel_core.specs.WheelExpiry.{wheel_expiry_of}
 use Rattle.wheel_core.specs.PlainBase.{NoneDue, PlainBase, RoomyBase, forwarded, item_of, placed, removed, roomy, without}
 use Rattle.cpu_bases.specs.declared.entry.Act.{Act}
 use Rattle.cpu_bases.specs.declared.entry.Entry.{Entry}
@@ -57,14 +58,16 @@ pub queue_steps : (act : Act) (line at time : ℕ) (class : Class) (timer expire
     → ((queued : List Entry) (entry : Entry) → arming_of entry.timer.0 queued ≡ None → MayFollow act queued entry)
     → ((queued : List Entry) (entry : Entry) → queued_after act queued entry ≡ queued ++ entry ∷ [])
     → IsConsistent (plain_of two before) → class_in timer (plain_of two before) ≡ None → timer < 2 ^ 16 → expires < 2 ^ 47 → time < 2 ^ 47
+    → wheel_expiry_of expires (forwarded time (roomy_of class two).plain).clock ≤ 2 ^ 47
     → item ≡ placed (forwarded time (roomy_of class two).plain).clock timer expires job arg
     → next ≡ with_roomy class (with_item time timer expires job arg (roomy_of class two)) two
     → entry ≡ entry_of act line at class item by → after ≡ written_to before entry → Steps at next before after
-queue_steps act line at time class timer expires job arg by two next before after item entry follows longer consistent none timer_fits expires_fits time_fits item_is next_is entry_is after_is =
+queue_steps act line at time class timer expires job arg by two next before after item entry follows longer consistent none timer_fits expires_fits time_fits wheel_fits item_is next_is entry_is after_is =
     let written_is = after_is ∙ ap (written_to before) (entry_is ∙ ap (λ i. entry_of act line at class i by) item_is) in
     let shape = (λ i. plain_of (next_is i) (written_is i)) ∙ shape_queued act line at time class timer expires job arg by two before in
     steps at next before after entry after_is (ap (λ e. e.at) entry_is)
-    (subst IsConsistent (sym shape) (keeps_queued act line at time class timer expires job arg by (plain_of two before) follows longer consistent none timer_fits expires_fits time_fits))
+    (subst IsConsistent (sym shape) (keeps_queued act line at time class timer expires job arg by (plain_of two before) follows longer consistent none timer_fits expires_fits time_fits
+    (subst (λ b. wheel_expiry_of expires (forwarded time b).clock ≤ 2 ^ 47) (plain_base class two before) wheel_fits)))
 
 -- an item goes out, by an act that is an end
 pub gone_steps : (act : Act) (line at : ℕ) (class : Class) (item : Item) (by : CpuId) (base : PlainBase) (spare : ℕ)
@@ -86,13 +89,13 @@ gone_steps act line at class item by base spare two next before after entry foll
 
 -- a base is drained
 pub ticked_steps : (now : ℕ) (class : Class) (by : CpuId) (two next : TwoBases) (before after : RoomyJournal) (entry : Entry)
-    → IsConsistent (plain_of two before) → NoneDue now (roomy_of class two).plain.items → next ≡ two → entry ≡ ticked_entry now class by
+    → IsConsistent (plain_of two before) → NoneDue now (roomy_of class two).plain.items → now ≤ 2 ^ 47 → next ≡ two → entry ≡ ticked_entry now class by
     → after ≡ written_to before entry → Steps now next before after
-ticked_steps now class by two next before after entry consistent none next_is entry_is after_is =
+ticked_steps now class by two next before after entry consistent none now_fits next_is entry_is after_is =
     let written_is = after_is ∙ ap (written_to before) entry_is in
     let shape : plain_of next after ≡ written (ticked_entry now class by) (plain_of two before) = λ i. plain_of (next_is i) (written_is i) in
     steps now next before after entry after_is (ap (λ e. e.at) entry_is)
-    (subst IsConsistent (sym shape) (keeps_ticked now class by (plain_of two before) consistent (subst (λ b. NoneDue now b.items) (plain_base class two before) none)))
+    (subst IsConsistent (sym shape) (keeps_ticked now class by (plain_of two before) consistent (subst (λ b. NoneDue now b.items) (plain_base class two before) none) now_fits))
 
 -- what is in a base is in range
 pub found_fits : (class : Class) (two : TwoBases) (journal : RoomyJournal) (id : ℕ) (item : Item) → IsConsistent (plain_of two journal)

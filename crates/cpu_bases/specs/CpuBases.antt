@@ -187,10 +187,11 @@ events_of bases =
     let first_global = unwrap_or (least bases.global.items) NEVER in
     record { pin = pin; first_global = first_global; next = if nat_lt first_global pin then first_global else NEVER }
 
--- an item's timer and asked expiry are in range
+-- an item's timer and expiries are in range
 pub record FitsCpu (item : Item) : Type 0 where
   pub timer : item.id < 2 ^ 16
   pub expires : item.expires < 2 ^ 47
+  pub wheel : item.wheel ≤ 2 ^ 47
 
 -- a base's clock and items are in range
 pub record BaseFits (base : PlainBase) : Type 0 where
@@ -202,3 +203,4 @@ pub record IsConsistent (bases : CpuBases) : Type 0 where
   pub each_may_follow : EachMayFollow [] bases.journal
   pub agrees : (class : Class) → Agrees class (base_of class bases).items bases.journal
   pub fits : (class : Class) → BaseFits (base_of class bases)
+  pub in_time : All (λ entry. entry.wheel ≤ 2 ^ 47) bases.journal

@@ -1,7 +1,8 @@
 //! The bases of a CPU.
 
 ghost use Rattle.std.specs.Prelude.{◌≡◌, ◌+◌, ◌-◌, ◌^◌, ◌<◌, [], None, IsOk, OnOk};
-ghost use Rattle.wheel_core.specs.PlainBase.{NoneBehind, next_out};
+ghost use Rattle.wheel_core.specs.WheelExpiry.{KeepsTime};
+ghost use Rattle.wheel_core.specs.PlainBase.{NoneBehind, forwarded, next_out};
 ghost use Rattle.cpu_bases.specs.CpuBases.{HasRoom, IsConsistent, NoLessRoom, armed, base_of, cancelled, class_in, entry_of, events_of, found_in, handed_out, item_in, item_queued, moved_in, moved_out, oldest_in, room_handed_out, room_of, room_out, room_out_of, room_queued, room_reserved, ticked_entry};
 ghost use Rattle.cpu_bases.specs.Journals.{LegalUpTo};
 
@@ -118,6 +119,7 @@ impl<B: TimerBase> Bases<B> {
         requires not_queued { class_in timer.0 self.old.plain ≡ None }
         requires none_behind { NoneBehind (base_of class self.old.plain) }
         ensures wheel { result ≡ (item_queued now class timer.0 expires job arg self.old.plain).wheel }
+        ensures keeps_time { KeepsTime expires (forwarded now (base_of class self.old.plain)).clock }
         ensures plain { self.new.plain ≡ armed now class timer.0 expires job arg line by self.old.plain }
         ensures room_after { self.new.room ≡ room_queued class self.old.room }
         ensures legal { LegalUpTo now self.old.plain.journal → LegalUpTo now self.new.plain.journal }
@@ -203,6 +205,7 @@ impl<B: TimerBase> Bases<B> {
         requires not_queued { class_in timer.0 self.old.plain ≡ None }
         requires none_behind { NoneBehind (base_of class self.old.plain) }
         ensures wheel { result ≡ (item_queued (now + 1) class timer.0 expires job arg self.old.plain).wheel }
+        ensures keeps_time { KeepsTime expires (forwarded (now + 1) (base_of class self.old.plain)).clock }
         ensures plain { self.new.plain ≡ moved_in now class timer.0 expires job arg by self.old.plain }
         ensures room_after { self.new.room ≡ room_queued class self.old.room }
         ensures legal { LegalUpTo now self.old.plain.journal → LegalUpTo now self.new.plain.journal }

@@ -120,7 +120,7 @@ fn make_call<B: TimerBase>(bases: &mut Bases<B>, call: &BasesCall) -> Result<Bas
 /// agree with the journal then, and where the journal was legal and each call is given a time that isn't before the
 /// last, it still is. Want of memory comes from a `reserve` or from the list of answers; the calls before it were
 /// made.
-pub fn run<B: TimerBase>(
+pub fn make_calls<B: TimerBase>(
     alloc: Global,
     bases: &mut Bases<B>,
     calls: &[BasesCall],

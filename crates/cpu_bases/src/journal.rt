@@ -73,7 +73,7 @@ impl Journal {
     }
 
     /// Takes memory for `n` more entries, where there is less. Want of memory leaves the journal as it was.
-    pub fn reserve(&mut self, n: usize) -> Result<(), NoMemory>
+    pub(crate) fn reserve(&mut self, n: usize) -> Result<(), NoMemory>
         ensures enough { n ≤ self.old.spare → IsOk result }
         ensures entries { self.new.entries ≡ self.old.entries }
         ensures ok { OnOk result (self.new.spare ≡ max self.old.spare n) }

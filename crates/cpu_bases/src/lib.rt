@@ -8,7 +8,7 @@ mod journal;
 mod pair;
 
 pub use bases::Bases;
-pub use calls::{BasesAnswer, BasesCall, run};
+pub use calls::{BasesAnswer, BasesCall, make_calls};
 pub use entry::{Act, Entry, NextEvents};
 pub use journal::Journal;
 

@@ -1,6 +1,7 @@
 //! Two bases, by class.
 
 ghost use Rattle.std.specs.Prelude.{◌≡◌, ◌^◌, ◌<◌, None, OnOk, IsOk, option_map};
+ghost use Rattle.wheel_core.specs.WheelExpiry.{KeepsTime};
 ghost use Rattle.wheel_core.specs.PlainBase.{NoneBehind, OutIsDue, forwarded, item_of, least, next_out, placed, roomy, taken};
 ghost use Rattle.cpu_bases.specs.CpuBases.{first_of, oldest_in};
 ghost use Rattle.cpu_bases.specs.TwoBases.{HasSpare, OnlyGrows, reserved, roomy_of, with_item, with_out, with_roomy, without_item, without_oldest};
@@ -41,6 +42,7 @@ fn queue_in<B: TimerBase>(
     requires time_in_time { time < 2 ^ 47 }
     requires none_behind { NoneBehind (B.base base.old) }
     ensures item { result ≡ placed (forwarded time (B.base base.old)).clock id expires job arg }
+    ensures keeps_time { KeepsTime expires (forwarded time (B.base base.old)).clock }
     ensures base { roomy (B.base base.new) (B.spare base.new) ≡ with_item time id expires job arg (roomy (B.base base.old) (B.spare base.old)) }
 {
     base.forward(time);
@@ -111,6 +113,7 @@ impl<B: TimerBase> Pair<B> {
         requires time_in_time { time < 2 ^ 47 }
         requires none_behind { NoneBehind (roomy_of class self.old).plain }
         ensures item { result ≡ placed (forwarded time (roomy_of class self.old).plain).clock id expires job arg }
+        ensures keeps_time { KeepsTime expires (forwarded time (roomy_of class self.old).plain).clock }
         ensures after { self.new ≡ with_roomy class (with_item time id expires job arg (roomy_of class self.old)) self.old }
     {
         match class {

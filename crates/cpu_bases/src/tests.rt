@@ -116,7 +116,7 @@ fn each_call_and_its_entry(rt: HostRuntime) -> Result<(), Fail> {
     let pinned = ListBase::new(rt.alloc());
     let global = ListBase::new(rt.alloc());
     let mut bases = Bases::with(rt.alloc(), pinned, global);
-    let answers = run(rt.alloc(), &mut bases, &calls)?;
+    let answers = make_calls(rt.alloc(), &mut bases, &calls)?;
     let wanted = [
         BasesAnswer::Done,
         BasesAnswer::Queued(61),

@@ -17,7 +17,7 @@ step g c =
     c.self.inside.two c.queue-item.new.self c.self.inside.journal c.write.new.self c.queue-item.result c.entry_for.result
     (λ _ _ none. none) (λ _ _. refl) c.self.invariant
     (subst (λ t. class_in t (plain_of c.self.inside.two c.self.inside.journal) ≡ None) (sym timer) none)
-    (omega arith) c.requires.expires_in_time (omega arith)
+    (omega arith) c.requires.expires_in_time (omega arith) c.queue-item.ensures.keeps_time.in_time
     c.queue-item.ensures.item c.queue-item.ensures.after c.entry_for.ensures c.write.ensures
 
 pub invariant_of-self : goal.invariant_of-self

@@ -11,7 +11,7 @@ drained g c =
     let base = roomy_of c.args.class c.self.inside.two in
     let same = ap (λ out. with_roomy c.args.class (roomy (after_out base.plain out) base.spare) c.self.inside.two) (sym c.in_default.ensures.item) in
     ticked_steps c.args.now c.args.class c.args.by c.self.inside.two c.take_next.new.self c.self.inside.journal c.write.new.self c.ticked.result
-    c.self.invariant c.in_default.ensures.due (c.in_default.ensures.after ∙ (same ∙ same_two c.args.class c.self.inside.two)) c.ticked.ensures c.write.ensures
+    c.self.invariant c.in_default.ensures.due (omega arith) (c.in_default.ensures.after ∙ (same ∙ same_two c.args.class c.self.inside.two)) c.ticked.ensures c.write.ensures
 
 pub invariant_of-self : goal.invariant_of-self
 invariant_of-self g c = (drained g c).consistent
