@@ -90,7 +90,7 @@ fn make_call<B: TimerBase>(base: &mut B, call: &BaseCall) -> Result<BaseAnswer, 
 /// Makes calls in order, and answers what each answered: the same as the plain base would, whichever base it is.
 /// Want of memory comes from a `reserve` or from the list of answers; the calls before it were made, and the base
 /// stands after them.
-pub fn run<B: TimerBase>(
+pub fn make_calls<B: TimerBase>(
     alloc: Global,
     base: &mut B,
     calls: &[BaseCall],

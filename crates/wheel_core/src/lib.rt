@@ -9,7 +9,7 @@ mod list_base;
 mod scan;
 
 pub use base::TimerBase;
-pub use calls::{BaseAnswer, BaseCall, run};
+pub use calls::{BaseAnswer, BaseCall, make_calls};
 pub use expiry::wheel_expiry;
 pub use item::{Item, NoRoom};
 pub use list_base::ListBase;

@@ -97,7 +97,7 @@ fn scan_for(items: &[Item], wheel: u64) -> Scan
         out: None,
         others: None,
     };
-    for (place, _item) in items.iter().enumerate() {
+    for place in 0..items.len() {
         scan = scan_more(items, wheel, place, scan);
     }
     scan

@@ -81,7 +81,7 @@ fn delay_zero(rt: HostRuntime) -> Result<(), Fail> {
         BaseCall::Clock,
     ];
     let mut base = ListBase::new(rt.alloc());
-    let answers = run(rt.alloc(), &mut base, &calls)?;
+    let answers = make_calls(rt.alloc(), &mut base, &calls)?;
     let wanted = [
         BaseAnswer::Done,
         BaseAnswer::Done,
@@ -138,7 +138,7 @@ fn hand_out_order(rt: HostRuntime) -> Result<(), Fail> {
         BaseCall::Clock,
     ];
     let mut base = ListBase::new(rt.alloc());
-    let answers = run(rt.alloc(), &mut base, &calls)?;
+    let answers = make_calls(rt.alloc(), &mut base, &calls)?;
     let wanted = [
         BaseAnswer::Done,
         BaseAnswer::Done,

@@ -1,6 +1,6 @@
 use Rattle.wheel_core.specs.PlainBase.{roomy}
 use Rattle.wheel_core.proofs.Runs.{RanSoFar}
-use Rattle.wheel_core.proofs.calls.run.Given as goal
+use Rattle.wheel_core.proofs.calls.make_calls.Given as goal
 
 abbrev pub invariant-loop-call : goal.invariant-loop-call
 invariant-loop-call g l =

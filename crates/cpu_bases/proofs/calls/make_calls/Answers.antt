@@ -1,6 +1,6 @@
 use Rattle.std.proofs.Common.{rules}
-use Rattle.wheel_core.proofs.Runs.{run_more, stands_more}
-use Rattle.wheel_core.proofs.calls.run.Goals as goal
+use Rattle.cpu_bases.proofs.Runs.{run_more, stands_more}
+use Rattle.cpu_bases.proofs.calls.make_calls.Goals as goal
 
 pub returns-in_err-push-clause-err : goal.returns-in_err-push-clause-err
 returns-in_err-push-clause-err g c =
@@ -10,4 +10,4 @@ returns-in_err-push-clause-err g c =
 pub loop-call-preserved : goal.loop-call-preserved
 loop-call-preserved g c =
     run_more c.args.calls.now c.loop-call.call-index _ c.loop-call.answers.items c.push.new.self.items c.in_ok-answer.answer _ _ _
-    c.loop-call-test.true c.loop-call.invariant c.in_ok-answer.ensures.answer c.in_ok-answer.ensures.after c.in_ok-push.ensures.items
+    c.loop-call-test.true c.loop-call.invariant c.in_ok-answer.ensures.answer c.in_ok-answer.ensures.after c.in_ok-answer.ensures.legal c.in_ok-push.ensures.items

@@ -1,0 +1,6 @@
+pub mod Keyed
+pub mod Legal
+pub mod Agreeing
+pub mod Consistent
+pub mod Steps
+pub mod Runs

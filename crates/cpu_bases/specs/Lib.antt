@@ -1,0 +1,4 @@
+pub mod Journals
+pub mod CpuBases
+pub mod TwoBases
+pub mod Calls
