@@ -1,6 +1,6 @@
 -- what holds of a base's items as timers are added and taken out
 use Rattle.std.proofs.Common.{◌≡◌, ◌≤◌, ◌<◌, ◌+◌, ◌-◌, ℕ, List, [], ◌∷◌, ◌++◌, length, arith, true, false, cond, eqb, refl, subst, sym, ap, inl, inr, suc, Option, Some, None, min, map, get_or, zero, is_some}
-use Rattle.std.specs.Prelude.{IfSome, OnSome}
+use Rattle.std.specs.Prelude.{All, IfSome, OnSome}
 use Rattle.std.specs.List.{AllByRecursion}
 use Rattle.std.proofs.lemmas.Bool.{ne_eqb, eq-eqb, cases_eq, cases_lt}
 use Rattle.std.proofs.lemmas.Bool.Decides.{nat_tests}
@@ -175,3 +175,10 @@ pub number_out : (now timers spare : ℕ) (base : PlainBase) (out : Option Item)
 number_out now timers spare base None room due = tt
 number_out now timers spare base (Some item) room due =
     found_too (λ (other : Item). other.id < timers) item.id base.items item (recursion_from_All (λ (other : Item). other.id < timers) base.items room.numbers) due.queued
+
+-- what holds of all items holds of those that are left
+pub all_left : (P : Item → Type 0) (base new : PlainBase) (out : Option Item) → All P base.items → new ≡ after_out base out → All P new.items
+all_left P base new None each is = let Q : PlainBase → Type 0 = λ b. All P b.items in subst Q (sym is) each
+all_left P base new (Some item) each is =
+    let Q : PlainBase → Type 0 = λ b. All P b.items in
+    subst Q (sym is) (All-from_recursion P (without item.id base.items) (all_without P item.id base.items (recursion_from_All P base.items each)))

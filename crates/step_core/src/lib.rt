@@ -1,10 +1,10 @@
 //! The machine that plays scripts. `Quiet` is the machine without walks: what the hierarchy's walks will have to come to.
 #![tactic(auto)]
 
+mod cover;
+mod group;
 mod quiet;
 mod quiet_cpu;
 
+pub use cover::Cover;
 pub use quiet::Quiet;
-
-#[cfg(test)]
-mod tests;

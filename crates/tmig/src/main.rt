@@ -3,9 +3,8 @@
 
 use script_main::run_program;
 use std::alloc::AllocError;
-use std::env;
-use std::io;
 use std::process::ExitCode;
+use std::{env, io};
 use tm_io::{StdSink, StdSource};
 
 /// The words after the program's name. Words that aren't UTF-8 are no command, and neither are no words.
