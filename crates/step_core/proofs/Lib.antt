@@ -5,3 +5,4 @@ pub mod Kept
 pub mod Groups
 pub mod Answered
 pub mod Settled
+pub mod Claims

@@ -11,6 +11,8 @@ use Rattle.play_rules.specs.Timers.{Queued}
 use Rattle.play_rules.specs.Play.{cpu_id, timer_id}
 use Rattle.play_rules.specs.Group.{by_migrator, by_wakeup, idled}
 use Rattle.play_rules.specs.Group as rules
+use Rattle.play_rules.specs.Settled.{machine_of}
+use Rattle.coverage.specs.Coverage.{Held, Leads, Woken}
 use Rattle.step_core.specs.declared.cover.Cover.{Cover}
 use Rattle.step_core.specs.declared.cover.Cover.TheVariants as covers
 use Rattle.step_core.specs.Answered.{IsAnswered}
@@ -67,3 +69,8 @@ after_idle false s c = idled s c
 abbrev pub shown_cover : rules.Cover → Cover
 shown_cover (by_migrator m) = covers.Migrator (record { 0 = 0 }) (cpu_id m)
 shown_cover (by_wakeup c at) = covers.Wake (cpu_id c) at
+
+-- what a cover claims of an idle CPU's first global timer: by the migrator it is held there, by a wakeup it is woken for
+abbrev pub IsCoverFor : State → (c : ℕ) → Cover → Type 0
+IsCoverFor s c (covers.Migrator in_group m) = Held (machine_of s) c (next_of (cpu_at s c)) × Leads (machine_of s) m.0 in_group.0
+IsCoverFor s c (covers.Wake w at) = Woken (machine_of s) c (next_of (cpu_at s c)) × ((cpu_at s w.0).active ≡ false) × ((cpu_at s w.0).wakeup ≡ at)

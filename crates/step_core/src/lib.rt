@@ -7,4 +7,4 @@ mod quiet;
 mod quiet_cpu;
 
 pub use cover::Cover;
-pub use quiet::Quiet;
+pub use quiet::{Quiet, law_settled};

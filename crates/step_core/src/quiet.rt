@@ -1,6 +1,6 @@
 //! The machine without walks.
 
-ghost use Rattle.std.specs.Prelude.{◌≡◌, ℕ, ◌+◌, ◌^◌, ◌<◌, ◌≤◌, None, true, false, not, length, IfErr, IfNone, IfOk, OnErr, OnOk, OnSome};
+ghost use Rattle.std.specs.Prelude.{◌≡◌, ℕ, ◌+◌, ◌^◌, ◌<◌, ◌≤◌, None, true, false, not, length, IfErr, IfNone, IfOk, IfSome, OnErr, OnOk, OnSome};
 ghost use Rattle.std.specs.Option.{option_map};
 ghost use Rattle.tm_base.specs.declared.names.TheConstants.{TIME_LIMIT};
 ghost use Rattle.wheel_core.specs.PlainBase.{NoneDue};
@@ -8,7 +8,8 @@ ghost use Rattle.play_rules.specs.State.{at_clock, cpu_at, next_of, start};
 ghost use Rattle.play_rules.specs.Timers.{armed, armed_item, due_on, handed_out, queued_on};
 ghost use Rattle.play_rules.specs.Group.{cover_of, due_sleeper, has_interrupt, idled, looks_after, migrator_or, programmed, reevaluated, stays, told_again, woken};
 ghost use Rattle.play_rules.specs.Play.{cpu_id};
-ghost use Rattle.step_core.specs.Quiet.{IsRefusalBy, after_idle, idle_answer, place_of, shown_cover, shown_of};
+ghost use Rattle.play_rules.specs.Settled.{IsSettled};
+ghost use Rattle.step_core.specs.Quiet.{IsCoverFor, IsRefusalBy, after_idle, idle_answer, place_of, shown_cover, shown_of};
 
 use crate::cover::Cover;
 use crate::group::{due_sleeper, duty, migrator_without, waker_by};
@@ -259,6 +260,18 @@ impl Quiet {
     /// Who answers for an idle CPU's first timer; None exactly where the CPU is active or has no timer.
     pub fn cover_of(&self, cpu: CpuId) -> Option<Cover>
         requires { cpu.0 < length self.now.cpus }
+        ensures cover { result ≡ option_map shown_cover (cover_of self.now cpu.0) }
+        ensures claims { IfSome result (IsCoverFor self.now cpu.0) }
+    {
+        let found = self.find_cover(cpu);
+        // What the machine keeps says that the cover answers.
+        let _clock = self.clock;
+        found
+    }
+
+    /// The CPU itself where it wakes in time, else the migrator, else the lowest idle CPU that wakes by what it told.
+    fn find_cover(&self, cpu: CpuId) -> Option<Cover>
+        requires { cpu.0 < length self.now.cpus }
         ensures { result ≡ option_map shown_cover (cover_of self.now cpu.0) }
     {
         let it = &self.cpus[usize::from(cpu.0)];
@@ -280,4 +293,11 @@ impl Quiet {
             None => waker_by(&self.cpus, it.told()),
         }
     }
+}
+
+/// Each global timer that is queued on an idle CPU is held or woken for. Nothing is done; the contract is the law.
+pub fn law_settled(quiet: &Quiet)
+    ensures { IsSettled quiet.now }
+{
+    let _clock = quiet.clock;
 }
