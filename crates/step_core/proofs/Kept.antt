@@ -1,6 +1,6 @@
 -- what the machine keeps as one of its CPUs changes
-use Rattle.std.proofs.Common.{◌≡◌, ◌<◌, ◌≤◌, ◌+◌, ℕ, List, Option, length, get_or, set, refl, sym, ap, subst, ◌∙◌, arith, inl, inr}
-use Rattle.std.specs.Prelude.{All, Bool, true, false, not}
+use Rattle.std.proofs.Common.{◌≡◌, ◌<◌, ◌≤◌, ◌+◌, ℕ, List, Option, Some, None, length, get_or, set, refl, sym, ap, subst, ◌∙◌, arith, inl, inr}
+use Rattle.std.specs.Prelude.{All, Bool, true, false, not, IfNone}
 use Rattle.std.proofs.lemmas.Bool.{cases_eq, false≢true, true≢false}
 use Rattle.std.proofs.lemmas.List.{get_or-set_same, get_or-set_other, length-set}
 use Rattle.tm_base.specs.declared.names.TheConstants.{NEVER}
@@ -137,3 +137,7 @@ idle_where false result is yes_idle = refl
 pub active_where : (active result : Bool) → result ≡ not active → result ≡ false → active ≡ true
 active_where true result is no_idle = refl
 active_where false result is no_idle = absurd (true≢false (sym is ∙ no_idle))
+
+pub if_none : {A : Type 0} (o : Option A) (P : Type 0) → P → IfNone o P
+if_none None P h = h
+if_none (Some x) P h = tt

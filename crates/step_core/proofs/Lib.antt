@@ -6,3 +6,4 @@ pub mod Groups
 pub mod Answered
 pub mod Settled
 pub mod Claims
+pub mod Sleepers

@@ -3,7 +3,7 @@
 ghost use Rattle.std.specs.Prelude.{◌≡◌, ℕ, ◌+◌, ◌^◌, ◌<◌, ◌≤◌, None, true, false, not, length, IfErr, IfNone, IfOk, IfSome, OnErr, OnOk, OnSome};
 ghost use Rattle.std.specs.Option.{option_map};
 ghost use Rattle.tm_base.specs.declared.names.TheConstants.{TIME_LIMIT};
-ghost use Rattle.wheel_core.specs.PlainBase.{NoneDue};
+ghost use Rattle.wheel_core.specs.PlainBase.{NoneBehind, NoneDue};
 ghost use Rattle.play_rules.specs.State.{at_clock, cpu_at, next_of, start};
 ghost use Rattle.play_rules.specs.Timers.{armed, armed_item, due_on, handed_out, queued_on};
 ghost use Rattle.play_rules.specs.Group.{cover_of, due_sleeper, has_interrupt, idled, looks_after, migrator_or, programmed, reevaluated, stays, told_again, woken};
@@ -73,7 +73,7 @@ impl Quiet {
         requires timer_in_range { timer.0 < self.old.timers }
         requires near { delay ≤ 62 }
         requires in_time { self.old.clock + delay < TIME_LIMIT }
-        requires none_due { NoneDue self.old.clock (cpu_at self.old cpu.0).global.items }
+        requires none_behind { NoneBehind (cpu_at self.old cpu.0).global }
 
         ensures ok { IfOk result (λ wheel. wheel ≡ (armed_item self.old cpu.0 timer.0 delay).wheel) }
         ensures armed { OnOk result (self.new ≡ armed self.old cpu.0 timer.0 delay) }
@@ -81,7 +81,7 @@ impl Quiet {
         ensures free { OnOk result (queued_on self.old timer.0 ≡ None) }
         ensures refused { IfErr result (IsRefusalBy (cpu_at self.old cpu.0).active (queued_on self.old timer.0)) }
         ensures err { OnErr result (self.new ≡ self.old) }
-        ensures none_due { NoneDue self.new.clock (cpu_at self.new cpu.0).global.items }
+        ensures none_behind { NoneBehind (cpu_at self.new cpu.0).global }
     {
         if self.is_idle(cpu) {
             return Err(OpFault::NotActive);
@@ -98,7 +98,8 @@ impl Quiet {
         requires { cpu.0 < length self.old.cpus }
         ensures out { result ≡ option_map shown_of (due_on self.old cpu.0) }
         ensures state { self.new ≡ handed_out self.old cpu.0 }
-        ensures none { IfNone result (NoneDue self.old.clock (cpu_at self.old cpu.0).global.items) }
+        ensures none_due { IfNone result (NoneDue self.old.clock (cpu_at self.old cpu.0).global.items) }
+        ensures none_behind { IfNone result (NoneBehind (cpu_at self.new cpu.0).global) }
         ensures fewer { OnSome result (length (cpu_at self.new cpu.0).global.items + 1 ≡ length (cpu_at self.old cpu.0).global.items) }
     {
         let item = self.cpus[usize::from(cpu.0)].take_next(self.clock)?;
@@ -154,6 +155,15 @@ impl Quiet {
 
     /// The idle CPU whose due timers the interrupt of a CPU takes next; None exactly where it takes none.
     pub fn due_sleeper(&self, cpu: CpuId) -> Option<CpuId>
+        ensures found { result ≡ option_map cpu_id (due_sleeper self.now cpu.0) }
+        ensures in_range { IfSome result (λ d. d.0 < length self.now.cpus) }
+        ensures idle { IfSome result (λ d. (cpu_at self.now d.0).active ≡ false) }
+    {
+        self.find_sleeper(cpu)
+    }
+
+    /// The idle CPU of least (told, number) where what it told is due and the CPU looks after the group.
+    fn find_sleeper(&self, cpu: CpuId) -> Option<CpuId>
         ensures { result ≡ option_map cpu_id (due_sleeper self.now cpu.0) }
     {
         if !self.looks_after(cpu) {

@@ -1,9 +1,9 @@
 //! One CPU of `Quiet`.
 
-ghost use Rattle.std.specs.Prelude.{◌≡◌, ℕ, ◌+◌, ◌^◌, ◌<◌, ◌≤◌, All, None, length, IfOk, IfSome, OnSome};
+ghost use Rattle.std.specs.Prelude.{◌≡◌, ℕ, ◌+◌, ◌^◌, ◌<◌, ◌≤◌, All, None, length, IfNone, IfOk, IfSome, OnSome};
 ghost use Rattle.std.specs.Option.{option_map};
 ghost use Rattle.tm_base.specs.declared.names.TheConstants.{NEVER};
-ghost use Rattle.wheel_core.specs.PlainBase.{empty_base, NoneDue, OutIsDue, added, forwarded, item_of, least, next_out, placed, taken};
+ghost use Rattle.wheel_core.specs.PlainBase.{empty_base, NoneBehind, OutIsDue, added, forwarded, item_of, least, next_out, placed, taken};
 ghost use Rattle.play_rules.specs.State.{new_cpu, next_of};
 ghost use Rattle.play_rules.specs.Group.{resting_cpu, woken_cpu};
 
@@ -54,7 +54,7 @@ impl<B: TimerBase + Drop> QuietCpu<B> {
     pub(crate) fn arm(&mut self, now: Jiffy, timer: TimerId, delay: u32) -> Jiffy
         requires in_range { timer.0 < self.old.timers }
         requires not_queued { item_of timer.0 self.old.cpu.global.items ≡ None }
-        requires none_due { NoneDue now self.old.cpu.global.items }
+        requires none_behind { NoneBehind self.old.cpu.global }
         requires clock { self.old.cpu.global.clock ≤ now + 1 }
         requires in_time { now + 1 < 2 ^ 47 }
         requires expires_in_time { now + delay < 2 ^ 47 }
@@ -63,7 +63,7 @@ impl<B: TimerBase + Drop> QuietCpu<B> {
         ensures wheel { result ≡ (placed (forwarded now self.old.cpu.global).clock timer.0 (now + delay) 0 0).wheel }
         ensures cpu { self.new.cpu ≡ record self.old.cpu { global = added (forwarded now self.old.cpu.global) timer.0 (now + delay) 0 0 } }
         ensures timers { self.new.timers ≡ self.old.timers }
-        ensures none_due { NoneDue now self.new.cpu.global.items }
+        ensures none_behind { NoneBehind self.new.cpu.global }
         ensures clock { self.new.cpu.global.clock ≤ now + 1 }
         ensures coming { All (λ item. item.wheel < NEVER) self.new.cpu.global.items }
     {
@@ -85,6 +85,7 @@ impl<B: TimerBase + Drop> QuietCpu<B> {
         ensures timers { self.new.timers ≡ self.old.timers }
         ensures clock { self.new.cpu.global.clock ≤ now + 1 }
         ensures coming { All (λ item. item.wheel < NEVER) self.new.cpu.global.items }
+        ensures none_behind { IfNone result (NoneBehind self.new.cpu.global) }
         ensures fewer { OnSome result (length self.new.cpu.global.items + 1 ≡ length self.old.cpu.global.items) }
         ensures number { IfSome result (λ item. item.id < self.old.timers) }
     {

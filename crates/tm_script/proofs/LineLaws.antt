@@ -1,5 +1,5 @@
 -- a line that is read is spelled so, and a line that is spelled so is read
-use Rattle.std.proofs.Common.{◌≡◌, ℕ, ◌^◌, ◌<◌, ◌≤◌, Bool, true, false, cond, List, [], ◌∷◌, ◌++◌, Option, Some, None, refl, sym, ap, subst, ◌∙◌, arith}
+use Rattle.std.proofs.Common.{◌≡◌, ℕ, ltb, ◌^◌, ◌<◌, ◌≤◌, Bool, true, false, cond, List, [], ◌∷◌, ◌++◌, Option, Some, None, refl, sym, ap, subst, ◌∙◌, arith}
 use Rattle.std.specs.Prelude.{codes}
 use Rattle.std.specs.Fmt.{decimal}
 use Rattle.std.specs.Option.{option_map}
@@ -7,6 +7,7 @@ use Rattle.std.specs.Str.{bytes_eq}
 use Rattle.std.proofs.lemmas.Bool.{and_parts, and_from, ltb-true, leb-true, lt-ltb, le-leb, eqb-true, eq-eqb, cond-true}
 use Rattle.std.proofs.lemmas.Option.{cond_some, option_and_then_some, same_Some}
 use Rattle.std.proofs.lemmas.Slice.Eq.{bytes_eq-Decides}
+use Rattle.tm_base.specs.declared.names.CpuId.{CpuId}
 use Rattle.tm_base.specs.declared.names.Class.{Class}
 use Rattle.tm_base.specs.declared.names.Class.TheVariants.{Pinned, Global}
 use Rattle.tm_script.specs.declared.syntax.What.{What}
@@ -17,7 +18,7 @@ use Rattle.tm_script.specs.declared.lines.Said.TheVariants.{At, Operation, End}
 use Rattle.tm_script.specs.Texts.{spaced, class_text, number_line, what_line}
 use Rattle.tm_script.specs.Form.{IsArmOfForm, IsWhatOfForm}
 use Rattle.tm_script.specs.Numbers.{number_of}
-use Rattle.tm_script.specs.Lines.{cut_at, field_of, ArmParts, arm_parts, class_of, arm_of, time_of, said_of}
+use Rattle.tm_script.specs.Lines.{cut_at, field_of, ArmParts, arm_parts, class_of, arm_of, cpu_of, time_of, said_of}
 use Rattle.tm_script.proofs.Cuts.{cut_found, cut_again, is_clear}
 use Rattle.tm_script.proofs.Digits.{number_found, number_again, clear_decimal}
 
@@ -63,6 +64,23 @@ time_found word n e =
 time_again : (n : ℕ) → n ≤ 10000 → time_of (decimal n) ≡ Some n
 unfolding time_of
 time_again n high = rw (number_again n (omega arith)) (cond-true _ (Some n) None (le-leb _ _ high))
+
+-- ---- a CPU
+
+abbrev IsCpu : Machine → List ℕ → CpuId → Type 0
+IsCpu m word cpu = (word ≡ decimal cpu.0) × (cpu.0 < m.cpus)
+
+cpu_found : (m : Machine) (word : List ℕ) (cpu : CpuId) → cpu_of m word ≡ Some cpu → IsCpu m word cpu
+unfolding cpu_of
+cpu_found m word cpu e =
+    option_and_then_some _ (number_of word) cpu e (λ k read e1.
+    let made : CpuId = record { 0 = k } in
+    let test = cond_some (ltb k m.cpus) made cpu e1 in
+    subst (IsCpu m word) test.1 (sym (number_found word k read).0, ltb-true _ _ test.0))
+
+cpu_again : (m : Machine) (cpu : CpuId) → cpu.0 < m.cpus → m.cpus ≤ 8 → cpu_of m (decimal cpu.0) ≡ Some cpu
+unfolding cpu_of
+cpu_again m cpu in_range few = rw (number_again cpu.0 (omega arith)) (cond-true _ (Some cpu) None (lt-ltb cpu.0 m.cpus in_range))
 
 -- ---- an arming
 
@@ -180,22 +198,37 @@ mapped : {A B P : Type 0} (f : A → B) (o : Option A) (y : B) → option_map f 
 mapped f None y e k = absurd cc
 mapped f (Some x) y e k = k x refl (same_Some (f x) y e)
 
+at_said : (m : Machine) (line words : List ℕ) (said : Said) → line ≡ codes "at" ++ 32 ∷ words → option_map At (time_of words) ≡ Some said → IsSaid m line said
+at_said m line words said is e =
+    mapped At (time_of words) said e (λ n read same.
+    let time = time_found words n read in
+    subst (IsSaid m line) same (is ∙ ap (λ (w : List ℕ). codes "at" ++ 32 ∷ w) time.0, time.1))
+
+end_said : (m : Machine) (line words : List ℕ) (said : Said) → line ≡ codes "end" ++ 32 ∷ words → option_map End (time_of words) ≡ Some said → IsSaid m line said
+end_said m line words said is e =
+    mapped End (time_of words) said e (λ n read same.
+    let time = time_found words n read in
+    subst (IsSaid m line) same (is ∙ ap (λ (w : List ℕ). codes "end" ++ 32 ∷ w) time.0, time.1))
+
+-- an operation that has no other word than its CPU
+cpu_said : (m : Machine) (line words : List ℕ) (said : Said) (name : List ℕ) (what : What) → ((cpu : ℕ) → name ++ 32 ∷ decimal cpu ≡ what_line cpu what) → IsWhatOfForm m.timers what
+    → line ≡ name ++ 32 ∷ words → option_map (λ (cpu : CpuId). Operation cpu what) (cpu_of m words) ≡ Some said → IsSaid m line said
+cpu_said m line words said name what spells form is e =
+    mapped (λ (cpu : CpuId). Operation cpu what) (cpu_of m words) said e (λ cpu read same.
+    let named = cpu_found m words cpu read in
+    subst (IsSaid m line) same (is ∙ ap (λ (w : List ℕ). name ++ 32 ∷ w) named.0 ∙ spells cpu.0, (named.1, form)))
+
 pub said_found : (m : Machine) (line : List ℕ) (said : Said) → said_of m line ≡ Some said → (line ≡ said_line said) × IsSaidOfForm m said
 unfolding said_of
 said_found m line said e =
     option_and_then_some _ (cut_at 32 line) said e (λ words cut e1.
-    let line_is : (name : List ℕ) → bytes_eq words.0 name ≡ true → line ≡ name ++ 32 ∷ words.1 = λ name t. cut_found 32 line words cut ∙ ap (λ (w : List ℕ). w ++ 32 ∷ words.1) (same_word words.0 name t) in
-    chosen (bytes_eq words.0 (codes "at")) _ _ (Some said) e1
-    (λ t e2. mapped At (time_of words.1) said e2 (λ n read same.
-    let time = time_found words.1 n read in
-    subst (IsSaid m line) same (line_is (codes "at") t ∙ ap (λ (w : List ℕ). codes "at" ++ 32 ∷ w) time.0, time.1)))
-    (λ _ e2. chosen (bytes_eq words.0 (codes "end")) _ _ (Some said) e2
-    (λ t e3. mapped End (time_of words.1) said e3 (λ n read same.
-    let time = time_found words.1 n read in
-    subst (IsSaid m line) same (line_is (codes "end") t ∙ ap (λ (w : List ℕ). codes "end" ++ 32 ∷ w) time.0, time.1)))
-    (λ _ e3. chosen (bytes_eq words.0 (codes "arm")) _ _ (Some said) e3
-    (λ t e4. let arm = arm_found m words.1 said e4 in (line_is (codes "arm") t ∙ arm.0, arm.1))
-    (λ _ e4. absurd cc))))
+    let is : (name : List ℕ) → bytes_eq words.0 name ≡ true → line ≡ name ++ 32 ∷ words.1 = λ name t. cut_found 32 line words cut ∙ ap (λ (w : List ℕ). w ++ 32 ∷ words.1) (same_word words.0 name t) in
+    chosen (bytes_eq words.0 (codes "at")) _ _ (Some said) e1 (λ t r. at_said m line words.1 said (is (codes "at") t) r) (λ _ e2.
+    chosen (bytes_eq words.0 (codes "end")) _ _ (Some said) e2 (λ t r. end_said m line words.1 said (is (codes "end") t) r) (λ _ e3.
+    chosen (bytes_eq words.0 (codes "arm")) _ _ (Some said) e3 (λ t r. let arm = arm_found m words.1 said r in (is (codes "arm") t ∙ arm.0, arm.1)) (λ _ e4.
+    chosen (bytes_eq words.0 (codes "idle")) _ _ (Some said) e4 (λ t r. cpu_said m line words.1 said (codes "idle") Idle (λ _. refl) tt (is (codes "idle") t) r) (λ _ e5.
+    chosen (bytes_eq words.0 (codes "wake")) _ _ (Some said) e5 (λ t r. cpu_said m line words.1 said (codes "wake") Wake (λ _. refl) tt (is (codes "wake") t) r) (λ _ e6.
+    absurd cc))))))
 
 pub said_again : (m : Machine) (said : Said) → IsSmall m → IsSaidOfForm m said → said_of m (said_line said) ≡ Some said
 unfolding said_of
@@ -205,7 +238,7 @@ said_again m (Operation cpu (Arm timer class delay job arg)) small h =
     let words = spaced (decimal cpu.0 ∷ decimal timer.0 ∷ class_text class ∷ decimal delay ∷ decimal job ∷ decimal arg ∷ []) in
     rw (cut_again 32 (codes "arm") words refl) (arm_again m cpu.0 timer.0 class delay job arg small h.0 h.1)
 said_again m (Operation cpu (Cancel timer)) small h = absurd h.1
-said_again m (Operation cpu Idle) small h = absurd h.1
-said_again m (Operation cpu Wake) small h = absurd h.1
+said_again m (Operation cpu Idle) small h = rw (cut_again 32 (codes "idle") (decimal cpu.0) refl, cpu_again m cpu h.0 small.few_cpus) refl
+said_again m (Operation cpu Wake) small h = rw (cut_again 32 (codes "wake") (decimal cpu.0) refl, cpu_again m cpu h.0 small.few_cpus) refl
 said_again m (Operation cpu Offline) small h = absurd h.1
 said_again m (Operation cpu Online) small h = absurd h.1

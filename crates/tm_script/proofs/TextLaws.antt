@@ -73,8 +73,8 @@ clear_what m cpu (Arm timer class delay job arg) small in_range form =
     let b5 : arg < 2 ^ 64 = omega (arith, form.arg_in_range) in
     clear_word cpu _ b1 (clear_word timer.0 _ b2 (clear_class class _ (clear_word delay _ b3 (clear_word job _ b4 (clear_number arg b5)))))
 clear_what m cpu (Cancel timer) small in_range form = absurd form
-clear_what m cpu Idle small in_range form = absurd form
-clear_what m cpu Wake small in_range form = absurd form
+clear_what m cpu Idle small in_range form = clear_number cpu (omega (arith, small.few_cpus))
+clear_what m cpu Wake small in_range form = clear_number cpu (omega (arith, small.few_cpus))
 clear_what m cpu Offline small in_range form = absurd form
 clear_what m cpu Online small in_range form = absurd form
 

@@ -21,8 +21,8 @@ pub record IsArmOfForm (timers timer : ℕ) (class : Class) (delay job arg : ℕ
 abbrev pub IsWhatOfForm : ℕ → What → Type 0
 IsWhatOfForm timers (Arm timer class delay job arg) = IsArmOfForm timers timer.0 class delay job arg
 IsWhatOfForm timers (Cancel timer) = ⊥
-IsWhatOfForm timers Idle = ⊥
-IsWhatOfForm timers Wake = ⊥
+IsWhatOfForm timers Idle = Unit {0}
+IsWhatOfForm timers Wake = Unit {0}
 IsWhatOfForm timers Offline = ⊥
 IsWhatOfForm timers Online = ⊥
 

@@ -4,7 +4,8 @@ use Rattle.std.specs.Option.{option_map}
 use Rattle.std.specs.Str.{bytes_eq}
 use Rattle.tm_base.specs.declared.names.Class.{Class}
 use Rattle.tm_base.specs.declared.names.Class.TheVariants.{Global}
-use Rattle.tm_script.specs.declared.syntax.What.TheVariants.{Arm}
+use Rattle.tm_base.specs.declared.names.CpuId.{CpuId}
+use Rattle.tm_script.specs.declared.syntax.What.TheVariants.{Arm, Idle, Wake}
 use Rattle.tm_script.specs.declared.lines.Machine.{Machine}
 use Rattle.tm_script.specs.declared.lines.Said.{Said}
 use Rattle.tm_script.specs.declared.lines.Said.TheVariants.{At, Operation, End}
@@ -80,6 +81,12 @@ time_of word = do
   n ← number_of word
   if nat_le n 10000 then Some n else None
 
+-- the number of a CPU
+unfoldable pub cpu_of : Machine → List ℕ → Option CpuId
+cpu_of m word = do
+  n ← number_of word
+  if nat_lt n m.cpus then Some (record { 0 = n }) else None
+
 -- what a line says, where there are these CPUs and timers
 unfoldable pub said_of : Machine → List ℕ → Option Said
 said_of m line = do
@@ -87,4 +94,6 @@ said_of m line = do
   if bytes_eq words.0 (codes "at") then option_map At (time_of words.1)
       else if bytes_eq words.0 (codes "end") then option_map End (time_of words.1)
       else if bytes_eq words.0 (codes "arm") then arm_of m words.1
+      else if bytes_eq words.0 (codes "idle") then option_map (λ cpu. Operation cpu Idle) (cpu_of m words.1)
+      else if bytes_eq words.0 (codes "wake") then option_map (λ cpu. Operation cpu Wake) (cpu_of m words.1)
       else None

@@ -2,7 +2,7 @@
 
 ghost use Rattle.std.specs.Prelude.{◌≡◌, ◌≤◌, length, IfSome};
 ghost use Rattle.std.specs.Option.{option_map};
-ghost use Rattle.tm_script.specs.Lines.{field_of, machine_of, arm_parts, class_of, arm_of, time_of, said_of};
+ghost use Rattle.tm_script.specs.Lines.{field_of, machine_of, arm_parts, class_of, arm_of, cpu_of, time_of, said_of};
 
 use crate::syntax::What;
 use crate::words::{cut, read_number};
@@ -147,6 +147,19 @@ fn read_arm(machine: Machine, words: &[u8]) -> Option<Said>
     }
 }
 
+/// The CPU that a word names.
+#[tactic(auto, unfolding(crate::specs::Lines::cpu_of))]
+fn read_cpu(machine: Machine, word: &[u8]) -> Option<CpuId>
+    ensures { result ≡ cpu_of machine word.now }
+{
+    let n = read_number(word)?;
+    if n < u64::from(machine.cpus) {
+        Some(CpuId(n as u16))
+    } else {
+        None
+    }
+}
+
 /// The time that a word spells.
 #[tactic(auto, unfolding(crate::specs::Lines::time_of))]
 fn read_time(word: &[u8]) -> Option<Jiffy>
@@ -168,6 +181,10 @@ pub fn read_line(machine: Machine, line: &[u8]) -> Option<Said>
         Some(Said::End(read_time(rest)?))
     } else if word == b"arm".as_slice() {
         read_arm(machine, rest)
+    } else if word == b"idle".as_slice() {
+        Some(Said::Operation(read_cpu(machine, rest)?, What::Idle))
+    } else if word == b"wake".as_slice() {
+        Some(Said::Operation(read_cpu(machine, rest)?, What::Wake))
     } else {
         None
     }

@@ -59,10 +59,10 @@ fn read_bytes(alloc: Global, bytes: &[u8]) -> Result<Script, ReadScript>
 
 /// The one script whose text these bytes are.
 ///
-/// So far a script has one node, 1 to 8 CPUs and 1 to 4,096 timers. Its only operation is `arm`, with the class
-/// global, a delay of at most 62 jiffies, job 0 and an argument below 2^32; a moment has at most 4,096 of them. The
-/// end is at most jiffy 10,000, and the whole text has at most 65,536 bytes. Other bytes are refused as line 0,
-/// `BadLine`. The bytes are read where they lie, in time linear in their number.
+/// So far a script has one node, 1 to 8 CPUs and 1 to 4,096 timers. Its operations are `idle`, `wake` and `arm`,
+/// the last with the class global, a delay of at most 62 jiffies, job 0 and an argument below 2^32; a moment has at
+/// most 4,096 operations. The end is at most jiffy 10,000, and the whole text has at most 65,536 bytes. Other bytes
+/// are refused as line 0, `BadLine`. The bytes are read where they lie, in time linear in their number.
 #[tactic(auto, using(crate::proofs::ScriptLaws::answers))]
 pub fn read_script(alloc: Global, bytes: &[u8]) -> Result<Script, ReadScript>
     ensures found { IfOk result (λ s. IsOfForm s × (script_text s ≡ bytes.now)) }

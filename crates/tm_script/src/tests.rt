@@ -13,6 +13,9 @@ const PLAIN: &[u8] = b"tmig 1\nnodes 1\ncpus 1\ntimers 1\nat 10\narm 0 0 global 
 const TWO_CPUS: &[u8] =
     b"tmig 1\nnodes 1\ncpus 2\ntimers 2\nat 10\narm 1 0 global 5 0 0\narm 0 0 global 5 0 0\narm 0 1 global 62 0 0\nend 20\n";
 
+const WAKE_REFUSED: &[u8] =
+    b"tmig 1\nnodes 1\ncpus 2\ntimers 1\nat 10\narm 1 0 global 50 0 0\nidle 1\nat 20\nwake 1\nwake 1\nend 100\n";
+
 /// The largest numbers that may stand anywhere, a moment at 0 with no operations, and the end at the last moment.
 const LARGEST: &[u8] =
     b"tmig 1\nnodes 1\ncpus 8\ntimers 4096\nat 0\nat 10000\narm 7 4095 global 62 0 4294967295\nend 10000\n";
@@ -32,14 +35,24 @@ fn arm(line: u32, cpu: u16, timer: u16, delay: u32, arg: u32) -> Op {
     }
 }
 
+fn bare(line: u32, cpu: u16, what: What) -> Op {
+    Op {
+        line,
+        cpu: CpuId(cpu),
+        what,
+    }
+}
+
 #[test]
 fn worked_rows(rt: HostRuntime) -> Result<(), Fail> {
     let plain = [arm(6, 0, 0, 50, 0)];
     let two_cpus = [arm(6, 1, 0, 5, 0), arm(7, 0, 0, 5, 0), arm(8, 0, 1, 62, 0)];
     let largest = [arm(7, 7, 4095, 62, u32::MAX)];
+    let wake_refused = [bare(9, 1, What::Wake), bare(10, 1, What::Wake)];
     let rows = [
         (PLAIN, (1, 1, 1), 10, plain.as_slice(), 100),
         (TWO_CPUS, (2, 2, 1), 10, two_cpus.as_slice(), 20),
+        (WAKE_REFUSED, (2, 1, 2), 20, wake_refused.as_slice(), 100),
         (LARGEST, (8, 4096, 2), 10_000, largest.as_slice(), 10_000),
     ];
     for (text, (cpus, timers, moments), at, ops, end) in rows {
@@ -110,7 +123,7 @@ fn heads_that_are_refused(rt: HostRuntime) {
 /// Texts behind the four lines of one node, one CPU and one timer.
 #[test]
 fn bodies_that_are_refused(rt: HostRuntime) -> Result<(), Fail> {
-    let bodies: [&[u8]; 53] = [
+    let bodies: [&[u8]; 57] = [
         // lines
         b"\nend 1\n",
         b" \nend 1\n",
@@ -140,8 +153,10 @@ fn bodies_that_are_refused(rt: HostRuntime) -> Result<(), Fail> {
         b"at 10\narm  0 0 global 50 0 0\nend 100\n",
         b"at 10\narms 0 0 global 50 0 0\nend 100\n",
         b"at 10\ncancel 0 0\nend 100\n",
-        b"at 10\nidle 0\nend 100\n",
-        b"at 10\nwake 0\nend 100\n",
+        b"at 10\nidle\nend 100\n",
+        b"at 10\nidle 0 0\nend 100\n",
+        b"at 10\nwoke 0\nend 100\n",
+        b"idle 0\nend 100\n",
         b"at 10\noffline 0\nwake 0\nend 100\n",
         b"at 10\nonline 0\nend 100\n",
         b"arm 0 0 global 50 0 0\nend 100\n",
@@ -159,6 +174,8 @@ fn bodies_that_are_refused(rt: HostRuntime) -> Result<(), Fail> {
         b"end 1099511627776\n",
         b"at 10001\nend 10001\n",
         b"at 10\narm 1 0 global 50 0 0\nend 100\n",
+        b"at 10\nidle 1\nend 100\n",
+        b"at 10\nwake 1\nend 100\n",
         b"at 10\narm 0 1 global 50 0 0\nend 100\n",
         b"at 10\narm 0 0 global 63 0 0\nend 100\n",
         b"at 10\narm 0 0 global 4294967296 0 0\nend 100\n",
@@ -174,6 +191,23 @@ fn bodies_that_are_refused(rt: HostRuntime) -> Result<(), Fail> {
         let mut text = Vec::from_slice(rt.alloc(), b"tmig 1\nnodes 1\ncpus 1\ntimers 1\n")?;
         text.extend_from_slice(body)?;
         assert_eq!(rt; read_fault(rt.alloc(), &text), Some(REFUSED), "at {i}");
+    }
+    Ok(())
+}
+
+#[test]
+fn operations_of_a_moment(rt: HostRuntime) -> Result<(), Fail> {
+    for (count, refused) in [(4096, false), (4097, true)] {
+        let mut text = Vec::from_slice(rt.alloc(), b"tmig 1\nnodes 1\ncpus 1\ntimers 1\nat 1\n")?;
+        for _ in 0..count {
+            text.extend_from_slice(b"wake 0\n")?;
+        }
+        text.extend_from_slice(b"end 2\n")?;
+        assert_eq!(rt;
+            read_fault(rt.alloc(), &text) == Some(REFUSED),
+            refused,
+            "with {count}"
+        );
     }
     Ok(())
 }

@@ -1,9 +1,9 @@
-use Rattle.std.proofs.Common.{◌+◌, ◌∙◌, ap, length}
-use Rattle.wheel_core.specs.PlainBase.{taken}
+use Rattle.std.proofs.Common.{◌≡◌, ℕ, ◌+◌, ◌∙◌, ap, subst, sym, length}
+use Rattle.wheel_core.specs.PlainBase.{NoneBehind, taken}
 use Rattle.play_rules.specs.State.{Cpu, State}
 use Rattle.step_core.proofs.Groups.{handed_out_comes}
 use Rattle.step_core.proofs.Answered.{handed_out_answered}
-use Rattle.step_core.proofs.Kept.{kept_answers, kept_cpu, kept_written}
+use Rattle.step_core.proofs.Kept.{if_none, kept_answers, kept_cpu, kept_written}
 use Rattle.step_core.proofs.Machine.{cpu_read, cpu_reread, cpu_written}
 use Rattle.step_core.proofs.quiet.Quiet.take_next.Goals as goal
 
@@ -49,3 +49,10 @@ invariant_of-self-2 c =
         answered = handed_out_answered s c.args.cpu.0 c.requires answers.answered;
         comes = handed_out_comes s c.args.cpu.0 c.requires answers.comes;
       })
+
+pub returns-in_err-item-clause-none_behind : goal.returns-in_err-item-clause-none_behind
+returns-in_err-item-clause-none_behind c =
+    let reread = cpu_reread _ _ _ _ _ _ _ c.take_next.new.self c.self.view_is c.requires c.from.ensures in
+    let OnCpu : Cpu → Type 0 = λ cpu. NoneBehind cpu.global in
+    let there = subst OnCpu (sym reread) c.in_err-item.ensures.none_behind in
+    if_none c.from_residual.result _ there
