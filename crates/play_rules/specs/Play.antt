@@ -1,9 +1,8 @@
 -- a play of a script: its moments, its lines and its text
-use Rattle.std.specs.Prelude.{◌≡◌, Bool, true, false, ℕ, zero, suc, ◌+◌, List, [], ◌∷◌, ◌++◌, length, Option, Some, None, ◌==◌, if◌then◌else◌}
+use Rattle.std.specs.Prelude.{Bool, true, false, ℕ, zero, suc, ◌+◌, List, [], ◌∷◌, ◌++◌, length, Option, Some, None, ◌==◌, if◌then◌else◌}
 use Rattle.tm_base.specs.declared.names.CpuId.{CpuId}
 use Rattle.tm_base.specs.declared.names.TimerId.{TimerId}
-use Rattle.tm_base.specs.declared.names.Class.{Class}
-use Rattle.tm_base.specs.declared.names.Class.TheVariants.{Pinned, Global}
+use Rattle.tm_base.specs.declared.names.Class.TheVariants.{Global}
 use Rattle.tm_script.specs.declared.syntax.Script.{Script}
 use Rattle.tm_script.specs.declared.syntax.Moment.{Moment}
 use Rattle.tm_script.specs.declared.syntax.Op.{Op}
@@ -16,7 +15,7 @@ use Rattle.tm_report.specs.declared.lines.ShownCover.{ShownCover}
 use Rattle.tm_report.specs.declared.lines.ShownCover.TheVariants as covers
 use Rattle.tm_report.specs.Lines.{report_text}
 use Rattle.wheel_core.specs.declared.item.Item.{Item}
-use Rattle.play_rules.specs.State.{Cpu, State, start, at_clock, cpu_at, next_of}
+use Rattle.play_rules.specs.State.{State, start, at_clock, cpu_at, next_of}
 use Rattle.play_rules.specs.Group.{Cover, by_migrator, by_wakeup, cover_of, due_sleeper, has_interrupt, idled, reevaluated, stays, told_again, woken}
 use Rattle.play_rules.specs.Timers.{Queued, queued_on, armed, armed_item, due_on, handed_out}
 

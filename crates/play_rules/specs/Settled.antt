@@ -1,7 +1,7 @@
 -- between moments every idle CPU's timers are answered for
-use Rattle.std.specs.Prelude.{◌≡◌, ℕ, ◌+◌, ◌<◌, All, Bool, true, false, Option, Some, None, if◌then◌else◌, length, nat_lt, ◌==◌, zero, suc, List}
+use Rattle.std.specs.Prelude.{◌≡◌, ℕ, ◌<◌, All, Bool, false, Option, Some, None, if◌then◌else◌, length, nat_lt, ◌==◌, zero, suc}
 use Rattle.tm_base.specs.declared.names.TheConstants.{NEVER}
-use Rattle.coverage.specs.Coverage.{Machine, Child, of_cpu, IsAnsweredFor}
+use Rattle.coverage.specs.Coverage.{Machine, of_cpu, IsAnsweredFor}
 use Rattle.play_rules.specs.State.{Cpu, State, cpu_at}
 
 -- the one group, number 0, is the whole path of a CPU; one CPU alone has none

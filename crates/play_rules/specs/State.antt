@@ -1,5 +1,5 @@
 -- the machine as a play sees it: plain data, with no walks. All CPUs stand in one group, and one CPU alone in none
-use Rattle.std.specs.Prelude.{ℕ, ◌+◌, ◌<◌, List, [], ◌∷◌, Bool, true, false, Option, Some, None, if◌then◌else◌, length, min, nat_lt, ◌==◌, not, replicate, slice_index_or, slice_set, unwrap_or}
+use Rattle.std.specs.Prelude.{ℕ, List, Bool, true, Option, Some, None, if◌then◌else◌, nat_lt, replicate, slice_index_or, slice_set, unwrap_or}
 use Rattle.tm_base.specs.declared.names.TheConstants.{NEVER}
 use Rattle.wheel_core.specs.PlainBase.{PlainBase, empty_base, least}
 

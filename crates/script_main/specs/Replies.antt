@@ -1,8 +1,8 @@
 -- what the program is about to write, and what it rests on
-use Rattle.std.specs.Prelude.{◌≡◌, ◌⊎◌, ℕ, ◌+◌, ◌≤◌, List, Option, String, length}
+use Rattle.std.specs.Prelude.{◌≡◌, ◌⊎◌, ℕ, ◌+◌, List, Option, String}
 use Rattle.std.specs.declared.alloc.Global.{Global}
 use Rattle.std.specs.Io.KnownBytes.{Consumes, IsAtEnd}
-use Rattle.tm_io.specs.Sources.{TakesAll, TakesCount, TakesUpTo}
+use Rattle.tm_io.specs.Sources.{TakesCount, TakesUpTo}
 use Rattle.tm_script.specs.declared.syntax.Script.{Script}
 use Rattle.tm_script.specs.Texts.{script_text}
 use Rattle.tm_script.specs.Form.{IsOfForm}

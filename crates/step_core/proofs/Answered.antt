@@ -194,7 +194,7 @@ retold_waker s c w low off come answered wakes =
                 let before = wakes.in_time c low off in
                 let comes = All-get_or (λ (cpu : Cpu). cpu.wakeup ≤ NEVER) s.cpus w new_cpu wakes.in_range come in
                 let each = All-weaker (λ (item : Item). (cpu_at s c).told ≤ item.wheel) (λ (item : Item). (cpu_at (told_again s c) w).wakeup ≤ item.wheel)
-                    (λ item h. omega (arith, h, before, same)) (cpu_at s c).global.items ((told_at s c low answered).idle off) in
+                (λ item h. omega (arith, h, before, same)) (cpu_at s c).global.items ((told_at s c low answered).idle off) in
                 subst Q (sym here) (subst P (sym (at_same s c (retold (cpu_at s c)) low)) (below_told _ (cpu_at s c).global.items (omega (arith, comes, same)) each))
             | inr other ↦
                 let P : Cpu → Type 0 = λ cpu. (cpu_at (told_again s c) w).wakeup ≤ cpu.told in
@@ -239,7 +239,7 @@ programmed_wakes : (s : State) (c : ℕ) → c < length s.cpus → (cpu_at s c).
 programmed_wakes s c low off none =
     let alike = programmed_active s c low in
     let at : (cpu_at (programmed s c) c).wakeup ≡ least_told s.cpus =
-        ap (λ (cpu : Cpu). cpu.wakeup) (at_same s c (with_wakeup (duty s) (cpu_at s c)) low) ∙ ap (λ (o : Option ℕ). duty_where o s.cpus) none in
+    ap (λ (cpu : Cpu). cpu.wakeup) (at_same s c (with_wakeup (duty s) (cpu_at s c)) low) ∙ ap (λ (o : Option ℕ). duty_where o s.cpus) none in
     record {
       in_range = omega (arith, low, alike.many);
       idle = alike.active c ∙ off;

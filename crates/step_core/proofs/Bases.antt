@@ -1,14 +1,13 @@
 -- what holds of a base's items as timers are added and taken out
-use Rattle.std.proofs.Common.{◌≡◌, ◌≤◌, ◌<◌, ◌+◌, ◌-◌, ℕ, List, [], ◌∷◌, ◌++◌, length, arith, true, false, cond, eqb, refl, subst, sym, ap, inl, inr, suc, Option, Some, None, min, map, get_or, zero, is_some}
+use Rattle.std.proofs.Common.{◌≡◌, ◌≤◌, ◌<◌, ◌+◌, ℕ, List, [], ◌∷◌, ◌++◌, length, arith, true, false, cond, eqb, refl, subst, sym, ap, inl, inr, suc, Option, Some, None, min, map, get_or, zero, is_some}
 use Rattle.std.specs.Prelude.{All, IfNone, IfSome, OnSome}
 use Rattle.std.specs.List.{AllByRecursion}
-use Rattle.std.proofs.lemmas.Bool.{ne_eqb, eq-eqb, cases_eq, cases_lt}
+use Rattle.std.proofs.lemmas.Bool.{ne_eqb, eq-eqb, cases_eq}
 use Rattle.std.proofs.lemmas.Bool.Decides.{nat_tests}
 use Rattle.std.proofs.lemmas.List.{length_push}
 use Rattle.std.proofs.lemmas.List.Elements.{recursion_from_All, All-from_recursion, All-push}
 use Rattle.wheel_core.specs.declared.item.Item.{Item}
-use Rattle.wheel_core.specs.WheelExpiry.{KeepsTime, cutoff}
-use Rattle.wheel_core.specs.PlainBase.{PlainBase, IsSound, HasDistinctIds, NoneBehind, NoneDue, OutIsDue, after_out, clock_forwarded, item_of, least, sooner, without, placed}
+use Rattle.wheel_core.specs.PlainBase.{PlainBase, IsSound, HasDistinctIds, NoneBehind, NoneDue, OutIsDue, after_out, clock_forwarded, item_of, least, sooner, without}
 use Rattle.step_core.specs.QuietCpu.{HasRoomForAll}
 use Rattle.step_core.proofs.Groups.{below_least, told_below}
 use Rattle.step_core.proofs.Pigeonhole.{IsWithout, AreDistinct, AllBelow, pigeonhole}
@@ -65,8 +64,9 @@ none_behind now clock items ahead wheel is =
 pub forwarded_low : (now clock : ℕ) (items : List Item) → clock ≤ now + 1 → clock_forwarded now clock (least items) ≤ now + 1
 forwarded_low now clock items low =
     elim (least items) as (λ (m : Option ℕ). clock_forwarded now clock m ≤ now + 1) [
-      None ↦ grind (arith, nat_tests)
-    | Some wheel ↦ grind (arith, nat_tests) ]
+      | None ↦ grind (arith, nat_tests)
+      | Some wheel ↦ grind (arith, nat_tests)
+    ]
 
 -- a clock that isn't past the least expiry isn't past any
 all_ahead : (clock : ℕ) (items : List Item) → ((wheel : ℕ) → least items ≡ Some wheel → clock ≤ wheel) → All (λ item. clock ≤ item.wheel) items

@@ -1,6 +1,6 @@
 -- what a cover claims, and what holds between moments
-use Rattle.std.proofs.Common.{◌≡◌, ◌<◌, ◌≤◌, ◌+◌, ℕ, List, [], ◌∷◌, Option, Some, None, length, get_or, refl, sym, ap, subst, ◌∙◌, arith, inl, inr}
-use Rattle.std.specs.Prelude.{All, Bool, true, false, IfSome, if◌then◌else◌, unwrap_or}
+use Rattle.std.proofs.Common.{◌≡◌, ◌<◌, ℕ, List, [], ◌∷◌, Option, Some, None, length, get_or, refl, sym, ap, subst, ◌∙◌, arith, inl, inr}
+use Rattle.std.specs.Prelude.{All, Bool, false, IfSome, if◌then◌else◌, unwrap_or}
 use Rattle.std.specs.Option.{option_map}
 use Rattle.std.proofs.lemmas.Bool.{cases_Bool}
 use Rattle.std.proofs.lemmas.List.{get_or_default}
@@ -11,11 +11,10 @@ use Rattle.play_rules.specs.State.{Cpu, State, cpu_at, next_of, new_cpu}
 use Rattle.play_rules.specs.Group as rules
 use Rattle.play_rules.specs.Group.{by_migrator, by_wakeup, cover_of, cover_for}
 use Rattle.play_rules.specs.Settled.{machine_of}
-use Rattle.coverage.specs.Coverage.{Held, Leads, Woken}
+use Rattle.coverage.specs.Coverage.{Held, Woken}
 use Rattle.step_core.specs.Answered.{IsAnswered}
 use Rattle.step_core.specs.QuietCpu.{RoomyCpu}
-use Rattle.step_core.specs.Quiet.{cpus_of, machine, shown_cover, IsCoverFor, IsCpuAt, IsKept}
-use Rattle.step_core.proofs.Groups.{below_least}
+use Rattle.step_core.specs.Quiet.{machine, shown_cover, IsCoverFor, IsKept}
 use Rattle.step_core.proofs.Machine.{cpu_read, in_list}
 use Rattle.step_core.proofs.Kept.{kept_cpu}
 use Rattle.step_core.proofs.Settled.{cover_held, cover_leads, cover_woken, cover_wakes}
@@ -36,8 +35,9 @@ least_comes [] wheel each is = absurd (cc)
 least_comes (item ∷ items) wheel each is =
     let here : item.wheel < NEVER = each 0 item (omega arith) in
     elim (least items) as (λ (o : Option ℕ). Some (sooner item.wheel o) ≡ Some wheel → wheel < NEVER) [
-      None ↦ λ same. let e : item.wheel ≡ wheel = cc in omega (arith, here, e)
-    | Some other ↦ λ same. let e : sooner item.wheel (Some other) ≡ wheel = cc in omega (arith, here, e) ] is
+      | None ↦ λ same. let e : item.wheel ≡ wheel = cc in omega (arith, here, e)
+      | Some other ↦ λ same. let e : sooner item.wheel (Some other) ≡ wheel = cc in omega (arith, here, e)
+    ] is
 
 cover_claims : (s : State) (c : ℕ) → IsAnswered s → c < length s.cpus → All (λ item. item.wheel < NEVER) (cpu_at s c).global.items
     → (cpu_at s c).active ≡ false → (wheel : ℕ) → least (cpu_at s c).global.items ≡ Some wheel → (cover : rules.Cover) → cover_of s c ≡ Some cover
@@ -64,11 +64,12 @@ claims_some : (s : State) (c : ℕ) → IsAnswered s → c < length s.cpus → A
     → (cover : rules.Cover) → cover_of s c ≡ Some cover → IsCoverFor s c (shown_cover cover)
 claims_some s c answered low comes cover is =
     elim (cases_Bool (cpu_at s c).active) [
-      inl on ↦ absurd (let none : cover_of s c ≡ None = ap (λ (b : Bool). if b then None else cover_for s c (least (cpu_at s c).global.items)) on in cc)
-    | inr idle ↦ (
-        let there : cover_of s c ≡ cover_for s c (least (cpu_at s c).global.items) =
+      | inl on ↦ absurd (let none : cover_of s c ≡ None = ap (λ (b : Bool). if b then None else cover_for s c (least (cpu_at s c).global.items)) on in cc)
+      | inr idle ↦ (
+          let there : cover_of s c ≡ cover_for s c (least (cpu_at s c).global.items) =
           ap (λ (b : Bool). if b then None else cover_for s c (least (cpu_at s c).global.items)) idle in
-        cover_claims_at s c answered low comes idle (least (cpu_at s c).global.items) refl cover (sym there ∙ is) is) ]
+          cover_claims_at s c answered low comes idle (least (cpu_at s c).global.items) refl cover (sym there ∙ is) is)
+    ]
 
 -- what is answered claims what it is
 pub claims : (s : State) (c : ℕ) → IsAnswered s → c < length s.cpus → All (λ item. item.wheel < NEVER) (cpu_at s c).global.items

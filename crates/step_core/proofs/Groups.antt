@@ -89,15 +89,15 @@ pub waker_by_some : (time b : ℕ) (cpus : List Cpu) (cover : Cover) → waker_b
 waker_by_some time b [] cover some = absurd (none-some cover some)
 waker_by_some time b (cpu ∷ cpus) cover some =
     let behind : waker_by time (b + 1) cpus ≡ Some cover → WakesAt time b cover (cpu ∷ cpus) =
-        λ h. let later = waker_by_some time (b + 1) cpus cover h in
-        let one : (b + 1) + later.place ≡ b + suc later.place = omega arith in
-        record {
-          place = suc later.place;
-          is = later.is ∙ ap (λ (k : ℕ). by_wakeup k (cpu_in cpus later.place).wakeup) one;
-          within = omega (arith, later.within);
-          idle = later.idle;
-          in_time = later.in_time;
-        } in
+    λ h. let later = waker_by_some time (b + 1) cpus cover h in
+    let one : (b + 1) + later.place ≡ b + suc later.place = omega arith in
+    record {
+      place = suc later.place;
+      is = later.is ∙ ap (λ (k : ℕ). by_wakeup k (cpu_in cpus later.place).wakeup) one;
+      within = omega (arith, later.within);
+      idle = later.idle;
+      in_time = later.in_time;
+    } in
     elim (cases_Bool cpu.active) [
       | inl on ↦ behind (rw on at some)
       | inr off ↦ (elim (cases_lt time cpu.wakeup) [

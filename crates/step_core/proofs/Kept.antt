@@ -1,5 +1,5 @@
 -- what the machine keeps as one of its CPUs changes
-use Rattle.std.proofs.Common.{◌≡◌, ◌<◌, ◌≤◌, ◌+◌, ℕ, List, Option, Some, None, length, get_or, set, refl, sym, ap, subst, ◌∙◌, arith, inl, inr}
+use Rattle.std.proofs.Common.{◌≡◌, ◌<◌, ℕ, List, Option, Some, None, length, get_or, set, refl, sym, ap, subst, ◌∙◌, arith, inl, inr}
 use Rattle.std.specs.Prelude.{All, Bool, true, false, not, IfNone}
 use Rattle.std.proofs.lemmas.Bool.{cases_eq, false≢true, true≢false}
 use Rattle.std.proofs.lemmas.List.{get_or-set_same, get_or-set_other, length-set}
@@ -17,11 +17,12 @@ use Rattle.step_core.proofs.Machine.{cpu_reread, cpu_written, in_list, migrator_
 all_set : (P : RoomyCpu → Type 0) (xs : List RoomyCpu) (i : ℕ) (y : RoomyCpu) → All P xs → P y → All P (set xs i y)
 all_set P xs i y each here = λ k d low.
     elim (cases_eq k i) [
-      inl same ↦ (
-        let there : i < length xs = omega (arith, low, same, length-set xs i y) in
-        let At : ℕ → Type 0 = λ n. P (get_or (set xs i y) n d) in
-        subst At (sym same) (subst P (sym (get_or-set_same xs i y d there)) here))
-    | inr other ↦ subst P (sym (get_or-set_other xs i k y d other)) (each k d (omega (arith, low, length-set xs i y))) ]
+      | inl same ↦ (
+          let there : i < length xs = omega (arith, low, same, length-set xs i y) in
+          let At : ℕ → Type 0 = λ n. P (get_or (set xs i y) n d) in
+          subst At (sym same) (subst P (sym (get_or-set_same xs i y d there)) here))
+      | inr other ↦ subst P (sym (get_or-set_other xs i k y d other)) (each k d (omega (arith, low, length-set xs i y)))
+    ]
 
 -- both facts that the machine keeps of who is answered for
 pub record AnswersAll (s : State) : Type 0 where
@@ -103,7 +104,7 @@ pub rested_is : (s : State) (clock timers : ℕ) (m n : Option ℕ) (rs xs ys : 
 rested_is s clock timers m n rs xs ys i j wakeup r resting read programmed_cpu steps =
     let cpus = cpu_written s clock timers m rs i j r resting resting_cpu steps.is steps.low steps.place steps.found steps.rests in
     migrator_written (rested_cpus s i) clock timers m n (migrator_without s.migrator i (rested_cpus s i).cpus) (set rs j resting) cpus
-      (steps.passes_on ∙ ap (λ (zs : List RoomyCpu). migrator_without m i (cpus_of zs)) steps.list ∙ ap (λ (t : State). migrator_without t.migrator i t.cpus) cpus)
+    (steps.passes_on ∙ ap (λ (zs : List RoomyCpu). migrator_without m i (cpus_of zs)) steps.list ∙ ap (λ (t : State). migrator_without t.migrator i t.cpus) cpus)
 
 pub still_low : (s : State) (i : ℕ) → i < length s.cpus → i < length (rested s i).cpus
 still_low s i low = omega (arith, low, length-set s.cpus i (resting_cpu (cpu_at s i)))
@@ -114,7 +115,7 @@ idled_is s clock timers m n rs xs ys i j wakeup r resting read programmed_cpu st
     let rested_now = rested_is s clock timers m n rs xs ys i j wakeup r resting read programmed_cpu steps in
     let wake = duty_is clock timers n ys (set rs j resting) (rested s i) wakeup steps.wakes steps.list_again rested_now in
     cpu_written (rested s i) clock timers n (set rs j resting) i j read programmed_cpu (λ (cpu : Cpu). record cpu { wakeup = duty (rested s i) }) rested_now
-      (still_low s i steps.low) steps.place steps.found_again (steps.programs ∙ ap (λ (w : ℕ). record read.cpu { wakeup = w }) wake)
+    (still_low s i steps.low) steps.place steps.found_again (steps.programs ∙ ap (λ (w : ℕ). record read.cpu { wakeup = w }) wake)
 
 -- the wakeup that was set is the one that is read
 pub wakeup_is : (s : State) (clock timers : ℕ) (m n : Option ℕ) (rs xs ys : List RoomyCpu) (i j wakeup : ℕ) (r resting read programmed_cpu : RoomyCpu)
@@ -123,7 +124,7 @@ pub wakeup_is : (s : State) (clock timers : ℕ) (m n : Option ℕ) (rs xs ys : 
 wakeup_is s clock timers m n rs xs ys i j wakeup r resting read programmed_cpu steps =
     let rested_now = rested_is s clock timers m n rs xs ys i j wakeup r resting read programmed_cpu steps in
     sym (ap (λ (cpu : Cpu). cpu.wakeup) (cpu_reread (rested s i) clock timers n (set rs j resting) i j programmed_cpu rested_now (still_low s i steps.low) steps.place)
-      ∙ ap (λ (cpu : Cpu). cpu.wakeup) steps.programs)
+    ∙ ap (λ (cpu : Cpu). cpu.wakeup) steps.programs)
 
 -- the resting CPU is read again
 pub rests_again : (clock timers : ℕ) (rs : List RoomyCpu) (j : ℕ) (resting read : RoomyCpu) → j < length rs → read ≡ get_or (set rs j resting) j read → read ≡ resting

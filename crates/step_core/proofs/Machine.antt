@@ -133,8 +133,9 @@ cpus_from xs i r low read =
 pub first_migrator_is : (cpus : ℕ) (m : Option ℕ) → (1 < cpus → m ≡ Some 0) → (cpus ≤ 1 → m ≡ None) → m ≡ first_migrator cpus
 first_migrator_is cpus m many few =
     elim (cases_lt 1 cpus) [
-      inl more ↦ (many more) ∙ sym (rw (lt-ltb 1 cpus more) refl)
-    | inr less ↦ (few less) ∙ sym (rw (le-ltb 1 cpus less) refl) ]
+      | inl more ↦ (many more) ∙ sym (rw (lt-ltb 1 cpus more) refl)
+      | inr less ↦ (few less) ∙ sym (rw (le-ltb 1 cpus less) refl)
+    ]
 
 -- the same machine with another migrator
 pub migrator_written : (t : State) (clock timers : ℕ) (m n k : Option ℕ) (rs : List RoomyCpu) → machine clock timers m rs ≡ t → n ≡ k

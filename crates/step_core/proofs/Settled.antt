@@ -83,16 +83,16 @@ woken_of : (s : State) (c w wheel : ℕ) → s.migrator ≡ None → c < length 
 woken_of s c w wheel is low told comes within off in_time =
     elim (cases_lt 1 (length s.cpus)) [
       | inl group ↦ inr (record {
-          level = 0;
-          top = 0;
-          expiry = (cpu_at s c).told;
-          on_path = path_is (length s.cpus) group;
-          is_top = refl;
-          told = told_of s c wheel group told comes;
-          inactive = is;
-          event = coming_is (cpu_at s c).told (omega (arith, told, comes));
-          wakes = record { waker = w; at = (cpu_at s w).wakeup; keeps = kept_is (cpu_at s w) off; in_time = in_time };
-        })
+        level = 0;
+        top = 0;
+        expiry = (cpu_at s c).told;
+        on_path = path_is (length s.cpus) group;
+        is_top = refl;
+        told = told_of s c wheel group told comes;
+        inactive = is;
+        event = coming_is (cpu_at s c).told (omega (arith, told, comes));
+        wakes = record { waker = w; at = (cpu_at s w).wakeup; keeps = kept_is (cpu_at s w) off; in_time = in_time };
+      })
       | inr alone ↦
           let P : ℕ → Type 0 = λ j. WakesItself (machine_of s) j wheel in
           let same : w ≡ c = omega (arith, alone, low, within) in
@@ -199,11 +199,11 @@ pub cover_wakes : (s : State) (c w at wheel : ℕ) → c < length s.cpus → (cp
     → cover_of s c ≡ Some (by_wakeup w at) → (w < length s.cpus) × ((cpu_at s w).active ≡ false) × ((cpu_at s w).wakeup ≡ at)
 cover_wakes s c w at wheel low off first is =
     let place : (k : ℕ) → by_wakeup w at ≡ by_wakeup k (cpu_at s k).wakeup → k < length s.cpus → (cpu_at s k).active ≡ false → IsWaker s w at =
-        λ k named within idle.
-          let P : ℕ → Type 0 = λ j. IsWaker s j at in
-          let number : k ≡ w = cc in
-          let wakeup : (cpu_at s k).wakeup ≡ at = cc in
-          subst P number (within, idle, wakeup) in
+    λ k named within idle.
+    let P : ℕ → Type 0 = λ j. IsWaker s j at in
+    let number : k ≡ w = cc in
+    let wakeup : (cpu_at s k).wakeup ≡ at = cc in
+    subst P number (within, idle, wakeup) in
     elim (cover_cases s c wheel (by_wakeup w at) off first is) [
       | inl itself ↦ place c itself.is low off
       | inr others ↦ (elim others [

@@ -1,5 +1,5 @@
 -- what the machine keeps so that every idle CPU's timers are answered for
-use Rattle.std.specs.Prelude.{◌≡◌, ℕ, ◌<◌, ◌≤◌, All, Bool, true, false, Option, Some, None, List, length}
+use Rattle.std.specs.Prelude.{◌≡◌, ℕ, ◌<◌, ◌≤◌, All, true, false, Option, Some, None, length}
 use Rattle.tm_base.specs.declared.names.TheConstants.{NEVER}
 use Rattle.play_rules.specs.State.{Cpu, State, cpu_at}
 use Rattle.play_rules.specs.Group.{lowest_active}

@@ -70,7 +70,11 @@ pub(crate) fn duty(cpus: &[QuietCpu<ListBase>]) -> Jiffy
 }
 
 /// The migrator after a CPU left: the lowest active CPU where it was the one that left.
-pub(crate) fn migrator_without(migrator: Option<u16>, cpu: CpuId, cpus: &[QuietCpu<ListBase>]) -> Option<u16>
+pub(crate) fn migrator_without(
+    migrator: Option<u16>,
+    cpu: CpuId,
+    cpus: &[QuietCpu<ListBase>],
+) -> Option<u16>
     requires { length cpus.now < 2 ^ 16 }
     ensures { result ≡ migrator_without migrator cpu.0 (cpus_of cpus.now) }
 {
@@ -128,7 +132,12 @@ pub(crate) fn due_sleeper(cpus: &[QuietCpu<ListBase>], now: Jiffy) -> Option<u16
 }
 
 /// This CPU where it is idle and wakes by a time, and else what was found behind it.
-fn waker_or(cpu: &QuietCpu<ListBase>, place: u16, time: Jiffy, behind: Option<Cover>) -> Option<Cover>
+fn waker_or(
+    cpu: &QuietCpu<ListBase>,
+    place: u16,
+    time: Jiffy,
+    behind: Option<Cover>,
+) -> Option<Cover>
     ensures { result ≡ (if cpu.now.cpu.active then behind else (if nat_le cpu.now.cpu.wakeup time
         then Some (covers.Wake (cpu_id place) cpu.now.cpu.wakeup) else behind)) }
 {

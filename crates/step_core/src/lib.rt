@@ -8,3 +8,6 @@ mod quiet_cpu;
 
 pub use cover::Cover;
 pub use quiet::{Quiet, law_settled};
+
+#[cfg(test)]
+mod tests;

@@ -1,12 +1,12 @@
 -- the looks of a CPU and the interrupts of all CPUs, one after the other
-use Rattle.std.proofs.Common.{◌≡◌, ◌≢◌, ℕ, ◌+◌, ◌-◌, ◌<◌, ◌≤◌, zero, suc, List, Option, Some, None, length, get_or, refl, sym, ◌∙◌, ap, subst, arith, inl, inr}
+use Rattle.std.proofs.Common.{◌≡◌, ℕ, ◌+◌, ◌-◌, ◌<◌, ◌≤◌, zero, suc, List, Option, Some, None, length, get_or, refl, sym, ◌∙◌, ap, subst, arith, inl, inr}
 use Rattle.std.specs.Option.{option_map}
 use Rattle.std.proofs.lemmas.Bool.{cases_eq}
 use Rattle.std.proofs.lemmas.List.{get_or-set_same, get_or-set_other, length-set}
 use Rattle.tm_base.specs.declared.names.CpuId.{CpuId}
 use Rattle.wheel_core.specs.PlainBase.{PlainBase, NoneBehind}
 use Rattle.play_rules.specs.State.{Cpu, State, cpu_at, new_cpu, next_of, with_cpu}
-use Rattle.play_rules.specs.Group.{due_sleeper, has_interrupt, programmed, reevaluated, told_again}
+use Rattle.play_rules.specs.Group.{due_sleeper, has_interrupt, reevaluated, told_again}
 use Rattle.play_rules.specs.Play.{Played, silent, and_then, cpu_id, interrupt_if, interrupts, look, look_at, run_all_due}
 use Rattle.play_rules.specs.Prints.{Prints}
 use Rattle.tm_driver.specs.Conditions.{AllInFront, SameMachine}
@@ -18,12 +18,13 @@ pub base_stays : (s : State) (c : ℕ) (cpu : Cpu) → c < length s.cpus → cpu
 base_stays s c cpu low base front = λ d below.
     let within : d < length s.cpus = omega (arith, below, length-set s.cpus c cpu) in
     elim (cases_eq d c) [
-      inl same ↦ (
-        let here : cpu_at (with_cpu s c cpu) d ≡ cpu = ap (λ (k : ℕ). get_or (with_cpu s c cpu).cpus k new_cpu) same ∙ get_or-set_same s.cpus c cpu new_cpu low in
-        let there = ap (λ (x : Cpu). x.global) here ∙ base ∙ ap (λ (k : ℕ). (cpu_at s k).global) (sym same) in
-        let P : PlainBase → Type 0 = λ b. NoneBehind b in
-        subst P (sym there) (front d within))
-    | inr other ↦ (let Q : Cpu → Type 0 = λ x. NoneBehind x.global in subst Q (sym (get_or-set_other s.cpus c d cpu new_cpu other)) (front d within)) ]
+      | inl same ↦ (
+          let here : cpu_at (with_cpu s c cpu) d ≡ cpu = ap (λ (k : ℕ). get_or (with_cpu s c cpu).cpus k new_cpu) same ∙ get_or-set_same s.cpus c cpu new_cpu low in
+          let there = ap (λ (x : Cpu). x.global) here ∙ base ∙ ap (λ (k : ℕ). (cpu_at s k).global) (sym same) in
+          let P : PlainBase → Type 0 = λ b. NoneBehind b in
+          subst P (sym there) (front d within))
+      | inr other ↦ (let Q : Cpu → Type 0 = λ x. NoneBehind x.global in subst Q (sym (get_or-set_other s.cpus c d cpu new_cpu other)) (front d within))
+    ]
 
 told_same : (s : State) (c : ℕ) → SameMachine s (told_again s c)
 told_same s c = record { clock = refl; timers = refl; count = length-set s.cpus c _ }
@@ -52,7 +53,7 @@ pub record LookSoFar (n runner now : ℕ) (start : State) (old : List ℕ) (i : 
 pub before_look : (n runner now : ℕ) (start : State) (old : List ℕ) → now ≡ start.clock → AllInFront start → LookSoFar n runner now start old 0 start old
 before_look n runner now start old clock_is front = record {
   rest = (let all : n - 0 ≡ n = omega arith in let P : ℕ → Type 0 = λ k. Continues (look k runner start) old (look n runner start) old in
-    subst P (sym all) (continues_first (look n runner start) old));
+      subst P (sym all) (continues_first (look n runner start) old));
   same = same_first start;
   front = front;
   clock_is = clock_is;
@@ -124,7 +125,7 @@ pub record InterruptsSoFar (n now : ℕ) (start : State) (old : List ℕ) (c : �
 pub before_all : (n now : ℕ) (start : State) (old : List ℕ) → now ≡ start.clock → AllInFront start → InterruptsSoFar n now start old 0 start old
 before_all n now start old clock_is front = record {
   rest = (let all : n - 0 ≡ n = omega arith in let P : ℕ → Type 0 = λ k. Continues (interrupts k 0 start) old (interrupts n 0 start) old in
-    subst P (sym all) (continues_first (interrupts n 0 start) old));
+      subst P (sym all) (continues_first (interrupts n 0 start) old));
   same = same_first start;
   front = front;
   clock_is = clock_is;

@@ -1,7 +1,7 @@
 -- the cover lines of all CPUs, one CPU after the other
-use Rattle.std.proofs.Common.{◌≡◌, ℕ, ◌+◌, ◌-◌, ◌<◌, ◌≤◌, zero, suc, List, [], ◌∷◌, ◌++◌, Option, Some, None, refl, sym, ◌∙◌, ap, subst, arith, append_assoc, append-nil}
+use Rattle.std.proofs.Common.{◌≡◌, ℕ, ◌+◌, ◌-◌, ◌<◌, ◌≤◌, zero, suc, List, [], ◌++◌, Option, Some, None, refl, sym, ◌∙◌, ap, arith, append_assoc, append-nil}
 use Rattle.tm_report.specs.declared.lines.Line.{Line}
-use Rattle.tm_report.specs.Lines.{line_text, report_text}
+use Rattle.tm_report.specs.Lines.{report_text}
 use Rattle.play_rules.specs.State.{State}
 use Rattle.play_rules.specs.Group.{Cover, cover_of}
 use Rattle.play_rules.specs.Play.{cover_lines, cover_or}

@@ -110,9 +110,9 @@ one_more c runner now start old s text next new line item far is fewer after sho
     let P : Played → Type 0 = λ p. Continues p text whole old in
     let now_is = subst P unfolded far.rest in
     let printed : Prints (printing (run_line s c runner item) (handed_out s c)) text new next = record {
-        text = pushed ∙ ap (λ (l : Line). text ++ line_text l) shown ∙ ap (λ (t : List ℕ). text ++ t) (sym (append-nil (line_text (run_line s c runner item))));
-        state = after;
-      } in
+      text = pushed ∙ ap (λ (l : Line). text ++ line_text l) shown ∙ ap (λ (t : List ℕ). text ++ t) (sym (append-nil (line_text (run_line s c runner item))));
+      state = after;
+    } in
     let S : State → Type 0 = λ t. SameOthers c s t in
     let step = subst S (sym after) (handed_out_others s c far.low) in
     record {
@@ -141,9 +141,10 @@ hand_out_kept c runner now start old s text next far after =
 pub still_in_front : (c : ℕ) (start next : State) → SameOthers c start next → AllInFront start → NoneBehind (cpu_at next c).global → AllInFront next
 still_in_front c start next others front here = λ d low.
     elim (cases_eq d c) [
-      inl same ↦ (let P : ℕ → Type 0 = λ k. NoneBehind (cpu_at next k).global in subst P (sym same) here)
-    | inr other ↦ (let Q : Cpu → Type 0 = λ cpu. NoneBehind cpu.global in
-        subst Q (sym (others.others d other)) (front d (omega (arith, low, others.same.count)))) ]
+      | inl same ↦ (let P : ℕ → Type 0 = λ k. NoneBehind (cpu_at next k).global in subst P (sym same) here)
+      | inr other ↦ (let Q : Cpu → Type 0 = λ cpu. NoneBehind cpu.global in
+          subst Q (sym (others.others d other)) (front d (omega (arith, low, others.same.count))))
+    ]
 
 -- the line that is pushed is the item's
 pub line_is : (s : State) (c runner now : ℕ) (timer : TimerId) (wheel : ℕ) (item : Item) → now ≡ s.clock → timer ≡ timer_id item.id → wheel ≡ item.wheel

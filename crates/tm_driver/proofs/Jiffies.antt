@@ -1,5 +1,5 @@
 -- the moments of a play, one after the other
-use Rattle.std.proofs.Common.{◌≡◌, ℕ, ◌+◌, ◌-◌, ◌<◌, ◌≤◌, zero, suc, Bool, true, false, List, [], ◌∷◌, Option, Some, None, length, get_or, refl, sym, ◌∙◌, ap, subst, arith, eqb, cond, replicate}
+use Rattle.std.proofs.Common.{◌≡◌, ℕ, ◌+◌, ◌-◌, ◌<◌, ◌≤◌, zero, suc, true, false, List, [], ◌∷◌, Option, Some, None, length, sym, ◌∙◌, ap, subst, arith, eqb, cond}
 use Rattle.std.specs.Prelude.{All}
 use Rattle.std.specs.Option.{ForSome}
 use Rattle.std.proofs.lemmas.List.{get_or-replicate, length-replicate}
@@ -7,7 +7,7 @@ use Rattle.std.proofs.lemmas.List.Elements.{recursion_from_All, All-from_recursi
 use Rattle.tm_script.specs.declared.syntax.Moment.{Moment}
 use Rattle.tm_script.specs.Form.{IsMomentOfForm}
 use Rattle.wheel_core.specs.PlainBase.{NoneBehind}
-use Rattle.play_rules.specs.State.{Cpu, State, at_clock, cpu_at, new_cpu, start}
+use Rattle.play_rules.specs.State.{Cpu, State, at_clock, new_cpu, start}
 use Rattle.play_rules.specs.Play.{AfterEach, Played, silent, and_then, jiffy, moment, moment_at, moments, moments_after}
 use Rattle.play_rules.specs.Prints.{Prints}
 use Rattle.play_rules.specs.Settled.{IsSettled}
@@ -30,16 +30,18 @@ due_of_form cpus timers now [] h = λ x is. absurd (cc)
 due_of_form cpus timers now (m ∷ ms) h =
     let each = recursion_from_All (IsMomentOfForm cpus timers) (m ∷ ms) h in
     elim (eqb m.at now) as (λ b. ForSome (cond b (Some m) None) (IsMomentOfForm cpus timers)) [
-      true ↦ λ x is. (let same : m ≡ x = cc in subst (IsMomentOfForm cpus timers) same each.0)
-    | false ↦ λ x is. absurd (cc) ]
+      | true ↦ λ x is. (let same : m ≡ x = cc in subst (IsMomentOfForm cpus timers) same each.0)
+      | false ↦ λ x is. absurd (cc)
+    ]
 
 pub left_of_form : (cpus timers now : ℕ) (left : List Moment) → All (IsMomentOfForm cpus timers) left → All (IsMomentOfForm cpus timers) (moments_after now left)
 left_of_form cpus timers now [] h = h
 left_of_form cpus timers now (m ∷ ms) h =
     let each = recursion_from_All (IsMomentOfForm cpus timers) (m ∷ ms) h in
     elim (eqb m.at now) as (λ b. All (IsMomentOfForm cpus timers) (cond b ms (m ∷ ms))) [
-      true ↦ All-from_recursion (IsMomentOfForm cpus timers) ms each.1
-    | false ↦ h ]
+      | true ↦ All-from_recursion (IsMomentOfForm cpus timers) ms each.1
+      | false ↦ h
+    ]
 
 -- at the start nothing is queued
 start_front : (cpus timers : ℕ) → AllInFront (start cpus timers)
@@ -104,7 +106,7 @@ after_moment cpus timers n ms first old now left s text due set later next new f
     let R : State → Type 0 = λ t. Prints (moment (moment_at now left) t) text new next in
     let there : Prints (jiffy now left s) text new next = subst R set_is (subst Q due_is printed) in
     let rest = continues_then (jiffy now left s) (moments (n - (now + 1)) (now + 1) (moments_after now left))
-      (moments n 0 ms first) old text new next (subst P (moments_next n now left s low) far.rest) there in
+    (moments n 0 ms first) old text new next (subst P (moments_next n now left s low) far.rest) there in
     let S : List Moment → Type 0 = λ xs. Continues (moments (n - (now + 1)) (now + 1) xs next) new (moments n 0 ms first) old in
     let T : List Moment → Type 0 = λ xs. All (IsMomentOfForm cpus timers) xs in
     let U : State → Type 0 = λ t. IsSettled t in

@@ -1,10 +1,10 @@
 -- the operations of a moment, one after the other
-use Rattle.std.proofs.Common.{◌≡◌, ℕ, ◌+◌, ◌<◌, ◌≤◌, suc, List, [], ◌∷◌, length, drop, get_or, refl, sym, ◌∙◌, ap, subst, arith}
+use Rattle.std.proofs.Common.{◌≡◌, ℕ, ◌+◌, ◌<◌, ◌≤◌, suc, List, ◌∷◌, length, drop, get_or, sym, ◌∙◌, ap, subst, arith}
 use Rattle.std.proofs.lemmas.List.{drop_all}
 use Rattle.std.proofs.Math.Seq.{drop-cons}
 use Rattle.tm_script.specs.declared.syntax.Op.{Op}
 use Rattle.play_rules.specs.State.{State}
-use Rattle.play_rules.specs.Play.{Played, silent, and_then, operation, operations}
+use Rattle.play_rules.specs.Play.{operation, operations}
 use Rattle.play_rules.specs.Prints.{Prints}
 use Rattle.tm_driver.specs.Conditions.{AllInFront, SameMachine}
 use Rattle.tm_driver.proofs.Parts.{Continues, continues_first, continues_then, continues_end}

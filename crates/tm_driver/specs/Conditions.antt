@@ -1,5 +1,5 @@
 -- what holds between the parts of a moment
-use Rattle.std.specs.Prelude.{◌≡◌, ◌≢◌, ℕ, ◌<◌, length}
+use Rattle.std.specs.Prelude.{◌≡◌, ℕ, ◌<◌, length}
 use Rattle.wheel_core.specs.PlainBase.{NoneBehind}
 use Rattle.play_rules.specs.State.{State, cpu_at}
 

@@ -17,7 +17,13 @@ use tm_report::{Line, Report, ShownReply};
 use tm_script::{Moment, Script};
 
 /// What is due on one CPU is handed out and run on another one, each timer with its line.
-fn hand_out(quiet: &mut Quiet, now: Jiffy, home: CpuId, runner: CpuId, report: &mut Report) -> Result<(), NoMemory>
+fn hand_out(
+    quiet: &mut Quiet,
+    now: Jiffy,
+    home: CpuId,
+    runner: CpuId,
+    report: &mut Report,
+) -> Result<(), NoMemory>
     requires in_range { home.0 < length quiet.old.cpus }
     requires now { now ≡ quiet.old.clock }
     requires in_front { AllInFront quiet.old }
@@ -40,7 +46,13 @@ fn hand_out(quiet: &mut Quiet, now: Jiffy, home: CpuId, runner: CpuId, report: &
 }
 
 /// A CPU looks after its group: it runs the due timers of idle CPUs, each of which then tells its first event again.
-fn look(quiet: &mut Quiet, now: Jiffy, cpus: u8, runner: CpuId, report: &mut Report) -> Result<(), NoMemory>
+fn look(
+    quiet: &mut Quiet,
+    now: Jiffy,
+    cpus: u8,
+    runner: CpuId,
+    report: &mut Report,
+) -> Result<(), NoMemory>
     requires all { cpus ≡ length quiet.old.cpus }
     requires now { now ≡ quiet.old.clock }
     requires in_front { AllInFront quiet.old }
@@ -59,7 +71,13 @@ fn look(quiet: &mut Quiet, now: Jiffy, cpus: u8, runner: CpuId, report: &mut Rep
 }
 
 /// The interrupt of a CPU: its own due timers, the look after its group, and where it is idle its re-evaluation.
-fn interrupt(quiet: &mut Quiet, now: Jiffy, cpus: u8, cpu: CpuId, report: &mut Report) -> Result<(), NoMemory>
+fn interrupt(
+    quiet: &mut Quiet,
+    now: Jiffy,
+    cpus: u8,
+    cpu: CpuId,
+    report: &mut Report,
+) -> Result<(), NoMemory>
     requires all { cpus ≡ length quiet.old.cpus }
     requires in_range { cpu.0 < cpus }
     requires now { now ≡ quiet.old.clock }
@@ -92,7 +110,13 @@ fn interrupts(quiet: &mut Quiet, now: Jiffy, cpus: u8, report: &mut Report) -> R
 }
 
 /// The interrupt of a CPU, where it has one.
-fn interrupt_if_due(quiet: &mut Quiet, now: Jiffy, cpus: u8, cpu: CpuId, report: &mut Report) -> Result<(), NoMemory>
+fn interrupt_if_due(
+    quiet: &mut Quiet,
+    now: Jiffy,
+    cpus: u8,
+    cpu: CpuId,
+    report: &mut Report,
+) -> Result<(), NoMemory>
     requires all { cpus ≡ length quiet.old.cpus }
     requires in_range { cpu.0 < cpus }
     requires now { now ≡ quiet.old.clock }
@@ -108,7 +132,13 @@ fn interrupt_if_due(quiet: &mut Quiet, now: Jiffy, cpus: u8, cpu: CpuId, report:
 }
 
 /// What the script has for a jiffy: its operations, and then the covers.
-fn scripted(quiet: &mut Quiet, now: Jiffy, cpus: u8, due: Option<&Moment>, report: &mut Report) -> Result<(), NoMemory>
+fn scripted(
+    quiet: &mut Quiet,
+    now: Jiffy,
+    cpus: u8,
+    due: Option<&Moment>,
+    report: &mut Report,
+) -> Result<(), NoMemory>
     requires of_form { ForSome (option_copied due) (IsMomentOfForm (length quiet.old.cpus) quiet.old.timers) }
     requires all { cpus ≡ length quiet.old.cpus }
     requires now { now ≡ quiet.old.clock }
@@ -126,7 +156,13 @@ fn scripted(quiet: &mut Quiet, now: Jiffy, cpus: u8, due: Option<&Moment>, repor
 }
 
 /// The interrupts of a moment, and then what the script has for it.
-fn moment(quiet: &mut Quiet, now: Jiffy, cpus: u8, due: Option<&Moment>, report: &mut Report) -> Result<(), NoMemory>
+fn moment(
+    quiet: &mut Quiet,
+    now: Jiffy,
+    cpus: u8,
+    due: Option<&Moment>,
+    report: &mut Report,
+) -> Result<(), NoMemory>
     requires of_form { ForSome (option_copied due) (IsMomentOfForm (length quiet.old.cpus) quiet.old.timers) }
     requires all { cpus ≡ length quiet.old.cpus }
     requires now { now ≡ quiet.old.clock }
@@ -164,7 +200,11 @@ fn still_to_come(left: &[Moment], now: Jiffy) -> &[Moment]
 }
 
 /// All moments of a script: every jiffy from 0 to its end.
-pub(crate) fn moments(quiet: &mut Quiet, script: &Script, report: &mut Report) -> Result<(), NoMemory>
+pub(crate) fn moments(
+    quiet: &mut Quiet,
+    script: &Script,
+    report: &mut Report,
+) -> Result<(), NoMemory>
     requires of_form { IsOfForm script.now }
     requires start { quiet.old ≡ start script.now.cpus script.now.timers }
     ensures prints { OnOk result (Prints (moments (script.now.end + 1) 0 script.now.moments quiet.old) report.old report.new quiet.new) }

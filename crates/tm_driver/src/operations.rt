@@ -15,7 +15,14 @@ use tm_report::{Line, Report, ShownCover};
 use tm_script::{Op, What};
 
 /// A CPU arms a timer.
-fn arm(quiet: &mut Quiet, now: Jiffy, op: &Op, timer: TimerId, delay: u32, report: &mut Report) -> Result<(), NoMemory>
+fn arm(
+    quiet: &mut Quiet,
+    now: Jiffy,
+    op: &Op,
+    timer: TimerId,
+    delay: u32,
+    report: &mut Report,
+) -> Result<(), NoMemory>
     requires cpu_in_range { op.now.cpu.0 < length quiet.old.cpus }
     requires timer_in_range { timer.0 < quiet.old.timers }
     requires near { delay ≤ 62 }
@@ -120,7 +127,12 @@ fn operation(quiet: &mut Quiet, now: Jiffy, op: &Op, report: &mut Report) -> Res
 }
 
 /// Operations, in line order.
-pub(crate) fn operations(quiet: &mut Quiet, now: Jiffy, ops: &[Op], report: &mut Report) -> Result<(), NoMemory>
+pub(crate) fn operations(
+    quiet: &mut Quiet,
+    now: Jiffy,
+    ops: &[Op],
+    report: &mut Report,
+) -> Result<(), NoMemory>
     requires of_form { All (IsOpOfForm (length quiet.old.cpus) quiet.old.timers) ops.now }
     requires now { now ≡ quiet.old.clock }
     requires early { now ≤ 10000 }
@@ -161,7 +173,12 @@ fn cover(quiet: &Quiet, now: Jiffy, cpu: CpuId, report: &mut Report) -> Result<(
 }
 
 /// Who answers for the first timer of each idle CPU that has one, by ascending CPU.
-pub(crate) fn covers(quiet: &Quiet, now: Jiffy, cpus: u8, report: &mut Report) -> Result<(), NoMemory>
+pub(crate) fn covers(
+    quiet: &Quiet,
+    now: Jiffy,
+    cpus: u8,
+    report: &mut Report,
+) -> Result<(), NoMemory>
     requires all { cpus ≡ length quiet.now.cpus }
     requires now { now ≡ quiet.now.clock }
     ensures { OnOk result (report.new ≡ report.old ++ report_text (cover_lines cpus 0 quiet.now)) }

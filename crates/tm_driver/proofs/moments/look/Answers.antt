@@ -8,7 +8,7 @@ pub loop-turn-preserved : goal.loop-turn-preserved
 loop-turn-preserved c =
     let done = c.in_ok-hand_out.ensures in
     after_sleeper _ _ _ _ _ _ _ _ _ _ _ _ c.loop-turn.invariant c.loop-turn-test.true (some_cpu _ _ c.in-Some.ensures.found) c.in-Some.ensures.in_range
-      done.prints done.same done.in_front c.tell.ensures
+    done.prints done.same done.in_front c.tell.ensures
 
 pub returns-in_default-clause-prints : goal.returns-in_default-clause-prints
 returns-in_default-clause-prints c = look_done _ _ _ _ _ _ _ _ c.loop-turn.invariant (none_cpu _ c.in_default.ensures.found)

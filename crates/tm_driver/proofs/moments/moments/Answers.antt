@@ -1,4 +1,4 @@
-use Rattle.std.proofs.Common.{◌≡◌, ◌+◌, ℕ, List, Option, length, ap, sym, subst, ◌∙◌}
+use Rattle.std.proofs.Common.{◌+◌, ℕ, List, Option, length, ap, sym, subst, ◌∙◌}
 use Rattle.std.specs.Option.{ForSome, option_copied}
 use Rattle.tm_script.specs.declared.syntax.Moment.{Moment}
 use Rattle.tm_script.specs.Form.{IsMomentOfForm}
@@ -30,7 +30,7 @@ pub loop-now-preserved : goal.loop-now-preserved
 loop-now-preserved c =
     let done = c.in_ok-moment.ensures in
     after_moment _ _ _ _ _ _ _ _ _ _ _ c.set_clock.new.self _ _ _ c.loop-now.invariant c.loop-now-test.true c.set_clock.ensures c.moment_due.ensures
-      c.still_to_come-left.ensures done.prints done.same done.in_front done.settled
+    c.still_to_come-left.ensures done.prints done.same done.in_front done.settled
 
 pub returns-clause-prints : goal.returns-clause-prints
 returns-clause-prints c = after_moments _ _ _ _ _ _ _ _ _ _ c.loop-now.invariant c.loop-now-test.false

@@ -1,4 +1,4 @@
-use Rattle.std.proofs.Common.{ℕ, ◌+◌, ◌∙◌, ap, sym, subst}
+use Rattle.std.proofs.Common.{◌+◌, ◌∙◌, ap, sym, subst}
 use Rattle.wheel_core.specs.PlainBase.{NoneBehind, added, forwarded, item_of}
 use Rattle.play_rules.specs.State.{Cpu, State}
 use Rattle.step_core.proofs.Groups.{armed_comes}
@@ -39,8 +39,8 @@ invariant_of-self c =
     let here = kept_cpu s _ _ _ _ _ _ _ kept c.self.view_is c.requires.cpu_in_range c.from.ensures c.index_mut.ensures.value in
     let active = active_where _ _ c.is_idle.ensures c.if-is_idle.false in
     kept_written _ _ _ _ _ _ _ _ kept (returns-clause-armed c)
-      (record { room = c.arm.ensures.timers ∙ here.room; one_ahead = c.arm.ensures.clock; coming = c.arm.ensures.coming })
-      (record {
-        answered = armed_answered s c.args.cpu.0 c.args.timer.0 c.args.delay c.requires.cpu_in_range active answers.answered;
-        comes = armed_comes s c.args.cpu.0 c.args.timer.0 c.args.delay c.requires.cpu_in_range answers.comes;
-      })
+    (record { room = c.arm.ensures.timers ∙ here.room; one_ahead = c.arm.ensures.clock; coming = c.arm.ensures.coming })
+    (record {
+      answered = armed_answered s c.args.cpu.0 c.args.timer.0 c.args.delay c.requires.cpu_in_range active answers.answered;
+      comes = armed_comes s c.args.cpu.0 c.args.timer.0 c.args.delay c.requires.cpu_in_range answers.comes;
+    })

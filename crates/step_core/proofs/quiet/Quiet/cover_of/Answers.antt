@@ -12,4 +12,4 @@ returns-clause-claims c =
     let answers = kept_answers s _ _ _ _ c.self.invariant c.self.view_is in
     let P : Option Cover → Type 0 = λ o. IfSome o (IsCoverFor s c.args.cpu.0) in
     subst P (sym c.find_cover-found.ensures)
-      (claims s c.args.cpu.0 answers.answered c.requires (comes_at s _ _ _ _ c.self.invariant c.self.view_is c.args.cpu.0 c.requires) _ refl)
+    (claims s c.args.cpu.0 answers.answered c.requires (comes_at s _ _ _ _ c.self.invariant c.self.view_is c.args.cpu.0 c.requires) _ refl)

@@ -1,4 +1,4 @@
-use Rattle.std.proofs.Common.{◌≡◌, ap, arith, ◌∙◌}
+use Rattle.std.proofs.Common.{ap, ◌∙◌}
 use Rattle.play_rules.specs.State.{Cpu}
 use Rattle.step_core.specs.QuietCpu.{RoomyCpu}
 use Rattle.step_core.proofs.Groups.{idled_comes}
@@ -40,9 +40,9 @@ invariant_of-self c =
     let low = in_list s _ _ _ _ _ _ c.self.view_is c.requires.in_range c.from-place.ensures in
     let again = rests_again c.self.inside.clock c.self.inside.timers _ _ c.rest.new.self c.index_mut-2.result.now low c.index_mut-2.ensures.value in
     kept_written_twice _ _ _ _ _ _ _ _ _ kept (returns-clause-state c) resting
-      (same_base _ _ _ _ resting (c.program.ensures.timers ∙ ap (λ (x : RoomyCpu). x.timers) again)
-        (ap (λ (cpu : Cpu). cpu.global) c.program.ensures.cpu ∙ ap (λ (x : RoomyCpu). x.cpu.global) again))
-      (record {
-        answered = idled_answered s c.args.cpu.0 c.requires.in_range c.requires.active answers.answered;
-        comes = idled_comes s c.args.cpu.0 c.requires.in_range answers.comes;
-      })
+    (same_base _ _ _ _ resting (c.program.ensures.timers ∙ ap (λ (x : RoomyCpu). x.timers) again)
+    (ap (λ (cpu : Cpu). cpu.global) c.program.ensures.cpu ∙ ap (λ (x : RoomyCpu). x.cpu.global) again))
+    (record {
+      answered = idled_answered s c.args.cpu.0 c.requires.in_range c.requires.active answers.answered;
+      comes = idled_comes s c.args.cpu.0 c.requires.in_range answers.comes;
+    })

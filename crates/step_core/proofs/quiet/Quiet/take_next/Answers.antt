@@ -1,4 +1,4 @@
-use Rattle.std.proofs.Common.{◌≡◌, ℕ, ◌+◌, ◌∙◌, ap, subst, sym, length}
+use Rattle.std.proofs.Common.{◌+◌, ◌∙◌, ap, subst, sym, length}
 use Rattle.wheel_core.specs.PlainBase.{NoneBehind, taken}
 use Rattle.play_rules.specs.State.{Cpu, State}
 use Rattle.step_core.proofs.Groups.{handed_out_comes}
@@ -22,7 +22,7 @@ returns-clause-fewer c =
 pub returns-in_err-item-clause-state : goal.returns-in_err-item-clause-state
 returns-in_err-item-clause-state c =
     cpu_written _ _ _ _ _ _ _ _ _ (λ (cpu : Cpu). record cpu { global = taken c.args.self.now.clock cpu.global }) c.self.view_is c.requires c.from.ensures c.index_mut.ensures.value
-      (c.take_next.ensures.cpu ∙ ap (λ (s : State). record c.index_mut.result.now.cpu { global = taken s.clock c.index_mut.result.now.cpu.global }) c.self.view_is)
+    (c.take_next.ensures.cpu ∙ ap (λ (s : State). record c.index_mut.result.now.cpu { global = taken s.clock c.index_mut.result.now.cpu.global }) c.self.view_is)
 
 pub invariant_of-self : goal.invariant_of-self
 invariant_of-self c =
@@ -31,11 +31,11 @@ invariant_of-self c =
     let answers = kept_answers s _ _ _ _ kept c.self.view_is in
     let here = kept_cpu s _ _ _ _ _ _ _ kept c.self.view_is c.requires c.from.ensures c.index_mut.ensures.value in
     kept_written _ _ _ _ _ _ _ _ kept (returns-in_err-item-clause-state c)
-      (record { room = c.take_next.ensures.timers ∙ here.room; one_ahead = c.take_next.ensures.clock; coming = c.take_next.ensures.coming })
-      (record {
-        answered = handed_out_answered s c.args.cpu.0 c.requires answers.answered;
-        comes = handed_out_comes s c.args.cpu.0 c.requires answers.comes;
-      })
+    (record { room = c.take_next.ensures.timers ∙ here.room; one_ahead = c.take_next.ensures.clock; coming = c.take_next.ensures.coming })
+    (record {
+      answered = handed_out_answered s c.args.cpu.0 c.requires answers.answered;
+      comes = handed_out_comes s c.args.cpu.0 c.requires answers.comes;
+    })
 
 pub invariant_of-self-2 : goal.invariant_of-self-2
 invariant_of-self-2 c =
@@ -44,11 +44,11 @@ invariant_of-self-2 c =
     let answers = kept_answers s _ _ _ _ kept c.self.view_is in
     let here = kept_cpu s _ _ _ _ _ _ _ kept c.self.view_is c.requires c.from.ensures c.index_mut.ensures.value in
     kept_written _ _ _ _ _ _ _ _ kept (returns-clause-state c)
-      (record { room = c.take_next.ensures.timers ∙ here.room; one_ahead = c.take_next.ensures.clock; coming = c.take_next.ensures.coming })
-      (record {
-        answered = handed_out_answered s c.args.cpu.0 c.requires answers.answered;
-        comes = handed_out_comes s c.args.cpu.0 c.requires answers.comes;
-      })
+    (record { room = c.take_next.ensures.timers ∙ here.room; one_ahead = c.take_next.ensures.clock; coming = c.take_next.ensures.coming })
+    (record {
+      answered = handed_out_answered s c.args.cpu.0 c.requires answers.answered;
+      comes = handed_out_comes s c.args.cpu.0 c.requires answers.comes;
+    })
 
 pub returns-in_err-item-clause-none_behind : goal.returns-in_err-item-clause-none_behind
 returns-in_err-item-clause-none_behind c =

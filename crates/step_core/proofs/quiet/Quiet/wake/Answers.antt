@@ -11,7 +11,7 @@ pub returns-clause-state : goal.returns-clause-state
 returns-clause-state c =
     let cpus = cpu_written _ _ _ _ _ _ _ _ _ woken_cpu c.self.view_is c.requires c.from.ensures c.index_mut.ensures.value c.wake.ensures.cpu in
     migrator_written (with_cpu c.args.self.now c.args.cpu.0 (woken_cpu (cpu_at c.args.self.now c.args.cpu.0))) _ _ _ _ _ _ cpus
-      c.migrator_or-self-inside.ensures
+    c.migrator_or-self-inside.ensures
 
 pub invariant_of-self : goal.invariant_of-self
 invariant_of-self c =
@@ -20,8 +20,8 @@ invariant_of-self c =
     let answers = kept_answers s _ _ _ _ kept c.self.view_is in
     let here = kept_cpu s _ _ _ _ _ _ _ kept c.self.view_is c.requires c.from.ensures c.index_mut.ensures.value in
     kept_written _ _ _ _ _ _ _ _ kept (returns-clause-state c)
-      (same_base _ _ _ _ here c.wake.ensures.timers (ap (λ (cpu : Cpu). cpu.global) c.wake.ensures.cpu))
-      (record {
-        answered = woken_answered s c.args.cpu.0 c.requires (idle_where _ _ c.is_idle.ensures c.if-not-is_idle.false) answers.answered;
-        comes = woken_comes s c.args.cpu.0 answers.comes;
-      })
+    (same_base _ _ _ _ here c.wake.ensures.timers (ap (λ (cpu : Cpu). cpu.global) c.wake.ensures.cpu))
+    (record {
+      answered = woken_answered s c.args.cpu.0 c.requires (idle_where _ _ c.is_idle.ensures c.if-not-is_idle.false) answers.answered;
+      comes = woken_comes s c.args.cpu.0 answers.comes;
+    })
