@@ -1,12 +1,9 @@
 -- how the program ends, by the reply and by how writing it went
-use Rattle.std.proofs.Common.{◌≡◌, ◌≢◌, ◌≤◌, ◌<◌, ◌+◌, ℕ, List, [], ◌∷◌, ◌++◌, Option, Some, None, length, take, refl, sym, ◌∙◌, ap, subst, arith, inl, inr, append-nil, length-append}
+use Rattle.std.proofs.Common.{◌≡◌, ◌≢◌, ◌≤◌, ◌+◌, ℕ, List, [], ◌++◌, Option, Some, None, length, refl, sym, ◌∙◌, ap, subst, arith, inl, inr, append-nil, length-append}
 use Rattle.std.specs.Prelude.{◌⊎◌, String}
 use Rattle.std.specs.declared.alloc.Global.{Global}
-use Rattle.std.specs.Io.KnownBytes.{Appends, Consumes, IsAtEnd}
+use Rattle.std.specs.Io.KnownBytes.{Appends}
 use Rattle.tm_io.specs.Sources.{TakesCount}
-use Rattle.tm_script.specs.declared.syntax.Script.{Script}
-use Rattle.tm_script.specs.Texts.{script_text}
-use Rattle.tm_script.specs.Form.{IsOfForm}
 use Rattle.script_main.specs.declared.replies.Reply.{Reply}
 use Rattle.script_main.specs.declared.replies.Reply.TheVariants.{Usage, ReadFault, Refused, Played}
 use Rattle.script_main.specs.Words.{IsPlay}

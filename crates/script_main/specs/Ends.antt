@@ -1,5 +1,5 @@
 -- how writing a reply ends
-use Rattle.std.specs.Prelude.{◌≡◌, ◌⊎◌, ℕ, List, Option, take}
+use Rattle.std.specs.Prelude.{◌≡◌, ℕ, List, Option, take}
 use Rattle.std.specs.Io.KnownBytes.{Appends}
 use Rattle.script_main.specs.declared.replies.Reply.{Reply}
 use Rattle.script_main.specs.Replies.{reply_text, status_broken, status_written}

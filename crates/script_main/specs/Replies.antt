@@ -1,12 +1,13 @@
 -- what the program is about to write, and what it rests on
-use Rattle.std.specs.Prelude.{◌≡◌, ◌⊎◌, ℕ, ◌+◌, ◌≤◌, List, Option, String, length}
+use Rattle.std.specs.Prelude.{◌≡◌, ◌⊎◌, ℕ, ◌+◌, List, Option, String}
 use Rattle.std.specs.declared.alloc.Global.{Global}
 use Rattle.std.specs.Io.KnownBytes.{Consumes, IsAtEnd}
-use Rattle.tm_io.specs.Sources.{TakesAll, TakesCount, TakesUpTo}
+use Rattle.tm_io.specs.Sources.{TakesCount, TakesUpTo}
 use Rattle.tm_script.specs.declared.syntax.Script.{Script}
 use Rattle.tm_script.specs.Texts.{script_text}
 use Rattle.tm_script.specs.Form.{IsOfForm}
-use Rattle.play_rules.specs.Play.{play_text}
+use Rattle.play_rules.specs.Play.{AfterEachMoment, play_text}
+use Rattle.play_rules.specs.Settled.{IsSettled}
 use Rattle.script_main.specs.declared.replies.Reply.{Reply}
 use Rattle.script_main.specs.declared.replies.Reply.TheVariants.{Usage, ReadFault, Refused, Played}
 use Rattle.script_main.specs.Words.{IsPlay}
@@ -20,12 +21,14 @@ most_bytes = 65536
 abbrev pub IsNoScript : List ℕ → Type 0
 IsNoScript bytes = (s : Script) → IsOfForm s → script_text s ≡ bytes → ⊥
 
--- the text is that of the play of the script that these bytes spell
+-- the text is that of the play of the script that these bytes spell, and after each moment of that play each global timer
+-- that is queued on an idle CPU is held or woken for
 pub record IsPlayOf (bytes text : List ℕ) : Type 0 where
   pub script : Script
   pub of_form : IsOfForm script
   pub spelled : script_text script ≡ bytes
   pub played : text ≡ play_text script
+  pub settled : AfterEachMoment IsSettled script
 
 -- these bytes were all that was left, and they were read
 pub record ReadsAll (left after : Option (List ℕ)) (bytes : List ℕ) : Type 0 where

@@ -1,5 +1,5 @@
 -- the words of the command line
-use Rattle.std.specs.Prelude.{◌≡◌, List, [], ◌∷◌, codes, map, String, string_bytes}
+use Rattle.std.specs.Prelude.{◌≡◌, List, [], ◌∷◌, codes, String, string_bytes}
 use Rattle.std.specs.declared.alloc.Global.{Global}
 
 -- the one word `play`

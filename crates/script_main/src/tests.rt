@@ -13,6 +13,23 @@ const TWO_CPUS: &[u8] =
 const TWO_CPUS_PLAY: &[u8] =
     b"arm 10 1 0 global 16\nrefused 10 0 7 6 1\narm 10 0 1 global 73\nrun 16 1 0 1 16 done\nleft 1 0 global 73\nend 20\n";
 
+const LAST_TO_IDLE: &[u8] =
+    b"tmig 1\nnodes 1\ncpus 2\ntimers 1\nat 10\narm 1 0 global 50 0 0\nidle 1\nat 20\nidle 0\nend 100\n";
+
+const LAST_TO_IDLE_PLAY: &[u8] =
+    b"arm 10 1 0 global 61\nidle 10 1 never\ncover 10 1 61 migrator 0:0 0\nidle 20 0 61\ncover 20 1 61 wake 0 61\nrun 61 0 0 1 61 done\nend 100\n";
+
+const STAY: &[u8] =
+    b"tmig 1\nnodes 1\ncpus 1\ntimers 1\nat 10\narm 0 0 global 0 0 0\nidle 0\nend 20\n";
+
+const STAY_PLAY: &[u8] = b"arm 10 0 0 global 11\nstay 10 0 11\nrun 11 0 0 0 11 done\nend 20\n";
+
+const WAKE_REFUSED: &[u8] =
+    b"tmig 1\nnodes 1\ncpus 2\ntimers 1\nat 10\narm 1 0 global 50 0 0\nidle 1\nat 20\nwake 1\nwake 1\nend 100\n";
+
+const WAKE_REFUSED_PLAY: &[u8] =
+    b"arm 10 1 0 global 61\nidle 10 1 never\ncover 10 1 61 migrator 0:0 0\nwake 20 1\nrefused 20 1 10 2\nrun 61 1 0 1 61 done\nend 100\n";
+
 const MISSPELLED: &[u8] =
     b"tmig 1\nnodes 1\ncpus 1\ntimers 1\nat 10\narm 0 0 globl 50 0 0\nend 100\n";
 
@@ -28,6 +45,9 @@ fn plays_what_it_reads(rt: HostRuntime) -> Result<(), Fail> {
     let cases = [
         ("play", PLAIN, 0, PLAIN_PLAY),
         ("play", TWO_CPUS, 0, TWO_CPUS_PLAY),
+        ("play", LAST_TO_IDLE, 0, LAST_TO_IDLE_PLAY),
+        ("play", STAY, 0, STAY_PLAY),
+        ("play", WAKE_REFUSED, 0, WAKE_REFUSED_PLAY),
         ("play", MISSPELLED, 1, b"script refused\n".as_slice()),
         ("paly", PLAIN, 2, b"usage: tmig play\n".as_slice()),
     ];

@@ -1,15 +1,15 @@
 -- what holds of a base's items as timers are added and taken out
-use Rattle.std.proofs.Common.{◌≡◌, ◌≤◌, ◌<◌, ◌+◌, ◌-◌, ℕ, List, [], ◌∷◌, ◌++◌, length, arith, true, false, cond, eqb, refl, subst, sym, ap, inl, inr, suc, Option, Some, None, min, map, get_or, zero, is_some}
-use Rattle.std.specs.Prelude.{IfSome, OnSome}
+use Rattle.std.proofs.Common.{◌≡◌, ◌≤◌, ◌<◌, ◌+◌, ℕ, List, [], ◌∷◌, ◌++◌, length, arith, true, false, cond, eqb, refl, subst, sym, ap, inl, inr, suc, Option, Some, None, min, map, get_or, zero, is_some}
+use Rattle.std.specs.Prelude.{All, IfNone, IfSome, OnSome}
 use Rattle.std.specs.List.{AllByRecursion}
-use Rattle.std.proofs.lemmas.Bool.{ne_eqb, eq-eqb, cases_eq, cases_lt}
+use Rattle.std.proofs.lemmas.Bool.{ne_eqb, eq-eqb, cases_eq}
 use Rattle.std.proofs.lemmas.Bool.Decides.{nat_tests}
 use Rattle.std.proofs.lemmas.List.{length_push}
 use Rattle.std.proofs.lemmas.List.Elements.{recursion_from_All, All-from_recursion, All-push}
 use Rattle.wheel_core.specs.declared.item.Item.{Item}
-use Rattle.wheel_core.specs.WheelExpiry.{KeepsTime, cutoff}
-use Rattle.wheel_core.specs.PlainBase.{PlainBase, IsSound, HasDistinctIds, NoneDue, OutIsDue, after_out, clock_forwarded, item_of, least, sooner, without, placed}
+use Rattle.wheel_core.specs.PlainBase.{PlainBase, IsSound, HasDistinctIds, NoneBehind, NoneDue, OutIsDue, after_out, clock_forwarded, item_of, least, sooner, without}
 use Rattle.step_core.specs.QuietCpu.{HasRoomForAll}
+use Rattle.step_core.proofs.Groups.{below_least, told_below}
 use Rattle.step_core.proofs.Pigeonhole.{IsWithout, AreDistinct, AllBelow, pigeonhole}
 
 abbrev id_of : Item → ℕ
@@ -53,41 +53,42 @@ least_past now (item ∷ items) h wheel is =
     ]
     (least_past now items h.1) is
 
--- so nothing is behind the forwarded clock
-pub none_behind : (now clock : ℕ) (items : List Item) → NoneDue now items → clock ≤ now + 1
+-- nothing is behind the forwarded clock
+pub none_behind : (now clock : ℕ) (items : List Item) → ((wheel : ℕ) → least items ≡ Some wheel → clock ≤ wheel)
     → (wheel : ℕ) → least items ≡ Some wheel → clock_forwarded now clock (least items) ≤ wheel
-none_behind now clock items later low wheel is =
-    let past = least_past now items (recursion_from_All (λ (item : Item). now < item.wheel) items later) wheel is in
+none_behind now clock items ahead wheel is =
+    let here = ahead wheel is in
     rw is (grind (arith, nat_tests))
 
--- the forwarded clock isn't behind
-pub forwarded_high : (now clock : ℕ) (items : List Item) → NoneDue now items → now ≤ clock_forwarded now clock (least items)
-forwarded_high now clock items later =
-    let past = least_past now items (recursion_from_All (λ (item : Item). now < item.wheel) items later) in
-    elim (least items) as (λ (m : Option ℕ). ((wheel : ℕ) → m ≡ Some wheel → now < wheel) → now ≤ clock_forwarded now clock m) [
-      | None ↦ λ h. grind (arith, nat_tests)
-      | Some wheel ↦ λ h. let at = h wheel refl in grind (arith, nat_tests)
-    ] past
-
--- and the forwarded clock is at most one jiffy ahead
-pub forwarded_low : (now clock : ℕ) (items : List Item) → NoneDue now items → clock ≤ now + 1
-    → clock_forwarded now clock (least items) ≤ now + 1
-forwarded_low now clock items later low =
+-- the forwarded clock is at most one jiffy ahead
+pub forwarded_low : (now clock : ℕ) (items : List Item) → clock ≤ now + 1 → clock_forwarded now clock (least items) ≤ now + 1
+forwarded_low now clock items low =
     elim (least items) as (λ (m : Option ℕ). clock_forwarded now clock m ≤ now + 1) [
       | None ↦ grind (arith, nat_tests)
       | Some wheel ↦ grind (arith, nat_tests)
     ]
 
--- a timer that is armed at the time now goes out later
-pub placed_later : (now clock id delay : ℕ) → now ≤ clock → KeepsTime (now + delay) clock → now < (placed clock id (now + delay) 0 0).wheel
-placed_later now clock id delay low kept =
-    elim (cases_lt (now + delay) clock) [
-      | inl behind ↦ omega (arith, kept.not_before_clock)
-      | inr before ↦ (elim (cases_lt (now + delay - clock) cutoff) [
-        | inl near ↦ omega (arith, kept.never_early before near)
-        | inr far ↦ omega (arith, kept.at_cutoff (omega arith))
-      ])
-    ]
+-- a clock that isn't past the least expiry isn't past any
+all_ahead : (clock : ℕ) (items : List Item) → ((wheel : ℕ) → least items ≡ Some wheel → clock ≤ wheel) → All (λ item. clock ≤ item.wheel) items
+all_ahead clock [] ahead = λ k d low. absurd (omega (arith, low))
+all_ahead clock (item ∷ items) ahead = λ k d low.
+    let first = ahead (sooner item.wheel (least items)) refl in
+    let each = told_below (item ∷ items) k d low in
+    omega (arith, first, each)
+
+-- nor after one more item was added that isn't behind it
+pub ahead_pushed : (clock : ℕ) (items new : List Item) (item : Item) → ((wheel : ℕ) → least items ≡ Some wheel → clock ≤ wheel)
+    → new ≡ items ++ item ∷ [] → clock ≤ item.wheel → (wheel : ℕ) → least new ≡ Some wheel → clock ≤ wheel
+ahead_pushed clock items new item ahead is here wheel first =
+    let P : List Item → Type 0 = λ xs. All (λ (other : Item). clock ≤ other.wheel) xs in
+    let each = subst P (sym is) (All-push (λ (other : Item). clock ≤ other.wheel) items item (all_ahead clock items ahead) here) in
+    below_least clock new wheel each first
+
+-- where nothing is due and the clock is at most one jiffy ahead, nothing is behind
+pub ahead_where_none : (now clock : ℕ) (items : List Item) → NoneDue now items → clock ≤ now + 1 → (wheel : ℕ) → least items ≡ Some wheel → clock ≤ wheel
+ahead_where_none now clock items later low wheel is =
+    let past = least_past now items (recursion_from_All (λ (item : Item). now < item.wheel) items later) wheel is in
+    omega (arith, past, low)
 
 -- taking out at most one item of an id
 pub fewer_without : (id : ℕ) (items : List Item) → length items ≤ length (without id items) + 1
@@ -141,12 +142,6 @@ with_room timers spare left items new item room is low one =
       room = omega (arith, room.room, length_push items item);
     })
 
--- one more item, which isn't due
-pub later_pushed : (now : ℕ) (items new : List Item) (item : Item) → NoneDue now items → new ≡ items ++ item ∷ [] → now < item.wheel → NoneDue now new
-later_pushed now items new item later is past =
-    let P : List Item → Type 0 = λ xs. NoneDue now xs in
-    subst P (sym is) (All-push (λ (other : Item). now < other.wheel) items item later past)
-
 -- what is left when an item went out, or none did
 pub room_after_out : (timers spare left : ℕ) (base new : PlainBase) (out : Option Item) → HasRoomForAll timers base.items spare
     → new ≡ after_out base out → left ≡ cond (is_some out) (spare + 1) spare → HasRoomForAll timers new.items left
@@ -175,3 +170,18 @@ pub number_out : (now timers spare : ℕ) (base : PlainBase) (out : Option Item)
 number_out now timers spare base None room due = tt
 number_out now timers spare base (Some item) room due =
     found_too (λ (other : Item). other.id < timers) item.id base.items item (recursion_from_All (λ (other : Item). other.id < timers) base.items room.numbers) due.queued
+
+-- what holds of all items holds of those that are left
+pub all_left : (P : Item → Type 0) (base new : PlainBase) (out : Option Item) → All P base.items → new ≡ after_out base out → All P new.items
+all_left P base new None each is = let Q : PlainBase → Type 0 = λ b. All P b.items in subst Q (sym is) each
+all_left P base new (Some item) each is =
+    let Q : PlainBase → Type 0 = λ b. All P b.items in
+    subst Q (sym is) (All-from_recursion P (without item.id base.items) (all_without P item.id base.items (recursion_from_All P base.items each)))
+
+-- where none went out nothing is behind
+pub behind_after_out : (now : ℕ) (base new : PlainBase) (out : Option Item) → OutIsDue now base.items out → new ≡ after_out base out → base.clock ≤ now + 1
+    → IfNone out (NoneBehind new)
+behind_after_out now base new None due is low =
+    let P : PlainBase → Type 0 = λ b. NoneBehind b in
+    subst P (sym is) (ahead_where_none now base.clock base.items due low)
+behind_after_out now base new (Some item) due is low = tt

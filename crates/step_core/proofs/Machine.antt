@@ -1,39 +1,42 @@
 -- the CPUs of the machine as a play sees them
-use Rattle.std.proofs.Common.{◌≡◌, ◌<◌, ◌+◌, ℕ, zero, suc, List, [], ◌∷◌, Option, Some, None, length, get_or, set, drop, replicate, refl, sym, ap, subst, ◌∙◌, arith}
+use Rattle.std.proofs.Common.{◌≡◌, ◌<◌, ◌≤◌, ◌+◌, ℕ, zero, suc, List, [], ◌∷◌, Option, Some, None, length, get_or, set, drop, replicate, refl, sym, inl, inr, ap, subst, ◌∙◌, arith}
 use Rattle.std.proofs.lemmas.List.{map-set, get_or-map, get_or-set_same, length-map, length-replicate, length-set}
+use Rattle.std.proofs.lemmas.Bool.{cases_lt, le-ltb, lt-ltb}
 use Rattle.std.proofs.lemmas.List.Elements.{All-replicate}
 use Rattle.std.proofs.Math.Seq.{drop-cons}
 use Rattle.wheel_core.specs.declared.item.Item.{Item}
 use Rattle.wheel_core.specs.PlainBase.{item_of}
-use Rattle.play_rules.specs.State.{Cpu, State, cpu_at, new_cpu, start, with_cpu}
+use Rattle.play_rules.specs.State.{Cpu, State, cpu_at, first_migrator, new_cpu, start, with_cpu}
 use Rattle.play_rules.specs.Timers.{Queued, here_or, queued_from}
+use Rattle.std.specs.Prelude.{All}
+use Rattle.tm_base.specs.declared.names.TheConstants.{NEVER}
+use Rattle.step_core.specs.Answered.{IsAnswered}
+use Rattle.step_core.proofs.Groups.{start_comes}
+use Rattle.step_core.proofs.Answered.{start_answered}
 use Rattle.step_core.specs.QuietCpu.{RoomyCpu}
 use Rattle.std.specs.Option.{option_map}
-use Rattle.step_core.specs.Quiet.{cpu_of, cpus_of, place_of, IsCpuAt, IsLawful}
-
-abbrev pub machine : (clock timers : ℕ) → List RoomyCpu → State
-machine clock timers rs = record { clock = clock; timers = timers; cpus = cpus_of rs }
+use Rattle.step_core.specs.Quiet.{cpu_of, cpus_of, machine, place_of, IsCpuAt, IsKept}
 
 -- a number of a CPU is a place in the list
-pub in_list : (s : State) (clock timers : ℕ) (rs : List RoomyCpu) (i j : ℕ) → machine clock timers rs ≡ s → i < length s.cpus → j ≡ i → j < length rs
-in_list s clock timers rs i j is low same = omega (arith, low, same, ap (λ (t : State). length t.cpus) is, length-map rs cpu_of)
+pub in_list : (s : State) (clock timers : ℕ) (m : Option ℕ) (rs : List RoomyCpu) (i j : ℕ) → machine clock timers m rs ≡ s → i < length s.cpus → j ≡ i → j < length rs
+in_list s clock timers m rs i j is low same = omega (arith, low, same, ap (λ (t : State). length t.cpus) is, length-map rs cpu_of)
 
 -- the CPU there
-pub cpu_read : (s : State) (clock timers : ℕ) (rs : List RoomyCpu) (i j : ℕ) (r : RoomyCpu) → machine clock timers rs ≡ s → i < length s.cpus
+pub cpu_read : (s : State) (clock timers : ℕ) (m : Option ℕ) (rs : List RoomyCpu) (i j : ℕ) (r : RoomyCpu) → machine clock timers m rs ≡ s → i < length s.cpus
     → j ≡ i → r ≡ get_or rs j r → r.cpu ≡ cpu_at s i
-cpu_read s clock timers rs i j r is low same read =
-    ap cpu_of read ∙ sym (get_or-map cpu_of rs j r new_cpu (in_list s clock timers rs i j is low same))
+cpu_read s clock timers m rs i j r is low same read =
+    ap cpu_of read ∙ sym (get_or-map cpu_of rs j r new_cpu (in_list s clock timers m rs i j is low same))
     ∙ ap (λ (k : ℕ). get_or (cpus_of rs) k new_cpu) same ∙ ap (λ (t : State). get_or t.cpus i new_cpu) is
 
 -- the machine with another CPU in its place
-pub cpu_written : (s : State) (clock timers : ℕ) (rs : List RoomyCpu) (i j : ℕ) (r new : RoomyCpu) (f : Cpu → Cpu) → machine clock timers rs ≡ s
+pub cpu_written : (s : State) (clock timers : ℕ) (m : Option ℕ) (rs : List RoomyCpu) (i j : ℕ) (r new : RoomyCpu) (f : Cpu → Cpu) → machine clock timers m rs ≡ s
     → i < length s.cpus → j ≡ i → r ≡ get_or rs j r → new.cpu ≡ f r.cpu
-    → machine clock timers (set rs j new) ≡ with_cpu s i (f (cpu_at s i))
-cpu_written s clock timers rs i j r new f is low same read made =
-    let value : cpu_of new ≡ f (cpu_at s i) = made ∙ ap f (cpu_read s clock timers rs i j r is low same read) in
-    ap (λ (cs : List Cpu). record { clock = clock; timers = timers; cpus = cs }) (map-set cpu_of rs j new)
-    ∙ ap (λ (x : Cpu). record { clock = clock; timers = timers; cpus = set (cpus_of rs) j x }) value
-    ∙ ap (λ (k : ℕ). record { clock = clock; timers = timers; cpus = set (cpus_of rs) k (f (cpu_at s i)) }) same
+    → machine clock timers m (set rs j new) ≡ with_cpu s i (f (cpu_at s i))
+cpu_written s clock timers m rs i j r new f is low same read made =
+    let value : cpu_of new ≡ f (cpu_at s i) = made ∙ ap f (cpu_read s clock timers m rs i j r is low same read) in
+    ap (λ (cs : List Cpu). record { clock = clock; timers = timers; cpus = cs; migrator = m }) (map-set cpu_of rs j new)
+    ∙ ap (λ (x : Cpu). record { clock = clock; timers = timers; cpus = set (cpus_of rs) j x; migrator = m }) value
+    ∙ ap (λ (k : ℕ). record { clock = clock; timers = timers; cpus = set (cpus_of rs) k (f (cpu_at s i)); migrator = m }) same
     ∙ ap (λ (t : State). with_cpu t i (f (cpu_at s i))) is
 
 -- what was written is there
@@ -68,17 +71,17 @@ nowhere c timer (cpu ∷ cpus) h (suc i) low =
     nowhere (c + 1) timer cpus (here_none c (item_of timer cpu.global.items) (queued_from (c + 1) timer cpus) h).1 i (omega (arith, low))
 
 -- the same in a loop over the list
-pub loop_read : (s : State) (clock timers : ℕ) (rs xs : List RoomyCpu) (i : ℕ) (r : RoomyCpu) → machine clock timers rs ≡ s → xs ≡ rs
+pub loop_read : (s : State) (clock timers : ℕ) (m : Option ℕ) (rs xs : List RoomyCpu) (i : ℕ) (r : RoomyCpu) → machine clock timers m rs ≡ s → xs ≡ rs
     → i < length xs → r ≡ get_or xs i r → (i < length s.cpus) × (r.cpu ≡ cpu_at s i)
-loop_read s clock timers rs xs i r is same low read =
+loop_read s clock timers m rs xs i r is same low read =
     let here : i < length s.cpus = omega (arith, low, ap (λ (ys : List RoomyCpu). length ys) same, ap (λ (t : State). length t.cpus) is, length-map rs cpu_of) in
-    (here, cpu_read s clock timers rs i i r is here refl (read ∙ ap (λ (ys : List RoomyCpu). get_or ys i r) same))
+    (here, cpu_read s clock timers m rs i i r is here refl (read ∙ ap (λ (ys : List RoomyCpu). get_or ys i r) same))
 
 -- what was written is read again
-pub cpu_reread : (s : State) (clock timers : ℕ) (rs : List RoomyCpu) (i j : ℕ) (new : RoomyCpu) → machine clock timers rs ≡ s → i < length s.cpus
-    → j ≡ i → cpu_at (machine clock timers (set rs j new)) i ≡ new.cpu
-cpu_reread s clock timers rs i j new is low same =
-    let here = in_list s clock timers rs i j is low same in
+pub cpu_reread : (s : State) (clock timers : ℕ) (m : Option ℕ) (rs : List RoomyCpu) (i j : ℕ) (new : RoomyCpu) → machine clock timers m rs ≡ s → i < length s.cpus
+    → j ≡ i → cpu_at (machine clock timers m (set rs j new)) i ≡ new.cpu
+cpu_reread s clock timers m rs i j new is low same =
+    let here = in_list s clock timers m rs i j is low same in
     let there : j < length (set rs j new) = omega (arith, here, length-set rs j new) in
     ap (λ (k : ℕ). get_or (cpus_of (set rs j new)) k new_cpu) (sym same) ∙ get_or-map cpu_of (set rs j new) j new new_cpu there
     ∙ ap cpu_of (get_or-set_same rs j new new here)
@@ -96,17 +99,46 @@ cpus_of-replicate : (n : ℕ) (r : RoomyCpu) → cpus_of (replicate n r) ≡ rep
 cpus_of-replicate zero r = refl
 cpus_of-replicate (suc n) r = ap (λ (cs : List Cpu). cpu_of r ∷ cs) (cpus_of-replicate n r)
 
-pub started : (cpus timers i : ℕ) (rs : List RoomyCpu) → rs ≡ replicate i (fresh timers) → i ≡ cpus → machine 0 timers rs ≡ start cpus timers
-started cpus timers i rs are all =
-    ap (λ (xs : List RoomyCpu). machine 0 timers xs) are
-    ∙ ap (λ (cs : List Cpu). record { clock = 0; timers = timers; cpus = cs }) (cpus_of-replicate i (fresh timers))
-    ∙ ap (λ (n : ℕ). record { clock = 0; timers = timers; cpus = replicate n new_cpu }) all
+pub started : (cpus timers i : ℕ) (m : Option ℕ) (rs : List RoomyCpu) → rs ≡ replicate i (fresh timers) → i ≡ cpus → m ≡ first_migrator cpus
+    → machine 0 timers m rs ≡ start cpus timers
+started cpus timers i m rs are all first =
+    ap (λ (xs : List RoomyCpu). machine 0 timers m xs) are
+    ∙ ap (λ (cs : List Cpu). record { clock = 0; timers = timers; cpus = cs; migrator = m }) (cpus_of-replicate i (fresh timers))
+    ∙ ap (λ (n : ℕ). record { clock = 0; timers = timers; cpus = replicate n new_cpu; migrator = m }) all
+    ∙ ap (λ (q : Option ℕ). record { clock = 0; timers = timers; cpus = replicate cpus new_cpu; migrator = q }) first
 
-pub fresh_lawful : (timers i : ℕ) (rs : List RoomyCpu) → rs ≡ replicate i (fresh timers) → i < 256 → IsLawful 0 timers rs
-fresh_lawful timers i rs are few =
-    let P : List RoomyCpu → Type 0 = λ xs. IsLawful 0 timers xs in
-    subst P (sym are) (record {
+pub fresh_kept : (cpus timers i : ℕ) (m : Option ℕ) (rs : List RoomyCpu) → rs ≡ replicate i (fresh timers) → i ≡ cpus → m ≡ first_migrator cpus → i < 256
+    → IsKept 0 timers m rs
+fresh_kept cpus timers i m rs are all first few =
+    let same = started cpus timers i m rs are all first in
+    let P : List RoomyCpu → Type 0 = λ xs. All (IsCpuAt 0 timers) xs in
+    let A : State → Type 0 = λ t. IsAnswered t in
+    let W : State → Type 0 = λ t. All (λ (cpu : Cpu). cpu.wakeup ≤ NEVER) t.cpus in
+    record {
       in_time = omega arith;
-      few = omega (arith, few, length-replicate i (fresh timers));
-      each = All-replicate (IsCpuAt 0 timers) i (fresh timers) (record { room = refl; one_ahead = omega arith });
-    })
+      few = omega (arith, few, ap (λ (xs : List RoomyCpu). length xs) are, length-replicate i (fresh timers));
+      each = subst P (sym are) (All-replicate (IsCpuAt 0 timers) i (fresh timers) (record { room = refl; one_ahead = omega arith; coming = λ k d low. absurd (omega (arith, low)) }));
+      answered = subst A (sym same) (start_answered cpus timers);
+      wakeups_come = subst W (sym same) (start_comes cpus timers);
+    }
+
+-- from the last CPU to the first: the CPU at a place and those behind it
+pub cpus_from : (xs : List RoomyCpu) (i : ℕ) (r : RoomyCpu) → i < length xs → r ≡ get_or xs i r → cpus_of (drop i xs) ≡ r.cpu ∷ cpus_of (drop (i + 1) xs)
+cpus_from xs i r low read =
+    let next : suc i ≡ i + 1 = omega arith in
+    ap cpus_of (drop-cons xs i r low) ∙ ap (λ (x : RoomyCpu). x.cpu ∷ cpus_of (drop (suc i) xs)) (sym read)
+    ∙ ap (λ (k : ℕ). r.cpu ∷ cpus_of (drop k xs)) next
+
+-- the migrator at the start
+pub first_migrator_is : (cpus : ℕ) (m : Option ℕ) → (1 < cpus → m ≡ Some 0) → (cpus ≤ 1 → m ≡ None) → m ≡ first_migrator cpus
+first_migrator_is cpus m many few =
+    elim (cases_lt 1 cpus) [
+      | inl more ↦ (many more) ∙ sym (rw (lt-ltb 1 cpus more) refl)
+      | inr less ↦ (few less) ∙ sym (rw (le-ltb 1 cpus less) refl)
+    ]
+
+-- the same machine with another migrator
+pub migrator_written : (t : State) (clock timers : ℕ) (m n k : Option ℕ) (rs : List RoomyCpu) → machine clock timers m rs ≡ t → n ≡ k
+    → machine clock timers n rs ≡ record t { migrator = k }
+migrator_written t clock timers m n k rs is same =
+    ap (λ (q : Option ℕ). machine clock timers q rs) same ∙ ap (λ (u : State). record u { migrator = k }) is

@@ -1,2 +1,4 @@
 pub mod QuietCpu
 pub mod Quiet
+pub mod Answered
+pub mod Group

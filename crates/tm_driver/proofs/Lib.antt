@@ -1,6 +1,7 @@
 pub mod Parts
 pub mod Interrupts
 pub mod AllInterrupts
-pub mod Operations
-pub mod Jiffies
+pub mod OpsDone
+pub mod CoversDone
 pub mod Leftovers
+pub mod Jiffies

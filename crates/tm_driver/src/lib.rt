@@ -3,6 +3,7 @@
 
 mod closing;
 mod moments;
+mod operations;
 mod playing;
 
 pub use playing::play;

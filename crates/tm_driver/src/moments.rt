@@ -1,33 +1,43 @@
 //! The moments of a play.
 
-ghost use Rattle.std.specs.Prelude.{◌≡◌, ℕ, ◌+◌, ◌<◌, ◌≤◌, All, OnOk, length};
-ghost use Rattle.wheel_core.specs.PlainBase.{NoneDue};
-ghost use Rattle.tm_script.specs.Form.{IsOfForm, IsOpOfForm};
+ghost use Rattle.std.specs.Prelude.{◌≡◌, ◌+◌, ◌<◌, ◌≤◌, OnOk, length};
+ghost use Rattle.std.specs.Option.{ForSome, option_copied};
+ghost use Rattle.tm_script.specs.Form.{IsMomentOfForm, IsOfForm};
 ghost use Rattle.play_rules.specs.State.{cpu_at, start};
-ghost use Rattle.play_rules.specs.Timers.{queued_on};
-ghost use Rattle.play_rules.specs.Play.{arm, interrupt, interrupts, moment, moments, moments_after, operation, operations, ops_at};
+ghost use Rattle.play_rules.specs.Group.{has_interrupt};
+ghost use Rattle.play_rules.specs.Play.{AfterEach, interrupt, interrupt_if, interrupts, look, moment, moment_at, moments, moments_after, run_all_due, scripted};
 ghost use Rattle.play_rules.specs.Prints.{Prints};
-ghost use Rattle.tm_driver.specs.Conditions.{NothingDueBelow, SameMachine, SameOthers};
+ghost use Rattle.play_rules.specs.Settled.{IsSettled};
+ghost use Rattle.tm_driver.specs.Conditions.{AllInFront, SameMachine};
 
-use step_core::Quiet;
-use tm_base::{Class, CpuId, Jiffy, NoMemory, OpFault, TimerId};
+use crate::operations::{covers, operations};
+use step_core::{Quiet, law_settled};
+use tm_base::{CpuId, Jiffy, NoMemory};
 use tm_report::{Line, Report, ShownReply};
-use tm_script::{Moment, Op, Script, What};
+use tm_script::{Moment, Script};
 
-/// The interrupt of a CPU: each timer that is due there goes out, with its line.
-fn interrupt(quiet: &mut Quiet, now: Jiffy, cpu: CpuId, report: &mut Report) -> Result<(), NoMemory>
-    requires in_range { cpu.0 < length quiet.old.cpus }
+/// What is due on one CPU is handed out and run on another one, each timer with its line.
+fn hand_out(
+    quiet: &mut Quiet,
+    now: Jiffy,
+    home: CpuId,
+    runner: CpuId,
+    report: &mut Report,
+) -> Result<(), NoMemory>
+    requires in_range { home.0 < length quiet.old.cpus }
     requires now { now ≡ quiet.old.clock }
-    ensures prints { OnOk result (Prints (interrupt cpu.0 quiet.old) report.old report.new quiet.new) }
-    ensures none_due { OnOk result (NoneDue quiet.new.clock (cpu_at quiet.new cpu.0).global.items) }
-    ensures others { OnOk result (SameOthers cpu.0 quiet.old quiet.new) }
+    requires in_front { AllInFront quiet.old }
+    ensures prints { OnOk result (Prints (run_all_due home.0 runner.0 quiet.old) report.old report.new quiet.new) }
+    ensures same { OnOk result (SameMachine quiet.old quiet.new) }
+    ensures active { OnOk result ((cpu_at quiet.new home.0).active ≡ (cpu_at quiet.old home.0).active) }
+    ensures in_front { OnOk result (AllInFront quiet.new) }
 {
-    while let Some((timer, wheel)) = quiet.take_next(cpu) {
+    while let Some((timer, wheel)) = quiet.take_next(home) {
         report.push(&Line::Run {
             now,
-            runner: cpu,
+            runner,
             timer,
-            home: cpu,
+            home,
             wheel,
             reply: ShownReply::Done,
         })?;
@@ -35,123 +45,147 @@ fn interrupt(quiet: &mut Quiet, now: Jiffy, cpu: CpuId, report: &mut Report) -> 
     Ok(())
 }
 
-/// The interrupts of all CPUs, by ascending number.
+/// A CPU looks after its group: it runs the due timers of idle CPUs, each of which then tells its first event again.
+fn look(
+    quiet: &mut Quiet,
+    now: Jiffy,
+    cpus: u8,
+    runner: CpuId,
+    report: &mut Report,
+) -> Result<(), NoMemory>
+    requires all { cpus ≡ length quiet.old.cpus }
+    requires now { now ≡ quiet.old.clock }
+    requires in_front { AllInFront quiet.old }
+    ensures prints { OnOk result (Prints (look cpus runner.0 quiet.old) report.old report.new quiet.new) }
+    ensures same { OnOk result (SameMachine quiet.old quiet.new) }
+    ensures in_front { OnOk result (AllInFront quiet.new) }
+{
+    for _turn in 0..cpus {
+        let Some(sleeper) = quiet.due_sleeper(runner) else {
+            return Ok(());
+        };
+        hand_out(quiet, now, sleeper, runner, report)?;
+        quiet.tell(sleeper);
+    }
+    Ok(())
+}
+
+/// The interrupt of a CPU: its own due timers, the look after its group, and where it is idle its re-evaluation.
+fn interrupt(
+    quiet: &mut Quiet,
+    now: Jiffy,
+    cpus: u8,
+    cpu: CpuId,
+    report: &mut Report,
+) -> Result<(), NoMemory>
+    requires all { cpus ≡ length quiet.old.cpus }
+    requires in_range { cpu.0 < cpus }
+    requires now { now ≡ quiet.old.clock }
+    requires in_front { AllInFront quiet.old }
+    ensures prints { OnOk result (Prints (interrupt cpu.0 quiet.old) report.old report.new quiet.new) }
+    ensures same { OnOk result (SameMachine quiet.old quiet.new) }
+    ensures in_front { OnOk result (AllInFront quiet.new) }
+{
+    hand_out(quiet, now, cpu, cpu, report)?;
+    look(quiet, now, cpus, cpu, report)?;
+    if quiet.is_idle(cpu) {
+        quiet.reevaluate(cpu);
+    }
+    Ok(())
+}
+
+/// The interrupts of all CPUs that have one, by ascending number.
 fn interrupts(quiet: &mut Quiet, now: Jiffy, cpus: u8, report: &mut Report) -> Result<(), NoMemory>
     requires all { cpus ≡ length quiet.old.cpus }
     requires now { now ≡ quiet.old.clock }
+    requires in_front { AllInFront quiet.old }
     ensures prints { OnOk result (Prints (interrupts cpus 0 quiet.old) report.old report.new quiet.new) }
-    ensures none_due { OnOk result (NothingDueBelow cpus quiet.new) }
     ensures same { OnOk result (SameMachine quiet.old quiet.new) }
+    ensures in_front { OnOk result (AllInFront quiet.new) }
 {
     for cpu in 0..cpus {
-        interrupt(quiet, now, CpuId(u16::from(cpu)), report)?;
+        interrupt_if_due(quiet, now, cpus, CpuId(u16::from(cpu)), report)?;
     }
     Ok(())
 }
 
-/// One operation of a script.
-fn operation(quiet: &mut Quiet, now: Jiffy, op: &Op, report: &mut Report) -> Result<(), NoMemory>
-    requires of_form { IsOpOfForm (length quiet.old.cpus) quiet.old.timers op.now }
-    requires now { now ≡ quiet.old.clock }
-    requires early { now ≤ 10000 }
-    requires none_due { NothingDueBelow (length quiet.old.cpus) quiet.old }
-    ensures prints { OnOk result (Prints (operation op.now quiet.old) report.old report.new quiet.new) }
-    ensures none_due { OnOk result (NothingDueBelow (length quiet.old.cpus) quiet.new) }
-    ensures same { OnOk result (SameMachine quiet.old quiet.new) }
-{
-    match op.what {
-        What::Arm { timer, delay, .. } => arm(quiet, now, op, timer, delay, report),
-        _ => unreachable!(),
-    }
-}
-
-/// A CPU arms a timer.
-fn arm(
+/// The interrupt of a CPU, where it has one.
+fn interrupt_if_due(
     quiet: &mut Quiet,
     now: Jiffy,
-    op: &Op,
-    timer: TimerId,
-    delay: u32,
+    cpus: u8,
+    cpu: CpuId,
     report: &mut Report,
 ) -> Result<(), NoMemory>
-    requires cpu_in_range { op.now.cpu.0 < length quiet.old.cpus }
-    requires timer_in_range { timer.0 < quiet.old.timers }
-    requires near { delay ≤ 62 }
+    requires all { cpus ≡ length quiet.old.cpus }
+    requires in_range { cpu.0 < cpus }
+    requires now { now ≡ quiet.old.clock }
+    requires in_front { AllInFront quiet.old }
+    ensures prints { OnOk result (Prints (interrupt_if (has_interrupt quiet.old cpu.0) cpu.0 quiet.old) report.old report.new quiet.new) }
+    ensures same { OnOk result (SameMachine quiet.old quiet.new) }
+    ensures in_front { OnOk result (AllInFront quiet.new) }
+{
+    if quiet.has_interrupt(cpu) {
+        return interrupt(quiet, now, cpus, cpu, report);
+    }
+    Ok(())
+}
+
+/// What the script has for a jiffy: its operations, and then the covers.
+fn scripted(
+    quiet: &mut Quiet,
+    now: Jiffy,
+    cpus: u8,
+    due: Option<&Moment>,
+    report: &mut Report,
+) -> Result<(), NoMemory>
+    requires of_form { ForSome (option_copied due) (IsMomentOfForm (length quiet.old.cpus) quiet.old.timers) }
+    requires all { cpus ≡ length quiet.old.cpus }
     requires now { now ≡ quiet.old.clock }
     requires early { now ≤ 10000 }
-    requires none_due { NothingDueBelow (length quiet.old.cpus) quiet.old }
-    ensures prints { OnOk result (Prints (arm op.now.line op.now.cpu timer delay (queued_on quiet.old timer.0) quiet.old)
-        report.old report.new quiet.new) }
-    ensures none_due { OnOk result (NothingDueBelow (length quiet.old.cpus) quiet.new) }
+    requires in_front { AllInFront quiet.old }
+    ensures prints { OnOk result (Prints (scripted (option_copied due.entry) quiet.old) report.old report.new quiet.new) }
     ensures same { OnOk result (SameMachine quiet.old quiet.new) }
+    ensures in_front { OnOk result (AllInFront quiet.new) }
 {
-    let cpu = op.cpu;
-    let line = match quiet.arm(cpu, timer, delay) {
-        Ok(wheel) => Line::Arm {
-            now,
-            cpu,
-            timer,
-            class: Class::Global,
-            wheel,
-        },
-        Err(OpFault::Queued { cpu: holder }) => Line::RefusedQueued {
-            now,
-            cpu,
-            line: op.line,
-            number: 6,
-            holder,
-        },
-        Err(_) => unreachable!(),
+    let Some(due) = due else {
+        return Ok(());
     };
-    report.push(&line)
+    operations(quiet, now, due.ops.as_slice(), report)?;
+    covers(quiet, now, cpus, report)
 }
 
-/// Operations, in line order.
-fn operations(
-    quiet: &mut Quiet,
-    now: Jiffy,
-    ops: &[Op],
-    report: &mut Report,
-) -> Result<(), NoMemory>
-    requires of_form { All (IsOpOfForm (length quiet.old.cpus) quiet.old.timers) ops.now }
-    requires now { now ≡ quiet.old.clock }
-    requires early { now ≤ 10000 }
-    requires none_due { NothingDueBelow (length quiet.old.cpus) quiet.old }
-    ensures prints { OnOk result (Prints (operations ops.now quiet.old) report.old report.new quiet.new) }
-    ensures same { OnOk result (SameMachine quiet.old quiet.new) }
-{
-    for op in ops {
-        operation(quiet, now, op, report)?;
-    }
-    Ok(())
-}
-
-/// The interrupts of a moment and then its operations.
+/// The interrupts of a moment, and then what the script has for it.
 fn moment(
     quiet: &mut Quiet,
     now: Jiffy,
     cpus: u8,
-    ops: &[Op],
+    due: Option<&Moment>,
     report: &mut Report,
 ) -> Result<(), NoMemory>
-    requires of_form { All (IsOpOfForm (length quiet.old.cpus) quiet.old.timers) ops.now }
+    requires of_form { ForSome (option_copied due) (IsMomentOfForm (length quiet.old.cpus) quiet.old.timers) }
     requires all { cpus ≡ length quiet.old.cpus }
     requires now { now ≡ quiet.old.clock }
     requires early { now ≤ 10000 }
-    ensures prints { OnOk result (Prints (moment ops.now quiet.old) report.old report.new quiet.new) }
+    requires in_front { AllInFront quiet.old }
+    ensures prints { OnOk result (Prints (moment (option_copied due.entry) quiet.old) report.old report.new quiet.new) }
     ensures same { OnOk result (SameMachine quiet.old quiet.new) }
+    ensures in_front { OnOk result (AllInFront quiet.new) }
+    ensures settled { OnOk result (IsSettled quiet.new) }
 {
     interrupts(quiet, now, cpus, report)?;
-    operations(quiet, now, ops, report)
+    scripted(quiet, now, cpus, due, report)?;
+    law_settled(quiet);
+    Ok(())
 }
 
-/// The operations of a jiffy, where these moments are still to come.
-fn ops_due(left: &[Moment], now: Jiffy) -> &[Op]
-    ensures { result.now ≡ ops_at now left.now }
+/// The script's moment of a jiffy, where these are still to come.
+fn moment_due(left: &[Moment], now: Jiffy) -> Option<&Moment>
+    ensures { option_copied result ≡ moment_at now left.now }
 {
     match left {
-        [due, ..] if due.at == now => due.ops.as_slice(),
-        _ => &[],
+        [due, ..] if due.at == now => Some(due),
+        _ => None,
     }
 }
 
@@ -175,11 +209,12 @@ pub(crate) fn moments(
     requires start { quiet.old ≡ start script.now.cpus script.now.timers }
     ensures prints { OnOk result (Prints (moments (script.now.end + 1) 0 script.now.moments quiet.old) report.old report.new quiet.new) }
     ensures same { OnOk result (quiet.new.timers ≡ script.now.timers) }
+    ensures settled { OnOk result (AfterEach IsSettled (script.now.end + 1) 0 script.now.moments quiet.old) }
 {
     let mut left = script.moments.as_slice();
     for now in 0..script.end + 1 {
         quiet.set_clock(now);
-        moment(quiet, now, script.cpus, ops_due(left, now), report)?;
+        moment(quiet, now, script.cpus, moment_due(left, now), report)?;
         left = still_to_come(left, now);
     }
     Ok(())

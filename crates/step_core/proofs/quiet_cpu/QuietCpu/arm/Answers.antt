@@ -1,7 +1,7 @@
 use Rattle.std.proofs.Common.{◌≡◌, ℕ, ◌+◌, ◌<◌, ◌≤◌, [], ◌∷◌, ◌++◌, Some, arith, sym, ap, subst, ◌∙◌}
-use Rattle.wheel_core.specs.PlainBase.{PlainBase, NoneDue, item_of, least, placed}
+use Rattle.wheel_core.specs.PlainBase.{PlainBase, item_of, least, placed}
 use Rattle.step_core.specs.QuietCpu.{RoomyCpu}
-use Rattle.step_core.proofs.Bases.{room_left, none_behind, forwarded_high, placed_later, with_room, later_pushed}
+use Rattle.step_core.proofs.Bases.{ahead_pushed, none_behind, room_left, with_room}
 use Rattle.step_core.proofs.quiet_cpu.QuietCpu.arm.Goals as goal
 
 pub add-requires-clause-room : goal.add-requires-clause-room
@@ -16,11 +16,8 @@ add-requires-clause-room g c =
 pub add-requires-clause-none_behind : goal.add-requires-clause-none_behind
 add-requires-clause-none_behind g c =
     let old = ap (λ (v : RoomyCpu). v.cpu.global) c.self.view_is in
-    let Later : PlainBase → Type 0 = λ b. NoneDue c.args.now b.items in
-    let later = subst Later (sym old) c.requires.none_due in
-    let low : (g.B.TimerBase.base c.self.inside.global).clock ≤ c.args.now + 1 = omega (arith, ap (λ (b : PlainBase). b.clock) old, c.requires.clock) in
     let Ahead : PlainBase → Type 0 = λ b. (x : ℕ) → least b.items ≡ Some x → b.clock ≤ x in
-    subst Ahead (sym c.forward.ensures.base) (none_behind _ _ _ later low)
+    subst Ahead (sym c.forward.ensures.base) (none_behind _ _ _ (subst Ahead (sym old) c.requires.none_behind))
 
 pub invariant_of-self : goal.invariant_of-self
 invariant_of-self g c =
@@ -30,13 +27,11 @@ invariant_of-self g c =
     with_room _ (g.B.TimerBase.spare c.self.inside.global) _ _ _ item c.self.invariant grown
     (omega (arith, timers, c.requires.in_range, c.from-2.ensures)) (omega (arith, c.add.ensures.spare, c.forward.ensures.spare))
 
-pub returns-clause-none_due : goal.returns-clause-none_due
-returns-clause-none_due g c =
+pub returns-clause-none_behind : goal.returns-clause-none_behind
+returns-clause-none_behind g c =
     let old = ap (λ (v : RoomyCpu). v.cpu.global) c.self.view_is in
-    let Later : PlainBase → Type 0 = λ b. NoneDue c.args.now b.items in
-    let later = subst Later (sym old) c.requires.none_due in
     let item = placed (g.B.TimerBase.base c.forward.new.self).clock c.from-2.result (c.args.now + c.from.result) 0 0 in
-    let grown = ap (λ (b : PlainBase). b.items) c.add.ensures.base ∙ ap (λ (b : PlainBase). b.items ++ item ∷ []) c.forward.ensures.base in
-    let high : c.args.now ≤ (g.B.TimerBase.base c.forward.new.self).clock =
-    omega (arith, ap (λ (b : PlainBase). b.clock) c.forward.ensures.base, forwarded_high c.args.now (g.B.TimerBase.base c.self.inside.global).clock (g.B.TimerBase.base c.self.inside.global).items later) in
-    later_pushed _ _ _ item later grown (placed_later c.args.now (g.B.TimerBase.base c.forward.new.self).clock c.from-2.result c.from.result high c.add.ensures.keeps_time)
+    let Ahead : PlainBase → Type 0 = λ b. (x : ℕ) → least b.items ≡ Some x → b.clock ≤ x in
+    let grown = ap (λ (b : PlainBase). b.items) c.add.ensures.base in
+    let ahead = ahead_pushed (g.B.TimerBase.base c.forward.new.self).clock _ _ item (subst Ahead (sym c.forward.ensures.base) (none_behind _ _ _ (subst Ahead (sym old) c.requires.none_behind))) grown c.add.ensures.keeps_time.not_before_clock in
+    λ x first. omega (arith, ap (λ (b : PlainBase). b.clock) c.add.ensures.base, ahead x first)

@@ -1,0 +1,15 @@
+use Rattle.std.proofs.Common.{sym, refl, subst, Option}
+use Rattle.std.specs.Prelude.{IfSome}
+use Rattle.step_core.specs.declared.cover.Cover.{Cover}
+use Rattle.step_core.specs.Quiet.{IsCoverFor}
+use Rattle.step_core.proofs.Kept.{kept_answers}
+use Rattle.step_core.proofs.Claims.{claims, comes_at}
+use Rattle.step_core.proofs.quiet.Quiet.cover_of.Goals as goal
+
+pub returns-clause-claims : goal.returns-clause-claims
+returns-clause-claims c =
+    let s = c.args.self.now in
+    let answers = kept_answers s _ _ _ _ c.self.invariant c.self.view_is in
+    let P : Option Cover → Type 0 = λ o. IfSome o (IsCoverFor s c.args.cpu.0) in
+    subst P (sym c.find_cover-found.ensures)
+    (claims s c.args.cpu.0 answers.answered c.requires (comes_at s _ _ _ _ c.self.invariant c.self.view_is c.args.cpu.0 c.requires) _ refl)
