@@ -67,7 +67,7 @@ told_again s c = with_cpu s c (record (cpu_at s c) { told = next_of (cpu_at s c)
 abbrev pub reevaluated : State → (c : ℕ) → State
 reevaluated s c = programmed (told_again s c) c
 
--- whether the interrupt of a CPU runs: it is active, or its wakeup isn't past
+-- whether the interrupt of a CPU runs: it is active, or its wakeup has come
 abbrev pub has_interrupt : State → (c : ℕ) → Bool
 has_interrupt s c = if (cpu_at s c).active then true else nat_le (cpu_at s c).wakeup s.clock
 
@@ -104,7 +104,7 @@ pub data Cover : Type 0 where
   by_migrator : (cpu : ℕ) → Cover
   by_wakeup : (cpu at : ℕ) → Cover
 
--- the lowest idle CPU whose wakeup isn't past a time, where the list begins with CPU c
+-- the lowest idle CPU whose wakeup isn't later than a time, where the list begins with CPU c
 abbrev pub waker_by : (time c : ℕ) → List Cpu → Option Cover
 waker_by time c [] = None
 waker_by time c (cpu ∷ cpus) = if cpu.active then waker_by time (c + 1) cpus else (if nat_le cpu.wakeup time then Some (by_wakeup c cpu.wakeup) else waker_by time (c + 1) cpus)

@@ -42,6 +42,6 @@ with_global s c base = with_cpu s c (record (cpu_at s c) { global = base })
 abbrev pub at_clock : ℕ → State → State
 at_clock now s = record s { clock = now }
 
--- the first event of a CPU that isn't pinned: its least wheel expiry
+-- a CPU's first event: the least wheel expiry of its global timers
 abbrev pub next_of : Cpu → ℕ
 next_of cpu = unwrap_or (least cpu.global.items) NEVER

@@ -1,6 +1,6 @@
 -- what a cover claims, and what holds between moments
 use Rattle.std.proofs.Common.{◌≡◌, ◌<◌, ℕ, List, [], ◌∷◌, Option, Some, None, length, get_or, refl, sym, ap, subst, ◌∙◌, arith, inl, inr}
-use Rattle.std.specs.Prelude.{All, Bool, false, IfSome, if◌then◌else◌, unwrap_or}
+use Rattle.std.specs.Prelude.{All, Bool, false, IfNone, IfSome, if◌then◌else◌, unwrap_or}
 use Rattle.std.specs.Option.{option_map}
 use Rattle.std.proofs.lemmas.Bool.{cases_Bool}
 use Rattle.std.proofs.lemmas.List.{get_or_default}
@@ -14,10 +14,10 @@ use Rattle.play_rules.specs.Settled.{machine_of}
 use Rattle.coverage.specs.Coverage.{Held, Woken}
 use Rattle.step_core.specs.Answered.{IsAnswered}
 use Rattle.step_core.specs.QuietCpu.{RoomyCpu}
-use Rattle.step_core.specs.Quiet.{machine, shown_cover, IsCoverFor, IsKept}
+use Rattle.step_core.specs.Quiet.{machine, shown_cover, HasNothing, IsCoverFor, IsKept}
 use Rattle.step_core.proofs.Machine.{cpu_read, in_list}
 use Rattle.step_core.proofs.Kept.{kept_cpu}
-use Rattle.step_core.proofs.Settled.{cover_held, cover_leads, cover_woken, cover_wakes}
+use Rattle.step_core.proofs.Settled.{cover_held, cover_leads, cover_some, cover_woken, cover_wakes}
 
 -- the timers of each CPU go out at times that come
 pub comes_at : (s : State) (clock timers : ℕ) (m : Option ℕ) (rs : List RoomyCpu) → IsKept clock timers m rs → machine clock timers m rs ≡ s
@@ -76,3 +76,21 @@ pub claims : (s : State) (c : ℕ) → IsAnswered s → c < length s.cpus → Al
     → (found : Option rules.Cover) → cover_of s c ≡ found → IfSome (option_map shown_cover found) (IsCoverFor s c)
 claims s c answered low comes None is = tt
 claims s c answered low comes (Some cover) is = claims_some s c answered low comes cover is
+
+-- an idle CPU with a timer has a cover
+least_none : (items : List Item) → least items ≡ None → items ≡ []
+least_none [] none = refl
+least_none (item ∷ items) none = absurd (cc)
+
+uncovered_at : (s : State) (c : ℕ) → IsAnswered s → c < length s.cpus → (cpu_at s c).active ≡ false → (first : Option ℕ)
+    → least (cpu_at s c).global.items ≡ first → cover_of s c ≡ None → least (cpu_at s c).global.items ≡ None
+uncovered_at s c answered low idle None first none = first
+uncovered_at s c answered low idle (Some wheel) first none =
+    let there = (cover_some s c wheel answered low idle first).1 in
+    absurd (cc)
+
+pub uncovered : (s : State) (c : ℕ) → IsAnswered s → c < length s.cpus → (found : Option rules.Cover) → cover_of s c ≡ found
+    → IfNone (option_map shown_cover found) (HasNothing (cpu_at s c))
+uncovered s c answered low None is = λ idle.
+    least_none (cpu_at s c).global.items (uncovered_at s c answered low idle (least (cpu_at s c).global.items) refl is)
+uncovered s c answered low (Some cover) is = tt

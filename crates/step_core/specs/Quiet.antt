@@ -1,5 +1,5 @@
 -- what `Quiet` keeps, and how its answers show what a play has
-use Rattle.std.specs.Prelude.{◌≡◌, Bool, true, false, ℕ, ◌+◌, ◌^◌, ◌<◌, ◌≤◌, All, List, Option, Some, None, length, map}
+use Rattle.std.specs.Prelude.{◌≡◌, Bool, true, false, ℕ, ◌+◌, ◌^◌, ◌<◌, ◌≤◌, All, List, [], Option, Some, None, length, map}
 use Rattle.tm_base.specs.declared.names.TheConstants.{NEVER}
 use Rattle.tm_base.specs.declared.names.CpuId.{CpuId}
 use Rattle.tm_base.specs.declared.names.TimerId.{TimerId}
@@ -74,3 +74,7 @@ shown_cover (by_wakeup c at) = covers.Wake (cpu_id c) at
 abbrev pub IsCoverFor : State → (c : ℕ) → Cover → Type 0
 IsCoverFor s c (covers.Migrator in_group m) = Held (machine_of s) c (next_of (cpu_at s c)) × Leads (machine_of s) m.0 in_group.0
 IsCoverFor s c (covers.Wake w at) = Woken (machine_of s) c (next_of (cpu_at s c)) × ((cpu_at s w.0).active ≡ false) × ((cpu_at s w.0).wakeup ≡ at)
+
+-- a CPU that needs no cover: it is active, or no timer is queued on it
+abbrev pub HasNothing : Cpu → Type 0
+HasNothing cpu = cpu.active ≡ false → cpu.global.items ≡ []

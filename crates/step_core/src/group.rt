@@ -120,7 +120,7 @@ fn first_sleeper(cpus: &[QuietCpu<ListBase>]) -> Option<Sleeping>
     found
 }
 
-/// Its number where what it told isn't past now; None exactly where no idle CPU is due.
+/// Its number where what it told has come; None exactly where no idle CPU is due.
 pub(crate) fn due_sleeper(cpus: &[QuietCpu<ListBase>], now: Jiffy) -> Option<u16>
     requires { length cpus.now < 2 ^ 16 }
     ensures { result ≡ due_at now (first_sleeper 0 (cpus_of cpus.now)) }

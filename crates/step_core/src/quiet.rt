@@ -9,7 +9,7 @@ ghost use Rattle.play_rules.specs.Timers.{armed, armed_item, due_on, handed_out,
 ghost use Rattle.play_rules.specs.Group.{cover_of, due_sleeper, has_interrupt, idled, looks_after, migrator_or, programmed, reevaluated, stays, told_again, woken};
 ghost use Rattle.play_rules.specs.Play.{cpu_id};
 ghost use Rattle.play_rules.specs.Settled.{IsSettled};
-ghost use Rattle.step_core.specs.Quiet.{IsCoverFor, IsRefusalBy, after_idle, idle_answer, place_of, shown_cover, shown_of};
+ghost use Rattle.step_core.specs.Quiet.{HasNothing, IsCoverFor, IsRefusalBy, after_idle, idle_answer, place_of, shown_cover, shown_of};
 
 use crate::cover::Cover;
 use crate::group::{due_sleeper, duty, migrator_without, waker_by};
@@ -134,7 +134,7 @@ impl Quiet {
         self.cpus[usize::from(cpu.0)].next()
     }
 
-    /// Whether the interrupt of a CPU runs at the clock: it is active, or its wakeup isn't past.
+    /// Whether the interrupt of a CPU runs at the clock: it is active, or its wakeup has come.
     pub fn has_interrupt(&self, cpu: CpuId) -> bool
         requires { cpu.0 < length self.now.cpus }
         ensures { result ≡ has_interrupt self.now cpu.0 }
@@ -272,6 +272,7 @@ impl Quiet {
         requires { cpu.0 < length self.now.cpus }
         ensures cover { result ≡ option_map shown_cover (cover_of self.now cpu.0) }
         ensures claims { IfSome result (IsCoverFor self.now cpu.0) }
+        ensures none { IfNone result (HasNothing (cpu_at self.now cpu.0)) }
     {
         let found = self.find_cover(cpu);
         // What the machine keeps says that the cover answers.

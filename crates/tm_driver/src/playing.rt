@@ -16,9 +16,9 @@ use tm_script::Script;
 /// Plays a script from jiffy 0 to its end, and adds the lines of the play to the report, in their order. It answers the
 /// machine as it stands at the end. Want of memory may leave some of the lines in the report.
 ///
-/// Every jiffy is a moment: the interrupts of the CPUs, by ascending number, and then the script's operations of that
-/// jiffy in line order, with a cover for each idle CPU that has a timer. At the end come a line for each timer that is
-/// still queued, and a last one.
+/// Every jiffy is a moment: the interrupts of the CPUs, by ascending number, and then, where the script has a moment at
+/// that jiffy, its operations in line order and a cover for each idle CPU that has a timer. At the end come a line for
+/// each timer that is still queued, and a last one.
 pub fn play(alloc: Global, script: &Script, report: &mut Report) -> Result<Quiet, NoMemory>
     requires { IsOfForm script.now }
     ensures text { OnOk result (report.new ≡ report.old ++ play_text script.now) }

@@ -1,9 +1,10 @@
 use Rattle.std.proofs.Common.{sym, refl, subst, Option}
-use Rattle.std.specs.Prelude.{IfSome}
+use Rattle.std.specs.Prelude.{IfNone, IfSome}
+use Rattle.play_rules.specs.State.{cpu_at}
 use Rattle.step_core.specs.declared.cover.Cover.{Cover}
-use Rattle.step_core.specs.Quiet.{IsCoverFor}
+use Rattle.step_core.specs.Quiet.{HasNothing, IsCoverFor}
 use Rattle.step_core.proofs.Kept.{kept_answers}
-use Rattle.step_core.proofs.Claims.{claims, comes_at}
+use Rattle.step_core.proofs.Claims.{claims, comes_at, uncovered}
 use Rattle.step_core.proofs.quiet.Quiet.cover_of.Goals as goal
 
 pub returns-clause-claims : goal.returns-clause-claims
@@ -13,3 +14,10 @@ returns-clause-claims c =
     let P : Option Cover → Type 0 = λ o. IfSome o (IsCoverFor s c.args.cpu.0) in
     subst P (sym c.find_cover-found.ensures)
     (claims s c.args.cpu.0 answers.answered c.requires (comes_at s _ _ _ _ c.self.invariant c.self.view_is c.args.cpu.0 c.requires) _ refl)
+
+pub returns-clause-none : goal.returns-clause-none
+returns-clause-none c =
+    let s = c.args.self.now in
+    let answers = kept_answers s _ _ _ _ c.self.invariant c.self.view_is in
+    let P : Option Cover → Type 0 = λ o. IfNone o (HasNothing (cpu_at s c.args.cpu.0)) in
+    subst P (sym c.find_cover-found.ensures) (uncovered s c.args.cpu.0 answers.answered c.requires _ refl)
