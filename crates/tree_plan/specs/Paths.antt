@@ -1,22 +1,36 @@
 -- what a tree says of its groups and CPUs
-use Rattle.std.specs.Prelude.{◌≡◌, ℕ, zero, suc, ◌-◌, ◌*◌, ◌==◌, nat_lt, if◌then◌else◌, Bool, false, List, [], ◌∷◌, length, Option, Some, None, slice_get, slice_index_or, option_map, option_and_then, position, filter_map}
+use Rattle.std.specs.Prelude.{◌≡◌, ℕ, zero, suc, ◌+◌, ◌-◌, ◌*◌, ◌/◌, ◌==◌, nat_lt, if◌then◌else◌, Bool, false, not, ◌&&◌, List, [], ◌∷◌, length, Option, Some, None, is_some, unwrap_or, slice_get, slice_index_or, option_map, option_and_then, position, filter_map}
 use Rattle.std.specs.List.{range_with_len, position_or_len, list_any}
-use Rattle.tree_plan.specs.Shape.{Shape, Child, joined}
-use Rattle.tree_plan.specs.Shape.Child.{of_cpu, of_group}
-
-unfoldable pub same_child : Child → Child → Bool
-same_child (of_cpu c) (of_cpu d) = c == d
-same_child (of_cpu c) (of_group g) = false
-same_child (of_group g) (of_cpu c) = false
-same_child (of_group g) (of_group h) = g == h
+use Rattle.std.specs.FinSet.{contains}
+use Rattle.tm_base.specs.declared.names.Child.{Child}
+use Rattle.tm_base.specs.declared.names.Child.TheVariants.{Cpu, Group}
+use Rattle.tm_base.specs.Children.{of_cpu, of_group, same_child}
+use Rattle.tree_plan.specs.Shape.{Shape, joined, levels_for, placed_from}
 
 -- all groups in the order of their numbers, which go level by level from the leaves.
 -- Each is the list of its children in the order of their child numbers
 unfoldable pub groups_of : Shape → List (List Child)
 groups_of t = joined t.levels
 
+-- CPUs have the numbers below this one
 abbrev pub cpu_count_of : Shape → ℕ
 cpu_count_of t = t.nodes * t.cpus
+
+-- whether CPU c is placed: it is a CPU of the machine, and isn't isolated
+abbrev pub is_placed_in : Shape → (c : ℕ) → Bool
+is_placed_in t c = nat_lt c (cpu_count_of t) && not (contains t.isolated c)
+
+-- the placed CPUs in ascending order
+abbrev pub placed_of : Shape → List ℕ
+placed_of t = placed_from t.isolated 0 (cpu_count_of t)
+
+-- the node of CPU c
+abbrev pub node_of : Shape → (c : ℕ) → ℕ
+node_of t c = c / t.cpus
+
+-- groups at levels below this number have the CPUs of one node; the levels from there on group across nodes
+abbrev pub node_levels_of : Shape → ℕ
+node_levels_of t = levels_for t.cpus
 
 abbrev pub group_count_of : Shape → ℕ
 group_count_of t = length (groups_of t)
@@ -66,6 +80,10 @@ bit_of t m = bit_in t m (parent_of t m)
 abbrev pub IsTop : Shape → ℕ → Type 0
 IsTop t g = suc g ≡ group_count_of t
 
+-- the top, and None without groups
+abbrev pub top_of : Shape → Option ℕ
+top_of t = if group_count_of t == 0 then None else Some (group_count_of t - 1)
+
 -- the group of CPU c's path at level l: at level 0 its leaf, and then each time the parent
 unfoldable pub group_at_of : Shape → (c l : ℕ) → Option ℕ
 group_at_of t c zero = parent_of t (of_cpu c)
@@ -75,6 +93,14 @@ group_at_of t c (suc l) = option_and_then (λ g. parent_of t (of_group g)) (grou
 unfoldable pub child_towards : Shape → (c l : ℕ) → Option Child
 child_towards t c zero = Some (of_cpu c)
 child_towards t c (suc l) = option_map of_group (group_at_of t c l)
+
+-- the child number of that child in the group of that level, and 0 without one
+abbrev pub bit_towards : Shape → (c l : ℕ) → ℕ
+bit_towards t c l = unwrap_or (option_map (bit_of t) (child_towards t c l)) 0
+
+-- whether CPU c has a group
+abbrev pub has_group_in : Shape → (c : ℕ) → Bool
+has_group_in t c = is_some (group_at_of t c 0)
 
 -- the path of CPU c: its groups from the leaf to the top
 unfoldable pub path_of : Shape → ℕ → List ℕ
@@ -86,5 +112,13 @@ IsBelow t c g = (l : ℕ) × (group_at_of t c l ≡ Some g)
 
 -- CPU c is this child or below it
 abbrev pub IsUnder : Shape → ℕ → Child → Type 0
-IsUnder t c (of_cpu d) = c ≡ d
-IsUnder t c (of_group g) = IsBelow t c g
+IsUnder t c (Cpu d) = c ≡ d.0
+IsUnder t c (Group g) = IsBelow t c g.0
+
+-- the same two as tests
+abbrev pub is_below : Shape → (c g : ℕ) → Bool
+is_below t c g = list_any (λ h. h == g) (path_of t c)
+
+abbrev pub is_under : Shape → ℕ → Child → Bool
+is_under t c (Cpu d) = c == d.0
+is_under t c (Group g) = is_below t c g.0

@@ -1,11 +1,12 @@
--- the tree of a machine: its CPUs, cut into runs of at most eight level by level until one group is left
-use Rattle.std.specs.Prelude.{◌≡◌, ℕ, zero, suc, ◌+◌, ◌*◌, ◌/◌, ◌^◌, ◌≤◌, ◌==◌, nat_lt, nat_le, if◌then◌else◌, List, [], ◌∷◌, length, take, drop, map, flat_map}
+-- the tree of a machine: its placed CPUs, those that aren't isolated, are cut into runs of at most eight level by level
+-- until one group is left
+use Rattle.std.specs.Prelude.{◌≡◌, ℕ, zero, suc, ◌+◌, ◌*◌, ◌/◌, ◌^◌, ◌<◌, ◌≤◌, ◌==◌, nat_lt, nat_le, if◌then◌else◌, Bool, false, not, List, [], ◌∷◌, length, take, drop, map, filter, flat_map}
 use Rattle.std.specs.List.{range_with_len}
-
--- what a group has below it: CPUs where it is a leaf, groups of the level below elsewhere
-pub data Child : Type 0 where
-  of_cpu : ℕ → Child
-  of_group : ℕ → Child
+use Rattle.std.specs.FinSet.{contains}
+use Rattle.tm_base.specs.declared.names.Child.{Child}
+use Rattle.tm_base.specs.declared.limits.TheConstants.{MOST_NODES, MOST_NODE_CPUS}
+use Rattle.tm_base.specs.Children.{of_cpu, of_group}
+use Rattle.tm_base.specs.CpuSet.{Cpus}
 
 -- lists joined end to end
 abbrev pub joined : {A : Type 0} → List (List A) → List A
@@ -33,9 +34,14 @@ log2up x = least_power x 0 x
 unfoldable pub levels_for : ℕ → ℕ
 levels_for x = (log2up x + 2) / 3
 
--- the CPUs of each node in ascending order: node n has the numbers n * cpus to n * cpus + cpus - 1
-unfoldable pub node_cpus : ℕ → ℕ → List (List Child)
-node_cpus nodes cpus = map (λ n. map of_cpu (range_with_len (n * cpus) cpus)) (range_with_len 0 nodes)
+-- of the n CPUs from `first` on, those that are placed, in ascending order
+abbrev pub placed_from : Cpus → (first n : ℕ) → List ℕ
+placed_from isolated first n = filter (λ c. not (contains isolated c)) (range_with_len first n)
+
+-- the placed CPUs of each node: node n has the CPUs n * cpus to n * cpus + cpus - 1
+unfoldable pub node_cpus : (nodes cpus : ℕ) → Cpus → List (List Child)
+node_cpus nodes cpus isolated =
+    map (λ n. map of_cpu (placed_from isolated (n * cpus) cpus)) (range_with_len 0 nodes)
 
 -- the groups of each row as members of the next level, numbered on from `first`
 unfoldable pub numbered : ℕ → List (List (List Child)) → List (List Child)
@@ -61,29 +67,32 @@ levels_from inner (suc n) l first rows =
     level : List (List Child)
     level = joined groups
 
--- a tree: how many nodes it is for, how many CPUs each of them has, and its levels from the leaves to the top
+-- a tree: how many nodes it is for, how many CPUs each of them has, which CPUs are isolated, and its levels from the
+-- leaves to the top
 pub record Shape : Type 0 where
   pub nodes : ℕ
   pub cpus : ℕ
+  pub isolated : Cpus
   pub levels : List (List (List Child))
 
--- the tree of a machine, whose levels begin with its CPUs
-abbrev pub tree_of : (nodes cpus : ℕ) → Shape
-tree_of nodes cpus = record {
+-- the tree of a machine, whose levels begin with its placed CPUs
+abbrev pub tree_of : (nodes cpus : ℕ) → Cpus → Shape
+tree_of nodes cpus isolated = record {
   nodes = nodes;
   cpus = cpus;
-  levels = levels_from (levels_for cpus) (levels_for cpus + levels_for nodes) 0 0 (node_cpus nodes cpus);
+  isolated = isolated;
+  levels = levels_from (levels_for cpus) (levels_for cpus + levels_for nodes) 0 0 (node_cpus nodes cpus isolated);
 }
 
--- the machines that a tree is planned for: 1 to 8 nodes of 1 to 64 CPUs each, and at most 64 CPUs in all
-pub record IsWithinLimits (nodes cpus : ℕ) : Type 0 where
+-- the machines that a tree is planned for: 1 to 8 nodes of 1 to 64 CPUs each, of which some CPU is placed
+pub record IsWithinLimits (nodes cpus : ℕ) (isolated : Cpus) : Type 0 where
   pub some_node : 1 ≤ nodes
-  pub at_most_8_nodes : nodes ≤ 8
+  pub few_nodes : nodes ≤ MOST_NODES
   pub some_cpu : 1 ≤ cpus
-  pub at_most_64_in_a_node : cpus ≤ 64
-  pub at_most_64_in_all : nodes * cpus ≤ 64
+  pub few_cpus : cpus ≤ MOST_NODE_CPUS
+  pub some_placed : (c : ℕ) × (c < nodes * cpus) × (contains isolated c ≡ false)
 
 -- a tree that was planned for such a machine
 pub record IsPlanned (t : Shape) : Type 0 where
-  pub limits : IsWithinLimits t.nodes t.cpus
-  pub tree : t ≡ tree_of t.nodes t.cpus
+  pub limits : IsWithinLimits t.nodes t.cpus t.isolated
+  pub tree : t ≡ tree_of t.nodes t.cpus t.isolated

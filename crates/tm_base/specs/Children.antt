@@ -1,0 +1,18 @@
+-- the children of groups
+use Rattle.std.specs.Prelude.{ℕ, Bool, false, ◌==◌}
+use Rattle.tm_base.specs.declared.names.CpuId.{CpuId}
+use Rattle.tm_base.specs.declared.names.GroupId.{GroupId}
+use Rattle.tm_base.specs.declared.names.Child.{Child}
+use Rattle.tm_base.specs.declared.names.Child.TheVariants.{Cpu, Group}
+
+abbrev pub of_cpu : ℕ → Child
+of_cpu c = Cpu (record { 0 = c })
+
+abbrev pub of_group : ℕ → Child
+of_group g = Group (record { 0 = g })
+
+-- whether two children are one
+unfoldable pub same_child : Child → Child → Bool
+same_child (Cpu c) (Cpu d) = c.0 == d.0
+same_child (Group g) (Group h) = g.0 == h.0
+same_child _ _ = false
