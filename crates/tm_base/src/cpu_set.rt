@@ -32,6 +32,13 @@ impl CpuSet {
         CpuSet { words: [0; 8] }
     }
 
+    /// A copy of the set.
+    pub fn copy(&self) -> CpuSet
+        ensures { result ≡ self.now }
+    {
+        CpuSet { words: self.words }
+    }
+
     /// Adds a CPU; where it is in the set already, nothing changes.
     pub fn add(&mut self, cpu: CpuId)
         requires { cpu.0 < CPU_SET_SIZE }
