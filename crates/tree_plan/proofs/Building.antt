@@ -1,16 +1,20 @@
 -- the groups that the code makes, level by level, are those of the tree
-use Rattle.std.proofs.Common.{◌≡◌, ℕ, zero, suc, ◌+◌, ◌-◌, ◌*◌, ◌<◌, ◌≤◌, cond, eqb, List, [], ◌∷◌, ◌++◌, length, map, refl, sym, ◌∙◌, ap, arith, append_assoc, replicate, ltb, ◌⊎◌, ⊎_elim, add-one, ◌≢◌}
+use Rattle.std.proofs.Common.{◌≡◌, ℕ, zero, suc, ◌+◌, ◌-◌, ◌*◌, ◌<◌, ◌≤◌, cond, eqb, List, [], ◌∷◌, ◌++◌, length, map, refl, sym, ◌∙◌, ap, arith, append_assoc, ltb, ◌⊎◌, ⊎_elim, add-one, ◌≢◌}
 use Rattle.std.proofs.lemmas.Bool.{cond_both, ne_eqb, eq-eqb, cond-true, cond-false}
 use Rattle.std.specs.Prelude.{flat_map, sum}
 use Rattle.std.specs.List.{range_with_len}
 use Rattle.std.proofs.Math.Nat.{suc-mul}
-use Rattle.std.proofs.lemmas.List.{append-nil, length-map, length-replicate}
-use Rattle.std.proofs.lemmas.List.FromFn.{length-range_with_len}
+use Rattle.std.proofs.lemmas.List.{append-nil, length-map, map-append}
+use Rattle.std.proofs.lemmas.List.FromFn.{length-range_with_len, map-range_with_len_more}
 use Rattle.std.proofs.lemmas.List.Sums.{sum_by-cons}
 use Rattle.tree_plan.specs.declared.cutting.Group.{Group}
-use Rattle.tree_plan.specs.Shape.{Child, IsWithinLimits, levels_for, levels_from, rows_at, numbered, cut, joined, node_cpus, tree_of}
-use Rattle.tree_plan.specs.Shape.Child.{of_cpu}
+use Rattle.tm_base.specs.declared.names.Child.{Child}
+use Rattle.tm_base.specs.declared.limits.TheConstants.{MOST_CPUS_V2}
+use Rattle.tm_base.specs.Children.{of_cpu}
+use Rattle.tm_base.specs.CpuSet.{Cpus}
+use Rattle.tree_plan.specs.Shape.{IsWithinLimits, levels_for, levels_from, rows_at, numbered, cut, joined, placed_from, node_cpus, tree_of}
 use Rattle.tree_plan.specs.Store.{groups_for, run_lengths, row_lengths_at, lengths, listed, listed_levels}
+use Rattle.tree_plan.proofs.Placed.{few_placed}
 use Rattle.tree_plan.proofs.Cuts.{length-joined, lengths-level, lengths-cuts, lengths-numbered, lengths-rows_at, map-cond}
 
 -- the lengths of the groups of level l and of the levels above it, where the nodes have so many members
@@ -37,17 +41,6 @@ lengths-levels_from inner (suc n) l first rows =
     map-cond (λ (gs : List (List Child)). map length gs) (eqb (length (joined rows)) 1) [] (level ∷ above)
     ∙ (λ i. cond (eqb (length-joined rows i) 1) [] (here i ∷ rest i))
 
-lengths-nodes : (cpus : ℕ) (ns : List ℕ) →
-    map length (map (λ n. map of_cpu (range_with_len (n * cpus) cpus)) ns) ≡ replicate (length ns) cpus
-lengths-nodes cpus [] = refl
-lengths-nodes cpus (n ∷ ns) =
-    λ i. (length-map (range_with_len (n * cpus) cpus) of_cpu ∙ length-range_with_len (n * cpus) cpus) i ∷ lengths-nodes cpus ns i
-
--- each node has its CPUs
-pub lengths-node_cpus : (nodes cpus : ℕ) → map length (node_cpus nodes cpus) ≡ replicate nodes cpus
-unfolding node_cpus
-lengths-node_cpus nodes cpus = lengths-nodes cpus (range_with_len 0 nodes) ∙ ap (λ n. replicate n cpus) (length-range_with_len 0 nodes)
-
 sum-groups_for : (rows : List ℕ) → sum (map groups_for rows) ≤ sum rows
 sum-groups_for [] = omega arith
 sum-groups_for (m ∷ ms) = omega (arith, sum-groups_for ms, sum_by-cons (λ n. n) m ms, sum_by-cons (λ n. n) (groups_for m) (map groups_for ms))
@@ -55,7 +48,7 @@ sum-groups_for (m ∷ ms) = omega (arith, sum-groups_for ms, sum_by-cons (λ n. 
 -- a level has no more groups than members, and some group in some row
 pub record RowsWithin (rows : List ℕ) : Type 0 where
   pub some : 0 < length rows
-  pub few : sum rows ≤ 64
+  pub few : sum rows ≤ MOST_CPUS_V2
 
 rows_at_within : (inner l : ℕ) (rows : List ℕ) → RowsWithin rows → RowsWithin (row_lengths_at inner l rows)
 rows_at_within inner l rows h = cond_both (ltb l inner) rows (sum rows ∷ []) RowsWithin (λ _. h) (λ _. record { some = omega arith; few = omega (arith, h.few, sum_by-cons (λ n. n) (sum rows) []) })
@@ -100,23 +93,50 @@ built_all inner n l rows gs h =
     ap (λ ls. gs ++ listed_levels l ls) nothing ∙ append-nil gs
 
 -- the lengths of the groups of the tree
-pub lengths-tree_of : (nodes cpus : ℕ) →
-    lengths (tree_of nodes cpus).levels ≡ lengths_from (levels_for cpus) (levels_for cpus + levels_for nodes) 0 (replicate nodes cpus)
-lengths-tree_of nodes cpus =
-    lengths-levels_from (levels_for cpus) (levels_for cpus + levels_for nodes) 0 0 (node_cpus nodes cpus)
-    ∙ ap (lengths_from (levels_for cpus) (levels_for cpus + levels_for nodes) 0) (lengths-node_cpus nodes cpus)
+pub lengths-tree_of : (nodes cpus : ℕ) (isolated : Cpus) →
+    lengths (tree_of nodes cpus isolated).levels ≡ lengths_from (levels_for cpus) (levels_for cpus + levels_for nodes) 0 (map length (node_cpus nodes cpus isolated))
+lengths-tree_of nodes cpus isolated =
+    lengths-levels_from (levels_for cpus) (levels_for cpus + levels_for nodes) 0 0 (node_cpus nodes cpus isolated)
 
-sum-replicate : (n m : ℕ) → sum (replicate n m) ≡ n * m
-sum-replicate zero m = omega arith
-sum-replicate (suc n) m = omega (arith, sum-replicate n m, sum_by-cons (λ x. x) m (replicate n m), suc-mul n m)
+sum-nodes : (isolated : Cpus) (cpus a k : ℕ) →
+    sum (map length (map (λ n. map of_cpu (placed_from isolated (n * cpus) cpus)) (range_with_len a k))) ≤ k * cpus
+sum-nodes isolated cpus a zero = omega arith
+sum-nodes isolated cpus a (suc k) =
+    let here = map of_cpu (placed_from isolated (a * cpus) cpus) in
+    let rest = map length (map (λ n. map of_cpu (placed_from isolated (n * cpus) cpus)) (range_with_len (a + 1) k)) in
+    omega (arith, sum-nodes isolated cpus (a + 1) k, sum_by-cons (λ x. x) (length here) rest, length-map (placed_from isolated (a * cpus) cpus) of_cpu, few_placed isolated (a * cpus) cpus, suc-mul k cpus)
+
+all_few : (nodes cpus : ℕ) → nodes ≤ 8 → cpus ≤ 64 → nodes * cpus ≤ 512
+all_few nodes cpus few small = grind arith
 
 -- the nodes of a machine
-pub nodes_within : (nodes cpus : ℕ) → IsWithinLimits nodes cpus → RowsWithin (replicate nodes cpus)
-nodes_within nodes cpus h = record { some = omega (arith, length-replicate nodes cpus, h.some_node); few = omega (arith, sum-replicate nodes cpus, h.at_most_64_in_all) }
+pub nodes_within : (nodes cpus : ℕ) (isolated : Cpus) → IsWithinLimits nodes cpus isolated →
+    RowsWithin (map length (node_cpus nodes cpus isolated))
+unfolding node_cpus
+nodes_within nodes cpus isolated h =
+    let rows = map (λ n. map of_cpu (placed_from isolated (n * cpus) cpus)) (range_with_len 0 nodes) in
+    record {
+      some = omega (arith, length-map rows (length {A = Child}), length-map (range_with_len 0 nodes) (λ n. map of_cpu (placed_from isolated (n * cpus) cpus)), length-range_with_len 0 nodes, h.some_node);
+      few = omega (arith, sum-nodes isolated cpus 0 nodes, all_few nodes cpus h.few_nodes h.few_cpus);
+    }
+
+-- one node more
+pub nodes_more : (isolated : Cpus) (node cpus first placed : ℕ) (old new : List ℕ) →
+    old ≡ map length (node_cpus node cpus isolated) → first ≡ node * cpus →
+    placed ≡ length (placed_from isolated first cpus) → new ≡ old ++ placed ∷ [] →
+    new ≡ map length (node_cpus (node + 1) cpus isolated)
+unfolding node_cpus
+nodes_more isolated node cpus first placed old new before at count added =
+    let here : ℕ → List Child = λ n. map of_cpu (placed_from isolated (n * cpus) cpus) in
+    let size : placed ≡ length (here node) =
+    count ∙ (ap (λ n. length (placed_from isolated n cpus)) at ∙ sym (length-map (placed_from isolated (node * cpus) cpus) of_cpu)) in
+    added ∙ ((λ i. before i ++ size i ∷ [])
+    ∙ (sym (map-append length (map here (range_with_len 0 node)) (here node ∷ []))
+    ∙ ap (map length) (sym (map-range_with_len_more here 0 node node (omega arith)))))
 
 -- all levels from the nodes' CPUs on
-pub built_from_start : (nodes cpus inner outer : ℕ) (rows : List ℕ) → inner ≡ levels_for cpus →
-    outer ≡ levels_for nodes → rows ≡ replicate nodes cpus →
-    listed_levels 0 (lengths_from inner (inner + outer) 0 rows) ≡ listed_levels 0 (lengths (tree_of nodes cpus).levels)
-built_from_start nodes cpus inner outer rows p q r =
-    (λ i. listed_levels 0 (lengths_from (p i) (p i + q i) 0 (r i))) ∙ ap (listed_levels 0) (sym (lengths-tree_of nodes cpus))
+pub built_from_start : (nodes cpus inner outer : ℕ) (isolated : Cpus) (rows : List ℕ) → inner ≡ levels_for cpus →
+    outer ≡ levels_for nodes → rows ≡ map length (node_cpus nodes cpus isolated) →
+    listed_levels 0 (lengths_from inner (inner + outer) 0 rows) ≡ listed_levels 0 (lengths (tree_of nodes cpus isolated).levels)
+built_from_start nodes cpus inner outer isolated rows p q r =
+    (λ i. listed_levels 0 (lengths_from (p i) (p i + q i) 0 (r i))) ∙ ap (listed_levels 0) (sym (lengths-tree_of nodes cpus isolated))

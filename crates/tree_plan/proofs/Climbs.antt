@@ -1,18 +1,17 @@
 -- climbing a path from its leaf
-use Rattle.std.proofs.Common.{◌≡◌, ℕ, zero, suc, ◌+◌, ◌<◌, ◌≤◌, ⊎_elim, refl, sym, ◌∙◌, ap, arith, add-one}
+use Rattle.std.proofs.Common.{◌≡◌, ℕ, zero, suc, ◌+◌, ◌≤◌, ⊎_elim, true, false, refl, sym, ◌∙◌, ap, arith, add-one}
 use Rattle.std.specs.Prelude.{◌↔◌, Option, Some, None, IsNone, option_map, option_and_then}
 use Rattle.std.proofs.lemmas.Bool.{cases_lt, true≢false}
 use Rattle.std.proofs.lemmas.Option.{none-some}
 use Rattle.tm_base.specs.declared.names.GroupId.{GroupId}
+use Rattle.tm_base.specs.Children.{of_group}
 use Rattle.tree_plan.specs.Shape.{Shape, IsPlanned}
-use Rattle.tree_plan.specs.Shape.Child.{of_group}
-use Rattle.tree_plan.specs.Paths.{cpu_count_of, level_count_of, parent_of, group_at_of}
+use Rattle.tree_plan.specs.Paths.{is_placed_in, level_count_of, parent_of, group_at_of}
 use Rattle.tree_plan.specs.Laws.{PathLaws}
-use Rattle.tree_plan.proofs.Trees.{cut_laws, edge_laws, level_laws}
-use Rattle.tree_plan.proofs.Walks.{path_laws}
+use Rattle.tree_plan.proofs.Below.{paths}
 
 pub planned_paths : (t : Shape) → IsPlanned t → PathLaws t
-planned_paths t planned = path_laws t (cut_laws t planned) (edge_laws t planned) (level_laws t planned)
+planned_paths t planned = paths t planned
 
 -- the parent is the group one level higher
 pub climbed : (t : Shape) (c l g : ℕ) (o : Option ℕ) → group_at_of t c l ≡ Some g → o ≡ parent_of t (of_group g) →
@@ -29,14 +28,22 @@ ended t c l (suc n) none up =
     (λ before. ap (option_and_then (λ g. parent_of t (of_group g))) (ended t c l n none before))
     (cases_lt n l)
 
--- None exactly where there is no such level
-pub none_where : (t : Shape) → IsPlanned t → (c l : ℕ) → c < cpu_count_of t → (r : Option GroupId) →
-    option_map (λ (g : GroupId). g.0) r ≡ group_at_of t c l → IsNone r ↔ (level_count_of t ≤ l)
-none_where t planned c l inside None e = (
+-- of a placed CPU None exactly where there is no such level
+pub none_where : (t : Shape) → IsPlanned t → (c l : ℕ) → (r : Option GroupId) →
+    option_map (λ (g : GroupId). g.0) r ≡ group_at_of t c l → is_placed_in t c ≡ true →
+    IsNone r ↔ (level_count_of t ≤ l)
+none_where t planned c l None e placed = (
   λ _. ⊎_elim (λ low.
-      let group = (planned_paths t planned).there c l inside low in
+      let group = (planned_paths t planned).there c l placed low in
       absurd (none-some group.0 (e ∙ group.1))) (λ high. high) (cases_lt l (level_count_of t)),
   λ _. refl,
 )
-none_where t planned c l inside (Some g) e =
+none_where t planned c l (Some g) e placed =
     (λ some. absurd (true≢false some), λ high. absurd (none-some (g.0) (sym (e ∙ (planned_paths t planned).beyond c l high))))
+
+-- of an isolated one always
+pub none_isolated : (t : Shape) → IsPlanned t → (c l : ℕ) → (r : Option GroupId) →
+    option_map (λ (g : GroupId). g.0) r ≡ group_at_of t c l → is_placed_in t c ≡ false → IsNone r
+none_isolated t planned c l None e isolated = refl
+none_isolated t planned c l (Some g) e isolated =
+    absurd (none-some (g.0) (sym (e ∙ (planned_paths t planned).isolated c l isolated)))

@@ -7,8 +7,9 @@ use Rattle.std.proofs.lemmas.List.FromFn.{length-range_with_len}
 use Rattle.std.proofs.lemmas.List.Concat.{flat_map-append}
 use Rattle.std.proofs.lemmas.List.Sums.{sum_by-cons}
 use Rattle.std.proofs.lemmas.List.{length-take, length-drop, length-map, take-append-drop, map-append}
-use Rattle.tree_plan.specs.Shape.{runs_of, cut, joined, Child, numbered, rows_at}
-use Rattle.tree_plan.specs.Shape.Child.{of_group}
+use Rattle.tm_base.specs.declared.names.Child.{Child}
+use Rattle.tm_base.specs.Children.{of_group}
+use Rattle.tree_plan.specs.Shape.{runs_of, cut, joined, numbered, rows_at}
 use Rattle.tree_plan.specs.Store.{lengths_of, groups_for, run_lengths, row_lengths_at}
 
 pub length-runs_of : {A : Type 0} (n : ℕ) (xs : List A) → length (runs_of n xs) ≡ n

@@ -47,3 +47,16 @@ pub from_range : {A : Type 0} (f : ℕ → A) (a n i : ℕ) (x : A) → slice_ge
 from_range f a n i x e =
     let inside : i < n = omega (arith, get_within _ i x e, length-map-range_with_len f a n) in
     (inside, same_Some _ _ (sym e ∙ get_range f a n i inside))
+
+-- an element of a mapped list
+pub get_map : {A B : Type 0} (f : A → B) (xs : List A) (i : ℕ) (x : A) → slice_get xs i ≡ Some x →
+    slice_get (map f xs) i ≡ Some (f x)
+get_map f [] i x e = absurd (none-some x e)
+get_map f (y ∷ xs) zero x e = ap (λ z. Some (f z)) (same_Some _ _ e)
+get_map f (y ∷ xs) (suc i) x e = get_map f xs i x e
+
+pub from_map : {A B : Type 0} (f : A → B) (xs : List A) (i : ℕ) (y : B) → slice_get (map f xs) i ≡ Some y →
+    (x : A) × (slice_get xs i ≡ Some x) × (y ≡ f x)
+from_map f [] i y e = absurd (none-some y e)
+from_map f (x ∷ xs) zero y e = (x, refl, sym (same_Some _ _ e))
+from_map f (x ∷ xs) (suc i) y e = from_map f xs i y e

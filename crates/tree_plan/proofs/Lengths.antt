@@ -1,11 +1,14 @@
 -- the lengths of the runs that rows are cut into, as the code makes them
 use Rattle.std.proofs.Common.{◌≡◌, ℕ, zero, suc, ◌+◌, ◌-◌, ◌<◌, ◌≤◌, min, List, [], ◌∷◌, ◌++◌, length, map, refl, sym, ◌∙◌, ap, arith, add-one, append_assoc, get_or, drop}
-use Rattle.std.specs.Prelude.{flat_map}
+use Rattle.std.specs.Prelude.{flat_map, Option, None, slice_get, if◌then◌else◌}
+use Rattle.std.specs.FinSet.{contains}
 use Rattle.std.proofs.lemmas.List.{append-nil, at_drop_more, at_drop_all, drop_all}
 use Rattle.std.proofs.lemmas.List.FromFn.{map-range_with_len_more}
 use Rattle.tree_plan.specs.declared.cutting.Link.{Link}
 use Rattle.tree_plan.specs.declared.cutting.Group.{Group}
-use Rattle.tree_plan.specs.Store.{lengths_of, groups_for, run_lengths, listed, links_to, links_from}
+use Rattle.tm_base.specs.CpuSet.{Cpus}
+use Rattle.tree_plan.specs.Shape.{placed_from}
+use Rattle.tree_plan.specs.Store.{lengths_of, groups_for, run_lengths, listed, links_to, links_from, seat_link, seat_links}
 
 pub groups_more : (m : ℕ) → 0 < m → groups_for m ≡ suc (groups_for (m - 8))
 groups_more m h = omega arith
@@ -99,3 +102,12 @@ pub group_links_done : (i : ℕ) (groups : List Group) (ls : List Link) → leng
 unfolding links_from
 group_links_done i groups ls done =
     ap (λ gs. ls ++ links_from i (map (λ (g : Group). g.children) gs)) (drop_all i groups done) ∙ append-nil ls
+
+-- one CPU more
+pub seats_more : (isolated : Cpus) (links : List Link) (cpu next : ℕ) (seat : Option Link) (old new : List (Option Link)) →
+    next ≡ length (placed_from isolated 0 cpu) → old ≡ seat_links isolated links cpu →
+    seat ≡ (if contains isolated cpu then None else slice_get links next) → new ≡ old ++ seat ∷ [] →
+    new ≡ seat_links isolated links (cpu + 1)
+seats_more isolated links cpu next seat old new count before here added =
+    added ∙ ((λ i. before i ++ (here ∙ ap (λ n. if contains isolated cpu then None else slice_get links n) count) i ∷ [])
+    ∙ sym (map-range_with_len_more (seat_link isolated links) 0 cpu cpu (omega arith)))

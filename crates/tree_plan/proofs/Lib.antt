@@ -1,11 +1,16 @@
+pub mod Placed
 pub mod Powers
 pub mod Lengths
 pub mod Cuts
 pub mod Building
 pub mod Stacks
+pub mod Counts
 pub mod Gets
 pub mod Seats
 pub mod Trees
 pub mod Walks
+pub mod Below
+pub mod Rows
+pub mod Nodes
 pub mod Stored
 pub mod Climbs

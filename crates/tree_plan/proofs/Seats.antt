@@ -8,23 +8,24 @@ use Rattle.std.proofs.lemmas.List.FromFn.{length-map-range_with_len}
 use Rattle.std.proofs.lemmas.List.Sums.{position_or_len_is}
 use Rattle.std.proofs.lemmas.List.Quantifiers.{position-Some}
 use Rattle.tree_plan.specs.declared.cutting.Link.{Link}
-use Rattle.tree_plan.specs.Shape.{Child, joined}
-use Rattle.tree_plan.specs.Shape.Child.{of_cpu, of_group}
-use Rattle.tree_plan.specs.Paths.{same_child}
+use Rattle.tm_base.specs.declared.names.Child.{Child}
+use Rattle.tm_base.specs.declared.names.Child.TheVariants.{Cpu, Group}
+use Rattle.tm_base.specs.Children.{of_cpu, of_group, same_child}
+use Rattle.tree_plan.specs.Shape.{joined}
 use Rattle.tree_plan.specs.Store.{links_to, links_from}
 use Rattle.tree_plan.proofs.Gets.{get_left, get_right, get_either, get_within, get_range}
 
 pub same_child-true : (a b : Child) → same_child a b ≡ true → a ≡ b
 unfolding same_child
-same_child-true (of_cpu c) (of_cpu d) e = ap of_cpu (eqb-true c d e)
-same_child-true (of_cpu c) (of_group g) e = absurd (false≢true e)
-same_child-true (of_group g) (of_cpu c) e = absurd (false≢true e)
-same_child-true (of_group g) (of_group h) e = ap of_group (eqb-true g h e)
+same_child-true (Cpu c) (Cpu d) e = ap of_cpu (eqb-true c.0 d.0 e)
+same_child-true (Cpu c) (Group g) e = absurd (false≢true e)
+same_child-true (Group g) (Cpu c) e = absurd (false≢true e)
+same_child-true (Group g) (Group h) e = ap of_group (eqb-true g.0 h.0 e)
 
 pub same_child-self : (a : Child) → same_child a a ≡ true
 unfolding same_child
-same_child-self (of_cpu c) = eq-eqb c c refl
-same_child-self (of_group g) = eq-eqb g g refl
+same_child-self (Cpu c) = eq-eqb c.0 c.0 refl
+same_child-self (Group g) = eq-eqb g.0 g.0 refl
 
 -- m is one of these children
 abbrev pub has : Child → List Child → Bool
@@ -182,3 +183,57 @@ distinct_from groups apart p q k j m run other here there here' there' =
     let links : link (0 + p) k ≡ link (0 + q) j =
     same_Some _ _ (sym one.linked ∙ (ap (slice_get (links_from 0 (map length groups))) same ∙ two.linked)) in
     (omega (arith, ap (λ (l : Link). l.parent.0) links), ap (λ (l : Link). l.bit) links)
+
+-- ---- the order of children
+
+-- one child stands before another among all children
+pub record StandsBefore (groups : List (List Child)) (m n : Child) : Type 0 where
+  pub first : ℕ
+  pub second : ℕ
+  pub at_first : slice_get (joined groups) first ≡ Some m
+  pub at_second : slice_get (joined groups) second ≡ Some n
+  pub before : first < second
+
+-- with one more group in front
+behind : (run : List Child) (groups : List (List Child)) (m n : Child) → StandsBefore groups m n →
+    StandsBefore (run ∷ groups) m n
+behind run groups m n at = record {
+  first = length run + at.first;
+  second = length run + at.second;
+  at_first = get_right run (joined groups) at.first ∙ at.at_first;
+  at_second = get_right run (joined groups) at.second ∙ at.at_second;
+  before = omega (arith, at.before);
+}
+
+-- the children of a group stand in the order of their child numbers
+pub one_group : (groups : List (List Child)) (p k j : ℕ) (m n : Child) (run : List Child) →
+    slice_get groups p ≡ Some run → slice_get run k ≡ Some m → slice_get run j ≡ Some n → k < j → StandsBefore groups m n
+one_group [] p k j m n run here at at' before = absurd (none-some run here)
+one_group (other ∷ groups) zero k j m n run here at at' before = record {
+  first = k;
+  second = j;
+  at_first = get_left other (joined groups) k m (ap (λ r. slice_get r k) (same_Some _ _ here) ∙ at);
+  at_second = get_left other (joined groups) j n (ap (λ r. slice_get r j) (same_Some _ _ here) ∙ at');
+  before = before;
+}
+one_group (other ∷ groups) (suc p) k j m n run here at at' before =
+    behind other groups m n (one_group groups p k j m n run here at at' before)
+
+-- and the children of groups in the order of the groups
+pub two_groups : (groups : List (List Child)) (p q k j : ℕ) (m n : Child) (run run' : List Child) →
+    slice_get groups p ≡ Some run → slice_get run k ≡ Some m → slice_get groups q ≡ Some run' → slice_get run' j ≡ Some n →
+    p < q → StandsBefore groups m n
+two_groups [] p q k j m n run run' here at here' at' before = absurd (none-some run here)
+two_groups (other ∷ groups) p zero k j m n run run' here at here' at' before = absurd (omega arith)
+two_groups (other ∷ groups) zero (suc q) k j m n run run' here at here' at' before =
+    let in_other : slice_get other k ≡ Some m = ap (λ r. slice_get r k) (same_Some _ _ here) ∙ at in
+    let later = index_of 0 groups q j n run' here' at' in
+    record {
+      first = k;
+      second = length other + later.index;
+      at_first = get_left other (joined groups) k m in_other;
+      at_second = get_right other (joined groups) later.index ∙ later.child;
+      before = omega (arith, get_within other k m in_other);
+    }
+two_groups (other ∷ groups) (suc p) (suc q) k j m n run run' here at here' at' before =
+    behind other groups m n (two_groups groups p q k j m n run run' here at here' at' (omega arith))

@@ -1,19 +1,24 @@
 -- the levels of a tree stand on one another: each cuts the numbers of the groups below it, in ascending order, and one group is left at the end
-use Rattle.std.proofs.Common.{◌≡◌, ℕ, zero, suc, ◌+◌, ◌-◌, ◌*◌, ◌^◌, ◌<◌, ◌≤◌, List, [], ◌∷◌, ◌++◌, length, map, refl, sym, ◌∙◌, ap, subst, arith, add-zero, zero-add, eqb, ltb, length-append, ◌⊎◌, inl, inr, ⊎_elim}
-use Rattle.std.specs.Prelude.{slice_get, ◌↔◌, Some}
+use Rattle.std.proofs.Common.{◌≡◌, ℕ, Bool, zero, suc, ◌+◌, ◌-◌, ◌*◌, ◌^◌, ◌<◌, ◌≤◌, List, [], ◌∷◌, ◌++◌, length, map, refl, sym, ◌∙◌, ap, subst, arith, zero-add, eqb, ltb, length-append, ◌⊎◌, inl, inr, ⊎_elim}
+use Rattle.std.specs.Prelude.{slice_get, ◌↔◌, Some, filter, not}
+use Rattle.std.specs.FinSet.{contains}
+use Rattle.std.proofs.lemmas.List.Elements.{filter-append}
 use Rattle.std.proofs.lemmas.Option.{none-some}
 use Rattle.std.specs.List.{range_with_len}
-use Rattle.std.proofs.Math.Nat.{pow-suc, suc-mul, mul-le-mul_left}
+use Rattle.std.proofs.Math.Nat.{pow-suc, suc-mul}
 use Rattle.std.proofs.lemmas.Bool.{cond_both, cond-true, cond-false, lt-ltb, le-ltb, eqb-true, eqb-false, cases_lt}
 use Rattle.std.proofs.lemmas.List.{append-nil, length-map, map-append}
 use Rattle.std.proofs.lemmas.List.FromFn.{length-range_with_len}
-use Rattle.tree_plan.specs.Shape.{Child, levels_for, levels_from, rows_at, numbered, cut, joined, node_cpus, tree_of}
-use Rattle.tree_plan.specs.Shape.Child.{of_cpu, of_group}
+use Rattle.tm_base.specs.declared.names.Child.{Child}
+use Rattle.tm_base.specs.Children.{of_cpu, of_group}
+use Rattle.tm_base.specs.CpuSet.{Cpus}
+use Rattle.tree_plan.specs.Shape.{levels_for, levels_from, rows_at, numbered, cut, joined, placed_from, node_cpus, tree_of}
 use Rattle.tree_plan.specs.Store.{groups_for}
 use Rattle.tree_plan.specs.Paths.{level_in, place_in}
 use Rattle.tree_plan.proofs.Gets.{get_either, get_within, from_range}
 use Rattle.tree_plan.proofs.Seats.{index_of}
 use Rattle.tree_plan.proofs.Cuts.{AllRuns, AllRuns-append, joined-append, length-cut, joined-level, runs-level}
+use Rattle.tree_plan.proofs.Placed.{range-append, few_placed}
 use Rattle.tree_plan.proofs.Powers.{levels_reach}
 
 -- a level cuts more than one member into runs
@@ -31,20 +36,13 @@ abbrev pub IsStack : ℕ → List Child → List (List (List Child)) → Type 0
 IsStack first ms [] = length ms ≡ 1
 IsStack first ms (level ∷ above) = IsCut ms level × IsStack (first + length level) (group_range first (length level)) above
 
-pub range-append : (a n m : ℕ) → range_with_len a (n + m) ≡ range_with_len a n ++ range_with_len (a + n) m
-range-append a zero m = λ i. range_with_len (sym (add-zero a) i) (zero-add m i)
-range-append a (suc n) m =
-    let longer : suc n + m ≡ suc (n + m) = omega arith in
-    let on : a + 1 + n ≡ a + suc n = omega arith in
-    ap (range_with_len a) longer ∙ (λ i. a ∷ (range-append (a + 1) n m ∙ ap (λ k. range_with_len (a + 1) n ++ range_with_len k m) on) i)
-
 pub group_range-append : (first n m : ℕ) →
     group_range first (n + m) ≡ group_range first n ++ group_range (first + n) m
 group_range-append first n m =
     ap (map of_group) (range-append first n m) ∙ map-append of_group (range_with_len first n) (range_with_len (first + n) m)
 
 -- the members of the next level are the numbers of all groups of this one
-joined-numbered : (first : ℕ) (rows : List (List (List Child))) →
+pub joined-numbered : (first : ℕ) (rows : List (List (List Child))) →
     joined (numbered first rows) ≡ group_range first (length (joined rows))
 unfolding numbered
 joined-numbered first [] = refl
@@ -84,7 +82,7 @@ some_groups [] ms e h = absurd (omega (arith, ap length e))
 some_groups (run ∷ level) ms e h = omega arith
 
 -- as many members as groups below them
-length-members : (first : ℕ) (rows : List (List (List Child))) →
+pub length-members : (first : ℕ) (rows : List (List (List Child))) →
     length (joined (numbered first rows)) ≡ length (joined rows)
 length-members first rows =
     ap length (joined-numbered first rows) ∙ (length-map (range_with_len first (length (joined rows))) of_group ∙ length-range_with_len first (length (joined rows)))
@@ -110,15 +108,15 @@ across inner (suc n) l first rows high some few =
     (λ _. across inner n (suc l) (first + length (joined groups)) (numbered first groups) (omega arith) (some_members inner l first rows some) (omega (arith, length-members first groups, level_size, pow-suc 8 n)))
 
 -- no row has more than m members
-abbrev AtMost : {A : Type 0} → ℕ → List (List A) → Type 0
+abbrev pub AtMost : {A : Type 0} → ℕ → List (List A) → Type 0
 AtMost m [] = Unit {0}
 AtMost m (row ∷ rows) = (length row ≤ m) × AtMost m rows
 
-length-at_most : {A : Type 0} (m : ℕ) (rows : List (List A)) → AtMost m rows → length (joined rows) ≤ length rows * m
+pub length-at_most : {A : Type 0} (m : ℕ) (rows : List (List A)) → AtMost m rows → length (joined rows) ≤ length rows * m
 length-at_most m [] h = omega arith
 length-at_most m (row ∷ rows) h = omega (arith, length-append row (joined rows), length-at_most m rows h.1, suc-mul (length rows) m, h.0)
 
-at_most_next : (m first : ℕ) (rows : List (List Child)) → AtMost (m * 8) rows →
+pub at_most_next : (m first : ℕ) (rows : List (List Child)) → AtMost (m * 8) rows →
     AtMost m (numbered first (map cut rows))
 unfolding numbered
 at_most_next m first [] h = tt
@@ -127,7 +125,7 @@ at_most_next m first (row ∷ rows) h = (
   at_most_next m (first + length (cut row)) rows h.1,
 )
 
-same_rows : (first : ℕ) (rows : List (List (List Child))) → length (numbered first rows) ≡ length rows
+pub same_rows : (first : ℕ) (rows : List (List (List Child))) → length (numbered first rows) ≡ length rows
 unfolding numbered
 same_rows first [] = refl
 same_rows first (groups ∷ rows) = ap suc (same_rows (first + length groups) rows)
@@ -151,38 +149,53 @@ within inner (suc k) outer (suc n) l first rows here all few_rows nodes some =
 
 -- ---- the tree of a machine
 
-joined-nodes : (cpus a k : ℕ) →
-    joined (map (λ n. map of_cpu (range_with_len (n * cpus) cpus)) (range_with_len a k)) ≡ map of_cpu (range_with_len (a * cpus) (k * cpus))
-joined-nodes cpus a zero = let none : 0 ≡ 0 * cpus = omega arith in ap (λ n. map of_cpu (range_with_len (a * cpus) n)) none
-joined-nodes cpus a (suc k) =
-    let here = range_with_len (a * cpus) cpus in
+-- the CPUs of all nodes are one run
+placed-append : (isolated : Cpus) (a n m : ℕ) →
+    placed_from isolated a n ++ placed_from isolated (a + n) m ≡ placed_from isolated a (n + m)
+placed-append isolated a n m =
+    let free : ℕ → Bool = λ c. not (contains isolated c) in
+    sym (filter-append free (range_with_len a n) (range_with_len (a + n) m)) ∙ ap (filter free) (sym (range-append a n m))
+
+-- the placed CPUs of a node
+abbrev pub cpus_of_node : Cpus → (cpus n : ℕ) → List Child
+cpus_of_node isolated cpus n = map of_cpu (placed_from isolated (n * cpus) cpus)
+
+joined-nodes : (isolated : Cpus) (cpus a k : ℕ) →
+    joined (map (cpus_of_node isolated cpus) (range_with_len a k)) ≡ map of_cpu (placed_from isolated (a * cpus) (k * cpus))
+joined-nodes isolated cpus a zero = let none : 0 ≡ 0 * cpus = omega arith in ap (λ n. map of_cpu (placed_from isolated (a * cpus) n)) none
+joined-nodes isolated cpus a (suc k) =
+    let here = placed_from isolated (a * cpus) cpus in
     let next : (a + 1) * cpus ≡ a * cpus + cpus = omega arith in
     let whole : cpus + k * cpus ≡ suc k * cpus = omega arith in
-    ap (λ ms. map of_cpu here ++ ms) (joined-nodes cpus (a + 1) k ∙ ap (λ n. map of_cpu (range_with_len n (k * cpus))) next)
-    ∙ (sym (map-append of_cpu here (range_with_len (a * cpus + cpus) (k * cpus))) ∙ ap (map of_cpu) (sym (range-append (a * cpus) cpus (k * cpus)) ∙ ap (range_with_len (a * cpus)) whole))
+    ap (λ ms. map of_cpu here ++ ms) (joined-nodes isolated cpus (a + 1) k ∙ ap (λ n. map of_cpu (placed_from isolated n (k * cpus))) next)
+    ∙ (sym (map-append of_cpu here (placed_from isolated (a * cpus + cpus) (k * cpus)))
+    ∙ ap (map of_cpu) (placed-append isolated (a * cpus) cpus (k * cpus) ∙ ap (placed_from isolated (a * cpus)) whole))
 
-at_most_nodes : (cpus : ℕ) (ns : List ℕ) → AtMost cpus (map (λ n. map of_cpu (range_with_len (n * cpus) cpus)) ns)
-at_most_nodes cpus [] = tt
-at_most_nodes cpus (n ∷ ns) = (omega (arith, length-map (range_with_len (n * cpus) cpus) of_cpu, length-range_with_len (n * cpus) cpus), at_most_nodes cpus ns)
+pub at_most_nodes : (isolated : Cpus) (cpus : ℕ) (ns : List ℕ) → AtMost cpus (map (cpus_of_node isolated cpus) ns)
+at_most_nodes isolated cpus [] = tt
+at_most_nodes isolated cpus (n ∷ ns) =
+    (omega (arith, length-map (placed_from isolated (n * cpus) cpus) of_cpu, few_placed isolated (n * cpus) cpus), at_most_nodes isolated cpus ns)
 
-at_most_weaker : {A : Type 0} (m k : ℕ) (rows : List (List A)) → m ≤ k → AtMost m rows → AtMost k rows
+pub at_most_weaker : {A : Type 0} (m k : ℕ) (rows : List (List A)) → m ≤ k → AtMost m rows → AtMost k rows
 at_most_weaker m k [] le h = tt
 at_most_weaker m k (row ∷ rows) le h = (omega (arith, h.0), at_most_weaker m k rows le h.1)
 
--- the levels of a machine stand on its CPUs
-pub tree_stack : (nodes cpus : ℕ) → 1 ≤ nodes * cpus →
-    IsStack 0 (map of_cpu (range_with_len 0 (nodes * cpus))) (tree_of nodes cpus).levels
+-- the levels of a machine stand on its placed CPUs
+pub tree_stack : (nodes cpus : ℕ) (isolated : Cpus) → 1 ≤ length (placed_from isolated 0 (nodes * cpus)) →
+    IsStack 0 (map of_cpu (placed_from isolated 0 (nodes * cpus))) (tree_of nodes cpus isolated).levels
 unfolding node_cpus
-tree_stack nodes cpus some =
+tree_stack nodes cpus isolated some =
     let inner = levels_for cpus in
     let outer = levels_for nodes in
-    let rows = node_cpus nodes cpus in
-    let all : joined rows ≡ map of_cpu (range_with_len 0 (nodes * cpus)) = joined-nodes cpus 0 nodes ∙ ap (λ a. map of_cpu (range_with_len a (nodes * cpus))) (omega arith) in
-    let count : length (joined rows) ≡ nodes * cpus = ap length all ∙ (length-map (range_with_len 0 (nodes * cpus)) of_cpu ∙ length-range_with_len 0 (nodes * cpus)) in
+    let rows = node_cpus nodes cpus isolated in
+    let all : joined rows ≡ map of_cpu (placed_from isolated 0 (nodes * cpus)) =
+    joined-nodes isolated cpus 0 nodes ∙ ap (λ a. map of_cpu (placed_from isolated a (nodes * cpus))) (omega arith) in
+    let count : length (joined rows) ≡ length (placed_from isolated 0 (nodes * cpus)) =
+    ap length all ∙ length-map (placed_from isolated 0 (nodes * cpus)) of_cpu in
     subst (λ ms. IsStack 0 ms (levels_from inner (inner + outer) 0 0 rows)) all
     (within inner inner outer (inner + outer) 0 0 rows (omega arith) refl
-    (at_most_weaker cpus (8 ^ inner) rows (levels_reach cpus) (at_most_nodes cpus (range_with_len 0 nodes)))
-    (omega (arith, levels_reach nodes, length-map (range_with_len 0 nodes) (λ n. map of_cpu (range_with_len (n * cpus) cpus)), length-range_with_len 0 nodes))
+    (at_most_weaker cpus (8 ^ inner) rows (levels_reach cpus) (at_most_nodes isolated cpus (range_with_len 0 nodes)))
+    (omega (arith, levels_reach nodes, length-map (range_with_len 0 nodes) (cpus_of_node isolated cpus), length-range_with_len 0 nodes))
     (omega (arith, count)))
 
 -- ---- what follows of levels that stand on one another
@@ -194,17 +207,6 @@ level_fits (run ∷ level) h = omega (arith, level_fits level h.1, h.0.some, len
 
 pub length-group_range : (first n : ℕ) → length (group_range first n) ≡ n
 length-group_range first n = length-map (range_with_len first n) of_group ∙ length-range_with_len first n
-
--- each level has at most as many groups as the first has members
-pub few_groups : (first : ℕ) (ms : List Child) (levels : List (List (List Child))) → IsStack first ms levels →
-    length (joined levels) ≤ length levels * length ms
-few_groups first ms [] h = omega arith
-few_groups first ms (level ∷ above) h =
-    let size = length-group_range first (length level) in
-    let fits : length level ≤ length ms = omega (arith, level_fits level h.0.runs, ap length h.0.whole) in
-    let rest : length (joined above) ≤ length above * length level =
-    subst (λ n. length (joined above) ≤ length above * n) size (few_groups (first + length level) (group_range first (length level)) above h.1) in
-    omega (arith, rest, fits, length-append level (joined above), suc-mul (length above) (length ms), mul-le-mul_left (length above) fits)
 
 -- the members of the first of these levels and then all groups but the top are the children of all groups
 pub all_members : (first : ℕ) (ms : List Child) (levels : List (List (List Child))) → IsStack first ms levels →

@@ -1,21 +1,26 @@
 -- the stored groups and links say what the tree says
 use Rattle.std.proofs.Common.{◌≡◌, ℕ, zero, suc, ◌+◌, ◌-◌, ◌<◌, ◌≤◌, ⊎_elim, List, [], ◌∷◌, ◌++◌, length, map, refl, sym, ◌∙◌, ap, subst, arith, zero-add, add-zero, length-append}
 use Rattle.std.specs.Prelude.{◌*◌, ◌↔◌, Bool, true, false, is_some, Option, Some, None, slice_get, option_map, option_copied, position}
-use Rattle.std.proofs.lemmas.Bool.{cases_lt, true≢false}
+use Rattle.std.specs.FinSet.{contains}
+use Rattle.std.proofs.lemmas.Bool.{cases_lt, cases_Bool, both_ways, cond-true, cond-false, true≢false}
 use Rattle.std.proofs.lemmas.Option.{none-some, same_Some, slice_get-map, slice_get_past, slice_get_read}
 use Rattle.std.specs.Borrow.{Bor}
 use Rattle.std.specs.Slice.{IsGetResult}
 use Rattle.std.proofs.lemmas.List.{length-map, map-append}
 use Rattle.tree_plan.specs.declared.cutting.Group.{Group}
 use Rattle.tree_plan.specs.declared.cutting.Link.{Link}
-use Rattle.tree_plan.specs.Shape.{Shape, Child, IsPlanned, IsWithinLimits, joined, tree_of}
-use Rattle.tree_plan.specs.Shape.Child.{of_cpu, of_group}
-use Rattle.tree_plan.specs.Paths.{cpu_count_of, group_count_of, level_count_of, groups_of, level_in, place_in, level_of, place_of, children_of, child_count_of, child_at, parent_of, bit_in, bit_of, IsTop}
-use Rattle.tree_plan.specs.Store.{listed, listed_levels, lengths, links_from, group_of, link_of, IsStored}
-use Rattle.tree_plan.proofs.Gets.{get_either, get_within, get_some, get_left, get_right}
+use Rattle.tm_base.specs.declared.names.Child.{Child}
+use Rattle.tm_base.specs.Children.{of_cpu, of_group}
+use Rattle.tm_base.specs.CpuSet.{Cpus}
+use Rattle.tree_plan.specs.Shape.{Shape, IsPlanned, IsWithinLimits, joined, placed_from, tree_of}
+use Rattle.tree_plan.specs.Paths.{cpu_count_of, is_placed_in, placed_of, group_count_of, level_count_of, groups_of, level_in, place_in, level_of, place_of, children_of, child_count_of, child_at, parent_of, bit_in, bit_of, IsTop}
+use Rattle.tree_plan.specs.Store.{listed, listed_levels, lengths, links_from, group_of, link_of, seat_link, seat_links, IsStored}
+use Rattle.std.proofs.lemmas.List.FromFn.{length-map-range_with_len}
+use Rattle.tree_plan.proofs.Gets.{get_either, get_within, get_some, get_left, get_right, get_range}
 use Rattle.tree_plan.proofs.Seats.{has, seat_of, length-links_from}
 use Rattle.tree_plan.proofs.Stacks.{first_level, later_level, first_place, later_place}
-use Rattle.tree_plan.proofs.Trees.{group_at, cpu_there, group_there, child_total, alone, cut_laws, edge_laws, level_laws}
+use Rattle.tree_plan.proofs.Placed.{is_placed, placed_parts}
+use Rattle.tree_plan.proofs.Trees.{some_cpus, rank, group_at, cpu_there, group_there, child_total, alone, cpu_placed, cut_laws, edge_laws, level_laws}
 
 length-listed : (level place : ℕ) (ns : List ℕ) → length (listed level place ns) ≡ length ns
 unfolding listed
@@ -99,8 +104,9 @@ pub copied_get : {X : Type 0} (xs : List X) (i : ℕ) (r : Option (Bor X)) → I
 copied_get xs i None h = sym (slice_get_past xs i h.3)
 copied_get xs i (Some x) h = sym (slice_get_read xs (length xs) i x.now refl h.3.0 h.1)
 
-pub planned_tree : (nodes cpus : ℕ) → IsWithinLimits nodes cpus → IsPlanned (tree_of nodes cpus)
-planned_tree nodes cpus limits = record { limits = limits; tree = refl }
+pub planned_tree : (nodes cpus : ℕ) (isolated : Cpus) → IsWithinLimits nodes cpus isolated →
+    IsPlanned (tree_of nodes cpus isolated)
+planned_tree nodes cpus isolated limits = record { limits = limits; tree = refl }
 
 -- ---- what is stored of a planned tree
 
@@ -137,20 +143,37 @@ module _ (t : Shape) (planned : IsPlanned t) where
   unlinked : (m : Child) → parent_of t m ≡ None → None ≡ link_of t m
   unlinked m none = ap (option_map (λ p. record { parent = record { 0 = p }; bit = bit_of t m })) (sym none)
 
-  cpu_link_of : (c : ℕ) → c < cpu_count_of t →
-      slice_get (links_from 0 (map length (groups_of t))) c ≡ link_of t (of_cpu c)
-  cpu_link_of c inside =
-      ⊎_elim (λ more. listed_link c (of_cpu c) (cpu_there t planned c more inside))
+  -- a placed CPU's link stands at its rank
+  placed_link : (c : ℕ) → is_placed_in t c ≡ true →
+      slice_get (links_from 0 (map length (groups_of t))) (length (placed_from t.isolated 0 c)) ≡ link_of t (of_cpu c)
+  unfolding rank
+  placed_link c placed =
+      ⊎_elim (λ more. listed_link (rank t (of_cpu c)) (of_cpu c) (cpu_there t planned c more placed))
       (λ few.
-      let none = alone t planned (omega (arith, inside)) in
-      ap (λ ls. slice_get ls c) (no_links none) ∙ unlinked (of_cpu c) (no_parent (of_cpu c) none))
-      (cases_lt 1 (cpu_count_of t))
+      let none = alone t planned (omega (arith, some_cpus t planned)) in
+      ap (λ ls. slice_get ls (length (placed_from t.isolated 0 c))) (no_links none) ∙ unlinked (of_cpu c) (no_parent (of_cpu c) none))
+      (cases_lt 1 (length (placed_of t)))
+
+  -- an isolated CPU has none
+  isolated_link : (c : ℕ) → contains t.isolated c ≡ true → None ≡ link_of t (of_cpu c)
+  isolated_link c isolated =
+      by_parent t (of_cpu c) (λ none. unlinked (of_cpu c) none)
+      (λ p some. absurd (both_ways (contains t.isolated c) (placed_parts t c (cpu_placed t planned c p some)).1 isolated))
+
+  seat_of_cpu : (c : ℕ) → c < cpu_count_of t →
+      seat_link t.isolated (links_from 0 (map length (groups_of t))) c ≡ link_of t (of_cpu c)
+  seat_of_cpu c inside =
+      let links = links_from 0 (map length (groups_of t)) in
+      let here = slice_get links (length (placed_from t.isolated 0 c)) in
+      ⊎_elim (λ isolated. cond-true (contains t.isolated c) None here isolated ∙ isolated_link c isolated)
+      (λ free. cond-false (contains t.isolated c) None here free ∙ placed_link c (is_placed t c inside free))
+      (cases_Bool (contains t.isolated c))
 
   group_link_of : (g : ℕ) → g < group_count_of t →
-      slice_get (links_from 0 (map length (groups_of t))) (cpu_count_of t + g) ≡ link_of t (of_group g)
+      slice_get (links_from 0 (map length (groups_of t))) (length (placed_of t) + g) ≡ link_of t (of_group g)
   group_link_of g inside =
-      ⊎_elim (λ below. listed_link (cpu_count_of t + g) (of_group g) (group_there t planned g below))
-      (λ top. slice_get_past (links_from 0 (map length (groups_of t))) (cpu_count_of t + g) (omega (arith, length-links_from 0 (groups_of t), child_total t planned (omega arith)))
+      ⊎_elim (λ below. listed_link (length (placed_of t) + g) (of_group g) (group_there t planned g below))
+      (λ top. slice_get_past (links_from 0 (map length (groups_of t))) (length (placed_of t) + g) (omega (arith, length-links_from 0 (groups_of t), child_total t planned (omega arith)))
       ∙ unlinked (of_group g) ((edge_laws t planned).top_parent g (omega arith)))
       (cases_lt (suc g) (group_count_of t))
 
@@ -169,16 +192,19 @@ module _ (t : Shape) (planned : IsPlanned t) where
       let linked_is : linked ≡ true = e ∙ ap (λ o. is_some (option_map (link_to_parent t (of_group g)) o)) some in
       (λ not_linked. absurd (true≢false (sym linked_is ∙ not_linked)), λ last. absurd (omega (arith, last, (edge_laws t planned).group_within g p some))))
 
-module _ (nodes cpus : ℕ) (groups : List Group) (links : List Link) (stored : IsStored nodes cpus groups links) (t : Shape) (view : tree_of nodes cpus ≡ t) where
+module _ (nodes cpus : ℕ) (isolated : Cpus) (placed : ℕ) (groups : List Group) (links : List Link) (seats : List (Option Link)) (stored : IsStored nodes cpus isolated placed groups links seats) (t : Shape) (view : tree_of nodes cpus isolated ≡ t) where
   pub is_planned : IsPlanned t
-  is_planned = subst IsPlanned view (planned_tree nodes cpus stored.limits)
+  is_planned = subst IsPlanned view (planned_tree nodes cpus isolated stored.limits)
 
   pub group_total : length groups ≡ group_count_of t
   unfolding groups_of
-  group_total = ap length stored.all_groups ∙ (length-listed_levels 0 (tree_of nodes cpus).levels ∙ ap (λ (s : Shape). length (joined s.levels)) view)
+  group_total = ap length stored.all_groups ∙ (length-listed_levels 0 (tree_of nodes cpus isolated).levels ∙ ap (λ (s : Shape). length (joined s.levels)) view)
 
   pub cpu_total : nodes * cpus ≡ cpu_count_of t
   cpu_total = ap cpu_count_of view
+
+  pub same_isolated : isolated ≡ t.isolated
+  same_isolated = ap (λ (s : Shape). s.isolated) view
 
   -- a stored group
   pub group_is : (g : ℕ) → g < group_count_of t → slice_get groups g ≡ Some (group_of t g)
@@ -188,13 +214,20 @@ module _ (nodes cpus : ℕ) (groups : List Group) (links : List Link) (stored : 
   all_links : links ≡ links_from 0 (map length (groups_of t))
   all_links = stored.all_links ∙ ap (λ s. links_from 0 (map length (groups_of s))) view
 
+  pub seat_total : length seats ≡ cpu_count_of t
+  seat_total = ap length stored.all_seats ∙ (length-map-range_with_len (seat_link isolated links) 0 (nodes * cpus) ∙ cpu_total)
+
   -- the link of a CPU
-  pub cpu_link : (c : ℕ) → c < cpu_count_of t → slice_get links c ≡ link_of t (of_cpu c)
-  cpu_link c inside = ap (λ ls. slice_get ls c) all_links ∙ cpu_link_of t is_planned c inside
+  pub cpu_link : (c : ℕ) → c < cpu_count_of t → slice_get seats c ≡ Some (link_of t (of_cpu c))
+  cpu_link c inside =
+      ap (λ ls. slice_get ls c) stored.all_seats
+      ∙ (get_range (seat_link isolated links) 0 (nodes * cpus) c (omega (arith, cpu_total))
+      ∙ ((λ i. Some (seat_link (same_isolated i) (all_links i) (zero-add c i))) ∙ ap Some (seat_of_cpu t is_planned c inside)))
 
   -- the link of a group
-  pub group_link : (g : ℕ) → g < group_count_of t → slice_get links (nodes * cpus + g) ≡ link_of t (of_group g)
-  group_link g inside = (λ i. slice_get (all_links i) (cpu_total i + g)) ∙ group_link_of t is_planned g inside
+  pub group_link : (g : ℕ) → g < group_count_of t → slice_get links (placed + g) ≡ link_of t (of_group g)
+  group_link g inside =
+      (λ i. slice_get (all_links i) ((stored.all_placed ∙ ap (λ s. length (placed_of s)) view) i + g)) ∙ group_link_of t is_planned g inside
 
   -- the last group is the top, on the highest level
   pub top_level : (top : Group) → slice_get groups (length groups - 1) ≡ Some top → top.level + 1 ≡ level_count_of t
@@ -229,19 +262,32 @@ all_child_counts l (level ∷ above) =
     ∙ ((λ i. child_counts l 0 (map length level) i ++ all_child_counts (suc l) above i) ∙ sym (map-append length level (joined above)))
 
 -- the groups that were cut are few
-pub plan_total : (nodes cpus : ℕ) (groups : List Group) → IsWithinLimits nodes cpus →
-    groups ≡ listed_levels 0 (lengths (tree_of nodes cpus).levels) → length groups ≤ 192
+pub plan_total : (nodes cpus : ℕ) (isolated : Cpus) (groups : List Group) → IsWithinLimits nodes cpus isolated →
+    groups ≡ listed_levels 0 (lengths (tree_of nodes cpus isolated).levels) → length groups ≤ 73
 unfolding groups_of
-plan_total nodes cpus groups limits made =
-    omega (arith, ap length made, length-listed_levels 0 (tree_of nodes cpus).levels, (cut_laws (tree_of nodes cpus) (planned_tree nodes cpus limits)).at_most_192_groups)
+plan_total nodes cpus isolated groups limits made =
+    omega (arith, ap length made, length-listed_levels 0 (tree_of nodes cpus isolated).levels, (cut_laws (tree_of nodes cpus isolated) (planned_tree nodes cpus isolated limits)).at_most_73_groups)
 
--- and with the links of their children they are the tree
-pub plan_stored : (nodes cpus : ℕ) (groups given : List Group) (links : List Link) → IsWithinLimits nodes cpus →
-    groups ≡ listed_levels 0 (lengths (tree_of nodes cpus).levels) → given ≡ groups →
-    links ≡ links_from 0 (map (λ (g : Group). g.children) given) → IsStored nodes cpus groups links
+-- the links of the children of the groups that were cut
+pub plan_links : (nodes cpus : ℕ) (isolated : Cpus) (groups given : List Group) (links : List Link) →
+    groups ≡ listed_levels 0 (lengths (tree_of nodes cpus isolated).levels) → given ≡ groups →
+    links ≡ links_from 0 (map (λ (g : Group). g.children) given) → links ≡ links_from 0 (map length (groups_of (tree_of nodes cpus isolated)))
 unfolding groups_of
-plan_stored nodes cpus groups given links limits made same linked = record {
-  limits = limits;
-  all_groups = made;
-  all_links = linked ∙ ap (links_from 0) (ap (map (λ (g : Group). g.children)) (same ∙ made) ∙ all_child_counts 0 (tree_of nodes cpus).levels);
-}
+plan_links nodes cpus isolated groups given links made same linked =
+    linked ∙ ap (links_from 0) (ap (map (λ (g : Group). g.children)) (same ∙ made) ∙ all_child_counts 0 (tree_of nodes cpus isolated).levels)
+
+-- and with the links of the CPUs they are the tree
+pub plan_stored : (nodes cpus : ℕ) (isolated copy : Cpus) (placed count : ℕ) (groups : List Group) (links given : List Link) (seats : List (Option Link)) →
+    IsWithinLimits nodes cpus isolated → copy ≡ isolated → count ≡ nodes * cpus →
+    placed ≡ length (placed_from isolated 0 count) →
+    groups ≡ listed_levels 0 (lengths (tree_of nodes cpus isolated).levels) →
+    links ≡ links_from 0 (map length (groups_of (tree_of nodes cpus isolated))) → given ≡ links →
+    seats ≡ seat_links isolated given count → IsStored nodes cpus copy placed groups links seats
+plan_stored nodes cpus isolated copy placed count groups links given seats limits same counted free made linked lent seated =
+    subst (λ set. IsStored nodes cpus set placed groups links seats) (sym same) (record {
+      limits = limits;
+      all_placed = free ∙ ap (λ n. length (placed_from isolated 0 n)) counted;
+      all_groups = made;
+      all_links = linked;
+      all_seats = seated ∙ (λ i. seat_links isolated (lent i) (counted i));
+    })

@@ -1,12 +1,14 @@
 -- the laws of paths follow from those of children, parents and levels
-use Rattle.std.proofs.Common.{◌≡◌, ℕ, zero, suc, ◌+◌, ◌<◌, ◌≤◌, ⊎_elim, List, [], ◌∷◌, length, refl, sym, ◌∙◌, ap, subst, arith, zero-add, add-zero}
+use Rattle.std.proofs.Common.{◌≡◌, ℕ, zero, suc, ◌+◌, ◌<◌, ◌≤◌, ⊎_elim, true, false, List, [], ◌∷◌, length, refl, sym, ◌∙◌, ap, subst, arith, zero-add, add-zero}
 use Rattle.std.specs.Prelude.{Option, Some, None, slice_get, option_map, option_and_then, filter_map}
 use Rattle.std.specs.List.{range_with_len, cons_option}
-use Rattle.std.proofs.lemmas.Bool.{cases_lt}
+use Rattle.std.proofs.lemmas.Bool.{cases_lt, cases_Bool, both_ways}
 use Rattle.std.proofs.lemmas.Option.{none-some, same_Some, option_and_then_some, slice_get_past}
-use Rattle.tree_plan.specs.Shape.{Shape, Child}
-use Rattle.tree_plan.specs.Shape.Child.{of_cpu, of_group}
-use Rattle.tree_plan.specs.Paths.{cpu_count_of, group_count_of, level_count_of, level_of, child_at, parent_of, bit_of, group_at_of, child_towards, path_of, IsBelow, IsUnder}
+use Rattle.tm_base.specs.declared.names.Child.{Child}
+use Rattle.tm_base.specs.declared.names.Child.TheVariants.{Cpu, Group}
+use Rattle.tm_base.specs.Children.{of_cpu, of_group}
+use Rattle.tree_plan.specs.Shape.{Shape}
+use Rattle.tree_plan.specs.Paths.{is_placed_in, group_count_of, level_count_of, level_of, child_at, parent_of, bit_of, group_at_of, child_towards, path_of, IsBelow, IsUnder}
 use Rattle.tree_plan.specs.Laws.{CutLaws, EdgeLaws, LevelLaws, PathLaws}
 
 all_behind : {A : Type 0} (f : ℕ → Option A) (a n : ℕ) → ((k : ℕ) → k < suc n → (x : A) × (f (a + k) ≡ Some x)) →
@@ -51,7 +53,7 @@ module _ (t : Shape) (cuts : CutLaws t) (edges : EdgeLaws t) (levels : LevelLaws
   climb c l g e = ap (option_and_then (λ h. parent_of t (of_group h))) e
 
   -- the group one level below on a path
-  below : (c l g : ℕ) → group_at_of t c (suc l) ≡ Some g →
+  pub below : (c l g : ℕ) → group_at_of t c (suc l) ≡ Some g →
       (h : ℕ) × (group_at_of t c l ≡ Some h) × (parent_of t (of_group h) ≡ Some g)
   unfolding group_at_of
   below c l g e = option_and_then_some (λ h. parent_of t (of_group h)) (group_at_of t c l) g e (λ h at up. (h, at, up))
@@ -60,9 +62,9 @@ module _ (t : Shape) (cuts : CutLaws t) (edges : EdgeLaws t) (levels : LevelLaws
   level c zero g e = levels.leaf c g (sym (leaf c) ∙ e)
   level c (suc l) g e = let step = below c l g e in levels.parent step.0 g step.2 ∙ ap suc (level c l step.0 step.1)
 
-  cpu_within : (c l g : ℕ) → group_at_of t c l ≡ Some g → c < cpu_count_of t
-  cpu_within c zero g e = edges.cpu_within c g (sym (leaf c) ∙ e)
-  cpu_within c (suc l) g e = let step = below c l g e in cpu_within c l step.0 step.1
+  cpu_placed : (c l g : ℕ) → group_at_of t c l ≡ Some g → is_placed_in t c ≡ true
+  cpu_placed c zero g e = edges.cpu_placed c g (sym (leaf c) ∙ e)
+  cpu_placed c (suc l) g e = let step = below c l g e in cpu_placed c l step.0 step.1
 
   towards : (c l g : ℕ) → group_at_of t c l ≡ Some g →
       (m : Child) × (child_towards t c l ≡ Some m) × (parent_of t m ≡ Some g) × (child_at t g (bit_of t m) ≡ Some m)
@@ -95,13 +97,13 @@ module _ (t : Shape) (cuts : CutLaws t) (edges : EdgeLaws t) (levels : LevelLaws
 
   under : (c p : ℕ) (m : Child) → parent_of t m ≡ Some p → IsUnder t c m → child_towards t c (level_of t p) ≡ Some m
   unfolding child_towards
-  under c p (of_cpu d) up same = ap (child_towards t c) (levels.leaf d p up) ∙ ap (λ n. Some (of_cpu n)) same
-  under c p (of_group g) up on = ap (child_towards t c) (levels.parent g p up) ∙ ap (option_map of_group) (below_at c g on)
+  under c p (Cpu d) up same = ap (child_towards t c) (levels.leaf d.0 p up) ∙ ap (λ n. Some (of_cpu n)) same
+  under c p (Group g) up on = ap (child_towards t c) (levels.parent g.0 p up) ∙ ap (option_map of_group) (below_at c g.0 on)
 
   group_within : (c l g : ℕ) → group_at_of t c l ≡ Some g → g < group_count_of t
   group_within c l g e = let step = towards c l g e in edges.parent_within g step.0 step.2
 
-  there : (c l : ℕ) → c < cpu_count_of t → l < level_count_of t → (g : ℕ) × (group_at_of t c l ≡ Some g)
+  there : (c l : ℕ) → is_placed_in t c ≡ true → l < level_count_of t → (g : ℕ) × (group_at_of t c l ≡ Some g)
   there c zero inside low = let up = edges.cpu_parent c inside low in (up.0, leaf c ∙ up.1)
   there c (suc l) inside low =
       let here = there c l inside (omega arith) in
@@ -125,7 +127,7 @@ module _ (t : Shape) (cuts : CutLaws t) (edges : EdgeLaws t) (levels : LevelLaws
       (λ before. ap (option_and_then (λ g. parent_of t (of_group g))) (meet c d l n same before))
       (cases_lt n l)
 
-  top : (c l g : ℕ) → c < cpu_count_of t → suc l ≡ level_count_of t → suc g ≡ group_count_of t →
+  top : (c l g : ℕ) → is_placed_in t c ≡ true → suc l ≡ level_count_of t → suc g ≡ group_count_of t →
       group_at_of t c l ≡ Some g
   top c l g inside highest last =
       let here = there c l inside (omega arith) in
@@ -135,18 +137,18 @@ module _ (t : Shape) (cuts : CutLaws t) (edges : EdgeLaws t) (levels : LevelLaws
 
   -- below the first child of a group
   below_child : (l g : ℕ) (m : Child) → parent_of t m ≡ Some g → level_of t g ≡ l →
-      ((l' h : ℕ) → l ≡ suc l' → h < group_count_of t → level_of t h ≡ l' → (c : ℕ) × (c < cpu_count_of t) × (group_at_of t c l' ≡ Some h)) →
-      (c : ℕ) × (c < cpu_count_of t) × (group_at_of t c l ≡ Some g)
-  below_child l g (of_cpu c) up at rest =
-      let low : 0 ≡ l = sym (levels.leaf c g up) ∙ at in
-      (c, edges.cpu_within c g up, ap (group_at_of t c) (sym low) ∙ (leaf c ∙ up))
-  below_child l g (of_group h) up at rest =
-      let high : l ≡ suc (level_of t h) = sym at ∙ levels.parent h g up in
-      let cpu = rest (level_of t h) h high (omega (arith, edges.group_within h g up)) refl in
-      (cpu.0, cpu.1, ap (group_at_of t cpu.0) high ∙ (climb cpu.0 (level_of t h) h cpu.2 ∙ up))
+      ((l' h : ℕ) → l ≡ suc l' → h < group_count_of t → level_of t h ≡ l' → (c : ℕ) × (is_placed_in t c ≡ true) × (group_at_of t c l' ≡ Some h)) →
+      (c : ℕ) × (is_placed_in t c ≡ true) × (group_at_of t c l ≡ Some g)
+  below_child l g (Cpu c) up at rest =
+      let low : 0 ≡ l = sym (levels.leaf c.0 g up) ∙ at in
+      (c.0, edges.cpu_placed c.0 g up, ap (group_at_of t c.0) (sym low) ∙ (leaf c.0 ∙ up))
+  below_child l g (Group h) up at rest =
+      let high : l ≡ suc (level_of t h.0) = sym at ∙ levels.parent h.0 g up in
+      let cpu = rest (level_of t h.0) h.0 high (omega (arith, edges.group_within h.0 g up)) refl in
+      (cpu.0, cpu.1, ap (group_at_of t cpu.0) high ∙ (climb cpu.0 (level_of t h.0) h.0 cpu.2 ∙ up))
 
   some_cpu : (l g : ℕ) → g < group_count_of t → level_of t g ≡ l →
-      (c : ℕ) × (c < cpu_count_of t) × (group_at_of t c l ≡ Some g)
+      (c : ℕ) × (is_placed_in t c ≡ true) × (group_at_of t c l ≡ Some g)
   some_cpu zero g inside at =
       let first = edges.some_at g 0 (omega (arith, cuts.some_child g inside)) in
       below_child zero g first.0 (edges.parent g 0 first.0 first.1) at (λ l h low within there. absurd (omega arith))
@@ -157,16 +159,16 @@ module _ (t : Shape) (cuts : CutLaws t) (edges : EdgeLaws t) (levels : LevelLaws
       let cpu = some_cpu l h within (there ∙ sym same) in
       (cpu.0, cpu.1, ap (group_at_of t cpu.0) (sym same) ∙ cpu.2))
 
-  all_levels : (c : ℕ) → c < cpu_count_of t → (l : ℕ) → l < level_count_of t →
+  all_levels : (c : ℕ) → is_placed_in t c ≡ true → (l : ℕ) → l < level_count_of t →
       (g : ℕ) × (group_at_of t c (0 + l) ≡ Some g)
   all_levels c inside l low = let here = there c l inside low in (here.0, ap (group_at_of t c) (zero-add l) ∙ here.1)
 
-  nowhere : (c : ℕ) → cpu_count_of t ≤ c → (l : ℕ) → group_at_of t c l ≡ None
-  nowhere c outside l = by_group (group_at_of t c l) refl
+  isolated : (c : ℕ) → is_placed_in t c ≡ false → (l : ℕ) → group_at_of t c l ≡ None
+  isolated c outside l = by_group (group_at_of t c l) refl
     where
       by_group : (o : Option ℕ) → group_at_of t c l ≡ o → o ≡ None
       by_group None e = refl
-      by_group (Some g) e = absurd (omega (arith, cpu_within c l g e))
+      by_group (Some g) e = absurd (both_ways (is_placed_in t c) outside (cpu_placed c l g e))
 
   listed : (c l : ℕ) → slice_get (path_of t c) l ≡ group_at_of t c l
   unfolding path_of
@@ -175,10 +177,14 @@ module _ (t : Shape) (cuts : CutLaws t) (edges : EdgeLaws t) (levels : LevelLaws
       ⊎_elim (λ low. get-filter_map (group_at_of t c) 0 (level_count_of t) l (all_levels c inside) low ∙ ap (group_at_of t c) (zero-add l))
       (λ high. slice_get_past (filter_map (group_at_of t c) (range_with_len 0 (level_count_of t))) l (omega (arith, length-filter_map (group_at_of t c) 0 (level_count_of t) (all_levels c inside))) ∙ sym (beyond c l high))
       (cases_lt l (level_count_of t)))
-      (λ outside. ap (λ gs. slice_get gs l) (none-filter_map (group_at_of t c) (range_with_len 0 (level_count_of t)) (nowhere c outside)) ∙ sym (nowhere c outside l))
-      (cases_lt c (cpu_count_of t))
+      (λ outside. ap (λ gs. slice_get gs l) (none-filter_map (group_at_of t c) (range_with_len 0 (level_count_of t)) (isolated c outside)) ∙ sym (isolated c outside l))
+      (cases_Bool (is_placed_in t c))
 
-  height : (c : ℕ) → c < cpu_count_of t → length (path_of t c) ≡ level_count_of t
+  pub no_path : (c : ℕ) → is_placed_in t c ≡ false → path_of t c ≡ []
+  unfolding path_of
+  no_path c outside = none-filter_map (group_at_of t c) (range_with_len 0 (level_count_of t)) (isolated c outside)
+
+  pub height : (c : ℕ) → is_placed_in t c ≡ true → length (path_of t c) ≡ level_count_of t
   unfolding path_of
   height c inside = length-filter_map (group_at_of t c) 0 (level_count_of t) (all_levels c inside)
 
@@ -189,7 +195,8 @@ module _ (t : Shape) (cuts : CutLaws t) (edges : EdgeLaws t) (levels : LevelLaws
     there = there;
     beyond = beyond;
     level = level;
-    cpu_within = cpu_within;
+    isolated = λ c l outside. isolated c outside l;
+    cpu_placed = cpu_placed;
     group_within = group_within;
     towards = towards;
     onwards = onwards;
@@ -200,5 +207,4 @@ module _ (t : Shape) (cuts : CutLaws t) (edges : EdgeLaws t) (levels : LevelLaws
     top = top;
     some_cpu = λ g inside. some_cpu (level_of t g) g inside refl;
     listed = listed;
-    height = height;
   }

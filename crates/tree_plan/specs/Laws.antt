@@ -1,5 +1,5 @@
 -- what holds of every planned tree, for walks up and down in it
-use Rattle.std.specs.Prelude.{◌≡◌, ◌≢◌, ◌↔◌, ℕ, suc, ◌-◌, ◌^◌, ◌<◌, ◌≤◌, ◌++◌, Bool, true, false, IsTrue, [], map, length, Some, None, slice_get}
+use Rattle.std.specs.Prelude.{◌≡◌, ◌↔◌, ℕ, suc, ◌-◌, ◌^◌, ◌<◌, ◌≤◌, ◌++◌, true, false, [], map, length, Some, None, slice_get}
 use Rattle.std.specs.List.{range_with_len}
 use Rattle.tm_base.specs.declared.names.Child.{Child}
 use Rattle.tm_base.specs.Children.{of_cpu, of_group}

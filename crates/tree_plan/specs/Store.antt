@@ -1,11 +1,14 @@
--- how a tree is kept: its groups in the order of their numbers, and for each child, the CPUs first and then the
--- groups, the group that has it and its child number there
-use Rattle.std.specs.Prelude.{◌≡◌, ℕ, zero, suc, ◌+◌, ◌-◌, ◌/◌, min, nat_lt, if◌then◌else◌, List, [], ◌∷◌, ◌++◌, length, map, sum, Option, option_map}
+-- how a tree is kept: its groups in the order of their numbers, and for each child, the placed CPUs first and then the
+-- groups, the group that has it and its child number there; the same once more for each CPU by its number
+use Rattle.std.specs.Prelude.{◌≡◌, ℕ, zero, suc, ◌+◌, ◌-◌, ◌*◌, ◌/◌, min, nat_lt, if◌then◌else◌, List, [], ◌∷◌, ◌++◌, length, map, sum, Option, None, option_map, slice_get}
 use Rattle.std.specs.List.{range_with_len}
+use Rattle.std.specs.FinSet.{contains}
+use Rattle.tm_base.specs.declared.names.Child.{Child}
+use Rattle.tm_base.specs.CpuSet.{Cpus}
 use Rattle.tree_plan.specs.declared.cutting.Group.{Group}
 use Rattle.tree_plan.specs.declared.cutting.Link.{Link}
-use Rattle.tree_plan.specs.Shape.{Shape, Child, IsWithinLimits, tree_of}
-use Rattle.tree_plan.specs.Paths.{groups_of, level_of, place_of, child_count_of, parent_of, bit_of}
+use Rattle.tree_plan.specs.Shape.{Shape, IsWithinLimits, placed_from, tree_of}
+use Rattle.tree_plan.specs.Paths.{placed_of, groups_of, level_of, place_of, child_count_of, parent_of, bit_of}
 
 -- the lengths of n runs of eight of a list of m, as far as it goes
 unfoldable pub lengths_of : (n m : ℕ) → List ℕ
@@ -55,8 +58,18 @@ group_of t g = record { level = level_of t g; place = place_of t g; children = c
 abbrev pub link_of : Shape → Child → Option Link
 link_of t m = option_map (λ p. record { parent = record { 0 = p }; bit = bit_of t m }) (parent_of t m)
 
+-- the links of the n CPUs from 0 on, where these are the links of the placed ones among them in ascending order
+abbrev pub seat_link : Cpus → List Link → ℕ → Option Link
+seat_link isolated links c = if contains isolated c then None else slice_get links (length (placed_from isolated 0 c))
+
+abbrev pub seat_links : Cpus → List Link → (n : ℕ) → List (Option Link)
+seat_links isolated links n = map (seat_link isolated links) (range_with_len 0 n)
+
 -- these are the groups and the links of the tree of this machine
-pub record IsStored (nodes cpus : ℕ) (groups : List Group) (links : List Link) : Type 0 where
-  pub limits : IsWithinLimits nodes cpus
-  pub all_groups : groups ≡ listed_levels 0 (lengths (tree_of nodes cpus).levels)
-  pub all_links : links ≡ links_from 0 (map length (groups_of (tree_of nodes cpus)))
+pub record IsStored (nodes cpus : ℕ) (isolated : Cpus) (placed : ℕ) (groups : List Group) (links : List Link)
+    (seats : List (Option Link)) : Type 0 where
+  pub limits : IsWithinLimits nodes cpus isolated
+  pub all_placed : placed ≡ length (placed_of (tree_of nodes cpus isolated))
+  pub all_groups : groups ≡ listed_levels 0 (lengths (tree_of nodes cpus isolated).levels)
+  pub all_links : links ≡ links_from 0 (map length (groups_of (tree_of nodes cpus isolated)))
+  pub all_seats : seats ≡ seat_links isolated links (nodes * cpus)

@@ -1,14 +1,13 @@
 //! How a machine is cut into groups, and how every child is linked to its group.
 
-ghost use Rattle.std.specs.Prelude.{◌≡◌, ◌+◌, ◌*◌, ◌^◌, ◌<◌, ◌≤◌, [], ◌∷◌, ◌++◌, length, map, sum, flat_map, vec_len, IfOk, OnOk};
-ghost use Rattle.tree_plan.specs.Shape.{IsWithinLimits, levels_for, tree_of};
-ghost use Rattle.tree_plan.specs.Store.{groups_for, run_lengths, row_lengths_at, listed, listed_levels, lengths, links_to, links_from};
+ghost use Rattle.std.specs.Prelude.{◌≡◌, ◌+◌, ◌*◌, ◌^◌, ◌<◌, ◌≤◌, [], ◌∷◌, ◌++◌, length, map, sum, flat_map, vec_len, slice_get, if◌then◌else◌, None, IfOk, OnOk};
+ghost use Rattle.std.specs.FinSet.{contains};
+ghost use Rattle.tm_base.specs.declared.limits.TheConstants.{MOST_CPUS_V2};
+ghost use Rattle.tree_plan.specs.Shape.{IsWithinLimits, levels_for, node_cpus, placed_from, tree_of};
+ghost use Rattle.tree_plan.specs.Store.{groups_for, run_lengths, row_lengths_at, listed, listed_levels, lengths, links_to, links_from, seat_links};
 
 use std::alloc::Global;
-use tm_base::{GroupId, NoMemory};
-
-/// How many children a group has at most (the kernel's `TMIGR_CHILDREN_PER_GROUP`).
-const CHILDREN_PER_GROUP: u8 = 8;
+use tm_base::{CpuId, CpuSet, GROUP_SIZE, GroupId, NoMemory};
 
 /// A group of the tree, without what is active in it.
 #[derive(Clone, Copy, Debug)]
@@ -45,7 +44,7 @@ pub(crate) fn levels_for(members: u8) -> u8
 
 /// Appends the groups of one row of members, full ones as far as the row goes and one with what is left. `first`
 /// is the place of the first of them in its level; the answer is the place behind the last.
-fn cut_row(groups: &mut Vec<Group>, level: u8, first: u16, members: u8) -> Result<u16, NoMemory>
+fn cut_row(groups: &mut Vec<Group>, level: u8, first: u16, members: u16) -> Result<u16, NoMemory>
     requires { first + members < 2 ^ 16 }
     ensures groups { OnOk result (groups.new.items ≡ groups.old.items ++ listed level first (run_lengths members)) }
     ensures behind { IfOk result (λ place. place ≡ first + groups_for members) }
@@ -53,11 +52,11 @@ fn cut_row(groups: &mut Vec<Group>, level: u8, first: u16, members: u8) -> Resul
     let mut place = first;
     let mut left = members;
     while left > 0 {
-        let children = left.min(CHILDREN_PER_GROUP);
+        let children = left.min(GROUP_SIZE as u16);
         groups.push(Group {
             level,
             place,
-            children,
+            children: children as u8,
         })?;
         place += 1;
         left -= children;
@@ -65,9 +64,9 @@ fn cut_row(groups: &mut Vec<Group>, level: u8, first: u16, members: u8) -> Resul
     Ok(place)
 }
 
-/// Appends the groups of a level that cuts rows of so many members, at most 64 in all.
-fn cut_level(groups: &mut Vec<Group>, level: u8, rows: &[u8]) -> Result<(), NoMemory>
-    requires { sum rows.now ≤ 64 }
+/// Appends the groups of a level that cuts rows of so many members, at most 512 in all.
+fn cut_level(groups: &mut Vec<Group>, level: u8, rows: &[u16]) -> Result<(), NoMemory>
+    requires { sum rows.now ≤ MOST_CPUS_V2 }
     ensures { OnOk result (groups.new.items ≡ groups.old.items ++ listed level 0 (flat_map run_lengths rows.now)) }
 {
     let mut place = 0;
@@ -78,8 +77,8 @@ fn cut_level(groups: &mut Vec<Group>, level: u8, rows: &[u8]) -> Result<(), NoMe
 }
 
 /// How many members all rows have.
-fn members_of(rows: &[u8]) -> u8
-    requires { sum rows.now ≤ 64 }
+fn members_of(rows: &[u16]) -> u16
+    requires { sum rows.now ≤ MOST_CPUS_V2 }
     ensures { result ≡ sum rows.now }
 {
     rows.iter().sum()
@@ -87,9 +86,9 @@ fn members_of(rows: &[u8]) -> u8
 
 /// Puts the members of all rows into one from level `inner` on, where groups take their children from all nodes
 /// (the kernel's `tmigr_crossnode_level`).
-fn merge_across(rows: &mut Vec<u8>, level: u8, inner: u8)
+fn merge_across(rows: &mut Vec<u16>, level: u8, inner: u8)
     requires some_row { 0 < vec_len rows.old }
-    requires few { sum rows.old.items ≤ 64 }
+    requires few { sum rows.old.items ≤ MOST_CPUS_V2 }
     ensures { rows.new.items ≡ row_lengths_at inner level rows.old.items }
 {
     if level >= inner {
@@ -100,11 +99,11 @@ fn merge_across(rows: &mut Vec<u8>, level: u8, inner: u8)
 }
 
 /// Makes the groups of each row the members of the next level.
-fn climb(rows: &mut Vec<u8>)
+fn climb(rows: &mut Vec<u16>)
     ensures { rows.new.items ≡ map groups_for rows.old.items }
 {
     for row in rows.iter_mut() {
-        *row = row.div_ceil(CHILDREN_PER_GROUP);
+        *row = row.div_ceil(GROUP_SIZE as u16);
     }
 }
 
@@ -114,10 +113,10 @@ fn cut_next(
     groups: &mut Vec<Group>,
     level: u8,
     inner: u8,
-    rows: &mut Vec<u8>,
+    rows: &mut Vec<u16>,
 ) -> Result<(), NoMemory>
     requires some_row { 0 < vec_len rows.old }
-    requires few { sum rows.old.items ≤ 64 }
+    requires few { sum rows.old.items ≤ MOST_CPUS_V2 }
     ensures groups { OnOk result (groups.new.items ≡ groups.old.items ++ listed level 0 (flat_map run_lengths (row_lengths_at inner level rows.old.items))) }
     ensures rows { OnOk result (rows.new.items ≡ map groups_for (row_lengths_at inner level rows.old.items)) }
 {
@@ -127,15 +126,44 @@ fn cut_next(
     Ok(())
 }
 
+/// How many of so many CPUs from this one on are placed.
+pub(crate) fn placed_among(first: u16, count: u16, isolated: &CpuSet) -> u16
+    requires { first + count < 2 ^ 16 }
+    ensures { result ≡ length (placed_from isolated.now first count) }
+{
+    let mut placed = 0;
+    for cpu in first..first + count {
+        placed += u16::from(!isolated.has(CpuId(cpu)));
+    }
+    placed
+}
+
+/// The rows with which the cutting begins: how many placed CPUs each node has.
+fn node_rows(alloc: Global, nodes: u8, cpus: u8, isolated: &CpuSet) -> Result<Vec<u16>, NoMemory>
+    ensures { IfOk result (λ rows. rows.items ≡ map length (node_cpus nodes cpus isolated.now)) }
+{
+    let mut rows = Vec::new(alloc);
+    for node in 0..nodes {
+        let first = u16::from(node) * u16::from(cpus);
+        rows.push(placed_among(first, u16::from(cpus), isolated))?;
+    }
+    Ok(rows)
+}
+
 /// The groups of the tree in the order of their numbers. As the kernel's `tmigr_setup_groups` it stops at the
 /// first level with one group.
-pub(crate) fn cut_groups(alloc: Global, nodes: u8, cpus: u8) -> Result<Vec<Group>, NoMemory>
-    requires { IsWithinLimits nodes cpus }
-    ensures { IfOk result (λ groups. groups.items ≡ listed_levels 0 (lengths (tree_of nodes cpus).levels)) }
+pub(crate) fn cut_groups(
+    alloc: Global,
+    nodes: u8,
+    cpus: u8,
+    isolated: &CpuSet,
+) -> Result<Vec<Group>, NoMemory>
+    requires { IsWithinLimits nodes cpus isolated.now }
+    ensures { IfOk result (λ groups. groups.items ≡ listed_levels 0 (lengths (tree_of nodes cpus isolated.now).levels)) }
 {
     let inner = levels_for(cpus);
     let most = inner + levels_for(nodes);
-    let mut rows = vec![in alloc; cpus; usize::from(nodes)]?;
+    let mut rows = node_rows(alloc, nodes, cpus, isolated)?;
     let mut groups = Vec::new(alloc);
     for level in 0..most {
         if members_of(rows.as_slice()) == 1 {
@@ -156,7 +184,7 @@ fn link_to(links: &mut Vec<Link>, parent: GroupId, children: u8) -> Result<(), N
     Ok(())
 }
 
-/// The link of every child: of the CPUs in ascending order, and then of the groups but for the top.
+/// The link of every child: of the placed CPUs in ascending order, and then of the groups but for the top.
 pub(crate) fn link_children(alloc: Global, groups: &[Group]) -> Result<Vec<Link>, NoMemory>
     requires { length groups.now < 2 ^ 16 }
     ensures { IfOk result (λ links. links.items ≡ links_from 0 (map (λ g. g.children) groups.now)) }
@@ -166,4 +194,33 @@ pub(crate) fn link_children(alloc: Global, groups: &[Group]) -> Result<Vec<Link>
         link_to(&mut links, GroupId(number as u16), group.children)?;
     }
     Ok(links)
+}
+
+/// The link of a CPU: a placed one has the next one of `links`, where so many were given out.
+fn seat(isolated: &CpuSet, links: &[Link], cpu: u16, next: usize) -> Option<Link>
+    ensures { result ≡ (if contains isolated.now cpu then None else slice_get links.now next) }
+{
+    if isolated.has(CpuId(cpu)) {
+        None
+    } else {
+        links.get(next).copied()
+    }
+}
+
+/// The link of every CPU by its number, None where it has none.
+pub(crate) fn link_cpus(
+    alloc: Global,
+    count: u16,
+    isolated: &CpuSet,
+    links: &[Link],
+) -> Result<Vec<Option<Link>>, NoMemory>
+    ensures { IfOk result (λ seats. seats.items ≡ seat_links isolated.now links.now count) }
+{
+    let mut seats = Vec::new(alloc);
+    let mut next = 0;
+    for cpu in 0..count {
+        seats.push(seat(isolated, links, cpu, next))?;
+        next += usize::from(!isolated.has(CpuId(cpu)));
+    }
+    Ok(seats)
 }

@@ -1,56 +1,72 @@
 //! The planned tree and its readers.
 
-ghost use Rattle.std.specs.Prelude.{◌≡◌, ℕ, ◌+◌, ◌*◌, ◌<◌, ◌≤◌, ◌↔◌, length, map, IfOk, IsNone, option_map};
+ghost use Rattle.std.specs.Prelude.{◌≡◌, ℕ, ◌+◌, ◌*◌, ◌<◌, ◌≤◌, ◌↔◌, true, false, length, map, IfOk, IsNone, option_map};
+ghost use Rattle.tm_base.specs.Children.{of_cpu, of_group};
 ghost use Rattle.tree_plan.specs.Shape.{Shape, IsWithinLimits, IsPlanned, tree_of};
-ghost use Rattle.tree_plan.specs.Shape.Child.{of_cpu, of_group};
-ghost use Rattle.tree_plan.specs.Paths.{cpu_count_of, group_count_of, level_count_of, level_of, place_of, child_count_of, parent_of, bit_of, group_at_of, IsTop};
+ghost use Rattle.tree_plan.specs.Paths.{cpu_count_of, is_placed_in, group_count_of, level_count_of, level_of, place_of, child_count_of, parent_of, bit_of, group_at_of, IsTop};
 ghost use Rattle.tree_plan.specs.Store.{group_of, link_of};
 
-use crate::cutting::{Group, Link, cut_groups, link_children};
+use crate::cutting::{Group, Link, cut_groups, link_children, link_cpus, placed_among};
 use std::alloc::Global;
 use std::marker::Model;
-use tm_base::{CpuId, GroupId, NoMemory};
+use tm_base::{CpuId, CpuSet, GroupId, NoMemory};
 
-/// The tree of a machine. A contract sees it as its `Shape`: the machine and the levels of groups. Groups are numbered level by level from the leaves, and in a level in ascending order.
+/// The tree of a machine. A contract sees it as its `Shape`: the machine and the levels of groups. Groups are
+/// numbered level by level from the leaves, and in a level in ascending order.
 #[derive(Debug, Drop)]
 pub struct Tree {
     nodes: u8,
     cpus: u8,
+    isolated: CpuSet,
+    /// How many CPUs are placed.
+    placed: u16,
     groups: Vec<Group>,
+    /// Of each child: the placed CPUs in ascending order, and then the groups but for the top.
     links: Vec<Link>,
+    /// Of each CPU by its number.
+    seats: Vec<Option<Link>>,
 }
 
 impl Model for Tree {
     ghost use Rattle.tree_plan.specs.Shape.{Shape, tree_of};
+    ghost use Rattle.tree_plan.specs.Codes.{shape_code};
     ghost use Rattle.tree_plan.specs.Store.{IsStored};
 
     ghost Value = { Shape };
 
-    ghost view = { λ t. tree_of t.nodes t.cpus };
+    ghost coded = { shape_code };
 
-    ghost invariant = { λ t. IsStored t.nodes t.cpus t.groups.items t.links.items };
+    ghost view = { λ t. tree_of t.nodes t.cpus t.isolated };
+
+    ghost invariant = { λ t. IsStored t.nodes t.cpus t.isolated t.placed t.groups.items t.links.items t.seats.items };
 }
 
-/// Plans the tree of a machine of so many nodes with so many CPUs each: 1 to 8 nodes of 1 to 64 CPUs, and at
-/// most 64 CPUs in all. It is the one that the kernel's `tmigr_setup_groups` builds where all CPUs join in
-/// ascending order before the start, but one CPU alone has no group. The only error is want of memory.
-pub fn plan(alloc: Global, nodes: u8, cpus: u8) -> Result<Tree, NoMemory>
-    requires { IsWithinLimits nodes cpus }
-    ensures tree { IfOk result (λ t. t ≡ tree_of nodes cpus) }
+/// Plans the tree of a machine of 1 to 8 nodes with 1 to 64 CPUs each, of which some aren't isolated. It is the one
+/// that the kernel's `tmigr_setup_groups` builds where all placed CPUs join in ascending order before the start; for
+/// one placed CPU alone nothing is set up, as the kernel's `tmigr_init` does for one possible CPU. The only error is
+/// want of memory. The work is linear in the number of CPUs.
+pub fn plan(alloc: Global, nodes: u8, cpus: u8, isolated: &CpuSet) -> Result<Tree, NoMemory>
+    requires { IsWithinLimits nodes cpus isolated.now }
+    ensures tree { IfOk result (λ t. t ≡ tree_of nodes cpus isolated.now) }
     ensures planned { IfOk result IsPlanned }
 {
-    let groups = cut_groups(alloc, nodes, cpus)?;
+    let count = u16::from(nodes) * u16::from(cpus);
+    let groups = cut_groups(alloc, nodes, cpus, isolated)?;
     let links = link_children(alloc, groups.as_slice())?;
+    let seats = link_cpus(alloc, count, isolated, links.as_slice())?;
     Ok(Tree {
         nodes,
         cpus,
+        isolated: isolated.copy(),
+        placed: placed_among(0, count, isolated),
         groups,
         links,
+        seats,
     })
 }
 
 impl Tree {
-    /// The number of CPUs, 1 to 64.
+    /// The number of CPUs, 1 to 512, isolated ones too.
     pub fn cpu_count(&self) -> u16
         ensures count { result ≡ cpu_count_of self.now }
         ensures planned { IsPlanned self.now }
@@ -58,14 +74,22 @@ impl Tree {
         u16::from(self.nodes) * u16::from(self.cpus)
     }
 
-    /// The number of groups, 0 where there is one CPU alone.
+    /// Whether the CPU is placed, that is, not isolated.
+    pub fn is_placed(&self, c: CpuId) -> bool
+        requires { c.0 < cpu_count_of self.now }
+        ensures { result ≡ is_placed_in self.now c.0 }
+    {
+        !self.isolated.has(c)
+    }
+
+    /// The number of groups, at most 73; 0 where one placed CPU is alone.
     pub fn group_count(&self) -> u16
         ensures { result ≡ group_count_of self.now }
     {
         self.groups.len() as u16
     }
 
-    /// The number of levels built, 0 where there is one CPU alone. Level 0 has the leaves.
+    /// The number of levels built, at most 3; 0 where one placed CPU is alone. Level 0 has the leaves.
     pub fn levels(&self) -> u8
         ensures { result ≡ level_count_of self.now }
     {
@@ -119,9 +143,9 @@ impl Tree {
         }
     }
 
-    /// The child number of a CPU in its leaf, 0 where it has none.
+    /// The child number of a placed CPU in its leaf, 0 where it has none.
     pub fn cpu_bit(&self, c: CpuId) -> u8
-        requires { c.0 < cpu_count_of self.now }
+        requires { is_placed_in self.now c.0 ≡ true }
         ensures { result ≡ bit_of self.now (of_cpu c.0) }
     {
         match self.cpu_link(c) {
@@ -130,11 +154,13 @@ impl Tree {
         }
     }
 
-    /// The group of a CPU's path at a level. None exactly where the tree has no such level.
+    /// The group of a CPU's path at a level. For a placed CPU it is None exactly where the tree has no such level, for
+    /// an isolated one always.
     pub fn group_at(&self, c: CpuId, level: u8) -> Option<GroupId>
         requires { c.0 < cpu_count_of self.now }
         ensures group { option_map (λ g. g.0) result ≡ group_at_of self.now c.0 level }
-        ensures none { IsNone result ↔ (level_count_of self.now ≤ level) }
+        ensures none { is_placed_in self.now c.0 ≡ true → IsNone result ↔ (level_count_of self.now ≤ level) }
+        ensures isolated { is_placed_in self.now c.0 ≡ false → IsNone result }
     {
         let Some(link) = self.cpu_link(c) else {
             return None;
@@ -157,13 +183,13 @@ impl Tree {
         self.groups[usize::from(g.0)]
     }
 
-    /// The link of a CPU to its leaf, None where it stands alone.
+    /// The link of a CPU to its leaf, None where it has none.
     fn cpu_link(&self, c: CpuId) -> Option<Link>
         requires { c.0 < cpu_count_of self.now }
         ensures link { result ≡ link_of self.now (of_cpu c.0) }
         ensures planned { IsPlanned self.now }
     {
-        self.links.get(usize::from(c.0)).copied()
+        self.seats[usize::from(c.0)]
     }
 
     /// The link of a group to its parent, None at the top.
@@ -172,7 +198,8 @@ impl Tree {
         ensures link { result ≡ link_of self.now (of_group g.0) }
         ensures planned { IsPlanned self.now }
     {
-        let cpus = usize::from(self.nodes) * usize::from(self.cpus);
-        self.links.get(cpus + usize::from(g.0)).copied()
+        self.links
+            .get(usize::from(self.placed) + usize::from(g.0))
+            .copied()
     }
 }

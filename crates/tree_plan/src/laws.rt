@@ -2,11 +2,16 @@
 
 ghost use Rattle.std.specs.Prelude.{ℕ};
 ghost use Rattle.tree_plan.specs.Shape.{Shape, IsPlanned};
-ghost use Rattle.tree_plan.specs.Laws.{LogarithmLaws, CutLaws, EdgeLaws, LevelLaws, PathLaws};
+ghost use Rattle.tree_plan.specs.Laws.{LogarithmLaws, PlacedLaws, CutLaws, EdgeLaws, LevelLaws, PathLaws, BelowLaws, NodeLaws};
 
 /// The logarithm that fixes the numbers of levels is the least exponent that reaches its number.
 pub fn law_log2up()
     ensures { (x : ℕ) → LogarithmLaws x }
+{}
+
+/// Which CPUs are placed, and that all of them have groups or none.
+pub fn law_placed()
+    ensures { (t : Shape) → IsPlanned t → PlacedLaws t }
 {}
 
 /// What the groups of a planned tree are made of, and how many there are.
@@ -27,4 +32,14 @@ pub fn law_levels()
 /// The paths of CPUs from the leaf to the top.
 pub fn law_paths()
     ensures { (t : Shape) → IsPlanned t → PathLaws t }
+{}
+
+/// The CPUs below a group, and below its children.
+pub fn law_below()
+    ensures { (t : Shape) → IsPlanned t → BelowLaws t }
+{}
+
+/// Groups within a node and across nodes, and which of them are full.
+pub fn law_nodes()
+    ensures { (t : Shape) → IsPlanned t → NodeLaws t }
 {}
