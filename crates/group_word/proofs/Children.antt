@@ -1,12 +1,12 @@
 -- what the exchanges do to the set of active children and to the migrator
-use Rattle.std.proofs.Common.{◌≡◌, ◌≢◌, ◌↔◌, ◌==◌, ℕ, ◌^◌, ◌*◌, ◌%◌, ◌-◌, ◌<◌, inl, inr, Option, Some, None, true, sym, subst, ◌∙◌, arith, bit_or, bit_and}
+use Rattle.std.proofs.Common.{◌≡◌, ◌≢◌, ◌↔◌, ◌==◌, ℕ, ◌^◌, ◌*◌, ◌%◌, ◌-◌, ◌<◌, inl, inr, Option, Some, None, true, refl, sym, subst, ◌∙◌, arith, bit_or, bit_and}
 use Rattle.std.specs.Int.{bit_at, trailing_zeros, w8}
 use Rattle.std.specs.Option.{option_or}
 use Rattle.std.proofs.lemmas.Bool.{cases_eq, cases_lt, eq-eqb, eqb-true}
 use Rattle.std.proofs.lemmas.Nat.{and_le_l}
 use Rattle.std.proofs.lemmas.Nat.Bits.{bit_at_set_same, bit_at_set_other, bit_at_clear_same, bit_at_clear_other, bit_at_above, bit_at-zero, bit_at-lt, bit_at-trailing_zeros, same_from_bits}
 use Rattle.std.proofs.lemmas.Option.{same_Some, none-some}
-use Rattle.group_word.specs.Group.{IsActive, NoneActive, GroupLaw, Joins, Leaves, IsLowest, PassesOn}
+use Rattle.group_word.specs.Group.{IsActive, NoneActive, GroupLaw, Joins, Leaves, IsLowest, TakesRole, PassesOn}
 
 -- two bits that are equal say the same
 same_said : (m n : ℕ) → m ≡ n → (m ≡ 1) ↔ (n ≡ 1)
@@ -40,6 +40,11 @@ law_joined active new (Some m) k law set = elim (cases_eq m k) [
   | inl same ↦ subst (λ j. IsActive new j) (sym same) set.joined
   | inr other ↦ (set.others m other).1 law
 ]
+
+-- and the role is taken or stays
+pub takes_role : (before : Option ℕ) (k : ℕ) → TakesRole before k (option_or before (Some k))
+takes_role None k = record { stayed = λ m e. absurd (none-some m e); taken = λ _. refl }
+takes_role (Some m) k = record { stayed = λ n e. e; taken = λ e. absurd (none-some m (sym e)) }
 
 -- no child of the empty set is active
 none_of_zero : NoneActive 0

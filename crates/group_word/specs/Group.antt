@@ -31,6 +31,12 @@ abbrev pub IsLowest : ℕ → Option ℕ → Type 0
 IsLowest active None = NoneActive active
 IsLowest active (Some k) = IsActive active k × ((j : ℕ) → j < k → IsActive active j → ⊥)
 
+-- what becomes of the migrator where child k has joined: the one that there was stays, and where there was none child k
+-- takes the role
+pub record TakesRole (before : Option ℕ) (k : ℕ) (after : Option ℕ) : Type 0 where
+  pub stayed : (m : ℕ) → before ≡ Some m → after ≡ Some m
+  pub taken : before ≡ None → after ≡ Some k
+
 -- what becomes of the migrator where child k has left: the role of k passes to the lowest child that remains,
 -- or to none, and another migrator stays
 pub record PassesOn (before : Option ℕ) (k remaining : ℕ) (after : Option ℕ) : Type 0 where

@@ -2,7 +2,7 @@
 
 ghost use Rattle.std.specs.Prelude.{◌≡◌, ◌-◌, ◌^◌, ◌<◌, ◌↔◌, IsTrue, is_none};
 ghost use Rattle.std.specs.Bool.{OnFalse};
-ghost use Rattle.group_word.specs.Group.{GroupLaw, Joins, Leaves, IsLowest, PassesOn, LooksAfter};
+ghost use Rattle.group_word.specs.Group.{GroupLaw, Joins, Leaves, IsLowest, TakesRole, PassesOn, LooksAfter};
 ghost use Rattle.group_word.specs.State.{IsLawfulState, activated_state, swapped_state, lowest_child, migrator_without};
 
 use crate::GroupState;
@@ -15,6 +15,7 @@ pub fn activated(state: GroupState, child: u8) -> (GroupState, bool)
     requires room { state.seq < 2 ^ 48 - 1 }
     ensures exact { result.0 ≡ activated_state state child }
     ensures joins { Joins state.active result.0.active child }
+    ensures role { TakesRole state.migrator child result.0.migrator }
     ensures lawful { IsLawfulState result.0 }
     ensures first { result.1 ≡ is_none state.migrator }
 {
