@@ -1,4 +1,5 @@
--- the queue of a group: a finite map from child, 0 to 7, to event, seen as the list of its eight slots
+-- the queue of a group: a finite map from child, 0 to 7, to event, seen as the list of its eight
+-- slots
 use Rattle.std.specs.Prelude.{◌≡◌, ◌≢◌, ℕ, ◌^◌, ◌<◌, ◌≤◌, true, false, Option, Some, None, List, length, slice_index_or}
 use Rattle.std.specs.Option.{option_map}
 use Rattle.tm_base.specs.CpuSet.{Cpus, Contains}
@@ -43,13 +44,15 @@ marked_slot events k = option_map as_ignored (event_at events k)
 abbrev pub Counts : Event → Type 0
 Counts e = e.ignored ≡ false
 
--- an event that a look at this time takes up: it isn't ignored and not later, and its CPU wasn't tried yet
+-- an event that a look at this time takes up: it isn't ignored and not later, and its CPU wasn't
+-- tried yet
 pub record IsDue (time : ℕ) (tried : Cpus) (e : Event) : Type 0 where
   pub counts : Counts e
   pub come : e.expiry ≤ time
   pub untried : Contains tried e.cpu.0 → ⊥
 
--- event e of child k goes before event f of child j: it isn't later, and where both have one expiry k isn't above j
+-- event e of child k goes before event f of child j: it isn't later, and where both have one expiry
+-- k isn't above j
 pub record Precedes (k : ℕ) (e : Event) (j : ℕ) (f : Event) : Type 0 where
   pub expiry : e.expiry ≤ f.expiry
   pub child : e.expiry ≡ f.expiry → k ≤ j

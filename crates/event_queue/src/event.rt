@@ -9,6 +9,7 @@ pub struct Event {
     pub expiry: Jiffy,
     /// The CPU on which the timer is queued, below 1,024.
     pub cpu: CpuId,
-    /// Whether the event is to be passed over, since its child is active again. It stays in its slot.
+    /// Whether the event is to be passed over, since its child is active again. It stays in its
+    /// slot.
     pub ignored: bool,
 }

@@ -9,8 +9,8 @@ use crate::Event;
 use std::marker::Model;
 use tm_base::{CpuSet, Jiffy};
 
-/// The events of a group's eight children, 0 to 7, each with its expiry below 2^48 and its CPU below 1,024 (the
-/// kernel's `tmigr_group.events`). No call takes memory.
+/// The events of a group's eight children, 0 to 7, each with its expiry below 2^48 and its CPU
+/// below 1,024 (the kernel's `tmigr_group.events`). No call takes memory.
 #[derive(Clone, Copy, Debug, PartialEq, Eq)]
 pub struct Events {
     slots: [Option<Event>; 8],
@@ -77,8 +77,9 @@ impl Events {
         self.slots[child as usize]
     }
 
-    /// The first event that isn't ignored, with its child (`tmigr_next_groupevt`): the one of the least expiry, and
-    /// among equal expiries that of the lowest child. None exactly where there is no such event.
+    /// The first event that isn't ignored, with its child (`tmigr_next_groupevt`): the one of the
+    /// least expiry, and among equal expiries that of the lowest child. None exactly where there is
+    /// no such event.
     pub fn first(&self) -> Option<(u8, Event)>
         ensures found { IfSome result (λ f. IsFirst Counts self.now f.0 f.1) }
         ensures child { IfSome result (λ f. f.0 < 8) }
@@ -91,9 +92,10 @@ impl Events {
         best
     }
 
-    /// The event that a look at `now` (`tmigr_next_expired_groupevt`) tries next, with its child: of the events that
-    /// aren't ignored and not later than `now`, and whose CPU isn't in `tried`, the one of the least expiry, and among
-    /// equal expiries that of the lowest child. None exactly where there is no such event.
+    /// The event that a look at `now` (`tmigr_next_expired_groupevt`) tries next, with its child:
+    /// of the events that aren't ignored and not later than `now`, and whose CPU isn't in `tried`,
+    /// the one of the least expiry, and among equal expiries that of the lowest child. None exactly
+    /// where there is no such event.
     pub fn due(&self, now: Jiffy, tried: &CpuSet) -> Option<(u8, Event)>
         ensures found { IfSome result (λ f. IsFirst (IsDue now tried.now) self.now f.0 f.1) }
         ensures child { IfSome result (λ f. f.0 < 8) }
