@@ -1,10 +1,7 @@
 -- who answers for the timers of an idle CPU
 use Rattle.std.specs.Prelude.{◌≡◌, ◌⊎◌, ℕ, ◌+◌, ◌<◌, ◌≤◌, Bool, true, Option, Some, None}
-
--- a child of a group
-pub data Child : Type 0 where
-  of_cpu : ℕ → Child
-  of_group : ℕ → Child
+use Rattle.tm_base.specs.declared.names.Child.{Child}
+use Rattle.tm_base.specs.Children.{of_cpu, of_group}
 
 -- what the definitions know of a machine
 pub record Machine : Type 0 where
@@ -12,21 +9,26 @@ pub record Machine : Type 0 where
   pub path : (cpu level : ℕ) → Option ℕ
   -- the number of the child through which that path comes into that group
   pub bit : (cpu level : ℕ) → ℕ
-  -- the child of that number of a group
-  pub child : (group number : ℕ) → Child
+  -- the child of that number of a group, where there is one
+  pub child : (group number : ℕ) → Option Child
+  -- whether a CPU is placed, so that the tree has it
+  pub placed : (cpu : ℕ) → Bool
   -- whether a CPU is active
   pub active : (cpu : ℕ) → Bool
   -- the number of a group's migrator; a group is active where it has one
   pub migrator : (group : ℕ) → Option ℕ
-  -- the expiry of a group's event towards the child of a number, where it is there and isn't ignored
+  -- the expiry of a group's event towards the child of a number, where it is there and isn't
+  -- ignored
   pub event : (group number : ℕ) → Option ℕ
   -- the programmed wakeup that a CPU keeps
   pub wakeup : (cpu : ℕ) → Option ℕ
 
 -- from an active group, from each group to its migrator, one comes to the active CPU m
 pub data Leads (t : Machine) (m : ℕ) : ℕ → Type 0 where
-  to_cpu : (g k : ℕ) → t.migrator g ≡ Some k → t.child g k ≡ of_cpu m → t.active m ≡ true → Leads t m g
-  to_group : (g k h : ℕ) → t.migrator g ≡ Some k → t.child g k ≡ of_group h → Leads t m h → Leads t m g
+  to_cpu : (g k : ℕ) → t.migrator g ≡ Some k → t.child g k ≡ Some (of_cpu m) →
+      t.active m ≡ true → Leads t m g
+  to_group : (g k h : ℕ) → t.migrator g ≡ Some k → t.child g k ≡ Some (of_group h) →
+      Leads t m h → Leads t m g
 
 -- the event towards a CPU at a level of its path is there and isn't later than W
 pub record HasEvent (t : Machine) (c wheel level : ℕ) : Type 0 where
@@ -36,7 +38,8 @@ pub record HasEvent (t : Machine) (c wheel level : ℕ) : Type 0 where
   pub there : t.event in_group (t.bit c level) ≡ Some expiry
   pub in_time : expiry ≤ wheel
 
--- W was told upwards to this level: below it the groups of the path are inactive, and there and at it the event is there
+-- W was told upwards to this level: below it the groups of the path are inactive, and there and at
+-- it the event is there
 pub record Told (t : Machine) (c wheel level : ℕ) : Type 0 where
   pub inactive : (k g : ℕ) → k < level → t.path c k ≡ Some g → t.migrator g ≡ None
   pub events : (k : ℕ) → k ≤ level → HasEvent t c wheel k
@@ -50,14 +53,16 @@ pub record Held (t : Machine) (c wheel : ℕ) : Type 0 where
   pub told : Told t c wheel level
   pub leads : Leads t runner in_group
 
--- some CPU keeps a wakeup that isn't later than a time
+-- some placed CPU keeps a wakeup that isn't later than a time
 pub record WakesBy (t : Machine) (time : ℕ) : Type 0 where
   pub waker : ℕ
   pub at : ℕ
+  pub placed : t.placed waker ≡ true
   pub keeps : t.wakeup waker ≡ Some at
   pub in_time : at ≤ time
 
--- the inactive top was told, and some CPU wakes by the top's event towards the CPU
+-- the CPU has a group, the inactive top was told, and some placed CPU wakes by the top's event
+-- towards the CPU
 pub record TopWakes (t : Machine) (c wheel : ℕ) : Type 0 where
   pub level : ℕ
   pub top : ℕ
