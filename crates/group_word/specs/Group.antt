@@ -1,5 +1,5 @@
--- a group of the hierarchy: the set of its active children, in a word whose bit k says whether child k is in it,
--- and its migrator
+-- a group of the hierarchy: the set of its active children, in a word whose bit k says whether
+-- child k is in it, and its migrator
 use Rattle.std.specs.Prelude.{◌≡◌, ◌≢◌, ◌↔◌, ℕ, ◌<◌, Option, Some, None}
 use Rattle.std.specs.Int.{bit_at}
 
@@ -31,14 +31,14 @@ abbrev pub IsLowest : ℕ → Option ℕ → Type 0
 IsLowest active None = NoneActive active
 IsLowest active (Some k) = IsActive active k × ((j : ℕ) → j < k → IsActive active j → ⊥)
 
--- what becomes of the migrator where child k has joined: the one that there was stays, and where there was none child k
--- takes the role
+-- what becomes of the migrator where child k has joined: the one that there was stays, and where
+-- there was none child k takes the role
 pub record TakesRole (before : Option ℕ) (k : ℕ) (after : Option ℕ) : Type 0 where
   pub stayed : (m : ℕ) → before ≡ Some m → after ≡ Some m
   pub taken : before ≡ None → after ≡ Some k
 
--- what becomes of the migrator where child k has left: the role of k passes to the lowest child that remains,
--- or to none, and another migrator stays
+-- what becomes of the migrator where child k has left: the role of k passes to the lowest child
+-- that remains, or to none, and another migrator stays
 pub record PassesOn (before : Option ℕ) (k remaining : ℕ) (after : Option ℕ) : Type 0 where
   pub passed : before ≡ Some k → IsLowest remaining after
   pub stayed : before ≢ Some k → after ≡ before

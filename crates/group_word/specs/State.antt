@@ -26,9 +26,11 @@ lowest_child active = if active == 0 then None else Some (trailing_zeros w8 acti
 -- the migrator where child k has left, and this set remains
 abbrev pub migrator_without : Option ℕ → ℕ → ℕ → Option ℕ
 migrator_without None k remaining = None
-migrator_without (Some migrator) k remaining = if migrator == k then lowest_child remaining else Some migrator
+migrator_without (Some migrator) k remaining =
+    if migrator == k then lowest_child remaining else Some migrator
 
--- the state after an exchange by which child k joins: the migrator that there was stays, and else the child is it
+-- the state after an exchange by which child k joins: the migrator that there was stays, and else
+-- the child is it
 abbrev pub activated_state : GroupState → ℕ → GroupState
 activated_state s k = record {
   active = with_child s.active k;

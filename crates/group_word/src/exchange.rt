@@ -7,8 +7,9 @@ ghost use Rattle.group_word.specs.State.{IsLawfulState, activated_state, swapped
 
 use crate::GroupState;
 
-/// The exchange of an activation (`tmigr_active_up`): the child, 0 to 7, joins the active set, and where there was no
-/// migrator it becomes it. The truth value says that there was none, so that the walk goes on to the parent.
+/// The exchange of an activation (`tmigr_active_up`): the child, 0 to 7, joins the active set, and
+/// where there was no migrator it becomes it. The truth value says that there was none, so that the
+/// walk goes on to the parent.
 pub fn activated(state: GroupState, child: u8) -> (GroupState, bool)
     requires lawful { IsLawfulState state }
     requires a_child { child < 8 }
@@ -27,9 +28,9 @@ pub fn activated(state: GroupState, child: u8) -> (GroupState, bool)
     (next, state.migrator.is_none())
 }
 
-/// The exchange of a deactivation (`tmigr_inactive_up`). Where the child, 0 to 7, was found inactive it leaves the
-/// active set, and where it was the migrator the lowest remaining child is, or none. Where `child_on` says that it was
-/// found active, only the sequence rises.
+/// The exchange of a deactivation (`tmigr_inactive_up`). Where the child, 0 to 7, was found
+/// inactive it leaves the active set, and where it was the migrator the lowest remaining child is,
+/// or none. Where `child_on` says that it was found active, only the sequence rises.
 pub fn swapped(state: GroupState, child: u8, child_on: bool) -> GroupState
     requires lawful { IsLawfulState state }
     requires a_child { child < 8 }
@@ -51,8 +52,8 @@ pub fn swapped(state: GroupState, child: u8, child_on: bool) -> GroupState
     }
 }
 
-/// Whether a walk that comes from this child looks after the group (`tmigr_check_migrator`): the child is the migrator,
-/// or there is none. The call is defined for every state.
+/// Whether a walk that comes from this child looks after the group (`tmigr_check_migrator`): the
+/// child is the migrator, or there is none. The call is defined for every state.
 pub fn looks(state: GroupState, child: u8) -> bool
     ensures { IsTrue result ↔ LooksAfter state.migrator child }
 {

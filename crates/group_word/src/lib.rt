@@ -1,4 +1,5 @@
-//! The state of a group of the hierarchy, the exchanges that walks make on it, and the word that holds it.
+//! The state of a group of the hierarchy, the exchanges that walks make on it, and the word that
+//! holds it.
 #![tactic(auto)]
 
 mod exchange;

@@ -1,5 +1,5 @@
-//! The word of a group's state: bits 0 to 7 are the active set, bits 8 to 15 the migrator as one bit or 0, and bits 16
-//! to 63 the sequence.
+//! The word of a group's state: bits 0 to 7 are the active set, bits 8 to 15 the migrator as one
+//! bit or 0, and bits 16 to 63 the sequence.
 
 ghost use Rattle.std.specs.Prelude.{◌≡◌, ◌<◌, ◌↔◌, IfSome, IfNone, IsTrue, Some};
 ghost use Rattle.std.specs.Option.{ForSome};
