@@ -1,7 +1,8 @@
 -- climbing a path from its leaf
 use Rattle.std.proofs.Common.{◌≡◌, ℕ, zero, suc, ◌+◌, ◌≤◌, ⊎_elim, true, false, refl, sym, ◌∙◌, ap, arith, add-one}
 use Rattle.std.specs.Prelude.{◌↔◌, Option, Some, None, IsNone, option_map, option_and_then}
-use Rattle.std.proofs.lemmas.Bool.{cases_lt, true≢false}
+use Rattle.std.specs.Bool.{OnTrue, OnFalse}
+use Rattle.std.proofs.lemmas.Bool.{OnTrue_from, OnFalse_from, cases_lt, true≢false}
 use Rattle.std.proofs.lemmas.Option.{none-some}
 use Rattle.tm_base.specs.declared.names.GroupId.{GroupId}
 use Rattle.tm_base.specs.Children.{of_group}
@@ -29,21 +30,30 @@ ended t c l (suc n) none up =
     (cases_lt n l)
 
 -- of a placed CPU None exactly where there is no such level
-pub none_where : (t : Shape) → IsPlanned t → (c l : ℕ) → (r : Option GroupId) →
+placed_none : (t : Shape) → IsPlanned t → (c l : ℕ) → (r : Option GroupId) →
     option_map (λ (g : GroupId). g.0) r ≡ group_at_of t c l → is_placed_in t c ≡ true →
     IsNone r ↔ (level_count_of t ≤ l)
-none_where t planned c l None e placed = (
+placed_none t planned c l None e placed = (
   λ _. ⊎_elim (λ low.
       let group = (planned_paths t planned).there c l placed low in
       absurd (none-some group.0 (e ∙ group.1))) (λ high. high) (cases_lt l (level_count_of t)),
   λ _. refl,
 )
-none_where t planned c l (Some g) e placed =
+placed_none t planned c l (Some g) e placed =
     (λ some. absurd (true≢false some), λ high. absurd (none-some (g.0) (sym (e ∙ (planned_paths t planned).beyond c l high))))
 
+pub none_where : (t : Shape) → IsPlanned t → (c l : ℕ) → (r : Option GroupId) →
+    option_map (λ (g : GroupId). g.0) r ≡ group_at_of t c l →
+    OnTrue (is_placed_in t c) (IsNone r ↔ (level_count_of t ≤ l))
+none_where t planned c l r e = OnTrue_from (is_placed_in t c) _ (placed_none t planned c l r e)
+
 -- of an isolated one always
-pub none_isolated : (t : Shape) → IsPlanned t → (c l : ℕ) → (r : Option GroupId) →
+isolated_none : (t : Shape) → IsPlanned t → (c l : ℕ) → (r : Option GroupId) →
     option_map (λ (g : GroupId). g.0) r ≡ group_at_of t c l → is_placed_in t c ≡ false → IsNone r
-none_isolated t planned c l None e isolated = refl
-none_isolated t planned c l (Some g) e isolated =
+isolated_none t planned c l None e isolated = refl
+isolated_none t planned c l (Some g) e isolated =
     absurd (none-some (g.0) (sym (e ∙ (planned_paths t planned).isolated c l isolated)))
+
+pub none_isolated : (t : Shape) → IsPlanned t → (c l : ℕ) → (r : Option GroupId) →
+    option_map (λ (g : GroupId). g.0) r ≡ group_at_of t c l → OnFalse (is_placed_in t c) (IsNone r)
+none_isolated t planned c l r e = OnFalse_from (is_placed_in t c) (IsNone r) (isolated_none t planned c l r e)

@@ -25,9 +25,13 @@ child_back (Group g) = refl
 abbrev pub child_code : Coded Child
 child_code = code_by (ℕ ⊎ ℕ) (coded⊎ coded_ℕ coded_ℕ) number_of child_of child_back
 
+abbrev pub levels_code : Coded (List (List (List Child)))
+levels_code = coded_list (coded_list (coded_list child_code))
+
 abbrev pub shape_code : Coded Shape
 shape_code =
-    code_by ((ℕ × ℕ) × (Cpus × List (List (List Child)))) (coded× (coded× coded_ℕ coded_ℕ) (coded× (code {R = nat_cmp} coded_ℕ) (coded_list (coded_list (coded_list child_code)))))
+    code_by ((ℕ × ℕ) × (Cpus × List (List (List Child))))
+    (coded× (coded× coded_ℕ coded_ℕ) (coded× (code {R = nat_cmp} coded_ℕ) levels_code))
     (λ t. ((t.nodes, t.cpus), (t.isolated, t.levels)))
     (λ p. record { nodes = p.0.0; cpus = p.0.1; isolated = p.1.0; levels = p.1.1 })
     (λ _. refl)

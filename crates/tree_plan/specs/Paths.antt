@@ -28,7 +28,8 @@ placed_of t = placed_from t.isolated 0 (cpu_count_of t)
 abbrev pub node_of : Shape → (c : ℕ) → ℕ
 node_of t c = c / t.cpus
 
--- groups at levels below this number have the CPUs of one node; the levels from there on group across nodes
+-- groups at levels below this number have the CPUs of one node; the levels from there on group
+-- across nodes
 abbrev pub node_levels_of : Shape → ℕ
 node_levels_of t = levels_for t.cpus
 
@@ -41,12 +42,14 @@ level_count_of t = length t.levels
 -- the level at which the g-th group of these levels stands, the lowest of them counted as 0
 unfoldable pub level_in : List (List (List Child)) → ℕ → ℕ
 level_in [] g = 0
-level_in (level ∷ above) g = if nat_lt g (length level) then 0 else (suc (level_in above (g - length level)))
+level_in (level ∷ above) g =
+    if nat_lt g (length level) then 0 else (suc (level_in above (g - length level)))
 
 -- how many groups of its level stand before the g-th group of these levels
 unfoldable pub place_in : List (List (List Child)) → ℕ → ℕ
 place_in [] g = 0
-place_in (level ∷ above) g = if nat_lt g (length level) then g else place_in above (g - length level)
+place_in (level ∷ above) g =
+    if nat_lt g (length level) then g else place_in above (g - length level)
 
 abbrev pub level_of : Shape → ℕ → ℕ
 level_of t g = level_in t.levels g
@@ -89,7 +92,8 @@ unfoldable pub group_at_of : Shape → (c l : ℕ) → Option ℕ
 group_at_of t c zero = parent_of t (of_cpu c)
 group_at_of t c (suc l) = option_and_then (λ g. parent_of t (of_group g)) (group_at_of t c l)
 
--- the child through which CPU c's path goes at level l: the CPU itself at a leaf, and elsewhere the group one level below
+-- the child through which CPU c's path goes at level l: the CPU itself at a leaf, and elsewhere the
+-- group one level below
 unfoldable pub child_towards : Shape → (c l : ℕ) → Option Child
 child_towards t c zero = Some (of_cpu c)
 child_towards t c (suc l) = option_map of_group (group_at_of t c l)

@@ -1,5 +1,5 @@
--- the tree of a machine: its placed CPUs, those that aren't isolated, are cut into runs of at most eight level by level
--- until one group is left
+-- the tree of a machine: its placed CPUs, those that aren't isolated, are cut into runs of at most
+-- eight level by level until one group is left
 use Rattle.std.specs.Prelude.{◌≡◌, ℕ, zero, suc, ◌+◌, ◌*◌, ◌/◌, ◌^◌, ◌<◌, ◌≤◌, ◌==◌, nat_lt, nat_le, if◌then◌else◌, false, not, List, [], ◌∷◌, length, take, drop, map, filter, flat_map}
 use Rattle.std.specs.List.{range_with_len}
 use Rattle.std.specs.FinSet.{contains}
@@ -54,12 +54,15 @@ numbered first (groups ∷ rows) =
 unfoldable pub rows_at : (inner l : ℕ) → List (List Child) → List (List Child)
 rows_at inner l rows = if nat_lt l inner then rows else joined rows ∷ []
 
--- level l and the levels above it, at most n of them, until one member is left. A level is the list of its groups,
--- and a group the list of its children; `first` is the number of the first group of level l
+-- level l and the levels above it, at most n of them, until one member is left. A level is the list
+-- of its groups, and a group the list of its children; `first` is the number of the first group of
+-- level l
 unfoldable pub levels_from : (inner n l first : ℕ) → List (List Child) → List (List (List Child))
 levels_from inner zero l first rows = []
 levels_from inner (suc n) l first rows =
-    if length (joined rows) == 1 then [] else (level ∷ levels_from inner n (suc l) (first + length level) (numbered first groups))
+    if length (joined rows) == 1
+    then []
+    else (level ∷ levels_from inner n (suc l) (first + length level) (numbered first groups))
   where
     groups : List (List (List Child))
     groups = map cut (rows_at inner l rows)
@@ -67,8 +70,8 @@ levels_from inner (suc n) l first rows =
     level : List (List Child)
     level = joined groups
 
--- a tree: how many nodes it is for, how many CPUs each of them has, which CPUs are isolated, and its levels from the
--- leaves to the top
+-- a tree: how many nodes it is for, how many CPUs each of them has, which CPUs are isolated, and
+-- its levels from the leaves to the top
 pub record Shape : Type 0 where
   pub nodes : ℕ
   pub cpus : ℕ
@@ -81,10 +84,13 @@ tree_of nodes cpus isolated = record {
   nodes = nodes;
   cpus = cpus;
   isolated = isolated;
-  levels = levels_from (levels_for cpus) (levels_for cpus + levels_for nodes) 0 0 (node_cpus nodes cpus isolated);
+  levels =
+      levels_from (levels_for cpus) (levels_for cpus + levels_for nodes) 0 0
+      (node_cpus nodes cpus isolated);
 }
 
--- the machines that a tree is planned for: 1 to 8 nodes of 1 to 64 CPUs each, of which some CPU is placed
+-- the machines that a tree is planned for: 1 to 8 nodes of 1 to 64 CPUs each, of which some CPU is
+-- placed
 pub record IsWithinLimits (nodes cpus : ℕ) (isolated : Cpus) : Type 0 where
   pub some_node : 1 ≤ nodes
   pub few_nodes : nodes ≤ MOST_NODES

@@ -1,6 +1,7 @@
--- how a tree is kept: its groups in the order of their numbers, and for each child, the placed CPUs first and then the
--- groups, the group that has it and its child number there; the same once more for each CPU by its number
-use Rattle.std.specs.Prelude.{◌≡◌, ℕ, zero, suc, ◌+◌, ◌-◌, ◌*◌, ◌/◌, min, nat_lt, if◌then◌else◌, List, [], ◌∷◌, ◌++◌, length, map, sum, Option, None, option_map, slice_get}
+-- how a tree is kept: its groups in the order of their numbers, and for each child, the placed CPUs
+-- first and then the groups, the group that has it and its child number there; the same once more
+-- for each CPU by its number
+use Rattle.std.specs.Prelude.{◌≡◌, ℕ, zero, suc, ◌+◌, ◌-◌, ◌*◌, ◌/◌, min, nat_lt, if◌then◌else◌, List, [], ◌∷◌, ◌++◌, length, map, flat_map, sum, Option, None, option_map, slice_get}
 use Rattle.std.specs.List.{range_with_len}
 use Rattle.std.specs.FinSet.{contains}
 use Rattle.tm_base.specs.declared.names.Child.{Child}
@@ -37,9 +38,26 @@ unfoldable pub listed_levels : ℕ → List (List ℕ) → List Group
 listed_levels level [] = []
 listed_levels level (ns ∷ above) = listed level 0 ns ++ listed_levels (suc level) above
 
+-- the groups of one row of so many members, the first of them at this place of its level
+abbrev pub row_groups : (level first members : ℕ) → List Group
+row_groups level first members = listed level first (run_lengths members)
+
+-- the groups of a level that cuts rows of so many members
+abbrev pub level_of_rows : (level : ℕ) → List ℕ → List Group
+level_of_rows level rows = listed level 0 (flat_map run_lengths rows)
+
+-- the groups of the next level are appended, and become the members of the level above
+pub record CutsNext (inner level : ℕ) (old new : List Group) (below above : List ℕ) : Type 0 where
+  pub groups : new ≡ old ++ level_of_rows level (row_lengths_at inner level below)
+  pub rows : above ≡ map groups_for (row_lengths_at inner level below)
+
 -- how many children each group of each level has
 abbrev pub lengths : List (List (List Child)) → List (List ℕ)
 lengths levels = map (λ level. map length level) levels
+
+-- all groups of the tree of a machine
+abbrev pub groups_planned : (nodes cpus : ℕ) → Cpus → List Group
+groups_planned nodes cpus isolated = listed_levels 0 (lengths (tree_of nodes cpus isolated).levels)
 
 -- the links of n children to group g
 unfoldable pub links_to : (g n : ℕ) → List Link
@@ -56,20 +74,23 @@ group_of t g = record { level = level_of t g; place = place_of t g; children = c
 
 -- the link of a child to its parent, if it has one
 abbrev pub link_of : Shape → Child → Option Link
-link_of t m = option_map (λ p. record { parent = record { 0 = p }; bit = bit_of t m }) (parent_of t m)
+link_of t m =
+    option_map (λ p. record { parent = record { 0 = p }; bit = bit_of t m }) (parent_of t m)
 
--- the links of the n CPUs from 0 on, where these are the links of the placed ones among them in ascending order
+-- the links of the n CPUs from 0 on, where these are the links of the placed ones among them in
+-- ascending order
 abbrev pub seat_link : Cpus → List Link → ℕ → Option Link
-seat_link isolated links c = if contains isolated c then None else slice_get links (length (placed_from isolated 0 c))
+seat_link isolated links c =
+    if contains isolated c then None else slice_get links (length (placed_from isolated 0 c))
 
 abbrev pub seat_links : Cpus → List Link → (n : ℕ) → List (Option Link)
 seat_links isolated links n = map (seat_link isolated links) (range_with_len 0 n)
 
 -- these are the groups and the links of the tree of this machine
-pub record IsStored (nodes cpus : ℕ) (isolated : Cpus) (placed : ℕ) (groups : List Group) (links : List Link)
-    (seats : List (Option Link)) : Type 0 where
+pub record IsStored (nodes cpus : ℕ) (isolated : Cpus) (placed : ℕ) (groups : List Group)
+    (links : List Link) (seats : List (Option Link)) : Type 0 where
   pub limits : IsWithinLimits nodes cpus isolated
   pub all_placed : placed ≡ length (placed_of (tree_of nodes cpus isolated))
-  pub all_groups : groups ≡ listed_levels 0 (lengths (tree_of nodes cpus isolated).levels)
+  pub all_groups : groups ≡ groups_planned nodes cpus isolated
   pub all_links : links ≡ links_from 0 (map length (groups_of (tree_of nodes cpus isolated)))
   pub all_seats : seats ≡ seat_links isolated links (nodes * cpus)

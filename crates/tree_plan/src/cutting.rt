@@ -4,7 +4,7 @@ ghost use Rattle.std.specs.Prelude.{◌≡◌, ◌+◌, ◌*◌, ◌^◌, ◌<�
 ghost use Rattle.std.specs.FinSet.{contains};
 ghost use Rattle.tm_base.specs.declared.limits.TheConstants.{MOST_CPUS_V2};
 ghost use Rattle.tree_plan.specs.Shape.{IsWithinLimits, levels_for, node_cpus, placed_from, tree_of};
-ghost use Rattle.tree_plan.specs.Store.{groups_for, run_lengths, row_lengths_at, listed, listed_levels, lengths, links_to, links_from, seat_links};
+ghost use Rattle.tree_plan.specs.Store.{groups_for, row_lengths_at, row_groups, level_of_rows, CutsNext, groups_planned, links_to, links_from, seat_links};
 
 use std::alloc::Global;
 use tm_base::{CpuId, CpuSet, GROUP_SIZE, GroupId, NoMemory};
@@ -29,8 +29,8 @@ pub(crate) struct Link {
     pub(crate) bit: u8,
 }
 
-/// How many levels of eight to a group bring so many members down to one, ceil(log2up(members) / 3), as the
-/// kernel's `tmigr_init` counts them for the CPUs of a node and for the nodes.
+/// How many levels of eight to a group bring so many members down to one, ceil(log2up(members) /
+/// 3), as the kernel's `tmigr_init` counts them for the CPUs of a node and for the nodes.
 pub(crate) fn levels_for(members: u8) -> u8
     ensures { result ≡ levels_for members }
 {
@@ -42,11 +42,12 @@ pub(crate) fn levels_for(members: u8) -> u8
     }
 }
 
-/// Appends the groups of one row of members, full ones as far as the row goes and one with what is left. `first`
-/// is the place of the first of them in its level; the answer is the place behind the last.
+/// Appends the groups of one row of members, full ones as far as the row goes and one with what is
+/// left. `first` is the place of the first of them in its level; the answer is the place behind the
+/// last.
 fn cut_row(groups: &mut Vec<Group>, level: u8, first: u16, members: u16) -> Result<u16, NoMemory>
     requires { first + members < 2 ^ 16 }
-    ensures groups { OnOk result (groups.new.items ≡ groups.old.items ++ listed level first (run_lengths members)) }
+    ensures groups { OnOk result (groups.new.items ≡ groups.old.items ++ row_groups level first members) }
     ensures behind { IfOk result (λ place. place ≡ first + groups_for members) }
 {
     let mut place = first;
@@ -67,7 +68,7 @@ fn cut_row(groups: &mut Vec<Group>, level: u8, first: u16, members: u16) -> Resu
 /// Appends the groups of a level that cuts rows of so many members, at most 512 in all.
 fn cut_level(groups: &mut Vec<Group>, level: u8, rows: &[u16]) -> Result<(), NoMemory>
     requires { sum rows.now ≤ MOST_CPUS_V2 }
-    ensures { OnOk result (groups.new.items ≡ groups.old.items ++ listed level 0 (flat_map run_lengths rows.now)) }
+    ensures { OnOk result (groups.new.items ≡ groups.old.items ++ level_of_rows level rows.now) }
 {
     let mut place = 0;
     for row in rows {
@@ -84,8 +85,8 @@ fn members_of(rows: &[u16]) -> u16
     rows.iter().sum()
 }
 
-/// Puts the members of all rows into one from level `inner` on, where groups take their children from all nodes
-/// (the kernel's `tmigr_crossnode_level`).
+/// Puts the members of all rows into one from level `inner` on, where groups take their children
+/// from all nodes (the kernel's `tmigr_crossnode_level`).
 fn merge_across(rows: &mut Vec<u16>, level: u8, inner: u8)
     requires some_row { 0 < vec_len rows.old }
     requires few { sum rows.old.items ≤ MOST_CPUS_V2 }
@@ -107,8 +108,8 @@ fn climb(rows: &mut Vec<u16>)
     }
 }
 
-/// Appends the groups of the next level, where the nodes have so many members left, and makes these groups the
-/// members of the level above.
+/// Appends the groups of the next level, where the nodes have so many members left, and makes these
+/// groups the members of the level above.
 fn cut_next(
     groups: &mut Vec<Group>,
     level: u8,
@@ -117,8 +118,7 @@ fn cut_next(
 ) -> Result<(), NoMemory>
     requires some_row { 0 < vec_len rows.old }
     requires few { sum rows.old.items ≤ MOST_CPUS_V2 }
-    ensures groups { OnOk result (groups.new.items ≡ groups.old.items ++ listed level 0 (flat_map run_lengths (row_lengths_at inner level rows.old.items))) }
-    ensures rows { OnOk result (rows.new.items ≡ map groups_for (row_lengths_at inner level rows.old.items)) }
+    ensures { OnOk result (CutsNext inner level groups.old.items groups.new.items rows.old.items rows.new.items) }
 {
     merge_across(rows, level, inner);
     cut_level(groups, level, rows.as_slice())?;
@@ -150,8 +150,8 @@ fn node_rows(alloc: Global, nodes: u8, cpus: u8, isolated: &CpuSet) -> Result<Ve
     Ok(rows)
 }
 
-/// The groups of the tree in the order of their numbers. As the kernel's `tmigr_setup_groups` it stops at the
-/// first level with one group.
+/// The groups of the tree in the order of their numbers. As the kernel's `tmigr_setup_groups` it
+/// stops at the first level with one group.
 pub(crate) fn cut_groups(
     alloc: Global,
     nodes: u8,
@@ -159,7 +159,7 @@ pub(crate) fn cut_groups(
     isolated: &CpuSet,
 ) -> Result<Vec<Group>, NoMemory>
     requires { IsWithinLimits nodes cpus isolated.now }
-    ensures { IfOk result (λ groups. groups.items ≡ listed_levels 0 (lengths (tree_of nodes cpus isolated.now).levels)) }
+    ensures { IfOk result (λ groups. groups.items ≡ groups_planned nodes cpus isolated.now) }
 {
     let inner = levels_for(cpus);
     let most = inner + levels_for(nodes);
@@ -184,7 +184,8 @@ fn link_to(links: &mut Vec<Link>, parent: GroupId, children: u8) -> Result<(), N
     Ok(())
 }
 
-/// The link of every child: of the placed CPUs in ascending order, and then of the groups but for the top.
+/// The link of every child: of the placed CPUs in ascending order, and then of the groups but for
+/// the top.
 pub(crate) fn link_children(alloc: Global, groups: &[Group]) -> Result<Vec<Link>, NoMemory>
     requires { length groups.now < 2 ^ 16 }
     ensures { IfOk result (λ links. links.items ≡ links_from 0 (map (λ g. g.children) groups.now)) }

@@ -1,6 +1,7 @@
 //! The planned tree and its readers.
 
-ghost use Rattle.std.specs.Prelude.{◌≡◌, ℕ, ◌+◌, ◌*◌, ◌<◌, ◌≤◌, ◌↔◌, true, false, length, map, IfOk, IsNone, option_map};
+ghost use Rattle.std.specs.Prelude.{◌≡◌, ◌<◌, ◌≤◌, ◌↔◌, true, IfOk, IsNone, option_map};
+ghost use Rattle.std.specs.Bool.{OnTrue, OnFalse};
 ghost use Rattle.tm_base.specs.Children.{of_cpu, of_group};
 ghost use Rattle.tree_plan.specs.Shape.{Shape, IsWithinLimits, IsPlanned, tree_of};
 ghost use Rattle.tree_plan.specs.Paths.{cpu_count_of, is_placed_in, group_count_of, level_count_of, level_of, place_of, child_count_of, parent_of, bit_of, group_at_of, IsTop};
@@ -11,8 +12,8 @@ use std::alloc::Global;
 use std::marker::Model;
 use tm_base::{CpuId, CpuSet, GroupId, NoMemory};
 
-/// The tree of a machine. A contract sees it as its `Shape`: the machine and the levels of groups. Groups are
-/// numbered level by level from the leaves, and in a level in ascending order.
+/// The tree of a machine. A contract sees it as its `Shape`: the machine and the levels of groups.
+/// Groups are numbered level by level from the leaves, and in a level in ascending order.
 #[derive(Debug, Drop)]
 pub struct Tree {
     nodes: u8,
@@ -38,13 +39,16 @@ impl Model for Tree {
 
     ghost view = { λ t. tree_of t.nodes t.cpus t.isolated };
 
-    ghost invariant = { λ t. IsStored t.nodes t.cpus t.isolated t.placed t.groups.items t.links.items t.seats.items };
+    ghost invariant = { λ t.
+        IsStored t.nodes t.cpus t.isolated t.placed t.groups.items t.links.items t.seats.items
+    };
 }
 
-/// Plans the tree of a machine of 1 to 8 nodes with 1 to 64 CPUs each, of which some aren't isolated. It is the one
-/// that the kernel's `tmigr_setup_groups` builds where all placed CPUs join in ascending order before the start; for
-/// one placed CPU alone nothing is set up, as the kernel's `tmigr_init` does for one possible CPU. The only error is
-/// want of memory. The work is linear in the number of CPUs.
+/// Plans the tree of a machine of 1 to 8 nodes with 1 to 64 CPUs each, of which some aren't
+/// isolated. It is the one that the kernel's `tmigr_setup_groups` builds where all placed CPUs join
+/// in ascending order before the start; for one placed CPU alone nothing is set up, as the kernel's
+/// `tmigr_init` does for one possible CPU. The only error is want of memory. The work is linear in
+/// the number of CPUs.
 pub fn plan(alloc: Global, nodes: u8, cpus: u8, isolated: &CpuSet) -> Result<Tree, NoMemory>
     requires { IsWithinLimits nodes cpus isolated.now }
     ensures tree { IfOk result (λ t. t ≡ tree_of nodes cpus isolated.now) }
@@ -89,7 +93,8 @@ impl Tree {
         self.groups.len() as u16
     }
 
-    /// The number of levels built, at most 3; 0 where one placed CPU is alone. Level 0 has the leaves.
+    /// The number of levels built, at most 3; 0 where one placed CPU is alone. Level 0 has the
+    /// leaves.
     pub fn levels(&self) -> u8
         ensures { result ≡ level_count_of self.now }
     {
@@ -132,7 +137,8 @@ impl Tree {
         self.group_link(g).map(|link| link.parent)
     }
 
-    /// The child number of a group in its parent (the kernel keeps it as the one bit of `childmask`), 0 at the top.
+    /// The child number of a group in its parent (the kernel keeps it as the one bit of
+    /// `childmask`), 0 at the top.
     pub fn bit(&self, g: GroupId) -> u8
         requires { g.0 < group_count_of self.now }
         ensures { result ≡ bit_of self.now (of_group g.0) }
@@ -154,13 +160,13 @@ impl Tree {
         }
     }
 
-    /// The group of a CPU's path at a level. For a placed CPU it is None exactly where the tree has no such level, for
-    /// an isolated one always.
+    /// The group of a CPU's path at a level. For a placed CPU it is None exactly where the tree has
+    /// no such level, for an isolated one always.
     pub fn group_at(&self, c: CpuId, level: u8) -> Option<GroupId>
         requires { c.0 < cpu_count_of self.now }
         ensures group { option_map (λ g. g.0) result ≡ group_at_of self.now c.0 level }
-        ensures none { is_placed_in self.now c.0 ≡ true → IsNone result ↔ (level_count_of self.now ≤ level) }
-        ensures isolated { is_placed_in self.now c.0 ≡ false → IsNone result }
+        ensures none { OnTrue (is_placed_in self.now c.0) (IsNone result ↔ (level_count_of self.now ≤ level)) }
+        ensures isolated { OnFalse (is_placed_in self.now c.0) (IsNone result) }
     {
         let Some(link) = self.cpu_link(c) else {
             return None;

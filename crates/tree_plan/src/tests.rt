@@ -183,8 +183,8 @@ fn nodes_stay_apart_below_the_levels_across_them(rt: HostRuntime) -> Result<(), 
     Ok(())
 }
 
-// The numbers of levels, groups and children with isolated CPUs and of the largest machine are those that the rules of
-// the hierarchy give by hand.
+// The numbers of levels, groups and children with isolated CPUs and of the largest machine are
+// those that the rules of the hierarchy give by hand.
 #[test]
 fn isolated_cpus_stand_outside_the_tree(rt: HostRuntime) -> Result<(), Fail> {
     let eight_of_nine = planned(rt.alloc(), 1, 9, 1)?;
