@@ -1,4 +1,4 @@
--- what goes out first of a list, as an item comes to its end
+-- for crates above: what goes out first of a list, also as an item comes to its end
 use Rattle.std.proofs.Common.{◌≡◌, ℕ, ◌<◌, ◌≤◌, max, Bool, true, List, [], ◌∷◌, ◌++◌, Option, Some, None, refl, ap, ◌∙◌, sym, subst, inl, inr, leb, arith}
 use Rattle.std.specs.Prelude.{◌==◌, unwrap_or}
 use Rattle.std.specs.List.{filter, All, Contains}

@@ -1,10 +1,10 @@
--- ids: looking one up and taking it out
-use Rattle.std.proofs.Common.{◌≡◌, ℕ, zero, suc, ◌<◌, ◌≤◌, Bool, true, false, List, [], ◌∷◌, ◌++◌, Option, Some, None, length, get_or, refl, ap, ◌∙◌, sym, inl, inr, ltb, arith}
+-- for crates above: ids, as one is looked up, comes and goes
+use Rattle.std.proofs.Common.{◌≡◌, ℕ, zero, suc, ◌+◌, ◌<◌, ◌≤◌, Bool, true, false, cond, List, [], ◌∷◌, ◌++◌, Option, Some, None, length, get_or, refl, ap, ◌∙◌, sym, subst, inl, inr, ltb, arith}
 use Rattle.std.specs.Prelude.{◌==◌, MatchOption}
 use Rattle.std.specs.List.{remove, position, position_or_len, slice_get, All, Contains}
 use Rattle.std.proofs.lemmas.List.Quantifiers.{position-Some}
 use Rattle.std.proofs.lemmas.List.Folds.{find_at}
-use Rattle.std.proofs.lemmas.Bool.{cases_Bool, cond-true, cond-false, ltb-false, eq-eqb, ne_eqb, eqb-false}
+use Rattle.std.proofs.lemmas.Bool.{cases_Bool, cond-true, cond-false, ltb-false, eq-eqb, ne_eqb, eqb-true, eqb-false}
 use Rattle.std.proofs.lemmas.Option.{none-some, same_Some, slice_get_past, slice_get-get_or, slice_get_read}
 use Rattle.std.proofs.lemmas.List.Elements.{All-cons, All-head, All-tail, All-push}
 use Rattle.wheel_core.specs.declared.item.Item.{Item}
@@ -16,14 +16,14 @@ abbrev no_item : Item
 no_item = record { id = 0; expires = 0; wheel = 0; level = 0; job = 0; arg = 0 }
 
 -- an id that no item has
-item_of_first : (id : ℕ) (first : Item) (items : List Item) → item_of id (first ∷ items) ≡ None → (first.id == id) ≡ false
+pub item_of_first : (id : ℕ) (first : Item) (items : List Item) → item_of id (first ∷ items) ≡ None → (first.id == id) ≡ false
 item_of_first id first items none =
     elim (cases_Bool (first.id == id)) [
       | inl here ↦ absurd (none-some first (sym none ∙ cond-true (first.id == id) (Some first) (item_of id items) here))
       | inr other ↦ other
     ]
 
-item_of_rest : (id : ℕ) (first : Item) (items : List Item) → item_of id (first ∷ items) ≡ None → item_of id items ≡ None
+pub item_of_rest : (id : ℕ) (first : Item) (items : List Item) → item_of id (first ∷ items) ≡ None → item_of id items ≡ None
 item_of_rest id first items none =
     sym (cond-false (first.id == id) (Some first) (item_of id items) (item_of_first id first items none)) ∙ none
 
@@ -106,7 +106,7 @@ one_place (first ∷ items) (suc place) item distinct at =
     ∙ sym (cond-false (first.id == item.id) items (first ∷ without item.id items) apart)
 
 -- an item that is queued is that of its id
-item_there : (items : List Item) (place : ℕ) (item : Item) → HasDistinctIds items → slice_get items place ≡ Some item
+pub item_there : (items : List Item) (place : ℕ) (item : Item) → HasDistinctIds items → slice_get items place ≡ Some item
     → item_of item.id items ≡ Some item
 item_there [] place item distinct at = absurd (none-some item at)
 item_there (first ∷ items) zero item distinct at =
@@ -121,7 +121,7 @@ item_queued items item distinct (place, within, is) =
     item_there items place item distinct (slice_get-get_or items place item within ∙ ap Some is)
 
 -- no id comes twice, as an item comes or goes
-still_none : (id other : ℕ) (items : List Item) → item_of id items ≡ None → item_of id (without other items) ≡ None
+pub still_none : (id other : ℕ) (items : List Item) → item_of id items ≡ None → item_of id (without other items) ≡ None
 still_none id other [] none = refl
 still_none id other (first ∷ items) none =
     elim (cases_Bool (first.id == other)) [
@@ -129,7 +129,7 @@ still_none id other (first ∷ items) none =
       | inr there ↦ rw there (cond-false (first.id == id) (Some first) (item_of id (without other items)) (item_of_first id first items none) ∙ still_none id other items (item_of_rest id first items none))
     ]
 
-distinct_without : (id : ℕ) (items : List Item) → HasDistinctIds items → HasDistinctIds (without id items)
+pub distinct_without : (id : ℕ) (items : List Item) → HasDistinctIds items → HasDistinctIds (without id items)
 distinct_without id [] distinct = tt
 distinct_without id (first ∷ items) distinct =
     elim (cases_Bool (first.id == id)) [
@@ -137,13 +137,13 @@ distinct_without id (first ∷ items) distinct =
       | inr there ↦ rw there (still_none first.id id items distinct.0, distinct_without id items distinct.1)
     ]
 
-none_push : (id : ℕ) (items : List Item) (item : Item) → item_of id items ≡ None → (item.id ≡ id → ⊥) → item_of id (items ++ item ∷ []) ≡ None
+pub none_push : (id : ℕ) (items : List Item) (item : Item) → item_of id items ≡ None → (item.id ≡ id → ⊥) → item_of id (items ++ item ∷ []) ≡ None
 none_push id [] item none apart = cond-false (item.id == id) (Some item) None (ne_eqb item.id id apart)
 none_push id (first ∷ items) item none apart =
     cond-false (first.id == id) (Some first) (item_of id (items ++ item ∷ [])) (item_of_first id first items none)
     ∙ none_push id items item (item_of_rest id first items none) apart
 
-distinct_push : (items : List Item) (item : Item) → HasDistinctIds items → item_of item.id items ≡ None → HasDistinctIds (items ++ item ∷ [])
+pub distinct_push : (items : List Item) (item : Item) → HasDistinctIds items → item_of item.id items ≡ None → HasDistinctIds (items ++ item ∷ [])
 distinct_push [] item distinct none = (refl, tt)
 distinct_push (first ∷ items) item distinct none =
     let apart = eqb-false first.id item.id (item_of_first item.id first items none) in (
@@ -151,12 +151,82 @@ distinct_push (first ∷ items) item distinct none =
       distinct_push items item distinct.1 (item_of_rest item.id first items none),
     )
 
-all_without : (P : Item → Type 0) (id : ℕ) (items : List Item) → All P items → All P (without id items)
+pub all_without : (P : Item → Type 0) (id : ℕ) (items : List Item) → All P items → All P (without id items)
 all_without P id [] all = all
 all_without P id (first ∷ items) all =
     elim (cases_Bool (first.id == id)) [
       | inl here ↦ rw here (All-tail P first items all)
       | inr there ↦ rw there (All-cons P first (without id items) (All-head P first items all) (all_without P id items (All-tail P first items all)))
+    ]
+
+-- an id that was taken out isn't there
+pub gone_without : (id : ℕ) (items : List Item) → HasDistinctIds items
+    → item_of id (without id items) ≡ None
+gone_without id [] distinct = refl
+gone_without id (first ∷ items) distinct =
+    elim (cases_Bool (first.id == id)) [
+      | inl here ↦ rw here (subst (λ i. item_of i items ≡ None) (eqb-true _ _ here) distinct.0)
+      | inr there ↦ rw there (rw there (gone_without id items distinct.1))
+    ]
+
+-- taking an id out takes one item, where it is queued
+pub length-without : (id : ℕ) (items : List Item) (item : Item) → item_of id items ≡ Some item
+    → length (without id items) + 1 ≡ length items
+length-without id [] item is = absurd (none-some item is)
+length-without id (first ∷ items) item is =
+    elim (cases_Bool (first.id == id)) [
+      | inl here ↦ rw here (omega arith)
+      | inr there ↦
+          rw there (let rest = length-without id items item (rw there at is) in omega (arith, rest))
+    ]
+
+pub fewer_without : (id : ℕ) (items : List Item) → length items ≤ length (without id items) + 1
+fewer_without id [] = omega arith
+fewer_without id (first ∷ items) =
+    elim (cases_Bool (first.id == id)) [
+      | inl here ↦ rw here (omega arith)
+      | inr there ↦ rw there (omega (arith, fewer_without id items))
+    ]
+
+-- another id stays
+pub item_of-without : (id other : ℕ) (items : List Item) → (id ≡ other → ⊥)
+    → item_of id (without other items) ≡ item_of id items
+item_of-without id other [] apart = refl
+item_of-without id other (first ∷ items) apart =
+    elim (cases_Bool (first.id == other)) [
+      | inl here ↦
+          let away = ne_eqb first.id id (λ same. apart (sym same ∙ eqb-true _ _ here)) in
+          rw here (sym (cond-false (first.id == id) (Some first) (item_of id items) away))
+      | inr there ↦
+          rw there (ap (λ rest. cond (first.id == id) (Some first) rest) (item_of-without id other items apart))
+    ]
+
+pub item_of-push : (id : ℕ) (items : List Item) (item : Item) → (id ≡ item.id → ⊥)
+    → item_of id (items ++ item ∷ []) ≡ item_of id items
+item_of-push id [] item apart =
+    cond-false (item.id == id) (Some item) None (ne_eqb item.id id (λ same. apart (sym same)))
+item_of-push id (first ∷ items) item apart =
+    ap (λ rest. cond (first.id == id) (Some first) rest) (item_of-push id items item apart)
+
+-- an item that came is that of its id
+pub item_of-pushed : (items : List Item) (item : Item) → item_of item.id items ≡ None
+    → item_of item.id (items ++ item ∷ []) ≡ Some item
+item_of-pushed [] item none =
+    cond-true (item.id == item.id) (Some item) None (eq-eqb item.id item.id refl)
+item_of-pushed (first ∷ items) item none =
+    cond-false (first.id == item.id) (Some first) (item_of item.id (items ++ item ∷ []))
+    (item_of_first item.id first items none)
+    ∙ item_of-pushed items item (item_of_rest item.id first items none)
+
+-- what holds of all items holds of that of an id
+pub item_holds : (P : Item → Type 0) (id : ℕ) (items : List Item) (item : Item) → All P items
+    → item_of id items ≡ Some item → P item
+item_holds P id [] item all is = absurd (none-some item is)
+item_holds P id (first ∷ items) item all is =
+    elim (cases_Bool (first.id == id)) [
+      | inl here ↦
+          subst P (same_Some first item (rw here at is)) (All-head P first items all)
+      | inr there ↦ item_holds P id items item (All-tail P first items all) (rw there at is)
     ]
 
 pub sound_without : (id : ℕ) (items : List Item) → IsSound items → IsSound (without id items)

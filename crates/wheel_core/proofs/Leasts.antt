@@ -1,13 +1,13 @@
--- the least wheel expiry of a list of items, as the list changes
+-- for crates above: the least wheel expiry of a list of items, as the list changes
 use Rattle.std.proofs.Common.{◌≡◌, ℕ, zero, suc, ◌<◌, ◌≤◌, min, List, [], ◌∷◌, ◌++◌, Option, Some, None, length, get_or, take, ◌+◌, refl, ap, ◌∙◌, sym, inl, inr, arith}
-use Rattle.std.specs.Prelude.{◌==◌}
+use Rattle.std.specs.Prelude.{◌==◌, IfSome}
 use Rattle.std.specs.List.{remove, All, filter}
 use Rattle.std.proofs.lemmas.List.{take_more}
 use Rattle.std.proofs.lemmas.List.Elements.{All-nil, All-cons, All-same, All-weaker}
 use Rattle.std.proofs.lemmas.Bool.{cases_Bool, cond-true, cond-false, eqb-false}
 use Rattle.std.proofs.lemmas.Option.{none-some, same_Some}
 use Rattle.wheel_core.specs.declared.item.Item.{Item}
-use Rattle.wheel_core.specs.PlainBase.{least, sooner}
+use Rattle.wheel_core.specs.PlainBase.{NoneSooner, least, sooner}
 
 pub sooner_swap : (a b : ℕ) (other : Option ℕ) → sooner a (Some (sooner b other)) ≡ sooner b (Some (sooner a other))
 sooner_swap a b None = omega arith
@@ -54,6 +54,11 @@ pub least_below : (items : List Item) (wheel : ℕ) → least items ≡ Some whe
 least_below [] wheel is = All-nil (λ item. wheel ≤ item.wheel)
 least_below (first ∷ items) wheel is =
     below_first first items wheel (least items) is (λ other h. least_below items other h) (least_none items)
+
+pub least_bounds : (items : List Item) (first : Option ℕ) → first ≡ least items
+    → IfSome first (λ wheel. NoneSooner wheel items)
+least_bounds items None is = tt
+least_bounds items (Some wheel) is = least_below items wheel (sym is)
 
 -- where it isn't the first item's, it is that of the others
 pub least_later : (first : Item) (items : List Item) (wheel : ℕ) (rest : Option ℕ) → Some (sooner first.wheel rest) ≡ Some wheel

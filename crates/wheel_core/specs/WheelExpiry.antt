@@ -49,7 +49,7 @@ wheel_expiry_of expires clock =
     if nat_lt expires clock then clock
     else if nat_lt (expires - clock) (level_start 1) then expires + 1
     else if nat_lt (expires - clock) cutoff then
-      granule_end (level_of_delay (expires - clock)) expires
+    granule_end (level_of_delay (expires - clock)) expires
     else granule_end 8 (clock + greatest_timeout)
 
 -- what the rule promises of times below 2^47
