@@ -1,11 +1,15 @@
 -- for crates above: ids, as one is looked up, comes and goes
-use Rattle.std.proofs.Common.{◌≡◌, ℕ, zero, suc, ◌+◌, ◌<◌, ◌≤◌, Bool, true, false, cond, List, [], ◌∷◌, ◌++◌, Option, Some, None, length, get_or, refl, ap, ◌∙◌, sym, subst, inl, inr, ltb, arith}
+use Rattle.std.proofs.Common.{◌≡◌, ℕ, zero, suc, ◌+◌, ◌<◌, ◌≤◌, Bool, true, false, cond, List, []}
+use Rattle.std.proofs.Common.{◌∷◌, ◌++◌, Option, Some, None, length, get_or, refl, ap, ◌∙◌, sym}
+use Rattle.std.proofs.Common.{subst, inl, inr, ltb, arith}
 use Rattle.std.specs.Prelude.{◌==◌, MatchOption}
 use Rattle.std.specs.List.{remove, position, position_or_len, slice_get, All, Contains}
 use Rattle.std.proofs.lemmas.List.Quantifiers.{position-Some}
 use Rattle.std.proofs.lemmas.List.Folds.{find_at}
-use Rattle.std.proofs.lemmas.Bool.{cases_Bool, cond-true, cond-false, ltb-false, eq-eqb, ne_eqb, eqb-true, eqb-false}
-use Rattle.std.proofs.lemmas.Option.{none-some, same_Some, slice_get_past, slice_get-get_or, slice_get_read}
+use Rattle.std.proofs.lemmas.Bool.{cases_Bool, cond-true, cond-false, ltb-false, eq-eqb, ne_eqb}
+use Rattle.std.proofs.lemmas.Bool.{eqb-true, eqb-false}
+use Rattle.std.proofs.lemmas.Option.{none-some, same_Some, slice_get_past, slice_get-get_or}
+use Rattle.std.proofs.lemmas.Option.{slice_get_read}
 use Rattle.std.proofs.lemmas.List.Elements.{All-cons, All-head, All-tail, All-push}
 use Rattle.wheel_core.specs.declared.item.Item.{Item}
 use Rattle.wheel_core.specs.PlainBase.{item_of, without, HasDistinctIds, IsPlaced, IsSound}
@@ -16,14 +20,16 @@ abbrev no_item : Item
 no_item = record { id = 0; expires = 0; wheel = 0; level = 0; job = 0; arg = 0 }
 
 -- an id that no item has
-pub item_of_first : (id : ℕ) (first : Item) (items : List Item) → item_of id (first ∷ items) ≡ None → (first.id == id) ≡ false
+pub item_of_first : (id : ℕ) (first : Item) (items : List Item) → item_of id (first ∷ items) ≡ None
+    → (first.id == id) ≡ false
 item_of_first id first items none =
     elim (cases_Bool (first.id == id)) [
       | inl here ↦ absurd (none-some first (sym none ∙ cond-true (first.id == id) (Some first) (item_of id items) here))
       | inr other ↦ other
     ]
 
-pub item_of_rest : (id : ℕ) (first : Item) (items : List Item) → item_of id (first ∷ items) ≡ None → item_of id items ≡ None
+pub item_of_rest : (id : ℕ) (first : Item) (items : List Item) → item_of id (first ∷ items) ≡ None
+    → item_of id items ≡ None
 item_of_rest id first items none =
     sym (cond-false (first.id == id) (Some first) (item_of id items) (item_of_first id first items none)) ∙ none
 
@@ -35,7 +41,8 @@ pub record AtPlace (id : ℕ) (items : List Item) (place : ℕ) (d : Item) : Typ
 
 -- the first item of an id
 first_place : (id : ℕ) (items : List Item) (place : ℕ) (d : Item) → place < length items
-    → ((get_or items place d).id == id) ≡ true → ((k : ℕ) → k < place → ((get_or items k d).id == id) ≡ false)
+    → ((get_or items place d).id == id) ≡ true
+    → ((k : ℕ) → k < place → ((get_or items k d).id == id) ≡ false)
     → AtPlace id items place d
 first_place id [] place d within here before = absurd (omega arith)
 first_place id (first ∷ items) zero d within here before =
@@ -51,7 +58,8 @@ at_position id items place d is =
     let found = position-Some (λ item. item.id == id) items place d is in
     first_place id items place d found.0 found.1 found.2
 
-pub no_position : (id : ℕ) (items : List Item) → position (λ item. item.id == id) items ≡ None → item_of id items ≡ None
+pub no_position : (id : ℕ) (items : List Item) → position (λ item. item.id == id) items ≡ None
+    → item_of id items ≡ None
 no_position id items is =
     let p : Item → Bool = λ item. item.id == id in
     let past : length items ≤ position_or_len p items = elim (cases_Bool (ltb (position_or_len p items) (length items))) [
@@ -68,7 +76,8 @@ without_none id (first ∷ items) is =
     ∙ ap (λ rest. first ∷ rest) (without_none id items (item_of_rest id first items is))
 
 -- what `position` finds is the item's place
-pub is_place : (id : ℕ) (items : List Item) (found : Option ℕ) → found ≡ position (λ item. item.id == id) items
+pub is_place : (id : ℕ) (items : List Item) (found : Option ℕ)
+    → found ≡ position (λ item. item.id == id) items
     → MatchOption found (item_of id items ≡ None) (IsPlaceOf id items)
 is_place id items None is = no_position id items (sym is)
 is_place id items (Some place) is =
@@ -78,12 +87,14 @@ is_place id items (Some place) is =
     record { within = within; item = slice_get-get_or items place no_item within ∙ sym found.item; rest = found.rest }
 
 -- an item that is read at a place is the one that stands there
-pub read_at : (items : List Item) (place : ℕ) (item : Item) (there : Option Item) → place < length items
+pub read_at : (items : List Item) (place : ℕ) (item : Item) (there : Option Item)
+    → place < length items
     → item ≡ get_or items place item → slice_get items place ≡ there → Some item ≡ there
 read_at items place item there within is stands = sym (slice_get_read items (length items) place item refl within is) ∙ stands
 
 -- an id that isn't looked up isn't at any place
-other_id : (id : ℕ) (items : List Item) (place : ℕ) (item : Item) → item_of id items ≡ None → slice_get items place ≡ Some item
+other_id : (id : ℕ) (items : List Item) (place : ℕ) (item : Item) → item_of id items ≡ None
+    → slice_get items place ≡ Some item
     → (id ≡ item.id → ⊥)
 other_id id [] place item none at same = absurd (none-some item at)
 other_id id (first ∷ items) zero item none at same =
@@ -93,7 +104,8 @@ other_id id (first ∷ items) zero item none at same =
 other_id id (first ∷ items) (suc place) item none at same = other_id id items place item (item_of_rest id first items none) at same
 
 -- the one item of an id stands at its place
-pub one_place : (items : List Item) (place : ℕ) (item : Item) → HasDistinctIds items → slice_get items place ≡ Some item
+pub one_place : (items : List Item) (place : ℕ) (item : Item) → HasDistinctIds items
+    → slice_get items place ≡ Some item
     → remove items place ≡ without item.id items
 one_place [] place item distinct at = absurd (none-some item at)
 one_place (first ∷ items) zero item distinct at =
@@ -106,7 +118,8 @@ one_place (first ∷ items) (suc place) item distinct at =
     ∙ sym (cond-false (first.id == item.id) items (first ∷ without item.id items) apart)
 
 -- an item that is queued is that of its id
-pub item_there : (items : List Item) (place : ℕ) (item : Item) → HasDistinctIds items → slice_get items place ≡ Some item
+pub item_there : (items : List Item) (place : ℕ) (item : Item) → HasDistinctIds items
+    → slice_get items place ≡ Some item
     → item_of item.id items ≡ Some item
 item_there [] place item distinct at = absurd (none-some item at)
 item_there (first ∷ items) zero item distinct at =
@@ -116,12 +129,14 @@ item_there (first ∷ items) (suc place) item distinct at =
     cond-false (first.id == item.id) (Some first) (item_of item.id items) (ne_eqb first.id item.id (other_id first.id items place item distinct.0 at))
     ∙ item_there items place item distinct.1 at
 
-pub item_queued : (items : List Item) (item : Item) → HasDistinctIds items → Contains items item → item_of item.id items ≡ Some item
+pub item_queued : (items : List Item) (item : Item) → HasDistinctIds items → Contains items item
+    → item_of item.id items ≡ Some item
 item_queued items item distinct (place, within, is) =
     item_there items place item distinct (slice_get-get_or items place item within ∙ ap Some is)
 
 -- no id comes twice, as an item comes or goes
-pub still_none : (id other : ℕ) (items : List Item) → item_of id items ≡ None → item_of id (without other items) ≡ None
+pub still_none : (id other : ℕ) (items : List Item) → item_of id items ≡ None
+    → item_of id (without other items) ≡ None
 still_none id other [] none = refl
 still_none id other (first ∷ items) none =
     elim (cases_Bool (first.id == other)) [
@@ -129,7 +144,8 @@ still_none id other (first ∷ items) none =
       | inr there ↦ rw there (cond-false (first.id == id) (Some first) (item_of id (without other items)) (item_of_first id first items none) ∙ still_none id other items (item_of_rest id first items none))
     ]
 
-pub distinct_without : (id : ℕ) (items : List Item) → HasDistinctIds items → HasDistinctIds (without id items)
+pub distinct_without : (id : ℕ) (items : List Item) → HasDistinctIds items
+    → HasDistinctIds (without id items)
 distinct_without id [] distinct = tt
 distinct_without id (first ∷ items) distinct =
     elim (cases_Bool (first.id == id)) [
@@ -137,13 +153,15 @@ distinct_without id (first ∷ items) distinct =
       | inr there ↦ rw there (still_none first.id id items distinct.0, distinct_without id items distinct.1)
     ]
 
-pub none_push : (id : ℕ) (items : List Item) (item : Item) → item_of id items ≡ None → (item.id ≡ id → ⊥) → item_of id (items ++ item ∷ []) ≡ None
+pub none_push : (id : ℕ) (items : List Item) (item : Item) → item_of id items ≡ None
+    → (item.id ≡ id → ⊥) → item_of id (items ++ item ∷ []) ≡ None
 none_push id [] item none apart = cond-false (item.id == id) (Some item) None (ne_eqb item.id id apart)
 none_push id (first ∷ items) item none apart =
     cond-false (first.id == id) (Some first) (item_of id (items ++ item ∷ [])) (item_of_first id first items none)
     ∙ none_push id items item (item_of_rest id first items none) apart
 
-pub distinct_push : (items : List Item) (item : Item) → HasDistinctIds items → item_of item.id items ≡ None → HasDistinctIds (items ++ item ∷ [])
+pub distinct_push : (items : List Item) (item : Item) → HasDistinctIds items
+    → item_of item.id items ≡ None → HasDistinctIds (items ++ item ∷ [])
 distinct_push [] item distinct none = (refl, tt)
 distinct_push (first ∷ items) item distinct none =
     let apart = eqb-false first.id item.id (item_of_first item.id first items none) in (
@@ -151,7 +169,8 @@ distinct_push (first ∷ items) item distinct none =
       distinct_push items item distinct.1 (item_of_rest item.id first items none),
     )
 
-pub all_without : (P : Item → Type 0) (id : ℕ) (items : List Item) → All P items → All P (without id items)
+pub all_without : (P : Item → Type 0) (id : ℕ) (items : List Item) → All P items
+    → All P (without id items)
 all_without P id [] all = all
 all_without P id (first ∷ items) all =
     elim (cases_Bool (first.id == id)) [
@@ -233,6 +252,7 @@ pub sound_without : (id : ℕ) (items : List Item) → IsSound items → IsSound
 sound_without id items sound =
     record { distinct = distinct_without id items sound.distinct; placed = all_without IsPlaced id items sound.placed }
 
-pub sound_push : (items : List Item) (item : Item) → IsSound items → item_of item.id items ≡ None → IsPlaced item → IsSound (items ++ item ∷ [])
+pub sound_push : (items : List Item) (item : Item) → IsSound items → item_of item.id items ≡ None
+    → IsPlaced item → IsSound (items ++ item ∷ [])
 sound_push items item sound none placed =
     record { distinct = distinct_push items item sound.distinct none; placed = All-push IsPlaced items item sound.placed placed }

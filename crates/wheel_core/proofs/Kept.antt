@@ -1,5 +1,6 @@
 -- what the base of one list keeps, as an item comes or goes
-use Rattle.std.proofs.Common.{◌≡◌, ℕ, ◌<◌, ◌≤◌, ◌+◌, ◌-◌, List, [], ◌∷◌, ◌++◌, Option, Some, None, length, get_or, refl, sym, ap, subst, ◌∙◌, arith, length-append}
+use Rattle.std.proofs.Common.{◌≡◌, ℕ, ◌<◌, ◌≤◌, List, [], ◌∷◌, ◌++◌, Option, Some, None}
+use Rattle.std.proofs.Common.{length, get_or, refl, sym, ap, subst, ◌∙◌, arith, length-append}
 use Rattle.std.specs.List.{remove}
 use Rattle.std.proofs.lemmas.List.Edits.{length-remove}
 use Rattle.wheel_core.specs.declared.item.Item.{Item}
@@ -62,8 +63,10 @@ pub record TakesOut (now : ℕ) (items : List Item) (others : Option ℕ) (place
   pub out : Some item ≡ out_at now (least items) items
   pub gone : remove items place ≡ without item.id items
 
-pub takes_out : (now : ℕ) (items seen : List Item) (scan : Scan) (place : ℕ) (item : Item) → IsNext now seen scan → seen ≡ items
-    → scan.out ≡ Some place → IsSound items → item ≡ get_or items place item → TakesOut now items scan.others place item
+pub takes_out : (now : ℕ) (items seen : List Item) (scan : Scan) (place : ℕ) (item : Item)
+    → IsNext now seen scan → seen ≡ items
+    → scan.out ≡ Some place → IsSound items → item ≡ get_or items place item
+    → TakesOut now items scan.others place item
 takes_out now items seen scan place item next same found sound is =
     let at = MatchOption-at_some (out_at now (least items) items ≡ None) (IsNextAt now items scan.others) place found (subst (λ items. IsNext now items scan) same next) in
     record {

@@ -1,8 +1,10 @@
 -- for crates above: the levels of the wheel, shifts and granules
-use Rattle.std.proofs.Common.{◌≡◌, ℕ, zero, suc, ◌+◌, ◌*◌, ◌/◌, ◌%◌, ◌^◌, ◌<◌, ◌≤◌, ◌-◌, inl, inr, arith}
+use Rattle.std.proofs.Common.{◌≡◌, ℕ, zero, suc, ◌+◌, ◌*◌, ◌/◌, ◌%◌, ◌^◌, ◌<◌, ◌≤◌, ◌-◌, inl, inr}
+use Rattle.std.proofs.Common.{arith}
 use Rattle.std.proofs.lemmas.Bool.{cases_lt}
 use Rattle.std.proofs.lemmas.Bool.Decides.{nat_tests}
-use Rattle.wheel_core.specs.WheelExpiry.{granule_end, granularity, level_of_delay, wheel_expiry_of, wheel_level_of, KeepsTime, cutoff, greatest_timeout}
+use Rattle.wheel_core.specs.WheelExpiry.{granule_end, granularity, level_of_delay, wheel_expiry_of}
+use Rattle.wheel_core.specs.WheelExpiry.{wheel_level_of, KeepsTime, cutoff, greatest_timeout}
 
 -- shifting down and up by three bits a level gives the end of the granule
 pub by_shift : (level time : ℕ) → level < 9 → time < 2 ^ 47
@@ -37,7 +39,8 @@ ends (suc (suc (suc (suc (suc (suc (suc (suc zero)))))))) time l t = record { pa
 ends (suc (suc (suc (suc (suc (suc (suc (suc (suc more))))))))) time l t = absurd (omega arith)
 
 -- a level's granule is at most 8 in 63 of each of its delays, or one jiffy
-pub level_fits : (delta : ℕ) → (level_of_delay delta < 9) × (63 * granularity (level_of_delay delta) ≤ 8 * delta + 63)
+pub level_fits : (delta : ℕ)
+    → (level_of_delay delta < 9) × (63 * granularity (level_of_delay delta) ≤ 8 * delta + 63)
 unfolding level_of_delay
 level_fits delta = grind (arith, nat_tests)
 
@@ -55,11 +58,13 @@ row expires clock l n =
       | inr h ↦ grind (arith, nat_tests)
     ]
 
-pub row_level : (expires clock : ℕ) → clock ≤ expires → wheel_level_of expires clock ≡ level_of_delay (expires - clock)
+pub row_level : (expires clock : ℕ) → clock ≤ expires
+    → wheel_level_of expires clock ≡ level_of_delay (expires - clock)
 unfolding wheel_level_of
 row_level expires clock l = grind (arith, nat_tests)
 
-pub keeps_time : (expires clock : ℕ) → expires < 2 ^ 47 → clock ≤ expires → expires - clock < cutoff → KeepsTime expires clock
+pub keeps_time : (expires clock : ℕ) → expires < 2 ^ 47 → clock ≤ expires → expires - clock < cutoff
+    → KeepsTime expires clock
 keeps_time expires clock in_time l n =
     let fits = level_fits (expires - clock) in
     let granule = ends (level_of_delay (expires - clock)) expires fits.0 in_time in

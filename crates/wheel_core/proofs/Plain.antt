@@ -1,15 +1,19 @@
 -- for crates above: what a plain base keeps as it is forwarded, added to and handed out
-use Rattle.std.proofs.Common.{◌≡◌, ℕ, ◌+◌, ◌^◌, ◌<◌, ◌≤◌, max, List, [], ◌∷◌, ◌++◌, length, refl, sym, subst, arith}
+use Rattle.std.proofs.Common.{◌≡◌, ℕ, ◌+◌, ◌^◌, ◌<◌, ◌≤◌, max, List, [], ◌∷◌, refl}
+use Rattle.std.proofs.Common.{sym, subst, arith}
 use Rattle.std.proofs.Common.{Option, Some, None}
 use Rattle.std.specs.List.{All}
 use Rattle.std.proofs.lemmas.Bool.Decides.{nat_tests}
 use Rattle.std.proofs.lemmas.List.Elements.{All-head, All-push, All-tail, All-weaker}
 use Rattle.std.proofs.lemmas.Option.{none-some, same_Some}
 use Rattle.wheel_core.specs.declared.item.Item.{Item}
-use Rattle.wheel_core.specs.PlainBase.{IsPlaced, IsSound, NoneBehind, NoneDue, NoneSooner, OneFewer, OutIsDue, PlainBase}
-use Rattle.wheel_core.specs.PlainBase.{added, after_out, clock_forwarded, forwarded, item_of, least, next_out, placed, removed, sooner, taken}
+use Rattle.wheel_core.specs.PlainBase.{IsPlaced, IsSound, NoneBehind, NoneDue, NoneSooner, OneFewer}
+use Rattle.wheel_core.specs.PlainBase.{OutIsDue, PlainBase}
+use Rattle.wheel_core.specs.PlainBase.{added, after_out, clock_forwarded, forwarded, item_of, least}
+use Rattle.wheel_core.specs.PlainBase.{next_out, placed, removed, sooner, taken}
 use Rattle.wheel_core.proofs.HandOut.{out_is_due}
-use Rattle.wheel_core.proofs.Ids.{all_without, gone_without, length-without, sound_push, sound_without}
+use Rattle.wheel_core.proofs.Ids.{all_without, gone_without, length-without, sound_push}
+use Rattle.wheel_core.proofs.Ids.{sound_without}
 use Rattle.wheel_core.proofs.Leasts.{least_below, least_none}
 use Rattle.wheel_core.proofs.Levels.{wheel_keeps_time}
 

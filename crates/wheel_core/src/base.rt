@@ -92,13 +92,15 @@ pub trait TimerBase: Drop {
         ensures none { IfNone result (base self.new ≡ base self.old) }
         ensures gone { IfSome result (λ item. item_of item.id (base self.new).plain.items ≡ None) }
         ensures one_fewer { OnSome result (OneFewer (base self.old).plain (base self.new).plain) }
-        ensures none_behind { IfNone result ((base self.new).plain.clock ≤ now + 1 → NoneBehind (base self.new).plain) }
+        ensures none_behind { IfNone result
+            ((base self.new).plain.clock ≤ now + 1 → NoneBehind (base self.new).plain) }
         ensures clock { (base self.new).plain.clock ≤ max (base self.old).plain.clock (now + 1) };
 
     /// Takes memory for `n` more items than are queued, where there is less. Want of memory leaves
     /// all as before.
     fn reserve(&mut self, n: usize) -> Result<(), NoRoom>
-        ensures enough { length (base self.old).plain.items + n ≤ (base self.old).capacity → IsOk result }
+        ensures enough { length (base self.old).plain.items + n ≤ (base self.old).capacity
+            → IsOk result }
         ensures ok { OnOk result (base self.new ≡ reserved n (base self.old)) }
         ensures err { OnErr result (base self.new ≡ base self.old) };
 }

@@ -96,7 +96,7 @@ pub fn make_calls<B: TimerBase>(
     calls: &[BaseCall],
 ) -> Result<Vec<BaseAnswer>, NoRoom>
     requires { MayCallAll calls.now (B.base base.old) }
-    ensures answers { IfOk result (λ answers. answers.items ≡ answers_to calls.now (B.base base.old)) }
+    ensures answers { IfOk result (λ told. told.items ≡ answers_to calls.now (B.base base.old)) }
     ensures after { OnOk result (B.base base.new ≡ after_all calls.now (B.base base.old)) }
     ensures err { OnErr result (StandsAfterSome calls.now (B.base base.old) (B.base base.new)) }
 {

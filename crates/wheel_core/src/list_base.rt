@@ -26,7 +26,11 @@ impl Model for ListBase {
 
     ghost Value = { RoomyBase };
 
-    ghost view = { λ b. record { plain = record { items = b.items.items; clock = b.clock }; capacity = b.capacity } };
+    ghost view = { λ b.
+        record {
+          plain = record { items = b.items.items; clock = b.clock };
+          capacity = b.capacity;
+        } };
 
     ghost invariant = { λ b. KeepsList b.items.items b.first b.capacity (vec_capacity b.items) };
 }
