@@ -1,7 +1,9 @@
 -- the numbers of refusals
 use Rattle.std.specs.Prelude.{ℕ, Option, Some, None}
 use Rattle.tm_base.specs.declared.faults.OpFault.{OpFault}
-use Rattle.tm_base.specs.declared.faults.OpFault.TheVariants.{NotActive, NotIdle, Offline, AlreadyOnline, LastOnline, Queued, Spent, NoMemory}
+use Rattle.tm_base.specs.declared.faults.OpFault.TheVariants.{NotActive, NotIdle, Offline}
+use Rattle.tm_base.specs.declared.faults.OpFault.TheVariants.{AlreadyOnline, LastOnline, Queued}
+use Rattle.tm_base.specs.declared.faults.OpFault.TheVariants.{Spent, NoMemory}
 
 -- the number by which a report names a refusal; want of memory has none
 abbrev pub fault_number : OpFault → Option ℕ

@@ -1,2 +1,3 @@
-pub mod Faults
+pub mod Classes
 pub mod CpuSet
+pub mod Faults

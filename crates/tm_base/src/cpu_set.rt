@@ -1,47 +1,51 @@
 //! Sets of CPUs.
 
-ghost use Rattle.std.specs.Prelude.{◌≡◌, ℕ, ◌<◌, ◌^◌, ◌↔◌, IsTrue};
-ghost use Rattle.tm_base.specs.CpuSet.{Contains, IsEmpty, AddsCpu};
+ghost use Rattle.std.specs.Prelude.{◌≡◌, ◌<◌, length};
+ghost use Rattle.std.specs.FinSet as set;
+ghost use Rattle.std.specs.Coded.{coded_ℕ};
+ghost use Rattle.tm_base.specs.CpuSet.{Cpus, FitsSet, set_of};
 
-use crate::CpuId;
+use crate::{CPU_SET_SIZE, CpuId};
 use std::marker::Model;
 
-/// A set of CPU numbers from 0 to 63, in one word.
-#[derive(Clone, Copy, Debug, PartialEq, Eq)]
+/// A set of CPU numbers from 0 to 511, a bit for each.
+#[derive(Clone, Debug, Drop)]
 pub struct CpuSet {
-    mask: u64,
+    words: [u64; 8],
 }
 
 impl Model for CpuSet {
-    ghost Value = { ℕ };
+    ghost Value = { Cpus };
 
-    ghost view = { λ s. s.mask };
+    ghost coded = { set.code coded_ℕ };
 
-    ghost invariant = { λ s. s.mask < 2 ^ 64 };
+    ghost view = { λ s. set_of s.words };
 
-    ghost inverse = { λ n. record { mask = n } };
+    ghost invariant = { λ s. length s.words ≡ 8 };
 }
 
 impl CpuSet {
     /// The empty set.
     pub fn new() -> CpuSet
-        ensures { IsEmpty result }
+        ensures { result ≡ set.empty }
     {
-        CpuSet { mask: 0 }
+        CpuSet { words: [0; 8] }
     }
 
-    /// Adds a CPU, whose number is below 64.
+    /// Adds a CPU; where it is in the set already, nothing changes.
     pub fn add(&mut self, cpu: CpuId)
-        requires { cpu.0 < 64 }
-        ensures { AddsCpu self.old self.new cpu.0 }
+        requires { cpu.0 < CPU_SET_SIZE }
+        ensures added { self.new ≡ set.insert self.old cpu.0 }
+        ensures fits { FitsSet self.new }
     {
-        self.mask |= 1 << cpu.0;
+        self.words[cpu.0 as usize / 64] |= 1 << (cpu.0 % 64);
     }
 
-    /// Whether the CPU is in the set; a number from 64 on never is.
+    /// Whether the CPU is in the set; a number from 512 on never is.
     pub fn has(&self, cpu: CpuId) -> bool
-        ensures { IsTrue result ↔ Contains self.now cpu.0 }
+        ensures found { result ≡ set.contains self.now cpu.0 }
+        ensures fits { FitsSet self.now }
     {
-        cpu.0 < 64 && (self.mask >> cpu.0) & 1 == 1
+        cpu.0 < CPU_SET_SIZE && (self.words[cpu.0 as usize / 64] >> (cpu.0 % 64)) & 1 == 1
     }
 }

@@ -45,7 +45,8 @@ pub enum OpFault {
 }
 
 impl OpFault {
-    /// The number by which a report names the refusal: 1 to 7 in the order of the variants, None for want of memory.
+    /// The number by which a report names the refusal: 1 to 7 in the order of the variants, None
+    /// for want of memory.
     pub fn number(&self) -> Option<u8>
         ensures { result ≡ fault_number self.now }
     {
@@ -66,7 +67,6 @@ impl From<NoMemory> for OpFault {
     ghost from_gives = { λ _ e. e ≡ faults.NoMemory };
 
     fn from(_e: NoMemory) -> OpFault {
-        let fault = OpFault::NoMemory;
-        fault
+        Self::NoMemory
     }
 }

@@ -1,18 +1,12 @@
-use Rattle.std.proofs.Common.{arith, sym, ◌∙◌, ap}
-use Rattle.std.specs.Int.{w64}
-use Rattle.std.specs.Int.{bit_at}
-use Rattle.std.proofs.lemmas.Nat.{or_lt}
-use Rattle.std.proofs.lemmas.Nat.Bits.{bit_at_set_same, bit_at_set_other}
+use Rattle.std.proofs.Common.{◌∙◌, ap}
+use Rattle.std.specs.FinSet.{insert}
+use Rattle.tm_base.proofs.Marks.{mark_added, set_fits}
 use Rattle.tm_base.proofs.cpu_set.CpuSet.add.Goals as goal
 
-pub invariant_of-self : goal.invariant_of-self
-invariant_of-self c = or_lt 64 _ _ c.self.invariant (omega arith)
+pub returns-clause-added : goal.returns-clause-added
+returns-clause-added c =
+    mark_added c.self.inside.words c.args.cpu.0 c.self.invariant c.requires
+    ∙ ap (λ cpus. insert cpus c.args.cpu.0) c.self.view_is
 
-pub returns : goal.returns
-returns c = record {
-  added = bit_at_set_same w64 c.self.inside.mask c.args.cpu.0 c.requires;
-  others = λ k other.
-      let same = bit_at_set_other w64 c.self.inside.mask c.args.cpu.0 c.requires k other in
-      let old = ap (λ m. bit_at m k) c.self.view_is in
-      ((λ h. sym old ∙ (sym same ∙ h)), (λ h. same ∙ (old ∙ h)));
-}
+pub returns-clause-fits : goal.returns-clause-fits
+returns-clause-fits c = set_fits _
