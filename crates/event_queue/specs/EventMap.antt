@@ -1,7 +1,7 @@
 -- the queue of a group: a finite map from child, 0 to 7, to event, seen as the list of its eight slots
 use Rattle.std.specs.Prelude.{◌≡◌, ◌≢◌, ℕ, ◌^◌, ◌<◌, ◌≤◌, true, false, Option, Some, None, List, length, slice_index_or}
 use Rattle.std.specs.Option.{option_map}
-use Rattle.tm_base.specs.CpuSet.{Contains}
+use Rattle.tm_base.specs.CpuSet.{Cpus, Contains}
 use Rattle.event_queue.specs.declared.event.Event.{Event}
 
 -- the slot of each child
@@ -44,7 +44,7 @@ abbrev pub Counts : Event → Type 0
 Counts e = e.ignored ≡ false
 
 -- an event that a look at this time takes up: it isn't ignored and not later, and its CPU wasn't tried yet
-pub record IsDue (time tried : ℕ) (e : Event) : Type 0 where
+pub record IsDue (time : ℕ) (tried : Cpus) (e : Event) : Type 0 where
   pub counts : Counts e
   pub come : e.expiry ≤ time
   pub untried : Contains tried e.cpu.0 → ⊥
