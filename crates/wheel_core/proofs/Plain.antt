@@ -3,6 +3,7 @@ use Rattle.std.proofs.Common.{◌≡◌, ℕ, ◌+◌, ◌^◌, ◌<◌, ◌≤�
 use Rattle.std.proofs.Common.{sym, subst, arith}
 use Rattle.std.proofs.Common.{Option, Some, None}
 use Rattle.std.specs.List.{All}
+use Rattle.std.specs.Option.{IfSome}
 use Rattle.std.proofs.lemmas.Bool.Decides.{nat_tests}
 use Rattle.std.proofs.lemmas.List.Elements.{All-head, All-push, All-tail, All-weaker}
 use Rattle.std.proofs.lemmas.Option.{none-some, same_Some}
@@ -13,7 +14,7 @@ use Rattle.wheel_core.specs.PlainBase.{added, after_out, clock_forwarded, forwar
 use Rattle.wheel_core.specs.PlainBase.{next_out, placed, removed, sooner, taken}
 use Rattle.wheel_core.proofs.HandOut.{out_is_due}
 use Rattle.wheel_core.proofs.Ids.{all_without, gone_without, length-without, sound_push}
-use Rattle.wheel_core.proofs.Ids.{sound_without}
+use Rattle.wheel_core.proofs.Ids.{item_holds, sound_without}
 use Rattle.wheel_core.proofs.Leasts.{least_below, least_none}
 use Rattle.wheel_core.proofs.Levels.{wheel_keeps_time}
 
@@ -121,6 +122,12 @@ clock_after now base (Some item) due = let past = due.due in omega arith
 pub clock-taken_le : (now : ℕ) (base : PlainBase) → IsSound base.items
     → (taken now base).clock ≤ max base.clock (now + 1)
 clock-taken_le now base sound = clock_after now base (next_out now base) (due_out now base sound)
+
+-- what holds of all items holds of what goes out
+pub out_holds : (P : Item → Type 0) (now : ℕ) (items : List Item) (out : Option Item)
+    → All P items → OutIsDue now items out → IfSome out P
+out_holds P now items None all due = tt
+out_holds P now items (Some item) all due = item_holds P item.id items item all due.queued
 
 -- what holds of all items, and soundness, hold of those that are left
 pub all_after_out : (P : Item → Type 0) (base : PlainBase) (out : Option Item)
