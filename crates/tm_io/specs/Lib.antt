@@ -1,5 +1,6 @@
 pub mod Counts
+pub mod Seen
 pub mod Sources
 pub mod Sinks
 pub mod Memory
-pub mod Standard
+pub mod Plain

@@ -1,18 +1,21 @@
 //! A source and a sink in memory that go by pieces, and fail in the calls that they are told.
 
-ghost use Rattle.std.specs.Prelude.{◌≡◌, ◌==◌, ◌<◌, ◌≤◌, ◌++◌, ◌^◌, ◌-◌, ◌↔◌, [], ℕ, List, min, length, take, drop, Some, IsTrue, IfOk, OnOk, OnErr, IsErrOf, MatchResult};
+ghost use Rattle.std.specs.Prelude.{◌≡◌, ◌==◌, ◌<◌, ◌^◌, ◌↔◌, [], ℕ, min, length, take};
+ghost use Rattle.std.specs.Prelude.{IsTrue, IfOk, IfErr, IsErrOf};
 ghost use Rattle.std.specs.List.{list_any};
-ghost use Rattle.std.specs.Io.KnownBytes.{ReadConsumes, WriteAppends};
 ghost use Rattle.tm_io.specs.Counts.{HasRisen};
-ghost use Rattle.tm_io.specs.Sources.{KeepsRest};
-ghost use Rattle.tm_io.specs.Sinks.{CountsRefusal};
-ghost use Rattle.tm_io.specs.Memory.{Plan, start, fails_next, after_call, Feed, Store};
+ghost use Rattle.tm_io.specs.Sources.{Takes};
+ghost use Rattle.tm_io.specs.Sinks.{Puts, refusals_after};
+ghost use Rattle.tm_io.specs.Memory.{Plan, start, fails_next, after_call};
+ghost use Rattle.tm_io.specs.Memory.{Feed, feed_seen, Store, store_seen};
 
+use crate::sinks::count_refusal;
 use crate::{IoFault, PlainSink, PlainSource, Sink, Source};
 use std::alloc::Global;
 use std::marker::Model;
 
-// Which calls fail. The count of calls stands still at its type's end, past every number in `fails`.
+// Which calls fail. The count of calls stands still at its type's end, past every number in
+// `fails`.
 #[derive(Drop)]
 struct FaultPlan {
     fails: Vec<u32>,
@@ -45,7 +48,6 @@ impl FaultPlan {
         ensures fails { result ≡ fails_next self.old }
         ensures after { self.new ≡ after_call self.old }
         ensures risen { IsTrue result → HasRisen self.old.faults self.new.faults }
-        ensures later { self.old.faults ≤ self.new.faults }
     {
         let number = self.calls.saturating_add(1);
         self.calls = number;
@@ -96,17 +98,10 @@ impl MemorySource {
 }
 
 impl Source for MemorySource {
-    ghost left = { λ s. Some s.left };
-
-    ghost faults = { λ s. s.plan.faults };
+    ghost seen = { feed_seen };
 
     fn take(&mut self, room: &mut [u8]) -> Result<usize, IoFault>
-        ensures within { IfOk result (λ n. n ≤ length room.new) }
-        ensures taken { ReadConsumes (Some self.old.left) (Some self.new.left) result room.new }
-        ensures rest { KeepsRest result room.old room.new }
-        ensures failed { IsErrOf result IoFault.Failed
-            → HasRisen self.old.plan.faults self.new.plan.faults }
-        ensures later { self.old.plan.faults ≤ self.new.plan.faults }
+        ensures takes { Takes (feed_seen self.old) (feed_seen self.new) result room.old room.new }
 
         ensures fails { IsErrOf result IoFault.Failed ↔ IsTrue (fails_next self.old.plan) }
         ensures count { IfOk result (λ n.
@@ -123,34 +118,40 @@ impl Source for MemorySource {
     }
 }
 
-/// A sink that takes at most so many bytes in a call, and fails in given calls. It takes something
-/// of every piece that isn't empty, so its count of those of which it took nothing is 0.
+/// A sink that takes at most so many bytes in a call, and fails in given calls.
 #[derive(Drop)]
 pub struct MemorySink {
     sink: PlainSink,
     piece: usize,
     plan: FaultPlan,
+    refusals: u64,
 }
 
 impl Model for MemorySink {
     ghost Value = { Store };
 
-    ghost view = { λ s. record { held = s.sink; piece = s.piece; plan = s.plan } };
+    ghost view = { λ s. record {
+      held = s.sink;
+      piece = s.piece;
+      plan = s.plan;
+      refusals = s.refusals;
+    } };
 
-    ghost invariant = { λ s. 0 < s.piece };
+    ghost invariant = { λ s. s.refusals < 2 ^ 64 };
 }
 
 impl MemorySink {
-    /// A sink that holds nothing. It takes at most `piece` bytes in a call; the calls whose
-    /// numbers, from 1, stand in `fails` fail and count.
+    /// A sink that holds nothing. It takes at most `piece` bytes in a call, so nothing at all where
+    /// that is 0; the calls whose numbers, from 1, stand in `fails` fail and count.
     pub fn new(alloc: Global, piece: usize, fails: Vec<u32>) -> MemorySink
-        requires { 0 < piece }
-        ensures { result ≡ record { held = []; piece = piece; plan = start fails.items } }
+        ensures { result
+            ≡ record { held = []; piece = piece; plan = start fails.items; refusals = 0 } }
     {
         MemorySink {
             sink: PlainSink::new(alloc),
             piece,
             plan: FaultPlan::new(fails),
+            refusals: 0,
         }
     }
 
@@ -163,22 +164,15 @@ impl MemorySink {
 }
 
 impl Sink for MemorySink {
-    ghost held = { λ s. Some s.held };
-
-    ghost faults = { λ s. s.plan.faults };
-
-    ghost refusals = { λ _. 0 };
+    ghost seen = { store_seen };
 
     fn put(&mut self, bytes: &[u8]) -> Result<usize, IoFault>
-        ensures within { IfOk result (λ n. n ≤ length bytes.now) }
-        ensures put { WriteAppends (Some self.old.held) (Some self.new.held) result bytes.now }
-        ensures failed { IsErrOf result IoFault.Failed
-            → HasRisen self.old.plan.faults self.new.plan.faults }
-        ensures later { self.old.plan.faults ≤ self.new.plan.faults }
-        ensures refused { CountsRefusal result bytes.now 0 0 }
+        ensures puts { Puts (store_seen self.old) (store_seen self.new) result bytes.now }
 
         ensures fails { IsErrOf result IoFault.Failed ↔ IsTrue (fails_next self.old.plan) }
         ensures count { IfOk result (λ n. n ≡ min self.old.piece (length bytes.now)) }
+        ensures refusals { IfOk result (λ n.
+            self.new.refusals ≡ refusals_after self.old.refusals n bytes.now) }
         ensures plan { self.new.plan ≡ after_call self.old.plan }
         ensures piece { self.new.piece ≡ self.old.piece }
     {
@@ -186,6 +180,8 @@ impl Sink for MemorySink {
             return Err(IoFault::Failed);
         }
         let most = bytes.len().min(self.piece);
-        self.sink.put(&bytes[..most])
+        let count = self.sink.put(&bytes[..most])?;
+        self.refusals = count_refusal(self.refusals, count, bytes);
+        Ok(count)
     }
 }

@@ -1,8 +1,10 @@
 //! A source and a sink in memory that never fail.
 
-ghost use Rattle.std.specs.Prelude.{◌≡◌, ◌≤◌, ◌++◌, [], ℕ, List, min, length, take, drop, vec_len, Some, Ok, IfOk, IfErr};
-ghost use Rattle.std.specs.Io.KnownBytes.{ReadConsumes};
-ghost use Rattle.tm_io.specs.Sources.{KeepsRest};
+ghost use Rattle.std.specs.Prelude.{◌≡◌, ◌≤◌, ◌++◌, [], ℕ, List, min, length, take, drop};
+ghost use Rattle.std.specs.Prelude.{vec_len, Ok, IfOk, IfErr};
+ghost use Rattle.tm_io.specs.Plain.{plain_source_seen, plain_sink_seen};
+ghost use Rattle.tm_io.specs.Sinks.{Puts};
+ghost use Rattle.tm_io.specs.Sources.{Takes};
 
 use crate::sources::fill_front;
 use crate::{IoFault, Sink, Source};
@@ -34,14 +36,11 @@ impl PlainSource {
 }
 
 impl Source for PlainSource {
-    ghost left = { λ bytes. Some bytes };
-
-    ghost faults = { λ _. 0 };
+    ghost seen = { plain_source_seen };
 
     fn take(&mut self, room: &mut [u8]) -> Result<usize, IoFault>
-        ensures within { IfOk result (λ n. n ≤ length room.new) }
-        ensures taken { ReadConsumes (Some self.old) (Some self.new) result room.new }
-        ensures rest { KeepsRest result room.old room.new }
+        ensures takes { Takes (plain_source_seen self.old) (plain_source_seen self.new)
+            result room.old room.new }
         ensures count { result ≡ Ok (min (length room.old) (length self.old)) }
     {
         let count = fill_front(room, &self.bytes[self.at..]);
@@ -81,13 +80,11 @@ impl PlainSink {
 }
 
 impl Sink for PlainSink {
-    ghost held = { λ bytes. Some bytes };
-
-    ghost faults = { λ _. 0 };
-
-    ghost refusals = { λ _. 0 };
+    ghost seen = { plain_sink_seen };
 
     fn put(&mut self, bytes: &[u8]) -> Result<usize, IoFault>
+        ensures puts { Puts (plain_sink_seen self.old) (plain_sink_seen self.new) result bytes.now }
+
         ensures ok { IfOk result (λ n.
             (n ≡ length bytes.now) × (self.new ≡ self.old ++ bytes.now)) }
         ensures err { IfErr result (λ fault. (fault ≡ IoFault.NoMemory) × (self.new ≡ self.old)) }

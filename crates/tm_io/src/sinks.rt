@@ -1,33 +1,22 @@
 //! Sinks for bytes, and writing all of a text into one.
 
-ghost use Rattle.std.specs.Prelude.{◌≡◌, ◌≢◌, ◌<◌, ◌≤◌, ℕ, List, Option, length, take, IfOk, OnOk, IfErr, IsErrOf, MatchResult};
-ghost use Rattle.std.specs.Io.KnownBytes.{Appends, Keeps, WriteAppends};
-ghost use Rattle.tm_io.specs.Counts.{HasRisen};
-ghost use Rattle.tm_io.specs.Sinks.{CountsRefusal, AppendsFront};
+ghost use Rattle.std.specs.Prelude.{◌≡◌, ◌≢◌, ◌<◌, ◌≤◌, length, take};
+ghost use Rattle.std.specs.Prelude.{IfOk, OnOk, IfErr, IsErrOf, MatchResult};
+ghost use Rattle.std.specs.Io.KnownBytes.{Appends, WriteAppends};
+ghost use Rattle.tm_io.specs.Seen.{SinkSeen, SinkFailed, SinkUnbroken, SinkRefused, SinkTook};
+ghost use Rattle.tm_io.specs.Sinks.{Puts, StopsBy, AppendsFront, refusals_after};
 
 use crate::IoFault;
 
 /// A sink for bytes that may fail, or take nothing, at any call.
 pub trait Sink {
-    /// The bytes that it holds, or None where the sink doesn't tell.
-    ghost held: { Self → Option (List ℕ) };
-
-    /// How often it has failed: a count of 64 bits that never falls.
-    ghost faults: { Self → ℕ };
-
-    /// How often it took nothing of a piece that wasn't empty: a count of 64 bits that never falls.
-    ghost refusals: { Self → ℕ };
+    /// The bytes that it holds, where the sink tells them, and two counts of 64 bits that never
+    /// fall: how often it has failed, and how often it took nothing of a piece that wasn't empty.
+    ghost seen: { Self → SinkSeen };
 
     /// Appends a front of the bytes and answers its length. It may be shorter than they are.
     fn put(&mut self, bytes: &[u8]) -> Result<usize, IoFault>
-        ensures within { IfOk result (λ n. n ≤ length bytes.now) }
-        // After an Err nothing was put.
-        ensures put { WriteAppends (held self.old) (held self.new) result bytes.now }
-
-        ensures failed { IsErrOf result IoFault.Failed
-            → HasRisen (faults self.old) (faults self.new) }
-        ensures later { faults self.old ≤ faults self.new }
-        ensures refused { CountsRefusal result bytes.now (refusals self.old) (refusals self.new) };
+        ensures puts { Puts (seen self.old) (seen self.new) result bytes.now };
 }
 
 /// Why writing stopped before the last byte.
@@ -51,24 +40,25 @@ pub struct WriteFault {
 }
 
 // The most bytes that a sink is handed at once.
-const PIECE: usize = 4096;
+const PIECE: usize = 4_096;
 
 /// Writes all of the bytes, in pieces of at most 4,096. What the sink took before an Err it keeps.
 pub fn write_all<K: Sink>(sink: &mut K, bytes: &[u8]) -> Result<(), WriteFault>
-    ensures ok { OnOk result (Appends (K.held sink.old) (K.held sink.new) bytes.now) }
+    ensures ok { OnOk result (Appends (K.seen sink.old).held (K.seen sink.new).held bytes.now) }
     ensures err { IfErr result (λ fault.
-        AppendsFront (K.held sink.old) (K.held sink.new) fault.written bytes.now) }
+        AppendsFront (K.seen sink.old) (K.seen sink.new) fault.written bytes.now) }
 
-    ensures failed { IfErr result (λ fault. fault.cause ≡ WriteCause.Failed
-        → HasRisen (K.faults sink.old) (K.faults sink.new)) }
-    ensures later { K.faults sink.old ≤ K.faults sink.new }
+    // The count of faults rises exactly where the sink failed.
+    ensures failed { StopsBy result WriteCause.Failed
+        → SinkFailed (K.seen sink.old) (K.seen sink.new) }
+    ensures unbroken { ¬ StopsBy result WriteCause.Failed
+        → SinkUnbroken (K.seen sink.old) (K.seen sink.new) }
 
     // The other count rises exactly where the sink took nothing.
-    ensures took_nothing { IfErr result (λ fault. fault.cause ≡ WriteCause.TookNothing
-        → HasRisen (K.refusals sink.old) (K.refusals sink.new)) }
-    ensures took_some { MatchResult result (λ _. K.refusals sink.new ≡ K.refusals sink.old)
-        (λ fault. fault.cause ≢ WriteCause.TookNothing
-        → K.refusals sink.new ≡ K.refusals sink.old) }
+    ensures took_nothing { StopsBy result WriteCause.TookNothing
+        → SinkRefused (K.seen sink.old) (K.seen sink.new) }
+    ensures took_some { ¬ StopsBy result WriteCause.TookNothing
+        → SinkTook (K.seen sink.old) (K.seen sink.new) }
 {
     let mut written = 0;
     while written < bytes.len() {
@@ -85,14 +75,15 @@ fn put_piece<K: Sink>(sink: &mut K, bytes: &[u8]) -> Result<usize, WriteCause>
     requires { 0 < length bytes.now }
     ensures within { IfOk result (λ n. n ≤ length bytes.now) }
     ensures some { IfOk result (λ n. 0 < n) }
-    ensures put { WriteAppends (K.held sink.old) (K.held sink.new) result bytes.now }
+    ensures put { WriteAppends (K.seen sink.old).held (K.seen sink.new).held result bytes.now }
     ensures failed { IsErrOf result WriteCause.Failed
-        → HasRisen (K.faults sink.old) (K.faults sink.new) }
-    ensures later { K.faults sink.old ≤ K.faults sink.new }
+        → SinkFailed (K.seen sink.old) (K.seen sink.new) }
+    ensures unbroken { result ≢ Err WriteCause.Failed
+        → SinkUnbroken (K.seen sink.old) (K.seen sink.new) }
     ensures took_nothing { IsErrOf result WriteCause.TookNothing
-        → HasRisen (K.refusals sink.old) (K.refusals sink.new) }
+        → SinkRefused (K.seen sink.old) (K.seen sink.new) }
     ensures took_some { result ≢ Err WriteCause.TookNothing
-        → K.refusals sink.new ≡ K.refusals sink.old }
+        → SinkTook (K.seen sink.old) (K.seen sink.new) }
 {
     let piece = &bytes[..bytes.len().min(PIECE)];
     match sink.put(piece) {
@@ -100,5 +91,16 @@ fn put_piece<K: Sink>(sink: &mut K, bytes: &[u8]) -> Result<usize, WriteCause>
         Ok(count) => Ok(count),
         Err(IoFault::Failed) => Err(WriteCause::Failed),
         Err(IoFault::NoMemory) => Err(WriteCause::NoMemory),
+    }
+}
+
+// The count of refusals after a put of these bytes that took so many of them.
+pub(crate) fn count_refusal(refusals: u64, taken: usize, bytes: &[u8]) -> u64
+    ensures exact { result ≡ refusals_after refusals taken bytes.now }
+{
+    if taken == 0 && !bytes.is_empty() {
+        refusals.saturating_add(1)
+    } else {
+        refusals
     }
 }

@@ -1,32 +1,24 @@
 //! Sources of bytes, and reading one to its end.
 
-ghost use Rattle.std.specs.Prelude.{◌≡◌, ◌+◌, ◌<◌, ◌≤◌, ◌++◌, ℕ, List, Option, length, min, take, drop, vec_len, IfOk, OnErr, IfErr, IfSome, IsErrOf};
-ghost use Rattle.std.specs.Io.KnownBytes.{Consumes, IsAtEnd, ReadConsumes};
-ghost use Rattle.tm_io.specs.Counts.{HasRisen};
-ghost use Rattle.tm_io.specs.Sources.{KeepsRest, TakesAll, TakesBefore, IsAnswerTo};
+ghost use Rattle.std.specs.Prelude.{◌≡◌, ◌≢◌, ◌+◌, ◌≤◌, ◌++◌, ℕ, List, length, min, take, drop};
+ghost use Rattle.std.specs.Prelude.{vec_len, IfOk, OnErr, IfErr, IfSome, IsErrOf};
+ghost use Rattle.std.specs.Io.KnownBytes.{Consumes, IsAtEnd};
+ghost use Rattle.tm_io.specs.Seen.{SourceSeen, SourceFailed, SourceUnbroken};
+ghost use Rattle.tm_io.specs.Sources.{Takes, TakesAll, TakesBefore, IsAnswerTo};
 
 use crate::IoFault;
 use std::alloc::Global;
 
 /// A source of bytes that may fail at any call.
 pub trait Source {
-    /// The bytes that are left, or None where the source doesn't tell.
-    ghost left: { Self → Option (List ℕ) };
-
-    /// How often it has failed: a count of 64 bits that never falls.
-    ghost faults: { Self → ℕ };
+    /// The bytes that are left, where the source tells them, and how often it has failed: a count
+    /// of 64 bits that never falls.
+    ghost seen: { Self → SourceSeen };
 
     /// Fills the front of the room with the next bytes and answers how many. It answers 0 for a
     /// room that isn't empty only at the end of the input.
     fn take(&mut self, room: &mut [u8]) -> Result<usize, IoFault>
-        ensures within { IfOk result (λ n. n ≤ length room.new) }
-        // After an Err nothing was taken.
-        ensures taken { ReadConsumes (left self.old) (left self.new) result room.new }
-        ensures rest { KeepsRest result room.old room.new }
-
-        ensures failed { IsErrOf result IoFault.Failed
-            → HasRisen (faults self.old) (faults self.new) }
-        ensures later { faults self.old ≤ faults self.new };
+        ensures takes { Takes (seen self.old) (seen self.new) result room.old room.new };
 }
 
 /// Why reading to the end was refused. The bytes taken by then stay taken.
@@ -41,23 +33,25 @@ pub enum ReadFault {
 }
 
 // The most bytes that a source is asked for at once.
-pub(crate) const ROOM: usize = 4096;
+pub(crate) const ROOM: usize = 4_096;
 
 /// Reads a source to its end, which has to come within `most` bytes. It asks for 4,096 bytes at
 /// once, or for fewer where fewer are left of `most + 1`.
 pub fn read_all<S: Source>(alloc: Global, source: &mut S, most: usize) -> Result<Vec<u8>, ReadFault>
     ensures ok { IfOk result
-        (λ bytes. TakesAll (S.left source.old) (S.left source.new) most bytes.items) }
+        (λ bytes. TakesAll (S.seen source.old) (S.seen source.new) most bytes.items) }
     ensures err { IfErr result
-        (λ fault. TakesBefore fault (S.left source.old) (S.left source.new) most) }
+        (λ fault. TakesBefore fault (S.seen source.old) (S.seen source.new) most) }
 
+    // The count of faults rises exactly where the source failed.
     ensures read { IsErrOf result ReadFault.Read
-        → HasRisen (S.faults source.old) (S.faults source.new) }
-    ensures later { S.faults source.old ≤ S.faults source.new }
+        → SourceFailed (S.seen source.old) (S.seen source.new) }
+    ensures unbroken { result ≢ Err ReadFault.Read
+        → SourceUnbroken (S.seen source.old) (S.seen source.new) }
 
     // Where the source tells its bytes and no fault comes, they decide.
-    ensures answer { IfSome (S.left source.old) (λ bytes.
-        ¬ HasRisen (S.faults source.old) (S.faults source.new) → IsAnswerTo bytes most result) }
+    ensures answer { IfSome (S.seen source.old).left (λ bytes.
+        ¬ SourceFailed (S.seen source.old) (S.seen source.new) → IsAnswerTo bytes most result) }
 {
     let mut taken = Vec::new(alloc);
     while taken.len() <= most {
@@ -79,13 +73,14 @@ fn take_more<S: Source>(
     ensures grows { IfOk result (λ n. vec_len taken.new ≡ vec_len taken.old + n) }
     ensures within { vec_len taken.new ≤ most + 1 }
     ensures taken { (bytes : List ℕ) × (taken.new.items ≡ taken.old.items ++ bytes)
-        × Consumes (S.left source.old) (S.left source.new) bytes }
-    ensures end { IfOk result (λ n. n ≡ 0 → IsAtEnd (S.left source.new)) }
+        × Consumes (S.seen source.old).left (S.seen source.new).left bytes }
+    ensures end { IfOk result (λ n. n ≡ 0 → IsAtEnd (S.seen source.new).left) }
     ensures err { OnErr result (taken.new.items ≡ taken.old.items) }
     ensures read { IsErrOf result ReadFault.Read
-        → HasRisen (S.faults source.old) (S.faults source.new) }
+        → SourceFailed (S.seen source.old) (S.seen source.new) }
+    ensures unbroken { result ≢ Err ReadFault.Read
+        → SourceUnbroken (S.seen source.old) (S.seen source.new) }
     ensures not_too_long { IsErrOf result ReadFault.TooLong → ⊥ }
-    ensures later { S.faults source.old ≤ S.faults source.new }
 {
     let wanted = (most - taken.len()).min(ROOM - 1) + 1;
     if taken.reserve(wanted).is_err() {

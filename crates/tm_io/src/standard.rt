@@ -3,13 +3,14 @@
 //! As a source or a sink they tell nothing of the bytes, since a file or a stream doesn't. The
 //! clauses of `take` and `put` here say what goes through where the reader or the writer does tell.
 
-ghost use Rattle.std.specs.Prelude.{◌≡◌, ◌≤◌, ◌<◌, ◌^◌, length, take, None, IfOk, IsErrOf, MatchResult};
-ghost use Rattle.std.specs.Io.KnownBytes.{Appends, ReadConsumes, WriteAppends};
-ghost use Rattle.tm_io.specs.Counts.{HasRisen, counted_up};
-ghost use Rattle.tm_io.specs.Sources.{KeepsRest};
-ghost use Rattle.tm_io.specs.Sinks.{CountsRefusal};
-ghost use Rattle.tm_io.specs.Standard.{Reading, Writing};
+ghost use Rattle.std.specs.Prelude.{◌≡◌, ◌≤◌, ◌<◌, ◌^◌, length, take, IfOk, MatchResult};
+ghost use Rattle.std.specs.Io.KnownBytes.{Appends, ReadConsumes};
+ghost use Rattle.tm_io.specs.Counts.{counted_up};
+ghost use Rattle.tm_io.specs.Seen.{SinkSeen, SourceSeen, sink_untold, source_untold};
+ghost use Rattle.tm_io.specs.Sinks.{Puts, refusals_after};
+ghost use Rattle.tm_io.specs.Sources.{Takes};
 
+use crate::sinks::count_refusal;
 use crate::sources::{ROOM, fill_front};
 use crate::{IoFault, Sink, Source};
 use std::io;
@@ -24,7 +25,7 @@ pub struct StdSource<R: Read> {
 }
 
 impl<R: Read> Model for StdSource<R> {
-    ghost Value = { Reading };
+    ghost Value = { SourceSeen };
 
     ghost view = { λ s. record { left = R.remaining s.reader; faults = s.faults } };
 
@@ -41,17 +42,12 @@ impl<R: Read> StdSource<R> {
 }
 
 impl<R: Read> Source for StdSource<R> {
-    ghost left = { λ _. None };
-
-    ghost faults = { λ reading. reading.faults };
+    ghost seen = { source_untold };
 
     // It reads into a room of its own, since a reader may write past the bytes that it answers.
     fn take(&mut self, room: &mut [u8]) -> Result<usize, IoFault>
-        ensures within { IfOk result (λ n. n ≤ length room.new) }
-        ensures taken { ReadConsumes None None result room.new }
-        ensures rest { KeepsRest result room.old room.new }
-        ensures failed { IsErrOf result IoFault.Failed → HasRisen self.old.faults self.new.faults }
-        ensures later { self.old.faults ≤ self.new.faults }
+        ensures takes { Takes (source_untold self.old) (source_untold self.new)
+            result room.old room.new }
 
         ensures bytes { ReadConsumes self.old.left self.new.left result room.new }
         ensures faults { MatchResult result (λ _. self.new.faults ≡ self.old.faults)
@@ -78,7 +74,7 @@ pub struct StdSink<W: Write> {
 }
 
 impl<W: Write> Model for StdSink<W> {
-    ghost Value = { Writing };
+    ghost Value = { SinkSeen };
 
     ghost view = { λ s. record {
       held = W.contents s.writer;
@@ -103,29 +99,22 @@ impl<W: Write> StdSink<W> {
 }
 
 impl<W: Write> Sink for StdSink<W> {
-    ghost held = { λ _. None };
-
-    ghost faults = { λ writing. writing.faults };
-
-    ghost refusals = { λ writing. writing.refusals };
+    ghost seen = { sink_untold };
 
     fn put(&mut self, bytes: &[u8]) -> Result<usize, IoFault>
-        ensures within { IfOk result (λ n. n ≤ length bytes.now) }
-        ensures put { WriteAppends None None result bytes.now }
-        ensures failed { IsErrOf result IoFault.Failed → HasRisen self.old.faults self.new.faults }
-        ensures later { self.old.faults ≤ self.new.faults }
-        ensures refused { CountsRefusal result bytes.now self.old.refusals self.new.refusals }
+        ensures puts { Puts (sink_untold self.old) (sink_untold self.new) result bytes.now }
 
         // Where the flush fails the writer may hold bytes of a put that failed.
         ensures bytes { IfOk result (λ n. Appends self.old.held self.new.held (take n bytes.now)) }
         ensures faults { MatchResult result (λ _. self.new.faults ≡ self.old.faults)
             (λ fault. (fault ≡ IoFault.Failed) × (self.new.faults ≡ counted_up self.old.faults)) }
+        ensures refusals { MatchResult result
+            (λ n. self.new.refusals ≡ refusals_after self.old.refusals n bytes.now)
+            (λ _. self.new.refusals ≡ self.old.refusals) }
     {
         match write_and_flush(&mut self.writer, bytes) {
             Ok(count) => {
-                if count == 0 && !bytes.is_empty() {
-                    self.refusals = self.refusals.saturating_add(1);
-                }
+                self.refusals = count_refusal(self.refusals, count, bytes);
                 Ok(count)
             }
             Err(_) => {

@@ -33,6 +33,54 @@ impl Write for Broken {
     }
 }
 
+// Fails once, in its first read and in its first write, or in its first flush; never again.
+#[derive(Drop)]
+struct FailsOnce {
+    in_flush: bool,
+    failed: bool,
+}
+
+impl FailsOnce {
+    fn new(in_flush: bool) -> FailsOnce {
+        FailsOnce {
+            in_flush,
+            failed: false,
+        }
+    }
+
+    fn fails_now(&mut self) -> io::Result<()> {
+        if self.failed {
+            return Ok(());
+        }
+        self.failed = true;
+        Err(io::Error::from(ErrorKind::Other))
+    }
+}
+
+impl Read for FailsOnce {
+    fn read(&mut self, buf: &mut [u8]) -> io::Result<usize> {
+        self.fails_now()?;
+        if buf.is_empty() {
+            return Ok(0);
+        }
+        buf[0] = b'x';
+        Ok(1)
+    }
+}
+
+impl Write for FailsOnce {
+    fn write(&mut self, buf: &[u8]) -> io::Result<usize> {
+        if !self.in_flush {
+            self.fails_now()?;
+        }
+        Ok(buf.len())
+    }
+
+    fn flush(&mut self) -> io::Result<()> {
+        self.fails_now()
+    }
+}
+
 fn taken(source: &mut impl Source) -> (Result<usize, IoFault>, [u8; 4]) {
     let mut room = [b'.'; 4];
     let answer = source.take(&mut room);
@@ -178,5 +226,33 @@ fn a_writer_fails_or_takes_nothing(rt: HostRuntime) -> Result<(), Fail> {
     }
     let mut broken = StdSource::new(Broken { takes: true });
     assert!(rt; refuses(rt.alloc(), &mut broken, 9, ReadFault::Read));
+    Ok(())
+}
+
+// No clause can say of a reader of std how often it failed.
+#[test]
+fn a_fault_that_comes_once_is_told_and_not_tried_again(rt: HostRuntime) -> Result<(), Fail> {
+    let mut source = StdSource::new(FailsOnce::new(false));
+    assert!(rt; taken(&mut source) == (Err(IoFault::Failed), *b"...."));
+    assert!(rt; taken(&mut source) == (Ok(1), *b"x..."));
+    let mut source = StdSource::new(FailsOnce::new(false));
+    assert!(rt; refuses(rt.alloc(), &mut source, 9, ReadFault::Read));
+    for in_flush in [false, true] {
+        let mut sink = StdSink::new(FailsOnce::new(in_flush));
+        assert!(rt; stops(&mut sink, REPORT, 0, WriteCause::Failed));
+        assert!(rt; write_all(&mut sink, REPORT) == Ok(()));
+    }
+    Ok(())
+}
+
+#[test]
+fn a_full_sink_holds_what_it_had_room_for(rt: HostRuntime) -> Result<(), Fail> {
+    let mut sink = FullSink::new(rt.alloc(), 20);
+    assert!(rt; stops(&mut sink, REPORT, 20, WriteCause::TookNothing));
+    assert!(rt; sink.held() == b"arm 10 0 0 global 61".as_slice());
+    assert!(rt; sink.put(b"x") == Ok(0));
+    assert!(rt; sink.put(b"") == Ok(0));
+    let mut sink = MemorySink::new(rt.alloc(), 0, Vec::new(rt.alloc()));
+    assert!(rt; stops(&mut sink, REPORT, 0, WriteCause::TookNothing));
     Ok(())
 }

@@ -6,4 +6,4 @@ pub loop-written-preserved : goal.loop-written-preserved
 loop-written-preserved g c =
     let within : c.in-Ok.count ≤ length c.args.bytes.now - c.loop-written.written = search rules in
     let put = Appends-take _ _ _ c.loop-written.written c.in-Ok.count (length c.args.bytes.now - c.loop-written.written) c.args.bytes.now within c.loop-written.invariant.put c.in-Ok.ensures.put in
-    record { within = search rules; put = put; later = search rules; refusals = search rules }
+    record { within = search rules; put = put; unbroken = search rules; took = search rules }
