@@ -1,4 +1,6 @@
+pub mod ByClass
 pub mod Journals
 pub mod CpuBases
-pub mod TwoBases
+pub mod Replay
+pub mod Laws
 pub mod Calls
