@@ -32,7 +32,7 @@ drop_key_map f key k (x ∷ xs) =
       | inr there ↦ rw there (ap (λ ys. f x ∷ ys) (drop_key_map f key k xs))
     ]
 
-all_of_map : {X Y : Type 0} (f : X → Y) (P : Y → Type 0) (xs : List X) → All P (map f xs) → All (λ x. P (f x)) xs
+pub all_of_map : {X Y : Type 0} (f : X → Y) (P : Y → Type 0) (xs : List X) → All P (map f xs) → All (λ x. P (f x)) xs
 all_of_map f P [] all = All-nil (λ x. P (f x))
 all_of_map f P (x ∷ xs) all =
     All-cons (λ x. P (f x)) x xs (All-head P (f x) (map f xs) all) (all_of_map f P xs (All-tail P (f x) (map f xs) all))
@@ -40,14 +40,6 @@ all_of_map f P (x ∷ xs) all =
 without_is : (id : ℕ) (items : List Item) → without id items ≡ drop_key (λ item. item.id) id items
 without_is id [] = refl
 without_is id (first ∷ items) = rw (without_is id items) refl
-
-pub all_without : (P : Item → Type 0) (id : ℕ) (items : List Item) → All P items → All P (without id items)
-all_without P id [] all = all
-all_without P id (first ∷ items) all =
-    elim (cases_Bool (first.id == id)) [
-      | inl here ↦ rw here (All-tail P first items all)
-      | inr there ↦ rw there (All-cons P first (without id items) (All-head P first items all) (all_without P id items (All-tail P first items all)))
-    ]
 
 mapped_none : {X Y : Type 0} (f : X → Y) (o : Option X) → option_map f o ≡ None → o ≡ None
 mapped_none f None is = refl

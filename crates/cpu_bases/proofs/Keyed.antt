@@ -2,7 +2,7 @@
 use Rattle.std.proofs.Common.{◌≡◌, ℕ, Bool, true, false, List, [], ◌∷◌, ◌++◌, Option, Some, None, refl, ap, ◌∙◌, sym, subst, inl, inr}
 use Rattle.std.specs.Prelude.{◌==◌, if◌then◌else◌}
 use Rattle.std.specs.List.{All, filter, find}
-use Rattle.std.proofs.lemmas.Bool.{cases_Bool, cond-true, cond-false, eqb-true, eqb-false, ne_eqb}
+use Rattle.std.proofs.lemmas.Bool.{cases_Bool, cond-true, cond-false, eq-eqb, eqb-true, eqb-false, ne_eqb}
 use Rattle.std.proofs.lemmas.List.Elements.{All-head, All-tail, filter_passes}
 use Rattle.std.proofs.lemmas.Option.{none-some, same_Some}
 
@@ -57,7 +57,7 @@ module _ {X : Type 0} (key : X → ℕ) where
   none_push k (x ∷ xs) y none other =
       none_here k x (xs ++ y ∷ []) (none_first k x xs none) (none_push k xs y (none_rest k x xs none) other)
 
-  none_drop : (k other : ℕ) (xs : List X) → at_key k xs ≡ None → at_key k (drop_key other xs) ≡ None
+  pub none_drop : (k other : ℕ) (xs : List X) → at_key k xs ≡ None → at_key k (drop_key other xs) ≡ None
   none_drop k other [] none = refl
   none_drop k other (x ∷ xs) none =
       elim (cases_Bool (key x == other)) [
@@ -113,25 +113,11 @@ module _ {X : Type 0} (key : X → ℕ) where
             rw (apart k x xs a distinct.0 rest) rest
       ]
 
-  none_tail : (p : X → Bool) (k : ℕ) (x : X) (xs : List X) → at_key k (filter p (x ∷ xs)) ≡ None → at_key k (filter p xs) ≡ None
+  pub none_tail : (p : X → Bool) (k : ℕ) (x : X) (xs : List X) → at_key k (filter p (x ∷ xs)) ≡ None → at_key k (filter p xs) ≡ None
   none_tail p k x xs none =
       elim (cases_Bool (p x)) [
         | inl passes ↦ none_rest k x (filter p xs) (rw passes at none)
         | inr fails ↦ rw fails at none
-      ]
-
-  -- where no element of either part has the key, none has it
-  pub none_whole : (p q : X → Bool) (k : ℕ) (xs : List X) → ((x : X) → p x ≡ false → q x ≡ true) → at_key k (filter p xs) ≡ None
-      → at_key k (filter q xs) ≡ None → at_key k xs ≡ None
-  none_whole p q k [] either np nq = refl
-  none_whole p q k (x ∷ xs) either np nq =
-      elim (cases_Bool (key x == k)) [
-        | inl here ↦
-            elim (cases_Bool (p x)) [
-              | inl passes ↦ absurd (none-some x (sym (rw (passes, here) at np)))
-              | inr fails ↦ absurd (none-some x (sym (rw (either x fails, here) at nq)))
-            ]
-        | inr there ↦ rw there (none_whole p q k xs either (none_tail p k x xs np) (none_tail q k x xs nq))
       ]
 
   -- taking away from the part
@@ -163,4 +149,45 @@ module _ {X : Type 0} (key : X → ℕ) where
               | inl keeps ↦ rw (there, keeps) (ap (λ ys. x ∷ ys) rest)
               | inr drops ↦ rw (there, drops) rest
             ]
+      ]
+
+  -- what was taken away is gone
+  pub none_dropped : (k : ℕ) (xs : List X) → HasDistinctKeys xs → at_key k (drop_key k xs) ≡ None
+  none_dropped k [] distinct = refl
+  none_dropped k (x ∷ xs) distinct =
+      elim (cases_Bool (key x == k)) [
+        | inl here ↦ rw here (subst (λ j. at_key j xs ≡ None) (eqb-true (key x) k here) distinct.0)
+        | inr there ↦ rw there (none_here k x (drop_key k xs) there (none_dropped k xs distinct.1))
+      ]
+
+  -- what is found after an element came or went
+  pub push_other : (k : ℕ) (xs : List X) (y : X) → (key y == k) ≡ false
+      → at_key k (xs ++ y ∷ []) ≡ at_key k xs
+  push_other k [] y other = none_here k y [] other refl
+  push_other k (x ∷ xs) y other =
+      elim (cases_Bool (key x == k)) [
+        | inl here ↦ rw here refl
+        | inr there ↦ rw there (push_other k xs y other)
+      ]
+
+  pub push_own : (xs : List X) (y : X) → at_key (key y) xs ≡ None
+      → at_key (key y) (xs ++ y ∷ []) ≡ Some y
+  push_own [] y none = cond-true (key y == key y) (Some y) None (eq-eqb (key y) (key y) refl)
+  push_own (x ∷ xs) y none =
+      rw (none_first (key y) x xs none) (push_own xs y (none_rest (key y) x xs none))
+
+  pub drop_other : (k other : ℕ) (xs : List X) → (other == k) ≡ false
+      → at_key k (drop_key other xs) ≡ at_key k xs
+  drop_other k other [] apart = refl
+  drop_other k other (x ∷ xs) apart =
+      elim (cases_Bool (key x == other)) [
+        | inl here ↦
+            let away = ap (λ j. j == k) (eqb-true (key x) other here) ∙ apart in
+            rw here (sym (cond-false (key x == k) (Some x) (at_key k xs) away))
+        | inr there ↦
+            rw there
+            (elim (cases_Bool (key x == k)) [
+              | inl it ↦ rw it refl
+              | inr past ↦ rw past (drop_other k other xs apart)
+            ])
       ]

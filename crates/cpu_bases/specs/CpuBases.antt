@@ -7,8 +7,8 @@ use Rattle.tm_base.specs.declared.names.Class.{Class}
 use Rattle.tm_base.specs.declared.names.Class.TheVariants.{Pinned, Global, Deferrable}
 use Rattle.tm_base.specs.declared.names.CpuId.{CpuId}
 use Rattle.wheel_core.specs.declared.item.Item.{Item}
-use Rattle.wheel_core.specs.PlainBase.{PlainBase, NoneBehind, added, empty_base, forwarded, item_of}
-use Rattle.wheel_core.specs.PlainBase.{least, next_out, placed, removed, taken}
+use Rattle.wheel_core.specs.PlainBase.{PlainBase, IsSound, added, empty_base, forwarded}
+use Rattle.wheel_core.specs.PlainBase.{item_of, least, next_out, placed, removed, taken}
 use Rattle.cpu_bases.specs.declared.entry.Act.{Act}
 use Rattle.cpu_bases.specs.declared.entry.Act.TheVariants as acts
 use Rattle.cpu_bases.specs.declared.entry.Entry.{Entry}
@@ -167,16 +167,11 @@ events_of cpu =
       next = if nat_lt first_global pin then first_global else NEVER;
     }
 
--- WHAT IS KEPT: an item's timer and expiries are in range
-pub record ItemFits (item : Item) : Type 0 where
-  pub timer : item.id < 2 ^ 16
-  pub expires : item.expires < TIME_LIMIT
-  pub wheel : item.wheel ≤ TIME_LIMIT
-
--- a base's clock and items are in range
+-- WHAT IS KEPT: a base's clock and items are in range, and no timer is queued twice
 pub record BaseFits (base : PlainBase) : Type 0 where
   pub clock : base.clock < TIME_LIMIT
-  pub items : All ItemFits base.items
+  pub sound : IsSound base.items
+  pub timers : All (λ item. item.id < 2 ^ 16) base.items
 
 -- what a CPU's bases keep, whatever times their calls are given
 pub record IsConsistent (cpu : CpuBases) : Type 0 where
@@ -185,14 +180,9 @@ pub record IsConsistent (cpu : CpuBases) : Type 0 where
   pub fits : (class : Class) → BaseFits (base_of class cpu)
   pub in_time : All (λ entry. entry.wheel ≤ TIME_LIMIT) cpu.journal
 
--- no queued wheel expiry of any class is below its base's clock, where none was before
-abbrev pub KeepsNoneBehind : (old new : CpuBases) → Type 0
-KeepsNoneBehind old new =
-    (class : Class) → NoneBehind (base_of class old) → NoneBehind (base_of class new)
-
--- no base's clock is past the next jiffy
-abbrev pub NotAhead : (now : ℕ) → CpuBases → Type 0
-NotAhead now cpu = (class : Class) → (base_of class cpu).clock ≤ now + 1
+-- a base's clock isn't past the next jiffy
+abbrev pub NotAhead : (now : ℕ) → PlainBase → Type 0
+NotAhead now base = base.clock ≤ now + 1
 
 -- ROOM: for how many timers each base has memory, and for how many entries the journal has
 pub record Room : Type 0 where

@@ -1,23 +1,23 @@
 -- what holds of the bases of a CPU and their journal, and what each call keeps: the statements of
 -- the laws
-use Rattle.std.specs.Prelude.{◌≡◌, ◌≢◌, ℕ, ◌+◌, ◌-◌, ◌^◌, ◌<◌, ◌≤◌, Bool, true, false, List}
+use Rattle.std.specs.Prelude.{◌≡◌, ◌≢◌, ℕ, ◌-◌, ◌^◌, ◌<◌, ◌≤◌, Bool, true, false, List}
 use Rattle.std.specs.Prelude.{Some, None, All, Contains, length, slice_get}
+use Rattle.tm_base.specs.Classes.{same_class}
 use Rattle.tm_base.specs.declared.names.TheConstants.{TIME_LIMIT}
 use Rattle.tm_base.specs.declared.names.Class.{Class}
 use Rattle.tm_base.specs.declared.names.CpuId.{CpuId}
 use Rattle.wheel_core.specs.declared.item.Item.{Item}
-use Rattle.wheel_core.specs.PlainBase.{NoneBehind, NoneDue, PlainBase, item_of, next_out}
+use Rattle.wheel_core.specs.PlainBase.{NoneBehind, NoneDue, item_of}
 use Rattle.cpu_bases.specs.declared.entry.Act.{Act}
 use Rattle.cpu_bases.specs.declared.entry.Act.TheVariants.{Armed, Handed, Cancelled}
 use Rattle.cpu_bases.specs.declared.entry.Act.TheVariants.{MovedOut, MovedIn, Ticked}
 use Rattle.cpu_bases.specs.declared.entry.Entry.{Entry}
-use Rattle.cpu_bases.specs.ByClass.{ByClass}
-use Rattle.cpu_bases.specs.CpuBases.{CpuBases, IsConsistent, KeepsNoneBehind, NotAhead, armed}
+use Rattle.cpu_bases.specs.CpuBases.{CpuBases, IsConsistent, NotAhead, armed}
 use Rattle.cpu_bases.specs.CpuBases.{base_of, cancelled, class_in, drained, found_in, handed_out}
 use Rattle.cpu_bases.specs.CpuBases.{moved_in, moved_out}
 use Rattle.cpu_bases.specs.Journals.{HandedByRight, LegalJournal, LegalUpTo, MayHand}
 use Rattle.cpu_bases.specs.Journals.{told_by_entry, told_by_item}
-use Rattle.cpu_bases.specs.Replay.{AddsReplay, IsReplay}
+use Rattle.cpu_bases.specs.Replay.{AddsReplay, KeepsReplay}
 
 -- ARMINGS AND ENDS
 abbrev pub is_arming : Act → Bool
@@ -81,12 +81,15 @@ abbrev pub QueuedOnce : Type 0
 QueuedOnce = (cpu : CpuBases) (timer : ℕ) (class : Class) (item : Item) → IsConsistent cpu
     → item_of timer (base_of class cpu).items ≡ Some item → found_in timer cpu ≡ Some (class, item)
 
--- WHAT A CALL KEEPS, at a time and on the CPU of this number
-pub record Keeps (number now : ℕ) (old new : CpuBases) : Type 0 where
-  pub consistent : IsConsistent new
-  pub legal : LegalUpTo number now old.journal → LegalUpTo number now new.journal
-  pub not_ahead : NotAhead now old → NotAhead now new
+-- WHAT A CALL KEEPS at a time, on whatever CPU: the journal stays legal and the bases its replay,
+-- clocks stay near, and nothing comes to be behind them
+pub record Keeps (now : ℕ) (old new : CpuBases) : Type 0 where
+  pub legal : (cpu : ℕ) → LegalUpTo cpu now old.journal → LegalUpTo cpu now new.journal
   pub replay : AddsReplay old new
+  pub not_ahead : (class : Class) → NotAhead now (base_of class old)
+      → NotAhead now (base_of class new)
+  pub none_behind : (class : Class) → NoneBehind (base_of class old)
+      → NoneBehind (base_of class new)
 
 -- what arming and moving in ask
 pub record MayQueue (now : ℕ) (class : Class) (timer expires : ℕ) (cpu : CpuBases) : Type 0 where
@@ -97,48 +100,53 @@ pub record MayQueue (now : ℕ) (class : Class) (timer expires : ℕ) (cpu : Cpu
   pub none_behind : NoneBehind (base_of class cpu)
 
 abbrev pub ArmingKeeps : Type 0
-ArmingKeeps = (number now : ℕ) (class : Class) (timer expires job arg line : ℕ) (by : CpuId)
+ArmingKeeps = (now : ℕ) (class : Class) (timer expires job arg line : ℕ) (by : CpuId)
     (cpu : CpuBases) → IsConsistent cpu → MayQueue now class timer expires cpu
     → let new = armed now class timer expires job arg line by cpu in
-      Keeps number now cpu new × KeepsNoneBehind cpu new
+      IsConsistent new × Keeps now cpu new
 
 abbrev pub MovingInKeeps : Type 0
-MovingInKeeps = (number now : ℕ) (class : Class) (timer expires job arg : ℕ) (by : CpuId)
+MovingInKeeps = (now : ℕ) (class : Class) (timer expires job arg : ℕ) (by : CpuId)
     (cpu : CpuBases) → IsConsistent cpu → MayQueue now class timer expires cpu
     → let new = moved_in now class timer expires job arg by cpu in
-      Keeps number now cpu new × KeepsNoneBehind cpu new
+      IsConsistent new × Keeps now cpu new
 
 abbrev pub CancellingKeeps : Type 0
-CancellingKeeps = (number now timer line : ℕ) (by : CpuId) (cpu : CpuBases) → IsConsistent cpu
-    → let new = cancelled now timer line by cpu in
-      Keeps number now cpu new × KeepsNoneBehind cpu new
+CancellingKeeps = (now timer line : ℕ) (by : CpuId) (cpu : CpuBases) → IsConsistent cpu
+    → let new = cancelled now timer line by cpu in IsConsistent new × Keeps now cpu new
 
 abbrev pub MovingOutKeeps : Type 0
-MovingOutKeeps = (number now : ℕ) (class : Class) (by : CpuId) (cpu : CpuBases)
-    → IsConsistent cpu
-    → let new = moved_out now class by cpu in
-      Keeps number now cpu new × KeepsNoneBehind cpu new
+MovingOutKeeps = (now : ℕ) (class : Class) (by : CpuId) (cpu : CpuBases) → IsConsistent cpu
+    → let new = moved_out now class by cpu in IsConsistent new × Keeps now cpu new
 
--- a hand-out is by right; the base that was drained has nothing behind its clock, where this was
--- at most the next jiffy
-pub record HandsOut (number now : ℕ) (class : Class) (old new : CpuBases) : Type 0 where
-  pub keeps : Keeps number now old new
-  pub none_behind : next_out now (base_of class old) ≡ None
-      → (base_of class old).clock ≤ now + 1 → NoneBehind (base_of class new)
-  pub others : (other : Class) → other ≢ class → base_of other new ≡ base_of other old
+-- what handing out timers of a class keeps: the journal stays legal where they are by right
+pub record HandsOut (now : ℕ) (class : Class) (by : ℕ) (old new : CpuBases) : Type 0 where
+  pub legal : (cpu : ℕ) → MayHand cpu class by → LegalUpTo cpu now old.journal
+      → LegalUpTo cpu now new.journal
+  pub replay : AddsReplay old new
+  pub not_ahead : (any : Class) → NotAhead now (base_of any old) → NotAhead now (base_of any new)
+  pub others : (other : Class) → same_class class other ≡ false
+      → base_of other new ≡ base_of other old
 
 abbrev pub HandingOutKeeps : Type 0
-HandingOutKeeps = (number now : ℕ) (class : Class) (by : CpuId) (cpu : CpuBases)
-    → now < TIME_LIMIT - 1 → MayHand number class by.0 → IsConsistent cpu
-    → HandsOut number now class cpu (handed_out now class by cpu)
+HandingOutKeeps = (now : ℕ) (class : Class) (by : CpuId) (cpu : CpuBases)
+    → now < TIME_LIMIT - 1 → IsConsistent cpu
+    → let new = handed_out now class by cpu in
+      IsConsistent new × HandsOut now class by.0 cpu new
 
--- A WHOLE DRAIN, of at least as many items as there are, leaves nothing due
-abbrev pub DrainsAll : Type 0
-DrainsAll = (most now : ℕ) (class : Class) (by : CpuId) (cpu : CpuBases)
-    → length (base_of class cpu).items ≤ most
-    → NoneDue now (base_of class (drained most now class by cpu)).items
+-- A WHOLE DRAIN, of at least as many items as there are, leaves nothing due, and then nothing
+-- behind a clock that was at most the next jiffy
+pub record DrainsAll (now : ℕ) (class : Class) (by : ℕ) (old new : CpuBases) : Type 0 where
+  pub consistent : IsConsistent new
+  pub hands_out : HandsOut now class by old new
+  pub none_due : NoneDue now (base_of class new).items
+  pub none_behind : NotAhead now (base_of class old) → NoneBehind (base_of class new)
+
+abbrev pub DrainIsWhole : Type 0
+DrainIsWhole = (most now : ℕ) (class : Class) (by : CpuId) (cpu : CpuBases)
+    → now < TIME_LIMIT - 1 → IsConsistent cpu → length (base_of class cpu).items ≤ most
+    → DrainsAll now class by.0 cpu (drained most now class by cpu)
 
 -- REPLAY: what was a replay of its journal still is
 abbrev pub ReplaysOn : Type 0
-ReplaysOn = (start : ByClass PlainBase) (old new : CpuBases)
-    → AddsReplay old new → IsReplay start old → IsReplay start new
+ReplaysOn = (old new : CpuBases) → AddsReplay old new → KeepsReplay old new

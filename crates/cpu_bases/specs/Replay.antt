@@ -67,3 +67,7 @@ pub record AddsReplay (old new : CpuBases) : Type 0 where
   pub grows : new.journal ≡ old.journal ++ more
   pub bases : new.bases ≡ replay more old.bases
   pub says : EachSays more old.bases
+
+-- whatever the bases are played from, they still are
+abbrev pub KeepsReplay : (old new : CpuBases) → Type 0
+KeepsReplay old new = (start : ByClass PlainBase) → IsReplay start old → IsReplay start new
