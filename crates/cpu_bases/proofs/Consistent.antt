@@ -13,20 +13,24 @@ use Rattle.tm_base.specs.declared.names.Class.TheVariants.{Pinned, Global, Defer
 use Rattle.tm_base.specs.declared.names.CpuId.{CpuId}
 use Rattle.tm_base.specs.declared.names.TheConstants.{TIME_LIMIT}
 use Rattle.wheel_core.specs.declared.item.Item.{Item}
-use Rattle.wheel_core.specs.PlainBase.{IsPlaced, IsSound, NoneDue, PlainBase, added, forwarded, item_of, without}
+use Rattle.wheel_core.specs.PlainBase.{IsPlaced, IsSound, NoneDue, PlainBase, added, forwarded}
+use Rattle.wheel_core.specs.PlainBase.{item_of, without}
 use Rattle.wheel_core.proofs.Ids.{all_without, item_holds, sound_without}
 use Rattle.wheel_core.proofs.Plain.{clock-forwarded_le, placed_in_range, sound_added}
 use Rattle.cpu_bases.specs.declared.entry.Act.{Act}
 use Rattle.cpu_bases.specs.declared.entry.Entry.{Entry}
 use Rattle.cpu_bases.specs.ByClass.{ByClass, of_class, with_class}
 use Rattle.cpu_bases.specs.Journals.{Agrees, EachMayFollow, EndsOne, MayFollow, arming_of, ended}
-use Rattle.cpu_bases.specs.Journals.{entries_of, queued_after, queued_by, told_by_entry, told_by_item}
+use Rattle.cpu_bases.specs.Journals.{entries_of, queued_after, queued_by, told_by_entry}
+use Rattle.cpu_bases.specs.Journals.{told_by_item}
 use Rattle.cpu_bases.specs.CpuBases.{BaseFits, CpuBases, IsConsistent, base_of, changed, class_in}
-use Rattle.cpu_bases.specs.CpuBases.{entry_of, found_in, found_or, item_queued, queued, ticked_entry, written}
+use Rattle.cpu_bases.specs.CpuBases.{entry_of, found_in, found_or, item_queued, queued}
+use Rattle.cpu_bases.specs.CpuBases.{ticked_entry, written}
 use Rattle.cpu_bases.proofs.Classes.{class_is, class_itself, each_with}
 use Rattle.cpu_bases.proofs.Keyed.{found_kept, found_whole, kept_drop, kept_other, none_tail}
 use Rattle.cpu_bases.proofs.Legal.{distinct_from, ended_is, follow_push, queued_push}
-use Rattle.cpu_bases.proofs.Agreeing.{agreed_found, agreed_gone, agreed_later, agreed_none, agreed_push}
+use Rattle.cpu_bases.proofs.Agreeing.{agreed_found, agreed_gone, agreed_later, agreed_none}
+use Rattle.cpu_bases.proofs.Agreeing.{agreed_push}
 
 -- a timer that is in none of the bases isn't queued by the journal
 none_of_each : (timer : ℕ) (queued : List Entry)
@@ -40,7 +44,8 @@ none_of_each timer (first ∷ queued) none =
       | inr there ↦
           rw there
           (none_of_each timer queued
-          (λ class. none_tail (λ e. e.timer.0) (λ e. same_class e.class class) timer first queued (none class)))
+          (λ class. none_tail (λ e. e.timer.0) (λ e. same_class e.class class) timer first queued
+          (none class)))
     ]
 
 or_none : (class : Class) (here : Option Item) (others : Option (Class × Item))
@@ -107,7 +112,7 @@ pub keeps_changed : (class : Class) (base : PlainBase) (entry : Entry) (cpu : Cp
     → queued_after entry.act (queued_by cpu.journal) entry ≡ after
     → map told_by_item base.items ≡ map told_by_entry (entries_of class after)
     → ((k : Class) → same_class class k ≡ false
-      → entries_of k after ≡ entries_of k (queued_by cpu.journal))
+    → entries_of k after ≡ entries_of k (queued_by cpu.journal))
     → BaseFits base → entry.wheel ≤ TIME_LIMIT → IsConsistent (changed class base entry cpu)
 keeps_changed class base entry cpu after consistent may is own others fits in_time =
     let after_is = queued_push [] cpu.journal entry ∙ is in
@@ -127,9 +132,9 @@ keeps_changed class base entry cpu after consistent may is own others fits in_ti
 pub keeps_queued : (act : Act) (line at time : ℕ) (class : Class) (timer expires job arg : ℕ)
     (by : CpuId) (cpu : CpuBases)
     → ((queued : List Entry) (entry : Entry) → arming_of entry.timer.0 queued ≡ None
-      → MayFollow act queued entry)
+    → MayFollow act queued entry)
     → ((queued : List Entry) (entry : Entry)
-      → queued_after act queued entry ≡ queued ++ entry ∷ [])
+    → queued_after act queued entry ≡ queued ++ entry ∷ [])
     → IsConsistent cpu → class_in timer cpu ≡ None → timer < 2 ^ 16 → expires < TIME_LIMIT
     → time < TIME_LIMIT
     → IsConsistent (queued act line at time class timer expires job arg by cpu)
@@ -143,7 +148,8 @@ keeps_queued act line at time class timer expires job arg by cpu follows longer 
     let near = clock-forwarded_le time base in
     let clock_fits = fits.clock in
     let clock : (forwarded time base).clock < TIME_LIMIT = omega arith in
-    let placed = placed_in_range (forwarded time base).clock timer expires job arg expires_fits clock in
+    let placed = placed_in_range (forwarded time base).clock timer expires job arg expires_fits
+    clock in
     keeps_changed class (added timer expires job arg (forwarded time base)) entry cpu
     (before ++ entry ∷ []) consistent (follows before entry (not_queued cpu timer consistent none))
     (longer before entry)
@@ -169,9 +175,9 @@ keeps_queued act line at time class timer expires job arg by cpu follows longer 
 pub keeps_gone : (act : Act) (line at : ℕ) (class : Class) (item : Item) (by : CpuId)
     (base : PlainBase) (cpu : CpuBases)
     → ((queued : List Entry) (entry : Entry) → EndsOne queued entry → entry.at ≡ at
-      → entry.wheel ≡ item.wheel → MayFollow act queued entry)
+    → entry.wheel ≡ item.wheel → MayFollow act queued entry)
     → ((queued : List Entry) (entry : Entry)
-      → queued_after act queued entry ≡ ended entry.timer.0 queued)
+    → queued_after act queued entry ≡ ended entry.timer.0 queued)
     → IsConsistent cpu → item_of item.id (base_of class cpu).items ≡ Some item
     → base.items ≡ without item.id (base_of class cpu).items → base.clock < TIME_LIMIT
     → IsConsistent (changed class base (entry_of act line at class item by) cpu)
@@ -192,7 +198,8 @@ keeps_gone act line at class item by base cpu follows shorter consistent found l
     ∙ (agreed_gone items (entries_of class before) agreed item.id
     ∙ ap (map told_by_entry)
     (ended_is item.id (entries_of class before)
-    ∙ (sym (kept_drop key (λ e. same_class e.class class) item.id before there.arming there.found there.in_class)
+    ∙ (sym (kept_drop key (λ e. same_class e.class class) item.id before there.arming there.found
+    there.in_class)
     ∙ sym (ap (entries_of class) (ended_is item.id before))))))
     (λ k other.
     ap (entries_of k) (ended_is item.id before)
@@ -201,7 +208,8 @@ keeps_gone act line at class item by base cpu follows shorter consistent found l
     (record {
       clock = clock_fits;
       sound = subst IsSound (sym left) (sound_without item.id items fits.sound);
-      timers = subst (All (λ i. i.id < 2 ^ 16)) (sym left) (all_without (λ i. i.id < 2 ^ 16) item.id items fits.timers);
+      timers = subst (All (λ i. i.id < 2 ^ 16)) (sym left)
+          (all_without (λ i. i.id < 2 ^ 16) item.id items fits.timers);
     }) (item_holds IsPlaced item.id items item fits.sound.placed found).wheel
 
 -- DRAINED: nothing of the class is due

@@ -1,17 +1,21 @@
 -- for crates above: in a legal journal each arming has at most one end, which fits it
 use Rattle.std.proofs.Common.{◌≡◌, ℕ, zero, suc, ◌+◌, ◌<◌, ◌≤◌, Bool, true, false, List, [], ◌∷◌}
-use Rattle.std.proofs.Common.{◌++◌, Option, Some, None, refl, ap, subst, sym, ◌∙◌, arith, ◌⊎◌, inl, inr}
+use Rattle.std.proofs.Common.{◌++◌, Option, Some, None, refl, ap, subst, sym, ◌∙◌, arith, ◌⊎◌, inl}
+use Rattle.std.proofs.Common.{inr}
 use Rattle.std.specs.Prelude.{◌==◌, ◌≢◌, IsSomeAnd, slice_get}
 use Rattle.std.specs.List.{All}
 use Rattle.std.proofs.lemmas.Bool.{both_ways, cases_Bool, cases_lt, eqb-false, eqb-true, ne_eqb}
 use Rattle.std.proofs.lemmas.List.Elements.{All-head, All-tail}
 use Rattle.std.proofs.lemmas.Option.{get_or_from_slice_get, none-some, same_Some, slice_get_within}
 use Rattle.cpu_bases.specs.declared.entry.Act.{Act}
-use Rattle.cpu_bases.specs.declared.entry.Act.TheVariants.{Armed, Handed, Cancelled, MovedOut, MovedIn, Ticked}
+use Rattle.cpu_bases.specs.declared.entry.Act.TheVariants.{Armed, Handed, Cancelled, MovedOut}
+use Rattle.cpu_bases.specs.declared.entry.Act.TheVariants.{MovedIn, Ticked}
 use Rattle.cpu_bases.specs.declared.entry.Entry.{Entry}
-use Rattle.cpu_bases.specs.Journals.{EachMayFollow, EndsOne, HandedByRight, LegalJournal, MayFollow, arming_of, ended, queued_after}
+use Rattle.cpu_bases.specs.Journals.{EachMayFollow, EndsOne, HandedByRight, LegalJournal, MayFollow}
+use Rattle.cpu_bases.specs.Journals.{arming_of, ended, queued_after}
 use Rattle.cpu_bases.specs.Laws.{EachEndFits, EndFits, IsEndOf, OneEnd, is_arming, is_end}
-use Rattle.cpu_bases.proofs.Keyed.{HasDistinctKeys, drop_key, drop_other, none_drop, none_dropped, push_other, push_own}
+use Rattle.cpu_bases.proofs.Keyed.{HasDistinctKeys, drop_key, drop_other, none_drop, none_dropped}
+use Rattle.cpu_bases.proofs.Keyed.{push_other, push_own}
 use Rattle.cpu_bases.proofs.Legal.{distinct_after, ended_is}
 
 -- KINDS OF ENTRY: an arming, an end, or neither
@@ -123,7 +127,8 @@ module _ (timer : ℕ) where
       let one = same_Some first ending is in
       let may = subst (λ e. MayFollow e.act queued e) one each.0 in
       let there = (end_may ending.act queued ending ends may).0 in
-      subst (λ o. IsSomeAnd o (λ arming. (arming.class ≡ ending.class) × (arming.wheel ≡ ending.wheel)))
+      subst (λ o. IsSomeAnd o (λ arming. (arming.class ≡ ending.class) × (arming.wheel
+      ≡ ending.wheel)))
       (ap (λ t. arming_of t queued) same ∙ none) there
   no_end_yet queued (first ∷ journal) (suc n) ending none each armings is ends same =
       let still : arming_of timer (queued_after first.act queued first) ≡ None =
@@ -170,7 +175,8 @@ module _ (timer : ℕ) where
         on_time = λ handed. subst (λ w. w ≤ ending.at) (sym both.1) (fits.1 handed);
         none_before = λ k entry low _ _ _. absurd (omega arith);
       }
-  first_end queued (first ∷ journal) (suc n) arming ending there distinct each armings is ends same =
+  first_end queued (first ∷ journal) (suc n) arming ending there distinct each armings is ends
+      same =
       let later = arming_later first journal n armings in
       let next = queued_after first.act queued first in
       let apart = distinct_after first.act queued first distinct each.0 in
@@ -204,8 +210,9 @@ module _ (timer : ℕ) where
                         ap (arming_of timer)
                         (end_queues first.act queued first ended ∙ ended_is first.timer.0 queued)
                         ∙ subst
-                          (λ t. arming_of t (drop_key (λ (e : Entry). e.timer.0) first.timer.0 queued) ≡ None)
-                          own (none_dropped (λ e. e.timer.0) first.timer.0 queued distinct) in
+                        (λ t. arming_of t (drop_key (λ (e : Entry). e.timer.0) first.timer.0 queued)
+                        ≡ None)
+                        own (none_dropped (λ e. e.timer.0) first.timer.0 queued distinct) in
                         absurd (no_end_yet next journal n ending gone each.1 later is ends same)
                     | inr ticked ↦
                         passed (on (after_tick timer queued first ticked ∙ there))
@@ -223,7 +230,8 @@ record EndsAt (journal : List Entry) (i j : ℕ) (arming ending : Entry) : Type 
       → is_end entry.act ≡ true → entry.timer.0 ≢ arming.timer.0
 
 after_first : (first : Entry) (journal : List Entry) (j : ℕ) (ending : Entry)
-    → FirstEnd first.timer.0 first ending journal j → EndsAt (first ∷ journal) 0 (suc j) first ending
+    → FirstEnd first.timer.0 first ending journal j → EndsAt (first ∷ journal) 0 (suc j) first
+    ending
 after_first first journal j ending rest = record {
   class = rest.class;
   wheel = rest.wheel;

@@ -12,19 +12,27 @@ use Rattle.tm_base.specs.declared.names.CpuId.{CpuId}
 use Rattle.tm_base.specs.declared.names.TheConstants.{TIME_LIMIT}
 use Rattle.wheel_core.specs.declared.item.Item.{Item}
 use Rattle.wheel_core.specs.PlainBase.{IsDue, IsSound, NoneBehind, NoneDue, OutIsDue, PlainBase}
-use Rattle.wheel_core.specs.PlainBase.{added, after_out, forwarded, item_of, next_out, removed, taken, without}
+use Rattle.wheel_core.specs.PlainBase.{added, after_out, forwarded, item_of, next_out, removed}
+use Rattle.wheel_core.specs.PlainBase.{taken, without}
 use Rattle.wheel_core.proofs.Plain.{clock-forwarded_le, clock-taken_le, due_out, none_behind_added}
-use Rattle.wheel_core.proofs.Plain.{none_behind_forwarded, none_behind_none_due, none_behind_removed, one_fewer_after_out}
+use Rattle.wheel_core.proofs.Plain.{none_behind_forwarded, none_behind_none_due}
+use Rattle.wheel_core.proofs.Plain.{none_behind_removed, one_fewer_after_out}
 use Rattle.cpu_bases.specs.declared.entry.Act.{Act}
-use Rattle.cpu_bases.specs.declared.entry.Act.TheVariants.{Armed, Handed, Cancelled, MovedOut, MovedIn, Ticked}
+use Rattle.cpu_bases.specs.declared.entry.Act.TheVariants.{Armed, Handed, Cancelled, MovedOut}
+use Rattle.cpu_bases.specs.declared.entry.Act.TheVariants.{MovedIn, Ticked}
 use Rattle.cpu_bases.specs.declared.entry.Entry.{Entry}
 use Rattle.cpu_bases.specs.ByClass.{ByClass, of_class, with_class}
-use Rattle.cpu_bases.specs.Journals.{EachMayFollow, EndsOne, HandedByRight, LegalUpTo, MayFollow, MayHand}
-use Rattle.cpu_bases.specs.Journals.{arming_of, ended, queued_after, queued_by, told_by_entry, told_by_item}
+use Rattle.cpu_bases.specs.Journals.{EachMayFollow, EndsOne, HandedByRight, LegalUpTo, MayFollow}
+use Rattle.cpu_bases.specs.Journals.{MayHand}
+use Rattle.cpu_bases.specs.Journals.{arming_of, ended, queued_after, queued_by, told_by_entry}
+use Rattle.cpu_bases.specs.Journals.{told_by_item}
 use Rattle.cpu_bases.specs.CpuBases.{CpuBases, IsConsistent, NotAhead, after_cancel, after_hand_out}
-use Rattle.cpu_bases.specs.CpuBases.{after_move_out, base_of, cancelled, changed, class_in, drained, entry_of}
-use Rattle.cpu_bases.specs.CpuBases.{found_in, found_or, handed_out, moved_out, oldest_in, queued, ticked_entry, written}
-use Rattle.cpu_bases.specs.Laws.{ArmingKeeps, CancellingKeeps, DrainIsWhole, DrainsAll, HandingOutKeeps}
+use Rattle.cpu_bases.specs.CpuBases.{after_move_out, base_of, cancelled, changed, class_in, drained}
+use Rattle.cpu_bases.specs.CpuBases.{entry_of}
+use Rattle.cpu_bases.specs.CpuBases.{found_in, found_or, handed_out, moved_out, oldest_in, queued}
+use Rattle.cpu_bases.specs.CpuBases.{ticked_entry, written}
+use Rattle.cpu_bases.specs.Laws.{ArmingKeeps, CancellingKeeps, DrainIsWhole, DrainsAll}
+use Rattle.cpu_bases.specs.Laws.{HandingOutKeeps}
 use Rattle.cpu_bases.specs.Laws.{HandsOut, Keeps, MayQueue, MovingInKeeps, MovingOutKeeps}
 use Rattle.cpu_bases.specs.Replay.{AddsReplay}
 use Rattle.cpu_bases.proofs.Classes.{each_with, of_class-other, of_class-with, with_itself}
@@ -37,14 +45,14 @@ use Rattle.cpu_bases.proofs.Replays.{adds_both, adds_none}
 queueing_keeps : (act : Act) (line at time : ℕ) (class : Class) (timer expires job arg : ℕ)
     (by : CpuId) (cpu : CpuBases)
     → ((queued : List Entry) (entry : Entry) → arming_of entry.timer.0 queued ≡ None
-      → MayFollow act queued entry)
+    → MayFollow act queued entry)
     → ((queued : List Entry) (entry : Entry)
-      → queued_after act queued entry ≡ queued ++ entry ∷ [])
+    → queued_after act queued entry ≡ queued ++ entry ∷ [])
     → ((number : ℕ) (entry : Entry) → HandedByRight number act entry)
     → AddsReplay cpu (queued act line at time class timer expires job arg by cpu)
     → IsConsistent cpu → MayQueue at class timer expires cpu → time ≤ at + 1
     → let new = queued act line at time class timer expires job arg by cpu in
-      IsConsistent new × Keeps at cpu new
+    IsConsistent new × Keeps at cpu new
 queueing_keeps act line at time class timer expires job arg by cpu follows longer right replay
     consistent may near =
     let base = base_of class cpu in
@@ -56,23 +64,24 @@ queueing_keeps act line at time class timer expires job arg by cpu follows longe
     let clock : (forwarded time base).clock < TIME_LIMIT = omega arith in
     let kept : IsConsistent new =
     keeps_queued act line at time class timer expires job arg by cpu follows longer consistent
-    may.not_queued may.timer_fits expires_fits (omega arith) in
-    (kept,
-    record {
-      legal = λ number upto.
-          legal_push number at cpu.journal _ kept.each_may_follow refl (right number _) upto;
-      replay = replay;
-      not_ahead =
-          each_with (λ k b. NotAhead at (base_of k cpu) → NotAhead at b) class
-          (added timer expires job arg (forwarded time base)) cpu.bases
-          (λ (ahead : base.clock ≤ at + 1). omega arith) (λ k other ahead. ahead);
-      none_behind =
-          each_with (λ k b. NoneBehind (base_of k cpu) → NoneBehind b) class
-          (added timer expires job arg (forwarded time base)) cpu.bases
-          (λ ahead.
-          none_behind_added timer expires job arg (forwarded time base) expires_fits clock
-          (none_behind_forwarded time base ahead)) (λ k other ahead. ahead);
-    })
+    may.not_queued may.timer_fits expires_fits (omega arith) in (
+      kept,
+      record {
+        legal = λ number upto.
+            legal_push number at cpu.journal _ kept.each_may_follow refl (right number _) upto;
+        replay = replay;
+        not_ahead =
+            each_with (λ k b. NotAhead at (base_of k cpu) → NotAhead at b) class
+            (added timer expires job arg (forwarded time base)) cpu.bases
+            (λ (ahead : base.clock ≤ at + 1). omega arith) (λ k other ahead. ahead);
+        none_behind =
+            each_with (λ k b. NoneBehind (base_of k cpu) → NoneBehind b) class
+            (added timer expires job arg (forwarded time base)) cpu.bases
+            (λ ahead.
+            none_behind_added timer expires job arg (forwarded time base) expires_fits clock
+            (none_behind_forwarded time base ahead)) (λ k other ahead. ahead);
+      },
+    )
 
 pub arming_keeps : ArmingKeeps
 arming_keeps now class timer expires job arg line by cpu consistent may =
@@ -90,10 +99,11 @@ moving_in_keeps now class timer expires job arg by cpu consistent may =
 
 -- GOING, by an act that is an end and takes an item out
 going_keeps : (act : Act) (line at : ℕ) (class : Class) (item : Item) (by : CpuId) (cpu : CpuBases)
-    → let new = changed class (removed item.id (base_of class cpu)) (entry_of act line at class item by) cpu in
-      ((queued : List Entry) (entry : Entry) → EndsOne queued entry → MayFollow act queued entry)
+    → let new = changed class (removed item.id (base_of class cpu))
+    (entry_of act line at class item by) cpu in
+    ((queued : List Entry) (entry : Entry) → EndsOne queued entry → MayFollow act queued entry)
     → ((queued : List Entry) (entry : Entry)
-      → queued_after act queued entry ≡ ended entry.timer.0 queued)
+    → queued_after act queued entry ≡ ended entry.timer.0 queued)
     → ((number : ℕ) (entry : Entry) → HandedByRight number act entry)
     → AddsReplay cpu new → IsConsistent cpu
     → item_of item.id (base_of class cpu).items ≡ Some item → IsConsistent new × Keeps at cpu new
@@ -103,30 +113,33 @@ going_keeps act line at class item by cpu follows shorter right replay consisten
     let kept : IsConsistent (changed class (removed item.id base) entry cpu) =
     keeps_gone act line at class item by (removed item.id base) cpu
     (λ queued e ends _ _. follows queued e ends) shorter consistent found refl
-    (consistent.fits class).clock in
-    (kept,
-    record {
-      legal = λ number upto.
-          legal_push number at cpu.journal entry kept.each_may_follow refl (right number entry) upto;
-      replay = replay;
-      not_ahead =
-          each_with (λ k b. NotAhead at (base_of k cpu) → NotAhead at b) class
-          (removed item.id base) cpu.bases (λ ahead. ahead) (λ k other ahead. ahead);
-      none_behind =
-          each_with (λ k b. NoneBehind (base_of k cpu) → NoneBehind b) class
-          (removed item.id base) cpu.bases (none_behind_removed item.id base)
-          (λ k other ahead. ahead);
-    })
+    (consistent.fits class).clock in (
+      kept,
+      record {
+        legal = λ number upto.
+            legal_push number at cpu.journal entry kept.each_may_follow refl (right number entry)
+            upto;
+        replay = replay;
+        not_ahead =
+            each_with (λ k b. NotAhead at (base_of k cpu) → NotAhead at b) class
+            (removed item.id base) cpu.bases (λ ahead. ahead) (λ k other ahead. ahead);
+        none_behind =
+            each_with (λ k b. NoneBehind (base_of k cpu) → NoneBehind b) class
+            (removed item.id base) cpu.bases (none_behind_removed item.id base)
+            (λ k other ahead. ahead);
+      },
+    )
 
 keeps_all : (now : ℕ) (cpu : CpuBases) → IsConsistent cpu → IsConsistent cpu × Keeps now cpu cpu
-keeps_all now cpu consistent =
-    (consistent,
-    record {
-      legal = λ number upto. upto;
-      replay = adds_none cpu;
-      not_ahead = λ class ahead. ahead;
-      none_behind = λ class ahead. ahead;
-    })
+keeps_all now cpu consistent = (
+  consistent,
+  record {
+    legal = λ number upto. upto;
+    replay = adds_none cpu;
+    not_ahead = λ class ahead. ahead;
+    none_behind = λ class ahead. ahead;
+  },
+)
 
 -- what is found by its number
 or_some : (k : Class) (here : Option Item) (others : Option (Class × Item)) (class : Class)
@@ -150,7 +163,8 @@ base_some timer class item cpu is =
           elim (or_some Global (item_of timer cpu.bases.global.items) _ class item other) [
             | inl here ↦ subst (λ k. item_of timer (base_of k cpu).items ≡ Some item) here.0 here.1
             | inr last ↦
-                elim (or_some Deferrable (item_of timer cpu.bases.deferrable.items) None class item last) [
+                elim (or_some Deferrable (item_of timer cpu.bases.deferrable.items) None class item
+                last) [
                   | inl here ↦
                       subst (λ k. item_of timer (base_of k cpu).items ≡ Some item) here.0 here.1
                   | inr no_more ↦ absurd (none-some (class, item) no_more)
@@ -177,7 +191,8 @@ cancel_keeps : (now timer line : ℕ) (by : CpuId) (cpu : CpuBases) (found : Opt
 cancel_keeps now timer line by cpu None is consistent = keeps_all now cpu consistent
 cancel_keeps now timer line by cpu (Some (class, item)) is consistent =
     let at = found_at timer class item cpu is in
-    let says : IsSomeAnd (item_of item.id (base_of class cpu).items) (λ i. told_by_item i ≡ told_by_item item) =
+    let says : IsSomeAnd (item_of item.id (base_of class cpu).items)
+    (λ i. told_by_item i ≡ told_by_item item) =
     subst (λ o. IsSomeAnd o (λ i. told_by_item i ≡ told_by_item item)) (sym at.itself) refl in
     going_keeps Cancelled line now class item by cpu (λ _ _ ends. ends) (λ _ _. refl)
     (λ _ _. tt) (record { more = _ ∷ []; grows = refl; bases = refl; says = (says, tt) })
@@ -193,14 +208,16 @@ pub oldest_found : (items : List Item) (item : Item) → oldest_in items ≡ Som
 oldest_found [] item is = absurd (none-some item is)
 oldest_found (first ∷ items) item is =
     subst (λ i. item_of i.id (first ∷ items) ≡ Some i) (same_Some first item is)
-    (cond-true (first.id == first.id) (Some first) (item_of first.id items) (eq-eqb first.id first.id refl))
+    (cond-true (first.id == first.id) (Some first) (item_of first.id items)
+    (eq-eqb first.id first.id refl))
 
 move_out_keeps : (now : ℕ) (class : Class) (by : CpuId) (cpu : CpuBases) (out : Option Item)
     → oldest_in (base_of class cpu).items ≡ out → IsConsistent cpu
     → let new = after_move_out out now class by cpu in IsConsistent new × Keeps now cpu new
 move_out_keeps now class by cpu None is consistent = keeps_all now cpu consistent
 move_out_keeps now class by cpu (Some item) is consistent =
-    let says : IsSomeAnd (oldest_in (base_of class cpu).items) (λ i. told_by_item i ≡ told_by_item item) =
+    let says : IsSomeAnd (oldest_in (base_of class cpu).items)
+    (λ i. told_by_item i ≡ told_by_item item) =
     subst (λ o. IsSomeAnd o (λ i. told_by_item i ≡ told_by_item item)) (sym is) refl in
     going_keeps MovedOut 0 now class item by cpu (λ _ _ ends. ends) (λ _ _. refl) (λ _ _. tt)
     (record { more = _ ∷ []; grows = refl; bases = refl; says = (says, tt) }) consistent
@@ -214,25 +231,28 @@ moving_out_keeps now class by cpu consistent =
 hand_out_keeps : (now : ℕ) (class : Class) (by : CpuId) (cpu : CpuBases) (out : Option Item)
     → next_out now (base_of class cpu) ≡ out → now < TIME_LIMIT - 1 → IsConsistent cpu
     → let new = after_hand_out out now class by cpu in
-      IsConsistent new × HandsOut now class by.0 cpu new
+    IsConsistent new × HandsOut now class by.0 cpu new
 hand_out_keeps now class by cpu None is in_time consistent =
     let base = base_of class cpu in
-    let none_due = subst (OutIsDue now base.items) is (due_out now base (consistent.fits class).sound) in
+    let none_due = subst (OutIsDue now base.items) is (due_out now base
+    (consistent.fits class).sound) in
     let kept : IsConsistent (written (ticked_entry now class by) cpu) =
-    keeps_ticked now class by cpu consistent none_due (omega arith) in
-    (kept,
-    record {
-      legal = λ number may upto.
-          legal_push number now cpu.journal (ticked_entry now class by) kept.each_may_follow refl tt upto;
-      replay = record {
-        more = ticked_entry now class by ∷ [];
-        grows = refl;
-        bases = sym (with_itself class cpu.bases);
-        says = (is, tt);
-      };
-      not_ahead = λ any ahead. ahead;
-      others = λ other apart. refl;
-    })
+    keeps_ticked now class by cpu consistent none_due (omega arith) in (
+      kept,
+      record {
+        legal = λ number may upto.
+            legal_push number now cpu.journal (ticked_entry now class by) kept.each_may_follow refl
+            tt upto;
+        replay = record {
+          more = ticked_entry now class by ∷ [];
+          grows = refl;
+          bases = sym (with_itself class cpu.bases);
+          says = (is, tt);
+        };
+        not_ahead = λ any ahead. ahead;
+        others = λ other apart. refl;
+      },
+    )
 hand_out_keeps now class by cpu (Some item) is in_time consistent =
     let base = base_of class cpu in
     let entry = entry_of Handed 0 now class item by in
@@ -246,17 +266,18 @@ hand_out_keeps now class by cpu (Some item) is in_time consistent =
     let kept : IsConsistent (changed class (taken now base) entry cpu) =
     keeps_gone Handed 0 now class item by (taken now base) cpu
     (λ queued e ends at wheel. (ends, omega arith)) (λ _ _. refl) consistent due.queued
-    (ap (λ o. (after_out base o).items) is) (omega arith) in
-    (kept,
-    record {
-      legal = λ number may upto.
-          legal_push number now cpu.journal entry kept.each_may_follow refl may upto;
-      replay = record { more = entry ∷ []; grows = refl; bases = refl; says = (says, tt) };
-      not_ahead =
-          each_with (λ k b. NotAhead now (base_of k cpu) → NotAhead now b) class (taken now base)
-          cpu.bases (λ (ahead : base.clock ≤ now + 1). omega arith) (λ k other ahead. ahead);
-      others = λ other apart. of_class-other class other (taken now base) cpu.bases apart;
-    })
+    (ap (λ o. (after_out base o).items) is) (omega arith) in (
+      kept,
+      record {
+        legal = λ number may upto.
+            legal_push number now cpu.journal entry kept.each_may_follow refl may upto;
+        replay = record { more = entry ∷ []; grows = refl; bases = refl; says = (says, tt) };
+        not_ahead =
+            each_with (λ k b. NotAhead now (base_of k cpu) → NotAhead now b) class (taken now base)
+            cpu.bases (λ (ahead : base.clock ≤ now + 1). omega arith) (λ k other ahead. ahead);
+        others = λ other apart. of_class-other class other (taken now base) cpu.bases apart;
+      },
+    )
 
 pub handing_out_keeps : HandingOutKeeps
 handing_out_keeps now class by cpu in_time consistent =
@@ -268,7 +289,8 @@ pub behind_drained : (now : ℕ) (class : Class) (by : CpuId) (cpu : CpuBases) �
     → NoneBehind (base_of class (handed_out now class by cpu))
 behind_drained now class by cpu consistent none near =
     let base = base_of class cpu in
-    let none_due = subst (OutIsDue now base.items) none (due_out now base (consistent.fits class).sound) in
+    let none_due = subst (OutIsDue now base.items) none
+    (due_out now base (consistent.fits class).sound) in
     subst (λ out. NoneBehind (base_of class (after_hand_out out now class by cpu))) (sym none)
     (none_behind_none_due now base none_due near)
 
@@ -289,12 +311,14 @@ nowhere timer cpu consistent none =
           (subst (λ id. item_of id (base_of class cpu).items ≡ Some there.0) (sym same) there.1) in
           absurd
           (none-some queued.arming
-          (sym none ∙ subst (λ id. arming_of id (queued_by cpu.journal) ≡ Some queued.arming) same queued.found))
+          (sym none ∙ subst (λ id. arming_of id (queued_by cpu.journal) ≡ Some queued.arming) same
+          queued.found))
     ] in
     let p = each Pinned in
     let g = each Global in
     let d = each Deferrable in
-    λ i. option_map (λ found. found.0) (found_or Pinned (p i) (found_or Global (g i) (found_or Deferrable (d i) None)))
+    λ i. option_map (λ found. found.0) (found_or Pinned (p i)
+    (found_or Global (g i) (found_or Deferrable (d i) None)))
 
 gone_after : (now timer line : ℕ) (by : CpuId) (cpu : CpuBases) (found : Option (Class × Item))
     → found_in timer cpu ≡ found → IsConsistent cpu
@@ -334,22 +358,26 @@ drain_stops : (now : ℕ) (class : Class) (by : CpuId) (cpu : CpuBases) → now 
 drain_stops now class by cpu in_time consistent none =
     let base = base_of class cpu in
     let kept = handing_out_keeps now class by cpu in_time consistent in
-    let none_due = subst (OutIsDue now base.items) none (due_out now base (consistent.fits class).sound) in
+    let none_due = subst (OutIsDue now base.items) none
+    (due_out now base (consistent.fits class).sound) in
     record {
       consistent = kept.0;
       hands_out = kept.1;
       none_due =
-          subst (λ out. NoneDue now (base_of class (after_hand_out out now class by cpu)).items) (sym none) none_due;
+          subst (λ out. NoneDue now (base_of class (after_hand_out out now class by cpu)).items)
+          (sym none) none_due;
       none_behind = behind_drained now class by cpu consistent none;
     }
 
 one_fewer : (now : ℕ) (class : Class) (by : CpuId) (cpu : CpuBases) (item : Item)
     → IsConsistent cpu → next_out now (base_of class cpu) ≡ Some item
-    → length (base_of class (handed_out now class by cpu)).items + 1 ≡ length (base_of class cpu).items
+    → length (base_of class (handed_out now class by cpu)).items + 1
+    ≡ length (base_of class cpu).items
 one_fewer now class by cpu item consistent is =
     let base = base_of class cpu in
     let due = subst (OutIsDue now base.items) is (due_out now base (consistent.fits class).sound) in
-    subst (λ out. length (base_of class (after_hand_out out now class by cpu)).items + 1 ≡ length base.items) (sym is)
+    subst (λ out. length (base_of class (after_hand_out out now class by cpu)).items + 1
+    ≡ length base.items) (sym is)
     (ap (λ b. length b.items + 1) (of_class-with class (taken now base) cpu.bases)
     ∙ (ap (λ out. length (after_out base out).items + 1) is
     ∙ one_fewer_after_out now base item due))
@@ -365,17 +393,20 @@ drain_is_whole (suc most) now class by cpu in_time consistent few =
     let after = handed_out now class by cpu in
     elim (or_item (next_out now (base_of class cpu))) [
       | inl none ↦
-          subst (λ out. DrainsAll now class by.0 cpu (if is_some out then drained most now class by after else after)) (sym none)
+          subst (λ out. DrainsAll now class by.0 cpu (if is_some out then drained most now class by
+          after else after)) (sym none)
           (drain_stops now class by cpu in_time consistent none)
       | inr there ↦
           let fewer = one_fewer now class by cpu there.0 consistent there.1 in
           let kept = handing_out_keeps now class by cpu in_time consistent in
           let rest = drain_is_whole most now class by after in_time kept.0 (omega arith) in
-          subst (λ out. DrainsAll now class by.0 cpu (if is_some out then drained most now class by after else after)) (sym there.1)
+          subst (λ out. DrainsAll now class by.0 cpu (if is_some out then drained most now class by
+          after else after)) (sym there.1)
           (record {
             consistent = rest.consistent;
             hands_out =
-                hands_both now class by.0 cpu after (drained most now class by after) kept.1 rest.hands_out;
+                hands_both now class by.0 cpu after (drained most now class by after) kept.1
+                rest.hands_out;
             none_due = rest.none_due;
             none_behind = λ near. rest.none_behind (kept.1.not_ahead class near);
           })

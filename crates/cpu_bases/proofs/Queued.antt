@@ -1,10 +1,12 @@
 -- for crates above: queued timers were armed, each in one base of its CPU
-use Rattle.std.proofs.Common.{◌≡◌, ℕ, true, List, [], ◌∷◌, ◌++◌, Option, Some, None, refl, ap, subst}
+use Rattle.std.proofs.Common.{◌≡◌, ℕ, true, List, [], ◌∷◌, ◌++◌, Option, Some, None, refl, ap}
+use Rattle.std.proofs.Common.{subst}
 use Rattle.std.proofs.Common.{sym, ◌∙◌, ◌⊎◌, inl, inr}
 use Rattle.std.specs.Prelude.{◌==◌, map, option_map}
 use Rattle.std.specs.List.{All, Contains}
 use Rattle.std.proofs.lemmas.Bool.{cases_Bool}
-use Rattle.std.proofs.lemmas.List.Elements.{All-cons, All-contains_itself, All-filter, All-head, All-map}
+use Rattle.std.proofs.lemmas.List.Elements.{All-cons, All-contains_itself, All-filter, All-head}
+use Rattle.std.proofs.lemmas.List.Elements.{All-map}
 use Rattle.std.proofs.lemmas.List.Elements.{All-nil, All-push, All-tail, All-weaker, filter_passes}
 use Rattle.std.proofs.lemmas.Option.{none-some, same_Some}
 use Rattle.tm_base.specs.Classes.{same_class}
@@ -12,9 +14,11 @@ use Rattle.tm_base.specs.declared.names.Class.{Class}
 use Rattle.wheel_core.specs.declared.item.Item.{Item}
 use Rattle.wheel_core.specs.PlainBase.{item_of}
 use Rattle.cpu_bases.specs.declared.entry.Act.{Act}
-use Rattle.cpu_bases.specs.declared.entry.Act.TheVariants.{Armed, Handed, Cancelled, MovedOut, MovedIn, Ticked}
+use Rattle.cpu_bases.specs.declared.entry.Act.TheVariants.{Armed, Handed, Cancelled, MovedOut}
+use Rattle.cpu_bases.specs.declared.entry.Act.TheVariants.{MovedIn, Ticked}
 use Rattle.cpu_bases.specs.declared.entry.Entry.{Entry}
-use Rattle.cpu_bases.specs.Journals.{Told, arming_of, ended, entries_of, queued_after, queued_by, queued_from}
+use Rattle.cpu_bases.specs.Journals.{Told, arming_of, ended, entries_of, queued_after, queued_by}
+use Rattle.cpu_bases.specs.Journals.{queued_from}
 use Rattle.cpu_bases.specs.Journals.{told_by_entry, told_by_item}
 use Rattle.cpu_bases.specs.CpuBases.{CpuBases, base_of, found_in}
 use Rattle.cpu_bases.specs.Laws.{EachWasArmed, QueuedOnce, WasArmed, is_arming}
@@ -60,7 +64,8 @@ arms_from : (journal queued left : List Entry) → All (Arms journal) queued
 arms_from journal queued [] all within = all
 arms_from journal queued (first ∷ left) all within =
     arms_from journal (queued_after first.act queued first) left
-    (arms_after journal first.act queued first refl all (All-head (Contains journal) first left within))
+    (arms_after journal first.act queued first refl all
+    (All-head (Contains journal) first left within))
     (All-tail (Contains journal) first left within)
 
 -- what is queued by a journal was armed in it
@@ -77,7 +82,8 @@ pub each_was_armed : EachWasArmed
 each_was_armed cpu class consistent =
     let journal = cpu.journal in
     let queued = queued_by journal in
-    let arms = All-filter (λ e. same_class e.class class) (Arms journal) queued (queued_arms journal) in
+    let arms = All-filter (λ e. same_class e.class class) (Arms journal) queued
+    (queued_arms journal) in
     let of_it = filter_passes (λ e. same_class e.class class) queued in
     let armed : All (λ e. ArmedAs class journal (told_by_entry e)) (entries_of class queued) =
     (λ k d within.

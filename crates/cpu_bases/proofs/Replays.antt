@@ -14,7 +14,8 @@ replay-append [] more start = refl
 replay-append (entry ∷ journal) more start = replay-append journal more (redo entry start)
 
 pub EachSays-append : (journal more : List Entry) (start : ByClass PlainBase)
-    → EachSays journal start → EachSays more (replay journal start) → EachSays (journal ++ more) start
+    → EachSays journal start → EachSays more (replay journal start)
+    → EachSays (journal ++ more) start
 EachSays-append [] more start said says = says
 EachSays-append (entry ∷ journal) more start said says =
     (said.0, EachSays-append journal more (redo entry start) said.1 says)

@@ -1,5 +1,6 @@
 -- a list of calls, so far
-use Rattle.std.proofs.Common.{◌≡◌, ℕ, ◌<◌, ◌≤◌, ◌+◌, List, [], ◌∷◌, ◌++◌, length, get_or, take, drop}
+use Rattle.std.proofs.Common.{◌≡◌, ℕ, ◌<◌, ◌≤◌, ◌+◌, List, [], ◌∷◌, ◌++◌, length, get_or, take}
+use Rattle.std.proofs.Common.{drop}
 use Rattle.std.proofs.Common.{refl, ap, subst, sym, ◌∙◌, arith, append_assoc, drop-cons, add-one}
 use Rattle.std.proofs.lemmas.List.{take_more}
 use Rattle.cpu_bases.specs.declared.calls.BasesCall.{BasesCall}
@@ -22,7 +23,7 @@ pub record RanSoFar (list : List BasesCall) (i : ℕ) (told : List BasesAnswer)
   pub replay : AddsReplay start.plain bases.plain
   pub legal : (cpu time : ℕ) → InOrder cpu time list → LegalUpTo cpu time start.plain.journal
       → (now : ℕ) × InOrder cpu now (drop i list) × LegalUpTo cpu now bases.plain.journal
-        × (time_after now (drop i list) ≡ time_after time list)
+      × (time_after now (drop i list) ≡ time_after time list)
 
 after_all_push : (list : List BasesCall) (call : BasesCall) (bases : RoomyBases)
     → after_all (list ++ call ∷ []) bases ≡ after call (after_all list bases)
@@ -53,8 +54,8 @@ pub run_more : (list : List BasesCall) (i : ℕ) (d : BasesCall) (told now_told 
     → RanSoFar list i told start bases → answer ≡ answer_of (get_or list i d) bases.plain
     → next ≡ after (get_or list i d) bases → AddsReplay bases.plain next.plain
     → ((cpu time : ℕ) → time ≤ time_of (get_or list i d) time → IsByRight cpu (get_or list i d)
-      → LegalUpTo cpu time bases.plain.journal
-      → LegalUpTo cpu (time_of (get_or list i d) time) next.plain.journal)
+    → LegalUpTo cpu time bases.plain.journal
+    → LegalUpTo cpu (time_of (get_or list i d) time) next.plain.journal)
     → now_told ≡ told ++ answer ∷ [] → RanSoFar list (i + 1) now_told start next
 run_more list i d told now_told answer start bases next within so_far says is adds keeps pushed =
     let call = get_or list i d in
@@ -72,8 +73,12 @@ run_more list i d told now_told answer start bases next within so_far says is ad
       replay = adds_both start.plain bases.plain next.plain so_far.replay adds;
       legal = λ cpu time ordered was.
           let (now, left, legal_now, same) = so_far.legal cpu time ordered was in
-          let here = subst (InOrder cpu now) split left in
-          (time_of call now, here.2, keeps cpu now here.0 here.1 legal_now, sym (ap (time_after now) split) ∙ same);
+          let here = subst (InOrder cpu now) split left in (
+            time_of call now,
+            here.2,
+            keeps cpu now here.0 here.1 legal_now,
+            sym (ap (time_after now) split) ∙ same,
+          );
     }
 
 pub stands_more : (list : List BasesCall) (i : ℕ) (d : BasesCall) (told : List BasesAnswer)

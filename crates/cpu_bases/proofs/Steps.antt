@@ -1,5 +1,6 @@
 -- what the code's steps make of three bases with their room and a journal
-use Rattle.std.proofs.Common.{◌≡◌, ℕ, ◌+◌, ◌-◌, ◌^◌, ◌<◌, ◌≤◌, List, [], ◌∷◌, ◌++◌, Option, Some, None}
+use Rattle.std.proofs.Common.{◌≡◌, ℕ, ◌+◌, ◌-◌, ◌^◌, ◌<◌, ◌≤◌, List, [], ◌∷◌, ◌++◌, Option, Some}
+use Rattle.std.proofs.Common.{None}
 use Rattle.std.proofs.Common.{refl, ap, subst, sym, ◌∙◌, arith}
 use Rattle.tm_base.specs.declared.names.Class.{Class}
 use Rattle.tm_base.specs.declared.names.Class.TheVariants.{Pinned, Global, Deferrable}
@@ -13,7 +14,8 @@ use Rattle.cpu_bases.specs.declared.entry.Act.TheVariants.{Handed, Cancelled, Mo
 use Rattle.cpu_bases.specs.declared.entry.Entry.{Entry}
 use Rattle.cpu_bases.specs.ByClass.{ByClass, of_class, with_class}
 use Rattle.cpu_bases.specs.CpuBases.{CpuBases, IsConsistent, after_cancel, after_hand_out}
-use Rattle.cpu_bases.specs.CpuBases.{after_move_out, cancelled, changed, entry_of, found_in, handed_out}
+use Rattle.cpu_bases.specs.CpuBases.{after_move_out, cancelled, changed, entry_of, found_in}
+use Rattle.cpu_bases.specs.CpuBases.{handed_out}
 use Rattle.cpu_bases.specs.CpuBases.{moved_out, oldest_in, queued, ticked_entry, written}
 use Rattle.cpu_bases.proofs.Classes.{with_itself}
 use Rattle.cpu_bases.proofs.Keeping.{found_at}
@@ -34,7 +36,8 @@ plains_on Global change trio = refl
 plains_on Deferrable change trio = refl
 
 pub capacity_on : (timers : ℕ) (class : Class) (change : PlainBase → PlainBase)
-    (trio : ByClass RoomyBase) → HasCapacity timers trio → HasCapacity timers (on_class class change trio)
+    (trio : ByClass RoomyBase) → HasCapacity timers trio
+    → HasCapacity timers (on_class class change trio)
 capacity_on timers Pinned change trio room =
     record { pinned = room.pinned; global = room.global; deferrable = room.deferrable }
 capacity_on timers Global change trio room =
@@ -50,7 +53,8 @@ pub stored : (class : Class) (change : PlainBase → PlainBase) (trio next : ByC
     ≡ changed class (change (of_class class (plains trio))) entry (plain_of trio journal)
 stored class change trio next journal after entry next_is after_is =
     (λ i. plain_of (next_is i) (after_is i))
-    ∙ ap (λ bases. record { bases = bases; journal = journal ++ entry ∷ [] }) (plains_on class change trio)
+    ∙ ap (λ bases. record { bases = bases; journal = journal ++ entry ∷ [] })
+    (plains_on class change trio)
 
 -- a timer is queued
 pub stored_queued : (act : Act) (line at time : ℕ) (class : Class) (timer expires job arg : ℕ)
@@ -65,9 +69,11 @@ stored_queued act line at time class timer expires job arg by trio next journal 
     item_is next_is entry_is after_is =
     let same =
     item_is
-    ∙ ap (λ b. placed (forwarded time b).clock timer expires job arg) (sym (plain_base class trio)) in
+    ∙ ap (λ b. placed (forwarded time b).clock timer expires job arg)
+    (sym (plain_base class trio)) in
     stored class (λ b. added timer expires job arg (forwarded time b)) trio next journal after
-    (entry_of act line at class (placed (forwarded time (of_class class (plains trio))).clock timer expires job arg) by)
+    (entry_of act line at class (placed (forwarded time (of_class class (plains trio))).clock timer
+    expires job arg) by)
     next_is
     (after_is
     ∙ ap (λ e. journal ++ e ∷ []) (entry_is ∙ ap (λ i. entry_of act line at class i by) same))
@@ -98,9 +104,11 @@ stored_taken now class by trio next journal after None entry item_is next_is ent
     let out_is = item_is ∙ ap (next_out now) (sym (plain_base class trio)) in
     stored class (taken now) trio next journal after entry next_is after_is
     ∙ (ap (λ out. changed class (after_out base out) entry cpu) (sym out_is)
-    ∙ (ap (λ bases. record { bases = bases; journal = journal ++ entry ∷ [] }) (with_itself class (plains trio))
+    ∙ (ap (λ bases. record { bases = bases; journal = journal ++ entry ∷ [] })
+    (with_itself class (plains trio))
     ∙ (ap (λ e. written e cpu) entry_is ∙ ap (λ out. after_hand_out out now class by cpu) out_is)))
-stored_taken now class by trio next journal after (Some item) entry item_is next_is entry_is after_is =
+stored_taken now class by trio next journal after (Some item) entry item_is next_is entry_is
+    after_is =
     let cpu = plain_of trio journal in
     let base = of_class class (plains trio) in
     let out_is = item_is ∙ ap (next_out now) (sym (plain_base class trio)) in
@@ -130,13 +138,15 @@ pub stored_found : (now id line : ℕ) (class : Class) (by : CpuId) (trio next :
     → next ≡ on_class class (removed id) trio
     → entry ≡ entry_of Cancelled line now class item by → after ≡ journal ++ entry ∷ []
     → plain_of next after ≡ cancelled now id line by (plain_of trio journal)
-stored_found now id line class by trio next journal after item entry found_is next_is entry_is after_is =
+stored_found now id line class by trio next journal after item entry found_is next_is entry_is
+    after_is =
     let cpu = plain_of trio journal in
     let base = of_class class (plains trio) in
     let same = (found_at id class item cpu (sym found_is)).same in
     stored class (removed id) trio next journal after entry next_is after_is
     ∙ (ap (λ e. changed class (removed id base) e cpu) entry_is
-    ∙ (ap (λ k. changed class (removed k base) (entry_of Cancelled line now class item by) cpu) (sym same)
+    ∙ (ap (λ k. changed class (removed k base) (entry_of Cancelled line now class item by) cpu)
+    (sym same)
     ∙ ap (λ found. after_cancel found now line by cpu) found_is))
 
 -- an item's number is that of a timer

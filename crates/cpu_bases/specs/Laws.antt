@@ -103,13 +103,13 @@ abbrev pub ArmingKeeps : Type 0
 ArmingKeeps = (now : ℕ) (class : Class) (timer expires job arg line : ℕ) (by : CpuId)
     (cpu : CpuBases) → IsConsistent cpu → MayQueue now class timer expires cpu
     → let new = armed now class timer expires job arg line by cpu in
-      IsConsistent new × Keeps now cpu new
+    IsConsistent new × Keeps now cpu new
 
 abbrev pub MovingInKeeps : Type 0
 MovingInKeeps = (now : ℕ) (class : Class) (timer expires job arg : ℕ) (by : CpuId)
     (cpu : CpuBases) → IsConsistent cpu → MayQueue now class timer expires cpu
     → let new = moved_in now class timer expires job arg by cpu in
-      IsConsistent new × Keeps now cpu new
+    IsConsistent new × Keeps now cpu new
 
 abbrev pub CancellingKeeps : Type 0
 CancellingKeeps = (now timer line : ℕ) (by : CpuId) (cpu : CpuBases) → IsConsistent cpu
@@ -132,7 +132,7 @@ abbrev pub HandingOutKeeps : Type 0
 HandingOutKeeps = (now : ℕ) (class : Class) (by : CpuId) (cpu : CpuBases)
     → now < TIME_LIMIT - 1 → IsConsistent cpu
     → let new = handed_out now class by cpu in
-      IsConsistent new × HandsOut now class by.0 cpu new
+    IsConsistent new × HandsOut now class by.0 cpu new
 
 -- A WHOLE DRAIN, of at least as many items as there are, leaves nothing due, and then nothing
 -- behind a clock that was at most the next jiffy

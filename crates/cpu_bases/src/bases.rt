@@ -38,12 +38,10 @@ impl<B: TimerBase> Model for Bases<B> {
 
     ghost Value = { RoomyBases };
 
-    ghost view = {
-        (λ b. record {
-            plain = plain_of b.trio b.journal.entries;
-            room = record { timers = b.timers; entries = b.journal.capacity };
-        })
-    };
+    ghost view = { (λ b. record {
+      plain = plain_of b.trio b.journal.entries;
+      room = record { timers = b.timers; entries = b.journal.capacity };
+    }) };
 
     ghost invariant = { λ b. IsKept b.trio b.journal.entries b.timers };
 }
@@ -94,13 +92,11 @@ impl<B: TimerBase> Bases<B> {
         requires pinned_in_time { (B.base pinned).plain.clock < TIME_LIMIT }
         requires global_in_time { (B.base global).plain.clock < TIME_LIMIT }
         requires deferrable_in_time { (B.base deferrable).plain.clock < TIME_LIMIT }
-        ensures bases {
-            result.plain.bases ≡ record {
-                pinned = (B.base pinned).plain;
-                global = (B.base global).plain;
-                deferrable = (B.base deferrable).plain;
-            }
-        }
+        ensures bases { result.plain.bases ≡ record {
+          pinned = (B.base pinned).plain;
+          global = (B.base global).plain;
+          deferrable = (B.base deferrable).plain;
+        } }
         ensures journal { result.plain.journal ≡ [] }
         ensures room { result.room ≡ record { timers = 0; entries = 0 } }
     {
@@ -147,15 +143,12 @@ impl<B: TimerBase> Bases<B> {
         requires entry_room { length self.old.plain.journal < self.old.room.entries }
         requires not_queued { class_in timer.0 self.old.plain ≡ None }
         requires none_behind { NoneBehind (base_of class self.old.plain) }
-        ensures wheel {
-            result ≡ (item_queued now class timer.0 expires job arg self.old.plain).wheel
-        }
-        ensures keeps_time {
-            KeepsTime expires (forwarded now (base_of class self.old.plain)).clock
-        }
-        ensures after {
-            self.new ≡ on_bases (armed now class timer.0 expires job arg line by) self.old
-        }
+        ensures wheel { result
+            ≡ (item_queued now class timer.0 expires job arg self.old.plain).wheel }
+        ensures keeps_time { KeepsTime expires
+            (forwarded now (base_of class self.old.plain)).clock }
+        ensures after { self.new
+            ≡ on_bases (armed now class timer.0 expires job arg line by) self.old }
         ensures keeps { Keeps now self.old.plain self.new.plain }
     {
         let id = u32::from(timer.0);
@@ -190,14 +183,10 @@ impl<B: TimerBase> Bases<B> {
         requires entry_room { length self.old.plain.journal < self.old.room.entries }
         ensures item { result ≡ next_out now (base_of class self.old.plain) }
         ensures due { OutIsDue now (base_of class self.old.plain).items result }
-        ensures one_fewer {
-            OnSome result
-            (OneFewer (base_of class self.old.plain) (base_of class self.new.plain))
-        }
-        ensures none_behind {
-            IfNone result (NotAhead now (base_of class self.old.plain)
-            → NoneBehind (base_of class self.new.plain))
-        }
+        ensures one_fewer { OnSome result
+            (OneFewer (base_of class self.old.plain) (base_of class self.new.plain)) }
+        ensures none_behind { IfNone result (NotAhead now (base_of class self.old.plain)
+            → NoneBehind (base_of class self.new.plain)) }
         ensures after { self.new ≡ on_bases (handed_out now class by) self.old }
         ensures keeps { HandsOut now class by.0 self.old.plain self.new.plain }
     {
@@ -216,10 +205,8 @@ impl<B: TimerBase> Bases<B> {
         requires now_in_time { now < TIME_LIMIT - 1 }
         requires entry_room { length self.old.plain.journal < self.old.room.entries }
         ensures item { result ≡ oldest_in (base_of class self.old.plain).items }
-        ensures one_fewer {
-            OnSome result
-            (OneFewer (base_of class self.old.plain) (base_of class self.new.plain))
-        }
+        ensures one_fewer { OnSome result
+            (OneFewer (base_of class self.old.plain) (base_of class self.new.plain)) }
         ensures after { self.new ≡ on_bases (moved_out now class by) self.old }
         ensures keeps { Keeps now self.old.plain self.new.plain }
     {
@@ -249,15 +236,12 @@ impl<B: TimerBase> Bases<B> {
         requires entry_room { length self.old.plain.journal < self.old.room.entries }
         requires not_queued { class_in timer.0 self.old.plain ≡ None }
         requires none_behind { NoneBehind (base_of class self.old.plain) }
-        ensures wheel {
-            result ≡ (item_queued (now + 1) class timer.0 expires job arg self.old.plain).wheel
-        }
-        ensures keeps_time {
-            KeepsTime expires (forwarded (now + 1) (base_of class self.old.plain)).clock
-        }
-        ensures after {
-            self.new ≡ on_bases (moved_in now class timer.0 expires job arg by) self.old
-        }
+        ensures wheel { result
+            ≡ (item_queued (now + 1) class timer.0 expires job arg self.old.plain).wheel }
+        ensures keeps_time { KeepsTime expires
+            (forwarded (now + 1) (base_of class self.old.plain)).clock }
+        ensures after { self.new
+            ≡ on_bases (moved_in now class timer.0 expires job arg by) self.old }
         ensures keeps { Keeps now self.old.plain self.new.plain }
     {
         let id = u32::from(timer.0);
@@ -271,9 +255,8 @@ impl<B: TimerBase> Bases<B> {
     pub fn next(&self) -> NextEvents
         ensures events { result ≡ events_of self.now.plain }
         ensures pin { NoneSooner result.pin (base_of Class.Pinned self.now.plain).items }
-        ensures first_global {
-            NoneSooner result.first_global (base_of Class.Global self.now.plain).items
-        }
+        ensures first_global { NoneSooner result.first_global
+            (base_of Class.Global self.now.plain).items }
     {
         let pin = self.first(Class::Pinned);
         let first_global = self.first(Class::Global);

@@ -81,11 +81,9 @@ fn make_call<B: TimerBase>(bases: &mut Bases<B>, call: &BasesCall) -> Result<Bas
     ensures after { OnOk result (bases.new ≡ after call.now bases.old) }
     ensures err { OnErr result (bases.new ≡ bases.old) }
     ensures replay { AddsReplay bases.old.plain bases.new.plain }
-    ensures legal {
-        (cpu time : ℕ) → time ≤ time_of call.now time → IsByRight cpu call.now
+    ensures legal { (cpu time : ℕ) → time ≤ time_of call.now time → IsByRight cpu call.now
         → LegalUpTo cpu time bases.old.plain.journal
-        → LegalUpTo cpu (time_of call.now time) bases.new.plain.journal
-    }
+        → LegalUpTo cpu (time_of call.now time) bases.new.plain.journal }
 {
     Ok(match *call {
         BasesCall::Reserve { timers, entries } => {

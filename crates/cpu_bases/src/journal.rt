@@ -24,9 +24,8 @@ impl Model for Journal {
 
     ghost view = { λ j. record { entries = j.entries.items; capacity = j.capacity } };
 
-    ghost invariant = {
-        (λ j. (vec_len j.entries ≤ j.capacity) × (j.capacity ≤ vec_capacity j.entries))
-    };
+    ghost invariant = { (λ j. (vec_len j.entries ≤ j.capacity)
+        × (j.capacity ≤ vec_capacity j.entries)) };
 }
 
 impl Journal {
@@ -58,9 +57,8 @@ impl Journal {
     pub fn push(&mut self, item: Entry) -> Result<(), NoMemory>
         ensures enough { length self.old.entries < self.old.capacity → IsOk result }
         ensures entries { OnOk result (self.new.entries ≡ self.old.entries ++ item ∷ []) }
-        ensures capacity {
-            OnOk result (self.new.capacity ≡ max self.old.capacity (length self.old.entries + 1))
-        }
+        ensures capacity { OnOk result
+            (self.new.capacity ≡ max self.old.capacity (length self.old.entries + 1)) }
         ensures err { OnErr result (self.new ≡ self.old) }
     {
         self.reserve(1)?;
@@ -82,9 +80,8 @@ impl Journal {
     pub(crate) fn reserve(&mut self, n: usize) -> Result<(), NoMemory>
         ensures enough { length self.old.entries + n ≤ self.old.capacity → IsOk result }
         ensures entries { self.new.entries ≡ self.old.entries }
-        ensures ok {
-            OnOk result (self.new.capacity ≡ max self.old.capacity (length self.old.entries + n))
-        }
+        ensures ok { OnOk result
+            (self.new.capacity ≡ max self.old.capacity (length self.old.entries + n)) }
         ensures err { OnErr result (self.new ≡ self.old) }
     {
         self.entries.reserve(n)?;

@@ -10,8 +10,7 @@ ghost use Rattle.cpu_bases.specs.Laws.{MovingOutKeeps, OneEnd, QueuedOnce, Repla
 pub fn law_journals()
     ensures one_end { OneEnd }
     ensures each_end_fits { EachEndFits }
-{
-}
+{}
 
 /// Each queued timer stands as the journal armed it, in one base of the CPU alone; a whole drain
 /// leaves nothing due; and the bases stay the replay of their journal.
@@ -20,8 +19,7 @@ pub fn law_bases()
     ensures queued_once { QueuedOnce }
     ensures drain_is_whole { DrainIsWhole }
     ensures replays_on { ReplaysOn }
-{
-}
+{}
 
 /// What arming, cancelling, handing out and moving keep.
 pub fn law_calls()
@@ -30,5 +28,4 @@ pub fn law_calls()
     ensures handing_out { HandingOutKeeps }
     ensures moving_out { MovingOutKeeps }
     ensures moving_in { MovingInKeeps }
-{
-}
+{}

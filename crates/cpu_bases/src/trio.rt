@@ -27,13 +27,11 @@ impl<B: TimerBase> Model for Trio<B> {
 
     ghost Value = { ByClass RoomyBase };
 
-    ghost view = {
-        (λ t. record {
-            pinned = B.base t.pinned;
-            global = B.base t.global;
-            deferrable = B.base t.deferrable;
-        })
-    };
+    ghost view = { (λ t. record {
+      pinned = B.base t.pinned;
+      global = B.base t.global;
+      deferrable = B.base t.deferrable;
+    }) };
 }
 
 /// Forwards a base to a time, and adds a timer to it.
@@ -51,14 +49,11 @@ fn queue_in<B: TimerBase>(
     requires clock_in_time { (B.base base.old).plain.clock < 2 ^ 47 }
     requires time_in_time { time < 2 ^ 47 }
     requires none_behind { NoneBehind (B.base base.old).plain }
-    ensures item {
-        result ≡ placed (forwarded time (B.base base.old).plain).clock id expires job arg
-    }
+    ensures item { result
+        ≡ placed (forwarded time (B.base base.old).plain).clock id expires job arg }
     ensures keeps_time { KeepsTime expires (forwarded time (B.base base.old).plain).clock }
-    ensures base {
-        B.base base.new
-        ≡ on_plain (λ b. added id expires job arg (forwarded time b)) (B.base base.old)
-    }
+    ensures base { B.base base.new
+        ≡ on_plain (λ b. added id expires job arg (forwarded time b)) (B.base base.old) }
 {
     base.forward(time);
     base.add(id, expires, job, arg)
@@ -91,13 +86,11 @@ fn make_room_in<B: TimerBase>(base: &mut B, timers: usize) -> Result<(), NoMemor
 
 impl<B: TimerBase> Trio<B> {
     pub(crate) fn new(pinned: B, global: B, deferrable: B) -> Trio<B>
-        ensures {
-            result ≡ record {
-                pinned = B.base pinned;
-                global = B.base global;
-                deferrable = B.base deferrable;
-            }
-        }
+        ensures { result ≡ record {
+          pinned = B.base pinned;
+          global = B.base global;
+          deferrable = B.base deferrable;
+        } }
     {
         Trio {
             pinned,
@@ -141,25 +134,19 @@ impl<B: TimerBase> Trio<B> {
         job: u8,
         arg: u32,
     ) -> Item
-        requires room {
-            length (of_class class self.old).plain.items < (of_class class self.old).capacity
-        }
+        requires room { length (of_class class self.old).plain.items
+            < (of_class class self.old).capacity }
         requires not_queued { item_of id (of_class class self.old).plain.items ≡ None }
         requires expires_in_time { expires < 2 ^ 47 }
         requires clock_in_time { (of_class class self.old).plain.clock < 2 ^ 47 }
         requires time_in_time { time < 2 ^ 47 }
         requires none_behind { NoneBehind (of_class class self.old).plain }
-        ensures item {
-            result
-            ≡ placed (forwarded time (of_class class self.old).plain).clock id expires job arg
-        }
-        ensures keeps_time {
-            KeepsTime expires (forwarded time (of_class class self.old).plain).clock
-        }
-        ensures after {
-            self.new
-            ≡ on_class class (λ b. added id expires job arg (forwarded time b)) self.old
-        }
+        ensures item { result
+            ≡ placed (forwarded time (of_class class self.old).plain).clock id expires job arg }
+        ensures keeps_time { KeepsTime expires
+            (forwarded time (of_class class self.old).plain).clock }
+        ensures after { self.new
+            ≡ on_class class (λ b. added id expires job arg (forwarded time b)) self.old }
     {
         match class {
             Class::Pinned => queue_in(&mut self.pinned, time, id, expires, job, arg),
@@ -190,10 +177,8 @@ impl<B: TimerBase> Trio<B> {
         ensures item { result ≡ next_out now (of_class class self.old).plain }
         ensures due { OutIsDue now (of_class class self.old).plain.items result }
         ensures after { self.new ≡ on_class class (taken now) self.old }
-        ensures one_fewer {
-            OnSome result
-            (OneFewer (of_class class self.old).plain (of_class class self.new).plain)
-        }
+        ensures one_fewer { OnSome result
+            (OneFewer (of_class class self.old).plain (of_class class self.new).plain) }
     {
         match class {
             Class::Pinned => self.pinned.take_next(now),

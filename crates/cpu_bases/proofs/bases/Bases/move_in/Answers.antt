@@ -11,10 +11,12 @@ use Rattle.cpu_bases.proofs.bases.Bases.move_in.Goals as goal
 -- the bases as they were, and what was done to them
 law : (g : _) (c : goal.After-write g)
     → let old = plain_of c.self.inside.trio c.self.inside.journal.entries in
-      let new = moved_in c.args.now c.args.class c.from-id.result c.args.expires c.args.job c.args.arg c.args.by old in
-      IsConsistent new × Keeps c.args.now old new
+    let new = moved_in c.args.now c.args.class c.from-id.result c.args.expires c.args.job c.args.arg
+    c.args.by old in
+    IsConsistent new × Keeps c.args.now old new
 law g c =
-    let asked : MayQueue c.args.now c.args.class c.args.timer.0 c.args.expires c.args.self.now.plain = record {
+    let asked : MayQueue c.args.now c.args.class c.args.timer.0 c.args.expires
+    c.args.self.now.plain = record {
       now_in_time = c.requires.now_in_time;
       expires_in_time = c.requires.expires_in_time;
       timer_fits = omega arith;
@@ -22,14 +24,18 @@ law g c =
       none_behind = c.requires.none_behind;
     } in
     let may =
-    subst (λ b. MayQueue c.args.now c.args.class c.from-id.result c.args.expires b.plain) (sym c.self.view_is)
-    (subst (λ t. MayQueue c.args.now c.args.class t c.args.expires c.args.self.now.plain) (sym c.from-id.ensures) asked) in
-    moving_in_keeps c.args.now c.args.class c.from-id.result c.args.expires c.args.job c.args.arg c.args.by
+    subst (λ b. MayQueue c.args.now c.args.class c.from-id.result c.args.expires b.plain)
+    (sym c.self.view_is)
+    (subst (λ t. MayQueue c.args.now c.args.class t c.args.expires c.args.self.now.plain)
+    (sym c.from-id.ensures) asked) in
+    moving_in_keeps c.args.now c.args.class c.from-id.result c.args.expires c.args.job c.args.arg
+    c.args.by
     (plain_of c.self.inside.trio c.self.inside.journal.entries) c.self.invariant.consistent may
 
 became : (g : _) (c : goal.After-write g)
     → plain_of c.queue-item.new.self c.write.new.self.entries
-    ≡ moved_in c.args.now c.args.class c.from-id.result c.args.expires c.args.job c.args.arg c.args.by
+    ≡ moved_in c.args.now c.args.class c.from-id.result c.args.expires c.args.job c.args.arg
+    c.args.by
     (plain_of c.self.inside.trio c.self.inside.journal.entries)
 became g c =
     stored_queued MovedIn 0 c.args.now (c.args.now + 1) c.args.class c.from-id.result c.args.expires
@@ -40,12 +46,15 @@ became g c =
 pub invariant_of-self : goal.invariant_of-self
 invariant_of-self g c =
     kept_so c.self.inside.timers c.args.class
-    (λ b. added c.from-id.result c.args.expires c.args.job c.args.arg (forwarded (c.args.now + 1) b))
+    (λ b. added c.from-id.result c.args.expires c.args.job c.args.arg
+    (forwarded (c.args.now + 1) b))
     c.self.inside.trio c.queue-item.new.self
     c.self.inside.journal.entries c.write.new.self.entries _ c.self.invariant
     c.queue-item.ensures.after (became g c) (law g c).0
 
 pub returns-clause-keeps : goal.returns-clause-keeps
 returns-clause-keeps g c =
-    subst (λ b. Keeps c.args.now b.plain (plain_of c.queue-item.new.self c.write.new.self.entries)) c.self.view_is
-    (subst (Keeps c.args.now (plain_of c.self.inside.trio c.self.inside.journal.entries)) (sym (became g c)) (law g c).1)
+    subst (λ b. Keeps c.args.now b.plain (plain_of c.queue-item.new.self c.write.new.self.entries))
+    c.self.view_is
+    (subst (Keeps c.args.now (plain_of c.self.inside.trio c.self.inside.journal.entries))
+    (sym (became g c)) (law g c).1)

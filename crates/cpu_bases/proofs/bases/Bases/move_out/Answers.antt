@@ -35,6 +35,7 @@ invariant_of-self-2 g c =
 pub returns-clause-keeps : goal.returns-clause-keeps
 returns-clause-keeps g c =
     let cpu = plain_of c.self.inside.trio c.self.inside.journal.entries in
-    subst (λ b. Keeps c.args.now b.plain (plain_of c.take_oldest.new.self c.write.new.self.entries)) c.self.view_is
+    subst (λ b. Keeps c.args.now b.plain (plain_of c.take_oldest.new.self c.write.new.self.entries))
+    c.self.view_is
     (subst (Keeps c.args.now cpu) (sym (became g c))
     (moving_out_keeps c.args.now c.args.class c.args.by cpu c.self.invariant.consistent).1)

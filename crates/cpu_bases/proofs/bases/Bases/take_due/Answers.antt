@@ -36,7 +36,8 @@ returns-in_default-clause-none_behind g c =
     (λ b. NotAhead c.args.now (base_of c.args.class b.plain)
     → NoneBehind (base_of c.args.class (plain_of c.take_next.new.self c.write.new.self.entries)))
     c.self.view_is
-    (subst (λ b. NotAhead c.args.now (base_of c.args.class cpu) → NoneBehind (base_of c.args.class b))
+    (subst (λ b. NotAhead c.args.now (base_of c.args.class cpu)
+    → NoneBehind (base_of c.args.class b))
     (sym (drained g c))
     (behind_drained c.args.now c.args.class c.args.by cpu c.self.invariant.consistent none))
 
