@@ -1,6 +1,11 @@
+pub mod Classes
 pub mod Keyed
 pub mod Legal
 pub mod Agreeing
 pub mod Consistent
+pub mod Replays
+pub mod Keeping
 pub mod Steps
+pub mod Queued
+pub mod Ends
 pub mod Runs
