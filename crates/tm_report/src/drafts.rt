@@ -1,6 +1,6 @@
 //! A text that is written line by line, each line piece by piece.
 
-ghost use Rattle.std.specs.Prelude.{◌≡◌, [], ◌++◌};
+ghost use Rattle.std.specs.Prelude.{◌≡◌, [], ◌++◌, take};
 ghost use Rattle.std.specs.Fmt.{decimal};
 ghost use Rattle.tm_report.specs.Words.{class_word, group_text, number_word, time_word};
 ghost use Rattle.tm_report.specs.Drafts.{Adds};
@@ -106,6 +106,15 @@ impl Draft {
     pub fn discard(&mut self)
         ensures { self.new ≡ record { finished = self.old.finished; begun = [] } }
     {
+        self.bytes.truncate(self.finished);
+    }
+
+    /// Keeps the first `len` bytes of the finished lines, or all where they are fewer, and nothing
+    /// of what was begun.
+    pub fn truncate(&mut self, len: usize)
+        ensures { self.new ≡ record { finished = take len self.old.finished; begun = [] } }
+    {
+        self.finished = self.finished.min(len);
         self.bytes.truncate(self.finished);
     }
 

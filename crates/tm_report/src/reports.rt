@@ -1,6 +1,6 @@
 //! Whole reports.
 
-ghost use Rattle.std.specs.Prelude.{◌≡◌, [], ◌++◌, IfOk, OnOk, OnErr};
+ghost use Rattle.std.specs.Prelude.{◌≡◌, [], ◌++◌, IfOk, OnOk, OnErr, take};
 ghost use Rattle.tm_report.specs.Lines.{line_text};
 
 use crate::drafts::Draft;
@@ -58,6 +58,13 @@ impl Report {
         }
         self.draft.finish();
         Ok(())
+    }
+
+    /// Keeps the first `len` bytes of the text, or all where they are fewer.
+    pub fn truncate(&mut self, len: usize)
+        ensures { self.new ≡ take len self.old }
+    {
+        self.draft.truncate(len);
     }
 
     /// The text so far: the lines in the order in which they were pushed, each with its line feed.

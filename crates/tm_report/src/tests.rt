@@ -167,6 +167,10 @@ fn a_report_is_its_lines_in_order(rt: HostRuntime) -> Result<(), Fail> {
     let want = b"arm 10 0 0 global 61\nidle 10 0 never\ncover 10 0 61 migrator 0:0 1\n\
         idle 20 1 61\ncover 20 0 61 wake 1 61\nrun 61 1 0 0 61 done\nend 100\n";
     assert_eq!(rt; report.text(), want.as_slice());
+    report.truncate(21);
+    assert_eq!(rt; report.text(), b"arm 10 0 0 global 61\n".as_slice());
+    report.truncate(99);
+    assert_eq!(rt; report.text().len(), 21);
     Ok(())
 }
 
