@@ -1,6 +1,6 @@
 -- what the wheel keeps of its entries, its clock and its least wheel expiry
 use Rattle.std.specs.Prelude.{◌≡◌, ℕ, ◌^◌, ◌<◌, ◌≤◌, Option, length}
-use Rattle.wheel_core.specs.PlainBase.{IsSound, RoomyBase, least, sooner}
+use Rattle.wheel_core.specs.PlainBase.{IsSound, RoomyBase, empty_base, least, sooner}
 use Rattle.wheel_base.specs.Files.{Files, items_of}
 use Rattle.wheel_base.specs.Marks.{AreNear}
 
@@ -19,3 +19,7 @@ pub record KeepsWheel (files : Files) (clock : ℕ) (first : Option ℕ) (capaci
   pub few : length files.filed ≤ capacity
   pub room : capacity ≤ files.room
   pub fits : files.room < 2 ^ 64
+
+-- a base with nothing queued, at the start of time, with room for nothing
+abbrev pub no_base : RoomyBase
+no_base = record { plain = empty_base; capacity = 0 }

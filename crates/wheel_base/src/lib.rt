@@ -2,6 +2,7 @@
 //! items.
 #![tactic(auto)]
 
+mod both;
 mod marks;
 mod moves;
 mod outs;
@@ -9,4 +10,8 @@ mod place;
 mod store;
 mod wheel;
 
+pub use both::calls_on_both;
 pub use wheel::WheelBase;
+
+#[cfg(test)]
+mod tests;

@@ -1,7 +1,7 @@
 //! The wheel of nine levels.
 
 ghost use Rattle.std.specs.Prelude.{◌≡◌, IfOk};
-ghost use Rattle.wheel_core.specs.PlainBase.{empty_base};
+ghost use Rattle.wheel_base.specs.Wheels.{no_base};
 
 use crate::marks::sooner_of;
 use crate::moves::move_all;
@@ -37,7 +37,7 @@ impl Model for WheelBase {
 impl WheelBase {
     /// An empty base at clock 0, with room for no item. It takes some 5,000 bytes for its buckets.
     pub fn new(alloc: Global) -> Result<WheelBase, NoRoom>
-        ensures { IfOk result (λ base. base ≡ record { plain = empty_base; capacity = 0 }) }
+        ensures { IfOk result (λ base. base ≡ no_base) }
     {
         let store = Store::with_room(alloc, 0)?;
         Ok(WheelBase {
