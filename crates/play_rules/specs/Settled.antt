@@ -1,7 +1,8 @@
 -- between moments every idle CPU's timers are answered for
-use Rattle.std.specs.Prelude.{◌≡◌, ℕ, ◌<◌, All, Bool, false, Option, Some, None, if◌then◌else◌, length, nat_lt, ◌==◌, zero, suc}
+use Rattle.std.specs.Prelude.{◌≡◌, ℕ, ◌<◌, All, Bool, true, false, Option, Some, None, if◌then◌else◌, length, nat_lt, ◌==◌, zero, suc}
 use Rattle.tm_base.specs.declared.names.TheConstants.{NEVER}
-use Rattle.coverage.specs.Coverage.{Machine, of_cpu, IsAnsweredFor}
+use Rattle.tm_base.specs.Children.{of_cpu}
+use Rattle.coverage.specs.Coverage.{Machine, IsAnsweredFor}
 use Rattle.play_rules.specs.State.{Cpu, State, cpu_at}
 
 -- the one group, number 0, is the whole path of a CPU; one CPU alone has none
@@ -25,7 +26,8 @@ abbrev pub machine_of : State → Machine
 machine_of s = record {
   path = λ c level. path_of (length s.cpus) level;
   bit = λ c level. c;
-  child = λ group number. of_cpu number;
+  child = λ group number. Some (of_cpu number);
+  placed = λ c. true;
   active = is_active s;
   migrator = λ group. s.migrator;
   event = λ group number. coming (cpu_at s number).told;

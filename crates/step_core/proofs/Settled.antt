@@ -91,7 +91,7 @@ woken_of s c w wheel is low told comes within off in_time =
         told = told_of s c wheel group told comes;
         inactive = is;
         event = coming_is (cpu_at s c).told (omega (arith, told, comes));
-        wakes = record { waker = w; at = (cpu_at s w).wakeup; keeps = kept_is (cpu_at s w) off; in_time = in_time };
+        wakes = record { waker = w; at = (cpu_at s w).wakeup; placed = refl; keeps = kept_is (cpu_at s w) off; in_time = in_time };
       })
       | inr alone ↦
           let P : ℕ → Type 0 = λ j. WakesItself (machine_of s) j wheel in
