@@ -101,7 +101,8 @@ fn a_delay_of_zero_right_after_a_hand_out_goes_to_the_next_jiffy(
     Ok(())
 }
 
-// By hand: of three timers at one wheel expiry the higher level goes out first, then the last armed.
+// By hand: of three timers at one wheel expiry the higher level goes out first, and then the last
+// armed.
 #[test]
 #[tactic(auto, unfolding(crate::specs::WheelExpiry::wheel_expiry_of, crate::specs::WheelExpiry::level_of_delay, crate::specs::WheelExpiry::wheel_level_of, crate::specs::PlainBase::first_out))]
 fn the_higher_level_goes_out_first_and_then_the_last_armed(rt: HostRuntime) -> Result<(), Fail> {
