@@ -14,3 +14,4 @@ pub mod Rows
 pub mod Nodes
 pub mod Stored
 pub mod Climbs
+pub mod Found

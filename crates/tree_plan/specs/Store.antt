@@ -1,7 +1,7 @@
 -- how a tree is kept: its groups in the order of their numbers, and for each child, the placed CPUs
 -- first and then the groups, the group that has it and its child number there; the same once more
 -- for each CPU by its number
-use Rattle.std.specs.Prelude.{◌≡◌, ℕ, zero, suc, ◌+◌, ◌-◌, ◌*◌, ◌/◌, min, nat_lt, if◌then◌else◌, List, [], ◌∷◌, ◌++◌, length, map, flat_map, sum, Option, None, option_map, slice_get}
+use Rattle.std.specs.Prelude.{◌≡◌, ℕ, zero, suc, ◌+◌, ◌-◌, ◌*◌, ◌/◌, ◌==◌, ◌&&◌, min, nat_lt, if◌then◌else◌, Bool, false, List, [], ◌∷◌, ◌++◌, length, map, flat_map, sum, Option, Some, None, option_map, slice_get}
 use Rattle.std.specs.List.{range_with_len}
 use Rattle.std.specs.FinSet.{contains}
 use Rattle.tm_base.specs.declared.names.Child.{Child}
@@ -76,6 +76,11 @@ group_of t g = record { level = level_of t g; place = place_of t g; children = c
 abbrev pub link_of : Shape → Child → Option Link
 link_of t m =
     option_map (λ p. record { parent = record { 0 = p }; bit = bit_of t m }) (parent_of t m)
+
+-- whether a link leads to this child number of group g
+abbrev pub leads_to : Option Link → (g k : ℕ) → Bool
+leads_to None g k = false
+leads_to (Some link) g k = link.parent.0 == g && link.bit == k
 
 -- the links of the n CPUs from 0 on, where these are the links of the placed ones among them in
 -- ascending order

@@ -4,7 +4,7 @@ ghost use Rattle.std.specs.Prelude.{◌≡◌, ◌+◌, ◌*◌, ◌^◌, ◌<�
 ghost use Rattle.std.specs.FinSet.{contains};
 ghost use Rattle.tm_base.specs.declared.limits.TheConstants.{MOST_CPUS_V2};
 ghost use Rattle.tree_plan.specs.Shape.{IsWithinLimits, levels_for, node_cpus, placed_from, tree_of};
-ghost use Rattle.tree_plan.specs.Store.{groups_for, row_lengths_at, row_groups, level_of_rows, CutsNext, groups_planned, links_to, links_from, seat_links};
+ghost use Rattle.tree_plan.specs.Store.{groups_for, row_lengths_at, row_groups, level_of_rows, CutsNext, groups_planned, leads_to, links_to, links_from, seat_links};
 
 use std::alloc::Global;
 use tm_base::{CpuId, CpuSet, GROUP_SIZE, GroupId, NoMemory};
@@ -27,6 +27,18 @@ pub(crate) struct Link {
     pub(crate) parent: GroupId,
     /// The child's number there, below 8.
     pub(crate) bit: u8,
+}
+
+impl Link {
+    /// Whether a link leads to this child number of a group.
+    pub(crate) fn leads_to(link: Option<Link>, group: GroupId, bit: u8) -> bool
+        ensures { result ≡ leads_to link group.0 bit }
+    {
+        match link {
+            Some(link) => link.parent.0 == group.0 && link.bit == bit,
+            None => false,
+        }
+    }
 }
 
 /// How many levels of eight to a group bring so many members down to one, ceil(log2up(members) /

@@ -4,13 +4,13 @@ ghost use Rattle.std.specs.Prelude.{◌≡◌, ◌<◌, ◌≤◌, ◌↔◌, tr
 ghost use Rattle.std.specs.Bool.{OnTrue, OnFalse};
 ghost use Rattle.tm_base.specs.Children.{of_cpu, of_group};
 ghost use Rattle.tree_plan.specs.Shape.{Shape, IsWithinLimits, IsPlanned, tree_of};
-ghost use Rattle.tree_plan.specs.Paths.{cpu_count_of, is_placed_in, group_count_of, level_count_of, level_of, place_of, child_count_of, parent_of, bit_of, group_at_of, IsTop};
+ghost use Rattle.tree_plan.specs.Paths.{cpu_count_of, is_placed_in, group_count_of, level_count_of, level_of, place_of, child_count_of, child_at, parent_of, bit_of, group_at_of, IsTop};
 ghost use Rattle.tree_plan.specs.Store.{group_of, link_of};
 
 use crate::cutting::{Group, Link, cut_groups, link_children, link_cpus, placed_among};
 use std::alloc::Global;
 use std::marker::Model;
-use tm_base::{CpuId, CpuSet, GroupId, NoMemory};
+use tm_base::{Child, CpuId, CpuSet, GroupId, NoMemory};
 
 /// The tree of a machine. A contract sees it as its `Shape`: the machine and the levels of groups.
 /// Groups are numbered level by level from the leaves, and in a level in ascending order.
@@ -40,8 +40,7 @@ impl Model for Tree {
     ghost view = { λ t. tree_of t.nodes t.cpus t.isolated };
 
     ghost invariant = { λ t.
-        IsStored t.nodes t.cpus t.isolated t.placed t.groups.items t.links.items t.seats.items
-    };
+        IsStored t.nodes t.cpus t.isolated t.placed t.groups.items t.links.items t.seats.items };
 }
 
 /// Plans the tree of a machine of 1 to 8 nodes with 1 to 64 CPUs each, of which some aren't
@@ -126,6 +125,24 @@ impl Tree {
         ensures { result ≡ child_count_of self.now g.0 }
     {
         self.group(g).children
+    }
+
+    /// The child of a group with this child number; None exactly where the group has no such child.
+    /// The work is linear in the number of CPUs and groups.
+    pub fn child(&self, g: GroupId, bit: u8) -> Option<Child>
+        ensures { result ≡ child_at self.now g.0 bit }
+    {
+        for c in 0..self.cpu_count() {
+            if Link::leads_to(self.cpu_link(CpuId(c)), g, bit) {
+                return Some(Child::Cpu(CpuId(c)));
+            }
+        }
+        for h in 0..self.group_count() {
+            if Link::leads_to(self.group_link(GroupId(h)), g, bit) {
+                return Some(Child::Group(GroupId(h)));
+            }
+        }
+        None
     }
 
     /// The group that has this group as a child. Only the top has none.

@@ -4,7 +4,7 @@ use super::*;
 use std::alloc::Global;
 use std::process::Abort;
 use std::test::Fail;
-use tm_base::{CpuId, CpuSet, GroupId, NoMemory};
+use tm_base::{Child, CpuId, CpuSet, GroupId, NoMemory};
 
 /// A group: its level, place, number of children, parent and child number there.
 type Row = (u8, u16, u8, Option<GroupId>, u8);
@@ -196,6 +196,12 @@ fn isolated_cpus_stand_outside_the_tree(rt: HostRuntime) -> Result<(), Fail> {
     ];
     check_paths(&rt, &eight_of_nine, 9, &paths);
 
+    assert_eq!(rt;
+        eight_of_nine.child(GroupId(0), 0),
+        Some(Child::Cpu(CpuId(1)))
+    );
+    assert_eq!(rt; eight_of_nine.child(GroupId(0), 8), None);
+
     let one_of_two_nodes = planned(rt.alloc(), 2, 2, 2)?;
     check_groups(&rt, &one_of_two_nodes, 1, &[(0, 0, 2, None, 0)]);
     check_isolated(&rt, &one_of_two_nodes, &[0, 1]);
@@ -220,6 +226,10 @@ fn the_largest_machine_has_73_groups(rt: HostRuntime) -> Result<(), Fail> {
     assert_eq!(rt; largest.group_count(), 73);
     assert_eq!(rt; largest.children(GroupId(72)), 8);
     assert_eq!(rt; largest.parent(GroupId(63)), up(71));
+    assert_eq!(rt;
+        largest.child(GroupId(71), 7),
+        Some(Child::Group(GroupId(63)))
+    );
     let paths = [
         (0, 0, [up(0), up(64), up(72), None]),
         (511, 7, [up(63), up(71), up(72), None]),
