@@ -73,6 +73,13 @@ module _ (items : List Item) (entries : List Entry) (same : map told_by_item ite
       mapped_some told_by_entry (arming_of id entries) (told_by_item item)
       (looked_up id ∙ ap (option_map told_by_item) found)
 
+  pub agreed_armed : (id : ℕ) (arming : Entry) → arming_of id entries ≡ Some arming
+      → (item : Item) × (item_of id items ≡ Some item)
+      × (told_by_item item ≡ told_by_entry arming)
+  agreed_armed id arming found =
+      mapped_some told_by_item (item_of id items) (told_by_entry arming)
+      (sym (looked_up id) ∙ ap (option_map told_by_entry) found)
+
   pub agreed_push : (item : Item) (entry : Entry) → told_by_item item ≡ told_by_entry entry
       → map told_by_item (items ++ item ∷ []) ≡ map told_by_entry (entries ++ entry ∷ [])
   agreed_push item entry told =

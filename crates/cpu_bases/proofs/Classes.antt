@@ -1,5 +1,5 @@
 -- three of a kind by class: what becomes of each where one is changed
-use Rattle.std.proofs.Common.{◌≡◌, Bool, true, false, refl}
+use Rattle.std.proofs.Common.{◌≡◌, true, false, refl}
 use Rattle.std.proofs.lemmas.Bool.{both_ways}
 use Rattle.tm_base.specs.Classes.{same_class}
 use Rattle.tm_base.specs.declared.names.Class.{Class}

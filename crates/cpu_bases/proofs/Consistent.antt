@@ -1,9 +1,9 @@
 -- bases and journal stay consistent through each kind of entry
-use Rattle.std.proofs.Common.{◌≡◌, ℕ, ◌+◌, ◌-◌, ◌^◌, ◌<◌, ◌≤◌, true, false, List, [], ◌∷◌, ◌++◌}
-use Rattle.std.proofs.Common.{Option, Some, None, refl, ap, subst, sym, ◌∙◌, arith, inl, inr, max}
+use Rattle.std.proofs.Common.{◌≡◌, ℕ, ◌^◌, ◌<◌, ◌≤◌, true, false, List, [], ◌∷◌, ◌++◌}
+use Rattle.std.proofs.Common.{Option, Some, None, refl, ap, subst, sym, ◌∙◌, arith, inl, inr}
 use Rattle.std.specs.Prelude.{◌==◌, map, IsSomeAnd, option_map}
 use Rattle.std.specs.List.{All}
-use Rattle.std.proofs.lemmas.Option.{none-some, same_Some}
+use Rattle.std.proofs.lemmas.Option.{none-some}
 use Rattle.std.proofs.lemmas.Bool.{cases_Bool, cond-true, cond-false}
 use Rattle.std.proofs.lemmas.List.{append-nil}
 use Rattle.std.proofs.lemmas.List.Elements.{All-push, filter-append}
@@ -19,12 +19,11 @@ use Rattle.wheel_core.proofs.Ids.{all_without, item_holds, sound_without}
 use Rattle.wheel_core.proofs.Plain.{clock-forwarded_le, placed_in_range, sound_added}
 use Rattle.cpu_bases.specs.declared.entry.Act.{Act}
 use Rattle.cpu_bases.specs.declared.entry.Entry.{Entry}
-use Rattle.cpu_bases.specs.ByClass.{ByClass, of_class, with_class}
-use Rattle.cpu_bases.specs.Journals.{Agrees, EachMayFollow, EndsOne, MayFollow, arming_of, ended}
+use Rattle.cpu_bases.specs.Journals.{Agrees, EndsOne, MayFollow, arming_of, ended}
 use Rattle.cpu_bases.specs.Journals.{entries_of, queued_after, queued_by, told_by_entry}
 use Rattle.cpu_bases.specs.Journals.{told_by_item}
 use Rattle.cpu_bases.specs.CpuBases.{BaseFits, CpuBases, IsConsistent, base_of, changed, class_in}
-use Rattle.cpu_bases.specs.CpuBases.{entry_of, found_in, found_or, item_queued, queued}
+use Rattle.cpu_bases.specs.CpuBases.{entry_of, found_or, item_queued, queued}
 use Rattle.cpu_bases.specs.CpuBases.{ticked_entry, written}
 use Rattle.cpu_bases.proofs.Classes.{class_is, class_itself, each_with}
 use Rattle.cpu_bases.proofs.Keyed.{found_kept, found_whole, kept_drop, kept_other, none_tail}

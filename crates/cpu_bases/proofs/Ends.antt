@@ -1,104 +1,27 @@
 -- for crates above: in a legal journal each arming has at most one end, which fits it
-use Rattle.std.proofs.Common.{◌≡◌, ℕ, zero, suc, ◌+◌, ◌<◌, ◌≤◌, Bool, true, false, List, [], ◌∷◌}
-use Rattle.std.proofs.Common.{◌++◌, Option, Some, None, refl, ap, subst, sym, ◌∙◌, arith, ◌⊎◌, inl}
+use Rattle.std.proofs.Common.{◌≡◌, ℕ, zero, suc, ◌<◌, ◌≤◌, true, false, List, [], ◌∷◌}
+use Rattle.std.proofs.Common.{Some, None, refl, ap, subst, sym, ◌∙◌, arith, ◌⊎◌, inl}
 use Rattle.std.proofs.Common.{inr}
 use Rattle.std.specs.Prelude.{◌==◌, ◌≢◌, IsSomeAnd, slice_get}
-use Rattle.std.specs.List.{All}
 use Rattle.std.proofs.lemmas.Bool.{both_ways, cases_Bool, cases_lt, eqb-false, eqb-true, ne_eqb}
-use Rattle.std.proofs.lemmas.List.Elements.{All-head, All-tail}
 use Rattle.std.proofs.lemmas.Option.{get_or_from_slice_get, none-some, same_Some, slice_get_within}
-use Rattle.cpu_bases.specs.declared.entry.Act.{Act}
-use Rattle.cpu_bases.specs.declared.entry.Act.TheVariants.{Armed, Handed, Cancelled, MovedOut}
-use Rattle.cpu_bases.specs.declared.entry.Act.TheVariants.{MovedIn, Ticked}
+use Rattle.cpu_bases.specs.declared.entry.Act.TheVariants.{Handed}
 use Rattle.cpu_bases.specs.declared.entry.Entry.{Entry}
-use Rattle.cpu_bases.specs.Journals.{EachMayFollow, EndsOne, HandedByRight, LegalJournal, MayFollow}
+use Rattle.cpu_bases.specs.Journals.{EachMayFollow, HandedByRight, LegalJournal, MayFollow}
 use Rattle.cpu_bases.specs.Journals.{arming_of, ended, queued_after}
-use Rattle.cpu_bases.specs.Laws.{EachEndFits, EndFits, IsEndOf, OneEnd, is_arming, is_end}
-use Rattle.cpu_bases.proofs.Keyed.{HasDistinctKeys, drop_key, drop_other, none_drop, none_dropped}
-use Rattle.cpu_bases.proofs.Keyed.{push_other, push_own}
+use Rattle.cpu_bases.specs.Journals.{queued_from}
+use Rattle.cpu_bases.specs.Laws.{EachEndFits, IsEndOf, OneEnd, is_arming}
+use Rattle.cpu_bases.specs.Laws.{is_end}
+use Rattle.cpu_bases.proofs.Keyed.{HasDistinctKeys, drop_key, none_drop}
+use Rattle.cpu_bases.proofs.Keyed.{none_dropped}
+use Rattle.cpu_bases.proofs.Keyed.{push_own}
 use Rattle.cpu_bases.proofs.Legal.{distinct_after, ended_is}
-
--- KINDS OF ENTRY: an arming, an end, or neither
-kind : (act : Act) → (is_arming act ≡ true) ⊎ ((is_end act ≡ true) ⊎ (act ≡ Ticked))
-kind Armed = inl refl
-kind MovedIn = inl refl
-kind Handed = inr (inl refl)
-kind Cancelled = inr (inl refl)
-kind MovedOut = inr (inl refl)
-kind Ticked = inr (inr refl)
-
-arming_queues : (act : Act) (queued : List Entry) (entry : Entry) → is_arming act ≡ true
-    → queued_after act queued entry ≡ queued ++ entry ∷ []
-arming_queues Armed queued entry is = refl
-arming_queues MovedIn queued entry is = refl
-arming_queues Handed queued entry is = absurd (both_ways false refl is)
-arming_queues Cancelled queued entry is = absurd (both_ways false refl is)
-arming_queues MovedOut queued entry is = absurd (both_ways false refl is)
-arming_queues Ticked queued entry is = absurd (both_ways false refl is)
-
-arming_may : (act : Act) (queued : List Entry) (entry : Entry) → is_arming act ≡ true
-    → MayFollow act queued entry → arming_of entry.timer.0 queued ≡ None
-arming_may Armed queued entry is may = may
-arming_may MovedIn queued entry is may = may
-arming_may Handed queued entry is may = absurd (both_ways false refl is)
-arming_may Cancelled queued entry is may = absurd (both_ways false refl is)
-arming_may MovedOut queued entry is may = absurd (both_ways false refl is)
-arming_may Ticked queued entry is may = absurd (both_ways false refl is)
-
-end_queues : (act : Act) (queued : List Entry) (entry : Entry) → is_end act ≡ true
-    → queued_after act queued entry ≡ ended entry.timer.0 queued
-end_queues Handed queued entry is = refl
-end_queues Cancelled queued entry is = refl
-end_queues MovedOut queued entry is = refl
-end_queues Armed queued entry is = absurd (both_ways false refl is)
-end_queues MovedIn queued entry is = absurd (both_ways false refl is)
-end_queues Ticked queued entry is = absurd (both_ways false refl is)
-
-end_may : (act : Act) (queued : List Entry) (entry : Entry) → is_end act ≡ true
-    → MayFollow act queued entry → EndsOne queued entry × (act ≡ Handed → entry.wheel ≤ entry.at)
-end_may Handed queued entry is may = (may.0, λ _. may.1)
-end_may Cancelled queued entry is may = (may, λ other. absurd (cc))
-end_may MovedOut queued entry is may = (may, λ other. absurd (cc))
-end_may Armed queued entry is may = absurd (both_ways false refl is)
-end_may MovedIn queued entry is may = absurd (both_ways false refl is)
-end_may Ticked queued entry is may = absurd (both_ways false refl is)
-
--- what is queued of a timer after an entry
-after_arming : (timer : ℕ) (queued : List Entry) (entry : Entry) → is_arming entry.act ≡ true
-    → (entry.timer.0 == timer) ≡ false
-    → arming_of timer (queued_after entry.act queued entry) ≡ arming_of timer queued
-after_arming timer queued entry is other =
-    ap (arming_of timer) (arming_queues entry.act queued entry is)
-    ∙ push_other (λ e. e.timer.0) timer queued entry other
-
-after_end : (timer : ℕ) (queued : List Entry) (entry : Entry) → is_end entry.act ≡ true
-    → (entry.timer.0 == timer) ≡ false
-    → arming_of timer (queued_after entry.act queued entry) ≡ arming_of timer queued
-after_end timer queued entry is other =
-    ap (arming_of timer) (end_queues entry.act queued entry is ∙ ended_is entry.timer.0 queued)
-    ∙ drop_other (λ e. e.timer.0) timer entry.timer.0 queued other
-
-after_tick : (timer : ℕ) (queued : List Entry) (entry : Entry) → entry.act ≡ Ticked
-    → arming_of timer (queued_after entry.act queued entry) ≡ arming_of timer queued
-after_tick timer queued entry is =
-    ap (λ act. arming_of timer (queued_after act queued entry)) is
-
-after_other : (timer : ℕ) (queued : List Entry) (entry : Entry)
-    → (entry.timer.0 == timer) ≡ false
-    → arming_of timer (queued_after entry.act queued entry) ≡ arming_of timer queued
-after_other timer queued entry other =
-    elim (kind entry.act) [
-      | inl is ↦ after_arming timer queued entry is other
-      | inr rest ↦
-          elim rest [
-            | inl is ↦ after_end timer queued entry is other
-            | inr is ↦ after_tick timer queued entry is
-          ]
-    ]
+use Rattle.cpu_bases.proofs.EntryKinds.{kind, arming_queues, arming_may, end_queues, end_may}
+use Rattle.cpu_bases.proofs.EntryKinds.{after_arming, after_tick, after_other}
 
 -- FROM A PLACE ON: no arming, and no end, of a timer stands before a place
 module _ (timer : ℕ) where
-  abbrev NoArming : List Entry → ℕ → Type 0
+  abbrev pub NoArming : List Entry → ℕ → Type 0
   NoArming journal n = (k : ℕ) (entry : Entry) → k < n → slice_get journal k ≡ Some entry
       → is_arming entry.act ≡ true → entry.timer.0 ≢ timer
 
@@ -217,6 +140,72 @@ module _ (timer : ℕ) where
                     | inr ticked ↦
                         passed (on (after_tick timer queued first ticked ∙ there))
                         (λ ends. absurd (both_ways false refl (sym (ap is_end ticked) ∙ ends)))
+                  ]
+            ]
+      ]
+
+  -- it stays queued, or an end comes with no arming before
+  abbrev pub EndIn : List Entry → Type 0
+  EndIn journal = (n : ℕ) × (ending : Entry) × (slice_get journal n ≡ Some ending)
+      × (is_end ending.act ≡ true) × (ending.timer.0 ≡ timer) × NoArming journal n
+
+  no_arming_first : (first : Entry) (journal : List Entry) (n : ℕ)
+      → (is_arming first.act ≡ true → first.timer.0 ≢ timer) → NoArming journal n
+      → NoArming (first ∷ journal) (suc n)
+  no_arming_first first journal n here later zero entry low is arms =
+      subst (λ e. is_arming e.act ≡ true → e.timer.0 ≢ timer) (same_Some first entry is) here arms
+  no_arming_first first journal n here later (suc k) entry low is arms =
+      later k entry (omega arith) is arms
+
+  pub stays_or_ends : (queued journal : List Entry) (arming : Entry)
+      → arming_of timer queued ≡ Some arming → EachMayFollow queued journal
+      → (arming_of timer (queued_from queued journal) ≡ Some arming) ⊎ EndIn journal
+  stays_or_ends queued [] arming there each = inl there
+  stays_or_ends queued (first ∷ journal) arming there each =
+      let next = queued_after first.act queued first in
+      let on = λ (still : arming_of timer next ≡ Some arming)
+      (here : is_arming first.act ≡ true → first.timer.0 ≢ timer).
+      let both : (arming_of timer (queued_from next journal) ≡ Some arming)
+      ⊎ EndIn (first ∷ journal) =
+      elim (stays_or_ends next journal arming still each.1) [
+        | inl stays ↦ inl stays
+        | inr ends ↦
+            inr (
+              suc ends.0,
+              ends.1,
+              ends.2,
+              ends.3,
+              ends.4,
+              no_arming_first first journal ends.0 here ends.5,
+            )
+      ] in
+      both in
+      elim (cases_Bool (first.timer.0 == timer)) [
+        | inr other ↦
+            on (after_other timer queued first other ∙ there)
+            (λ _. eqb-false first.timer.0 timer other)
+        | inl here ↦
+            let own = eqb-true first.timer.0 timer here in
+            elim (kind first.act) [
+              | inl arms ↦
+                  absurd
+                  (none-some arming
+                  (sym (arming_may first.act queued first arms each.0)
+                  ∙ (ap (λ t. arming_of t queued) own ∙ there)))
+              | inr rest ↦
+                  elim rest [
+                    | inl ended ↦
+                        inr (
+                          0,
+                          first,
+                          refl,
+                          ended,
+                          own,
+                          (λ k entry low _ _ _. absurd (omega arith)),
+                        )
+                    | inr ticked ↦
+                        on (after_tick timer queued first ticked ∙ there)
+                        (λ arms. absurd (both_ways false refl (sym (ap is_arming ticked) ∙ arms)))
                   ]
             ]
       ]

@@ -1,45 +1,42 @@
 -- for crates above: what each call keeps, of bases as plain data
-use Rattle.std.proofs.Common.{◌≡◌, ℕ, zero, suc, ◌+◌, ◌-◌, ◌^◌, ◌<◌, ◌≤◌, false, List, [], ◌∷◌}
-use Rattle.std.proofs.Common.{◌++◌, Option, Some, None, length, refl, ap, subst, sym, ◌∙◌, arith}
+use Rattle.std.proofs.Common.{◌≡◌, ℕ, ◌+◌, ◌-◌, ◌<◌, ◌≤◌, List, [], ◌∷◌}
+use Rattle.std.proofs.Common.{◌++◌, Option, Some, None, refl, ap, subst, sym, ◌∙◌, arith}
 use Rattle.std.proofs.Common.{◌⊎◌, inl, inr}
-use Rattle.std.specs.Prelude.{◌==◌, IsSomeAnd, is_some, option_map, if◌then◌else◌}
+use Rattle.std.specs.Prelude.{◌==◌, IsSomeAnd, option_map}
 use Rattle.std.proofs.lemmas.Bool.{cond-true, eq-eqb}
 use Rattle.std.proofs.lemmas.Option.{none-some, same_Some, some_pair_parts}
-use Rattle.tm_base.specs.Classes.{same_class}
 use Rattle.tm_base.specs.declared.names.Class.{Class}
 use Rattle.tm_base.specs.declared.names.Class.TheVariants.{Pinned, Global, Deferrable}
 use Rattle.tm_base.specs.declared.names.CpuId.{CpuId}
 use Rattle.tm_base.specs.declared.names.TheConstants.{TIME_LIMIT}
 use Rattle.wheel_core.specs.declared.item.Item.{Item}
-use Rattle.wheel_core.specs.PlainBase.{IsDue, IsSound, NoneBehind, NoneDue, OutIsDue, PlainBase}
+use Rattle.wheel_core.specs.PlainBase.{NoneBehind, OutIsDue}
 use Rattle.wheel_core.specs.PlainBase.{added, after_out, forwarded, item_of, next_out, removed}
-use Rattle.wheel_core.specs.PlainBase.{taken, without}
+use Rattle.wheel_core.specs.PlainBase.{taken}
 use Rattle.wheel_core.proofs.Plain.{clock-forwarded_le, clock-taken_le, due_out, none_behind_added}
 use Rattle.wheel_core.proofs.Plain.{none_behind_forwarded, none_behind_none_due}
-use Rattle.wheel_core.proofs.Plain.{none_behind_removed, one_fewer_after_out}
+use Rattle.wheel_core.proofs.Plain.{none_behind_removed}
 use Rattle.cpu_bases.specs.declared.entry.Act.{Act}
 use Rattle.cpu_bases.specs.declared.entry.Act.TheVariants.{Armed, Handed, Cancelled, MovedOut}
-use Rattle.cpu_bases.specs.declared.entry.Act.TheVariants.{MovedIn, Ticked}
+use Rattle.cpu_bases.specs.declared.entry.Act.TheVariants.{MovedIn}
 use Rattle.cpu_bases.specs.declared.entry.Entry.{Entry}
-use Rattle.cpu_bases.specs.ByClass.{ByClass, of_class, with_class}
-use Rattle.cpu_bases.specs.Journals.{EachMayFollow, EndsOne, HandedByRight, LegalUpTo, MayFollow}
-use Rattle.cpu_bases.specs.Journals.{MayHand}
-use Rattle.cpu_bases.specs.Journals.{arming_of, ended, queued_after, queued_by, told_by_entry}
+use Rattle.cpu_bases.specs.Journals.{EndsOne, HandedByRight, MayFollow}
+use Rattle.cpu_bases.specs.Journals.{arming_of, ended, queued_after, queued_by}
 use Rattle.cpu_bases.specs.Journals.{told_by_item}
 use Rattle.cpu_bases.specs.CpuBases.{CpuBases, IsConsistent, NotAhead, after_cancel, after_hand_out}
-use Rattle.cpu_bases.specs.CpuBases.{after_move_out, base_of, cancelled, changed, class_in, drained}
+use Rattle.cpu_bases.specs.CpuBases.{after_move_out, base_of, cancelled, changed, class_in}
 use Rattle.cpu_bases.specs.CpuBases.{entry_of}
-use Rattle.cpu_bases.specs.CpuBases.{found_in, found_or, handed_out, moved_out, oldest_in, queued}
+use Rattle.cpu_bases.specs.CpuBases.{found_in, found_or, handed_out, oldest_in, queued}
 use Rattle.cpu_bases.specs.CpuBases.{ticked_entry, written}
-use Rattle.cpu_bases.specs.Laws.{ArmingKeeps, CancellingKeeps, DrainIsWhole, DrainsAll}
+use Rattle.cpu_bases.specs.Laws.{ArmingKeeps, CancellingKeeps}
 use Rattle.cpu_bases.specs.Laws.{HandingOutKeeps}
 use Rattle.cpu_bases.specs.Laws.{HandsOut, Keeps, MayQueue, MovingInKeeps, MovingOutKeeps}
 use Rattle.cpu_bases.specs.Replay.{AddsReplay}
-use Rattle.cpu_bases.proofs.Classes.{each_with, of_class-other, of_class-with, with_itself}
+use Rattle.cpu_bases.proofs.Classes.{each_with, of_class-other, with_itself}
 use Rattle.cpu_bases.proofs.Consistent.{keeps_gone, keeps_queued, keeps_ticked, queued_item}
 use Rattle.cpu_bases.proofs.Keyed.{found_key, none_dropped}
 use Rattle.cpu_bases.proofs.Legal.{distinct_from, ended_is, legal_push, queued_push}
-use Rattle.cpu_bases.proofs.Replays.{adds_both, adds_none}
+use Rattle.cpu_bases.proofs.Replays.{adds_none}
 
 -- QUEUEING, by an act that is an arming
 queueing_keeps : (act : Act) (line at time : ℕ) (class : Class) (timer expires job arg : ℕ)
@@ -294,7 +291,7 @@ behind_drained now class by cpu consistent none near =
     subst (λ out. NoneBehind (base_of class (after_hand_out out now class by cpu))) (sym none)
     (none_behind_none_due now base none_due near)
 
-or_item : (o : Option Item) → (o ≡ None) ⊎ ((item : Item) × (o ≡ Some item))
+pub or_item : (o : Option Item) → (o ≡ None) ⊎ ((item : Item) × (o ≡ Some item))
 or_item None = inl refl
 or_item (Some item) = inr (item, refl)
 
@@ -341,73 +338,3 @@ pub cancelled_gone : (now timer line : ℕ) (by : CpuId) (cpu : CpuBases) → Is
 cancelled_gone now timer line by cpu consistent =
     gone_after now timer line by cpu (found_in timer cpu) refl consistent
     (cancelling_keeps now timer line by cpu consistent).0
-
--- A WHOLE DRAIN
-hands_both : (now : ℕ) (class : Class) (by : ℕ) (old mid new : CpuBases)
-    → HandsOut now class by old mid → HandsOut now class by mid new → HandsOut now class by old new
-hands_both now class by old mid new first second = record {
-  legal = λ number may upto. second.legal number may (first.legal number may upto);
-  replay = adds_both old mid new first.replay second.replay;
-  not_ahead = λ any ahead. second.not_ahead any (first.not_ahead any ahead);
-  others = λ other apart. second.others other apart ∙ first.others other apart;
-}
-
-drain_stops : (now : ℕ) (class : Class) (by : CpuId) (cpu : CpuBases) → now < TIME_LIMIT - 1
-    → IsConsistent cpu → next_out now (base_of class cpu) ≡ None
-    → DrainsAll now class by.0 cpu (handed_out now class by cpu)
-drain_stops now class by cpu in_time consistent none =
-    let base = base_of class cpu in
-    let kept = handing_out_keeps now class by cpu in_time consistent in
-    let none_due = subst (OutIsDue now base.items) none
-    (due_out now base (consistent.fits class).sound) in
-    record {
-      consistent = kept.0;
-      hands_out = kept.1;
-      none_due =
-          subst (λ out. NoneDue now (base_of class (after_hand_out out now class by cpu)).items)
-          (sym none) none_due;
-      none_behind = behind_drained now class by cpu consistent none;
-    }
-
-one_fewer : (now : ℕ) (class : Class) (by : CpuId) (cpu : CpuBases) (item : Item)
-    → IsConsistent cpu → next_out now (base_of class cpu) ≡ Some item
-    → length (base_of class (handed_out now class by cpu)).items + 1
-    ≡ length (base_of class cpu).items
-one_fewer now class by cpu item consistent is =
-    let base = base_of class cpu in
-    let due = subst (OutIsDue now base.items) is (due_out now base (consistent.fits class).sound) in
-    subst (λ out. length (base_of class (after_hand_out out now class by cpu)).items + 1
-    ≡ length base.items) (sym is)
-    (ap (λ b. length b.items + 1) (of_class-with class (taken now base) cpu.bases)
-    ∙ (ap (λ out. length (after_out base out).items + 1) is
-    ∙ one_fewer_after_out now base item due))
-
-pub drain_is_whole : DrainIsWhole
-drain_is_whole zero now class by cpu in_time consistent few =
-    elim (or_item (next_out now (base_of class cpu))) [
-      | inl none ↦ drain_stops now class by cpu in_time consistent none
-      | inr there ↦
-          let fewer = one_fewer now class by cpu there.0 consistent there.1 in absurd (omega arith)
-    ]
-drain_is_whole (suc most) now class by cpu in_time consistent few =
-    let after = handed_out now class by cpu in
-    elim (or_item (next_out now (base_of class cpu))) [
-      | inl none ↦
-          subst (λ out. DrainsAll now class by.0 cpu (if is_some out then drained most now class by
-          after else after)) (sym none)
-          (drain_stops now class by cpu in_time consistent none)
-      | inr there ↦
-          let fewer = one_fewer now class by cpu there.0 consistent there.1 in
-          let kept = handing_out_keeps now class by cpu in_time consistent in
-          let rest = drain_is_whole most now class by after in_time kept.0 (omega arith) in
-          subst (λ out. DrainsAll now class by.0 cpu (if is_some out then drained most now class by
-          after else after)) (sym there.1)
-          (record {
-            consistent = rest.consistent;
-            hands_out =
-                hands_both now class by.0 cpu after (drained most now class by after) kept.1
-                rest.hands_out;
-            none_due = rest.none_due;
-            none_behind = λ near. rest.none_behind (kept.1.not_ahead class near);
-          })
-    ]

@@ -217,3 +217,20 @@ module _ {X : Type 0} (key : X → ℕ) where
               | inr past ↦ rw past (drop_other k other xs apart)
             ])
       ]
+
+  -- what is found in the whole and passes is found among those that pass
+  pub found_part : (p : X → Bool) (k : ℕ) (xs : List X) (a : X) → at_key k xs ≡ Some a
+      → p a ≡ true → at_key k (filter p xs) ≡ Some a
+  found_part p k [] a is passes = absurd (none-some a is)
+  found_part p k (x ∷ xs) a is passes =
+      elim (cases_Bool (key x == k)) [
+        | inl here ↦
+            let same = same_Some x a (rw here at is) in
+            rw (ap p same ∙ passes, here) (ap Some same)
+        | inr there ↦
+            let rest = found_part p k xs a (rw there at is) passes in
+            elim (cases_Bool (p x)) [
+              | inl keeps ↦ rw (keeps, there) rest
+              | inr drops ↦ rw drops rest
+            ]
+      ]

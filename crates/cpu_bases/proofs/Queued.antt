@@ -1,18 +1,21 @@
 -- for crates above: queued timers were armed, each in one base of its CPU
-use Rattle.std.proofs.Common.{◌≡◌, ℕ, true, List, [], ◌∷◌, ◌++◌, Option, Some, None, refl, ap}
+use Rattle.std.proofs.Common.{◌≡◌, ℕ, true, List, [], ◌∷◌, Option, Some, None, refl, ap}
 use Rattle.std.proofs.Common.{subst}
-use Rattle.std.proofs.Common.{sym, ◌∙◌, ◌⊎◌, inl, inr}
-use Rattle.std.specs.Prelude.{◌==◌, map, option_map}
+use Rattle.std.proofs.Common.{sym, ◌∙◌, ◌⊎◌, inl, inr, arith, min}
+use Rattle.std.specs.Prelude.{◌==◌, option_map, unwrap_or}
 use Rattle.std.specs.List.{All, Contains}
-use Rattle.std.proofs.lemmas.Bool.{cases_Bool}
+use Rattle.std.proofs.lemmas.Bool.{cases_Bool, cases_lt}
 use Rattle.std.proofs.lemmas.List.Elements.{All-cons, All-contains_itself, All-filter, All-head}
 use Rattle.std.proofs.lemmas.List.Elements.{All-map}
-use Rattle.std.proofs.lemmas.List.Elements.{All-nil, All-push, All-tail, All-weaker, filter_passes}
+use Rattle.std.proofs.lemmas.List.Elements.{All-nil, All-push, All-tail, filter_passes}
+use Rattle.std.proofs.lemmas.List.Elements.{All-contains, Contains-append_left}
+use Rattle.std.proofs.lemmas.List.Elements.{Contains-append_right, Contains-push}
 use Rattle.std.proofs.lemmas.Option.{none-some, same_Some}
 use Rattle.tm_base.specs.Classes.{same_class}
 use Rattle.tm_base.specs.declared.names.Class.{Class}
 use Rattle.wheel_core.specs.declared.item.Item.{Item}
-use Rattle.wheel_core.specs.PlainBase.{item_of}
+use Rattle.wheel_core.specs.PlainBase.{item_of, least, sooner}
+use Rattle.tm_base.specs.declared.names.TheConstants.{NEVER}
 use Rattle.cpu_bases.specs.declared.entry.Act.{Act}
 use Rattle.cpu_bases.specs.declared.entry.Act.TheVariants.{Armed, Handed, Cancelled, MovedOut}
 use Rattle.cpu_bases.specs.declared.entry.Act.TheVariants.{MovedIn, Ticked}
@@ -20,8 +23,8 @@ use Rattle.cpu_bases.specs.declared.entry.Entry.{Entry}
 use Rattle.cpu_bases.specs.Journals.{Told, arming_of, ended, entries_of, queued_after, queued_by}
 use Rattle.cpu_bases.specs.Journals.{queued_from}
 use Rattle.cpu_bases.specs.Journals.{told_by_entry, told_by_item}
-use Rattle.cpu_bases.specs.CpuBases.{CpuBases, base_of, found_in}
-use Rattle.cpu_bases.specs.Laws.{EachWasArmed, QueuedOnce, WasArmed, is_arming}
+use Rattle.cpu_bases.specs.CpuBases.{CpuBases, IsConsistent, base_of, found_in}
+use Rattle.cpu_bases.specs.Laws.{EachWasArmed, FirstWasArmed, QueuedOnce, WasArmed, is_arming}
 use Rattle.cpu_bases.proofs.Agreeing.{all_of_map}
 use Rattle.cpu_bases.proofs.Classes.{class_is}
 use Rattle.cpu_bases.proofs.Consistent.{base_none, queued_item}
@@ -124,3 +127,52 @@ queued_once cpu timer class item consistent found =
           (sym at.found ∙ (ap (λ c. item_of timer (base_of c cpu).items) classes ∙ found)) in
           there.1 ∙ (λ i. Some (classes i, items i))
     ]
+
+-- the least wheel expiry is that of an item
+abbrev Attained : List Item → ℕ → Type 0
+Attained items wheel = (item : Item) × Contains items item × (item.wheel ≡ wheel)
+
+attained_first : (first : Item) (items : List Item) (wheel : ℕ) (rest : Option ℕ)
+    → Some (sooner first.wheel rest) ≡ Some wheel
+    → ((other : ℕ) → rest ≡ Some other → Attained items other) → Attained (first ∷ items) wheel
+attained_first first items wheel None is later = (
+  first,
+  Contains-append_left (first ∷ []) items first (Contains-push [] first),
+  same_Some _ _ is,
+)
+attained_first first items wheel (Some other) is later =
+    let same = same_Some (min first.wheel other) wheel is in
+    let there = later other refl in
+    let away = there.2 in
+    elim (cases_lt other first.wheel) [
+      | inl below ↦
+          (there.0, Contains-append_right (first ∷ []) items there.0 there.1, omega arith)
+      | inr here ↦ (
+        first,
+        Contains-append_left (first ∷ []) items first (Contains-push [] first),
+        omega arith,
+      )
+    ]
+
+attained : (items : List Item) (wheel : ℕ) → least items ≡ Some wheel → Attained items wheel
+attained [] wheel is = absurd (none-some wheel is)
+attained (first ∷ items) wheel is =
+    attained_first first items wheel (least items) is (λ other there. attained items other there)
+
+first_armed : (cpu : CpuBases) (class : Class) (first : Option ℕ) → IsConsistent cpu
+    → least (base_of class cpu).items ≡ first
+    → (unwrap_or first NEVER ≡ NEVER)
+    ⊎ ((entry : Entry) × Contains cpu.journal entry × (is_arming entry.act ≡ true)
+    × (entry.class ≡ class) × (entry.wheel ≡ unwrap_or first NEVER))
+first_armed cpu class None consistent is = inl refl
+first_armed cpu class (Some wheel) consistent is =
+    let items = (base_of class cpu).items in
+    let at = attained items wheel is in
+    let armed =
+    All-contains (WasArmed class cpu.journal) items at.0 (each_was_armed cpu class consistent)
+    at.1 in
+    inr (armed.0, armed.1, armed.2, armed.3, ap (λ told. told.wheel) armed.4 ∙ at.2)
+
+pub first_was_armed : FirstWasArmed
+first_was_armed cpu class consistent =
+    first_armed cpu class (least (base_of class cpu).items) consistent refl

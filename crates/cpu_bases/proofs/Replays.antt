@@ -6,7 +6,7 @@ use Rattle.cpu_bases.specs.declared.entry.Entry.{Entry}
 use Rattle.cpu_bases.specs.ByClass.{ByClass}
 use Rattle.cpu_bases.specs.CpuBases.{CpuBases}
 use Rattle.cpu_bases.specs.Laws.{ReplaysOn}
-use Rattle.cpu_bases.specs.Replay.{AddsReplay, EachSays, IsReplay, redo, replay}
+use Rattle.cpu_bases.specs.Replay.{AddsReplay, EachSays, redo, replay}
 
 pub replay-append : (journal more : List Entry) (start : ByClass PlainBase)
     → replay (journal ++ more) start ≡ replay more (replay journal start)

@@ -1,5 +1,5 @@
 -- the bases of a CPU as plain data, and what each call makes of them
-use Rattle.std.specs.Prelude.{◌≡◌, ℕ, zero, suc, ◌+◌, ◌-◌, ◌^◌, ◌<◌, ◌≤◌, List, [], ◌∷◌, ◌++◌}
+use Rattle.std.specs.Prelude.{ℕ, zero, suc, ◌+◌, ◌^◌, ◌<◌, ◌≤◌, List, [], ◌∷◌, ◌++◌}
 use Rattle.std.specs.Prelude.{Option, Some, None, All, is_some, length, max, nat_lt}
 use Rattle.std.specs.Prelude.{option_map, unwrap_or, if◌then◌else◌}
 use Rattle.tm_base.specs.declared.names.TheConstants.{NEVER, TIME_LIMIT}

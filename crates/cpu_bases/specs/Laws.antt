@@ -1,9 +1,9 @@
 -- what holds of the bases of a CPU and their journal, and what each call keeps: the statements of
 -- the laws
 use Rattle.std.specs.Prelude.{◌≡◌, ◌≢◌, ℕ, ◌-◌, ◌^◌, ◌<◌, ◌≤◌, Bool, true, false, List}
-use Rattle.std.specs.Prelude.{Some, None, All, Contains, length, slice_get}
+use Rattle.std.specs.Prelude.{◌⊎◌, Some, None, All, Contains, length, slice_get}
 use Rattle.tm_base.specs.Classes.{same_class}
-use Rattle.tm_base.specs.declared.names.TheConstants.{TIME_LIMIT}
+use Rattle.tm_base.specs.declared.names.TheConstants.{NEVER, TIME_LIMIT}
 use Rattle.tm_base.specs.declared.names.Class.{Class}
 use Rattle.tm_base.specs.declared.names.CpuId.{CpuId}
 use Rattle.wheel_core.specs.declared.item.Item.{Item}
@@ -13,8 +13,8 @@ use Rattle.cpu_bases.specs.declared.entry.Act.TheVariants.{Armed, Handed, Cancel
 use Rattle.cpu_bases.specs.declared.entry.Act.TheVariants.{MovedOut, MovedIn, Ticked}
 use Rattle.cpu_bases.specs.declared.entry.Entry.{Entry}
 use Rattle.cpu_bases.specs.CpuBases.{CpuBases, IsConsistent, NotAhead, armed}
-use Rattle.cpu_bases.specs.CpuBases.{base_of, cancelled, class_in, drained, found_in, handed_out}
-use Rattle.cpu_bases.specs.CpuBases.{moved_in, moved_out}
+use Rattle.cpu_bases.specs.CpuBases.{base_of, cancelled, class_in, drained, first_of, found_in}
+use Rattle.cpu_bases.specs.CpuBases.{handed_out, moved_in, moved_out}
 use Rattle.cpu_bases.specs.Journals.{HandedByRight, LegalJournal, LegalUpTo, MayHand}
 use Rattle.cpu_bases.specs.Journals.{told_by_entry, told_by_item}
 use Rattle.cpu_bases.specs.Replay.{AddsReplay, KeepsReplay}
@@ -76,10 +76,31 @@ abbrev pub EachWasArmed : Type 0
 EachWasArmed = (cpu : CpuBases) (class : Class) → IsConsistent cpu
     → All (WasArmed class cpu.journal) (base_of class cpu).items
 
+-- an arming is queued as it says, or it has an end
+abbrev pub IsQueuedAs : CpuBases → Entry → Type 0
+IsQueuedAs cpu arming =
+    (item : Item) × (item_of arming.timer.0 (base_of arming.class cpu).items ≡ Some item)
+    × (told_by_item item ≡ told_by_entry arming)
+
+abbrev pub HasEnd : List Entry → (i : ℕ) → Entry → Type 0
+HasEnd journal i arming = (j : ℕ) × (ending : Entry) × IsEndOf journal i j arming ending
+
+abbrev pub QueuedOrEnded : Type 0
+QueuedOrEnded = (cpu : CpuBases) (i : ℕ) (arming : Entry) → IsConsistent cpu
+    → slice_get cpu.journal i ≡ Some arming → is_arming arming.act ≡ true
+    → IsQueuedAs cpu arming ⊎ HasEnd cpu.journal i arming
+
 -- no timer is queued in two bases of a CPU
 abbrev pub QueuedOnce : Type 0
 QueuedOnce = (cpu : CpuBases) (timer : ℕ) (class : Class) (item : Item) → IsConsistent cpu
     → item_of timer (base_of class cpu).items ≡ Some item → found_in timer cpu ≡ Some (class, item)
+
+-- the first event of a class is `NEVER`, or the wheel expiry of an arming
+abbrev pub FirstWasArmed : Type 0
+FirstWasArmed = (cpu : CpuBases) (class : Class) → IsConsistent cpu
+    → (first_of class cpu ≡ NEVER)
+    ⊎ ((entry : Entry) × Contains cpu.journal entry × (is_arming entry.act ≡ true)
+    × (entry.class ≡ class) × (entry.wheel ≡ first_of class cpu))
 
 -- WHAT A CALL KEEPS at a time, on whatever CPU: the journal stays legal and the bases its replay,
 -- clocks stay near, and nothing comes to be behind them

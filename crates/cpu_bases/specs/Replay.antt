@@ -1,6 +1,6 @@
 -- a journal played again: what its entries make of the bases of a CPU, and that each says what
 -- the base gives there
-use Rattle.std.specs.Prelude.{◌≡◌, ℕ, ◌+◌, List, [], ◌∷◌, ◌++◌, None, IsSomeAnd}
+use Rattle.std.specs.Prelude.{◌≡◌, ◌+◌, List, [], ◌∷◌, ◌++◌, None, IsSomeAnd}
 use Rattle.wheel_core.specs.WheelExpiry.{wheel_expiry_of}
 use Rattle.wheel_core.specs.PlainBase.{PlainBase, added, forwarded, item_of, next_out, removed}
 use Rattle.wheel_core.specs.PlainBase.{taken}

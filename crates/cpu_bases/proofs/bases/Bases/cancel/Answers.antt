@@ -1,4 +1,4 @@
-use Rattle.std.proofs.Common.{◌≡◌, Some, None, ap, subst, sym, ◌∙◌}
+use Rattle.std.proofs.Common.{◌≡◌, Some, None, subst, sym, ◌∙◌}
 use Rattle.cpu_bases.specs.CpuBases.{cancelled, class_in, on_bases}
 use Rattle.cpu_bases.specs.Laws.{Keeps}
 use Rattle.cpu_bases.specs.Trio.{plain_of}
