@@ -1,11 +1,13 @@
 //! What the program is about to write.
 
-ghost use Rattle.std.specs.Prelude.{◌≡◌, IfOk};
-ghost use Rattle.tm_io.specs.Counts.{HasRisen};
+ghost use Rattle.std.specs.Prelude.{◌≡◌, IfOk, OnErr};
+ghost use Rattle.tm_io.specs.Seen.{SourceUnbroken};
 ghost use Rattle.script_main.specs.Words.{IsPlay};
-ghost use Rattle.script_main.specs.Replies.{IsReply, IsReplyTo, reply_text, status_broken, status_written};
+ghost use Rattle.script_main.specs.Replies.{IsReply, IsReplyTo, reply_text};
+ghost use Rattle.script_main.specs.Replies.{status_broken, status_written};
 
 use crate::words::is_play;
+use crate::{PLAYED, READ_FAULT, SCRIPT_REFUSED, USAGE, WRITE_FAULT};
 use std::alloc::Global;
 use tm_base::NoMemory;
 use tm_driver::play;
@@ -15,6 +17,8 @@ use tm_script::{ReadScript, read_script};
 
 /// The most bytes that a script has.
 const MOST_BYTES: usize = 65_536;
+
+const _: () = prove!(MOST_BYTES == 1 << 16);
 
 /// A text that the program writes, and what it says.
 #[derive(Drop)]
@@ -46,10 +50,10 @@ impl Reply {
         ensures { result ≡ status_written self.now }
     {
         match self {
-            Reply::Usage => 2,
-            Reply::ReadFault => 3,
-            Reply::Refused => 1,
-            Reply::Played(_) => 0,
+            Reply::Usage => USAGE,
+            Reply::ReadFault => READ_FAULT,
+            Reply::Refused => SCRIPT_REFUSED,
+            Reply::Played(_) => PLAYED,
         }
     }
 
@@ -58,10 +62,10 @@ impl Reply {
         ensures { result ≡ status_broken self.now }
     {
         match self {
-            Reply::Usage => 2,
-            Reply::ReadFault => 3,
-            Reply::Refused => 1,
-            Reply::Played(_) => 4,
+            Reply::Usage => USAGE,
+            Reply::ReadFault => READ_FAULT,
+            Reply::Refused => SCRIPT_REFUSED,
+            Reply::Played(_) => WRITE_FAULT,
         }
     }
 }
@@ -81,14 +85,16 @@ fn play_bytes(alloc: Global, bytes: &[u8]) -> Result<Reply, NoMemory>
     }
 }
 
-/// Does what the words say, up to what is to be written. It reads the source only where the words are a command.
+/// Does what the words say, up to what is to be written. It reads the source only where the words
+/// are a command.
 pub(crate) fn reply_to<S: Source>(
     alloc: Global,
     words: &[String],
     source: &mut S,
 ) -> Result<Reply, NoMemory>
-    ensures reply { IfOk result (IsReply words.now (S.left source.old) (S.left source.new)
-        (HasRisen (S.faults source.old) (S.faults source.new))) }
+    ensures reply { IfOk result
+        (IsReply words.now (S.seen source.old) (S.seen source.new)) }
+    ensures unbroken { OnErr result (SourceUnbroken (S.seen source.old) (S.seen source.new)) }
     ensures untouched { ¬ IsPlay words.now → source.new ≡ source.old }
 {
     if !is_play(words) {

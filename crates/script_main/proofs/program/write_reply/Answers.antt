@@ -1,9 +1,10 @@
-use Rattle.std.proofs.Common.{List, ℕ, take, refl, subst}
-use Rattle.std.specs.Io.KnownBytes.{Appends}
+use Rattle.std.proofs.Common.{List, ℕ, refl, subst}
+use Rattle.tm_io.specs.Sinks.{AppendsFront}
 use Rattle.script_main.specs.Ends.{wanting}
 use Rattle.script_main.proofs.program.write_reply.Goals as goal
 
 pub returns-in-NoMemory : goal.returns-in-NoMemory
 returns-in-NoMemory g c =
-    let P : List ℕ → Type 0 = λ text. Appends (g.K.Sink.held c.args.sink.now) (g.K.Sink.held c.write_all.new.sink) (take c.in-Err.fault.written text) in
-    wanting c.in-Err.fault.written (subst P c.text.ensures c.in-Err.ensures.err.1) refl
+    let Front : List ℕ → Type 0 = λ text. AppendsFront (g.K.Sink.seen c.args.sink.now) (g.K.Sink.seen c.write_all.new.sink) c.in-Err.fault.written text in
+    wanting c.in-Err.fault.written (subst Front c.text.ensures c.in-Err.ensures.err)
+    (c.in-Err.ensures.unbroken (λ is. cc (is, c.in-NoMemory.is)), c.in-Err.ensures.took_some (λ is. cc (is, c.in-NoMemory.is))) refl
