@@ -28,7 +28,7 @@ abbrev pub forwarded_base : State → (cpu : ℕ) → PlainBase
 forwarded_base s cpu = forwarded s.clock (cpu_at s cpu).global
 
 abbrev pub armed : State → (cpu timer delay : ℕ) → State
-armed s cpu timer delay = with_global s cpu (added (forwarded_base s cpu) timer (s.clock + delay) 0 0)
+armed s cpu timer delay = with_global s cpu (added timer (s.clock + delay) 0 0 (forwarded_base s cpu))
 
 -- the item that the timer then is
 abbrev pub armed_item : State → (cpu timer delay : ℕ) → Item

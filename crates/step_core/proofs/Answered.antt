@@ -13,7 +13,8 @@ use Rattle.play_rules.specs.Group.{duty, duty_where, idled, least_told, lowest_a
 use Rattle.play_rules.specs.Timers.{armed, forwarded_base, handed_out}
 use Rattle.play_rules.specs.Play.{ended}
 use Rattle.step_core.specs.Answered.{IsAnswered, IsMigrator, ToldInTime, WakesForAll}
-use Rattle.step_core.proofs.Groups.{active_where_some, all_after_out, below_told, idle_where_none, least_told_below, none_where_idle, told_below, WakeupsCome}
+use Rattle.wheel_core.proofs.Plain.{all_after_out}
+use Rattle.step_core.proofs.Groups.{active_where_some, below_told, idle_where_none, least_told_below, none_where_idle, told_below, WakeupsCome}
 
 -- ONE CPU IS WRITTEN
 pub at_same : (s : State) (c : ℕ) (cpu : Cpu) → c < length s.cpus → cpu_at (with_cpu s c cpu) c ≡ cpu
@@ -148,7 +149,7 @@ handed_out_answered s c low answered =
 pub armed_answered : (s : State) (c timer delay : ℕ) → c < length s.cpus → (cpu_at s c).active ≡ true → IsAnswered s → IsAnswered (armed s c timer delay)
 armed_answered s c timer delay low on answered =
     let before = told_at s c low answered in
-    let base = added (forwarded_base s c) timer (s.clock + delay) 0 0 in
+    let base = added timer (s.clock + delay) 0 0 (forwarded_base s c) in
     answered_alike s (armed s c timer delay) (based_alike s c base low) refl
     (All-set ToldInTime s.cpus c (record (cpu_at s c) { global = base }) (record {
       idle = λ off. absurd (true≢false (sym on ∙ off));

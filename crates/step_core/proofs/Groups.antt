@@ -1,13 +1,13 @@
 -- active and idle CPUs in the list of a group: the lowest active one, what idle ones told, and who wakes by a time
-use Rattle.std.proofs.Common.{◌≡◌, ◌≤◌, ◌<◌, ◌+◌, ℕ, zero, suc, true, false, cond, eqb, List, [], ◌∷◌, length, get_or, min, Option, Some, None, refl, sym, ap, ◌∙◌, subst, inl, inr, arith}
+use Rattle.std.proofs.Common.{◌≡◌, ◌≤◌, ◌<◌, ◌+◌, ℕ, zero, suc, true, false, cond, List, [], ◌∷◌, length, get_or, min, Option, Some, None, refl, sym, ap, ◌∙◌, subst, inl, inr, arith}
 use Rattle.std.specs.Prelude.{unwrap_or}
-use Rattle.std.specs.List.{All, AllByRecursion}
-use Rattle.std.proofs.lemmas.List.Elements.{All-nil, All-head, All-tail, All-get_or, All-replicate, All-set, All-from_recursion, recursion_from_All}
+use Rattle.std.specs.List.{All}
+use Rattle.std.proofs.lemmas.List.Elements.{All-nil, All-head, All-tail, All-get_or, All-replicate, All-set}
 use Rattle.std.proofs.lemmas.Bool.{cases_Bool, cases_lt, le-leb, lt-leb}
 use Rattle.std.proofs.lemmas.Option.{same_Some, none-some}
 use Rattle.tm_base.specs.declared.names.TheConstants.{NEVER}
 use Rattle.wheel_core.specs.declared.item.Item.{Item}
-use Rattle.wheel_core.specs.PlainBase.{PlainBase, added, least, sooner, without, after_out, taken}
+use Rattle.wheel_core.specs.PlainBase.{added, least, sooner, taken}
 use Rattle.wheel_core.proofs.Leasts.{least_below, least_none}
 use Rattle.play_rules.specs.State.{Cpu, State, at_clock, cpu_at, new_cpu, next_of, start, with_cpu}
 use Rattle.play_rules.specs.Group.{Cover, by_wakeup, duty, duty_where, idled, least_told, lowest_active, programmed, reevaluated, rested, resting_cpu, told_again, waker_by, woken, woken_cpu}
@@ -159,16 +159,6 @@ below_told bound items comes each =
       | Some wheel ↦ λ is. below_least bound items wheel each is
     ] refl
 
--- the items that are left when one goes out were there
-all_without : (P : Item → Type 0) (id : ℕ) (items : List Item) → AllByRecursion P items → AllByRecursion P (without id items)
-all_without P id [] each = tt
-all_without P id (item ∷ items) each =
-    elim (eqb item.id id) as (λ b. AllByRecursion P (cond b items (item ∷ without id items))) [ true ↦ each.1 | false ↦ (each.0, all_without P id items each.1) ]
-
-pub all_after_out : (P : Item → Type 0) (base : PlainBase) (out : Option Item) → All P base.items → All P (after_out base out).items
-all_after_out P base None each = each
-all_after_out P base (Some item) each = All-from_recursion P (without item.id base.items) (all_without P item.id base.items (recursion_from_All P base.items each))
-
 -- WAKEUPS COME: none is later than `NEVER`. Each part of a play keeps this by itself
 abbrev pub WakeupsCome : State → Type 0
 WakeupsCome s = All (λ cpu. cpu.wakeup ≤ NEVER) s.cpus
@@ -196,7 +186,7 @@ handed_out_comes s c low come = kept_comes s c (record (cpu_at s c) { global = t
 
 pub armed_comes : (s : State) (c timer delay : ℕ) → c < length s.cpus → WakeupsCome s → WakeupsCome (armed s c timer delay)
 armed_comes s c timer delay low come =
-    kept_comes s c (record (cpu_at s c) { global = added (forwarded_base s c) timer (s.clock + delay) 0 0 }) low refl come
+    kept_comes s c (record (cpu_at s c) { global = added timer (s.clock + delay) 0 0 (forwarded_base s c) }) low refl come
 
 pub told_again_comes : (s : State) (c : ℕ) → c < length s.cpus → WakeupsCome s → WakeupsCome (told_again s c)
 told_again_comes s c low come = kept_comes s c (record (cpu_at s c) { told = next_of (cpu_at s c) }) low refl come

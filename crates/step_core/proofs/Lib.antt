@@ -1,5 +1,3 @@
-pub mod Pigeonhole
-pub mod Bases
 pub mod Machine
 pub mod Kept
 pub mod Groups

@@ -27,15 +27,15 @@ impl<B: TimerBase> Model for QuietCpu<B> {
 
     ghost Value = { RoomyCpu };
 
-    ghost view = { λ c. record { cpu = record { active = c.active; wakeup = c.wakeup; told = c.told; global = B.base c.global }; timers = c.timers } };
+    ghost view = { λ c. record { cpu = record { active = c.active; wakeup = c.wakeup; told = c.told; global = (B.base c.global).plain }; timers = c.timers } };
 
-    ghost invariant = { λ c. HasRoomForAll c.timers (B.base c.global).items (B.spare c.global) };
+    ghost invariant = { λ c. HasRoomForAll c.timers (B.base c.global) };
 }
 
 impl<B: TimerBase + Drop> QuietCpu<B> {
     /// An active CPU over an empty base at clock 0, in which it takes room for so many timers.
     pub(crate) fn with(mut global: B, timers: u16) -> Result<QuietCpu<B>, NoMemory>
-        requires { B.base global ≡ empty_base }
+        requires { (B.base global).plain ≡ empty_base }
         ensures { IfOk result (λ c. c ≡ record { cpu = new_cpu; timers = timers }) }
     {
         if global.reserve(usize::from(timers)).is_err() {
@@ -61,7 +61,7 @@ impl<B: TimerBase + Drop> QuietCpu<B> {
         requires coming { All (λ item. item.wheel < NEVER) self.old.cpu.global.items }
 
         ensures wheel { result ≡ (placed (forwarded now self.old.cpu.global).clock timer.0 (now + delay) 0 0).wheel }
-        ensures cpu { self.new.cpu ≡ record self.old.cpu { global = added (forwarded now self.old.cpu.global) timer.0 (now + delay) 0 0 } }
+        ensures cpu { self.new.cpu ≡ record self.old.cpu { global = added timer.0 (now + delay) 0 0 (forwarded now self.old.cpu.global) } }
         ensures timers { self.new.timers ≡ self.old.timers }
         ensures none_behind { NoneBehind self.new.cpu.global }
         ensures clock { self.new.cpu.global.clock ≤ now + 1 }

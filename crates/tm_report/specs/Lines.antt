@@ -2,7 +2,8 @@
 use Rattle.std.specs.Prelude.{ℕ, List, ◌++◌, codes}
 use Rattle.std.specs.List.{flat_map}
 use Rattle.std.specs.Fmt.{decimal}
-use Rattle.tm_report.specs.Words.{time_text, class_text}
+use Rattle.tm_base.specs.Classes.{class_text}
+use Rattle.tm_report.specs.Words.{time_text}
 use Rattle.tm_report.specs.Replies.{reply_text}
 use Rattle.tm_report.specs.Covers.{cover_text}
 use Rattle.tm_report.specs.declared.lines.Line.{Line}

@@ -1,7 +1,8 @@
 -- the text of what a timer's job answered
 use Rattle.std.specs.Prelude.{ℕ, List, ◌++◌, codes}
 use Rattle.std.specs.Fmt.{decimal}
-use Rattle.tm_report.specs.Words.{time_text, class_text}
+use Rattle.tm_base.specs.Classes.{class_text}
+use Rattle.tm_report.specs.Words.{time_text}
 use Rattle.tm_report.specs.declared.lines.ShownReply.{ShownReply}
 use Rattle.tm_report.specs.declared.lines.ShownReply.TheVariants.{Done, Mark, Again, Skip}
 

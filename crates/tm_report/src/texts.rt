@@ -3,7 +3,8 @@
 
 ghost use Rattle.std.specs.Prelude.{◌≡◌, ◌++◌, OnOk, codes};
 ghost use Rattle.std.specs.Fmt.{decimal};
-ghost use Rattle.tm_report.specs.Words.{time_text, class_text};
+ghost use Rattle.tm_base.specs.Classes.{class_text};
+ghost use Rattle.tm_report.specs.Words.{time_text};
 ghost use Rattle.tm_report.specs.Replies.{reply_text};
 ghost use Rattle.tm_report.specs.Covers.{cover_text};
 ghost use Rattle.tm_report.specs.Lines.{words_text, line_text};
@@ -271,5 +272,6 @@ fn next_class(draft: &mut Draft, class: Class) -> Result<(), NoMemory>
     match class {
         Class::Pinned => draft.word(b" pinned"),
         Class::Global => draft.word(b" global"),
+        Class::Deferrable => draft.word(b" deferrable"),
     }
 }

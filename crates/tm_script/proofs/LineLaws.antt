@@ -9,13 +9,14 @@ use Rattle.std.proofs.lemmas.Option.{cond_some, option_and_then_some, same_Some}
 use Rattle.std.proofs.lemmas.Slice.Eq.{bytes_eq-Decides}
 use Rattle.tm_base.specs.declared.names.CpuId.{CpuId}
 use Rattle.tm_base.specs.declared.names.Class.{Class}
-use Rattle.tm_base.specs.declared.names.Class.TheVariants.{Pinned, Global}
+use Rattle.tm_base.specs.declared.names.Class.TheVariants.{Pinned, Global, Deferrable}
 use Rattle.tm_script.specs.declared.syntax.What.{What}
 use Rattle.tm_script.specs.declared.syntax.What.TheVariants.{Arm, Cancel, Idle, Wake, Offline, Online}
 use Rattle.tm_script.specs.declared.lines.Machine.{Machine}
 use Rattle.tm_script.specs.declared.lines.Said.{Said}
 use Rattle.tm_script.specs.declared.lines.Said.TheVariants.{At, Operation, End}
-use Rattle.tm_script.specs.Texts.{spaced, class_text, number_line, what_line}
+use Rattle.tm_base.specs.Classes.{class_text}
+use Rattle.tm_script.specs.Texts.{spaced, number_line, what_line}
 use Rattle.tm_script.specs.Form.{IsArmOfForm, IsWhatOfForm}
 use Rattle.tm_script.specs.Numbers.{number_of}
 use Rattle.tm_script.specs.Lines.{cut_at, field_of, ArmParts, arm_parts, class_of, arm_of, cpu_of, time_of, said_of}
@@ -157,10 +158,12 @@ class_again : (class : Class) → class ≡ Global → class_of (class_text clas
 unfolding class_of
 class_again Pinned e = absurd cc
 class_again Global e = refl
+class_again Deferrable e = absurd cc
 
 class_clear : (class : Class) → is_clear 32 (class_text class) ≡ true
 class_clear Pinned = refl
 class_clear Global = refl
+class_clear Deferrable = refl
 
 word_clear : (n : ℕ) → n < 10 ^ 13 → is_clear 32 (decimal n) ≡ true
 word_clear n wide = clear_decimal 32 n refl (omega arith)

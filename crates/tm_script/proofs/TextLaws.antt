@@ -12,13 +12,14 @@ use Rattle.std.proofs.lemmas.List.Splits.{join_with_byte-slice_split}
 use Rattle.std.proofs.lemmas.Option.{cond_some, option_and_then_some}
 use Rattle.std.proofs.lemmas.Slice.Eq.{bytes_eq-Decides}
 use Rattle.tm_base.specs.declared.names.Class.{Class}
-use Rattle.tm_base.specs.declared.names.Class.TheVariants.{Pinned, Global}
+use Rattle.tm_base.specs.declared.names.Class.TheVariants.{Pinned, Global, Deferrable}
 use Rattle.tm_script.specs.declared.syntax.Moment.{Moment}
 use Rattle.tm_script.specs.declared.syntax.Op.{Op}
 use Rattle.tm_script.specs.declared.syntax.What.{What}
 use Rattle.tm_script.specs.declared.syntax.What.TheVariants.{Arm, Cancel, Idle, Wake, Offline, Online}
 use Rattle.tm_script.specs.declared.lines.Machine.{Machine}
-use Rattle.tm_script.specs.Texts.{class_text, number_line, what_line, op_line, moment_lines, ended}
+use Rattle.tm_base.specs.Classes.{class_text}
+use Rattle.tm_script.specs.Texts.{number_line, what_line, op_line, moment_lines, ended}
 use Rattle.tm_script.specs.Form.{IsWhatOfForm, IsOpOfForm, IsMomentOfForm}
 use Rattle.tm_script.specs.Lines.{cut_at, field_of, machine_of}
 use Rattle.tm_script.specs.Reading.{parts_of}
@@ -63,6 +64,7 @@ clear_word n rest wide h = rw list_all-append (and_from _ _ (clear_number n wide
 clear_class : (class : Class) (rest : List ℕ) → is_clear 10 rest ≡ true → is_clear 10 (class_text class ++ 32 ∷ rest) ≡ true
 clear_class Pinned rest h = h
 clear_class Global rest h = h
+clear_class Deferrable rest h = h
 
 clear_what : (m : Machine) (cpu : ℕ) (what : What) → IsSmall m → cpu < m.cpus → IsWhatOfForm m.timers what → is_clear 10 (what_line cpu what) ≡ true
 clear_what m cpu (Arm timer class delay job arg) small in_range form =

@@ -2,8 +2,7 @@
 use Rattle.std.specs.Prelude.{ℕ, List, [], ◌∷◌, ◌++◌, map, codes}
 use Rattle.std.specs.Fmt.{decimal}
 use Rattle.std.specs.List.{flat_map, join_with_byte}
-use Rattle.tm_base.specs.declared.names.Class.{Class}
-use Rattle.tm_base.specs.declared.names.Class.TheVariants.{Pinned, Global}
+use Rattle.tm_base.specs.Classes.{class_text}
 use Rattle.tm_script.specs.declared.syntax.Script.{Script}
 use Rattle.tm_script.specs.declared.syntax.Moment.{Moment}
 use Rattle.tm_script.specs.declared.syntax.Op.{Op}
@@ -13,10 +12,6 @@ use Rattle.tm_script.specs.declared.syntax.What.TheVariants.{Arm, Cancel, Idle, 
 -- a line of these words, parted by one space each
 abbrev pub spaced : List (List ℕ) → List ℕ
 spaced words = join_with_byte 32 words
-
-abbrev pub class_text : Class → List ℕ
-class_text Pinned = codes "pinned"
-class_text Global = codes "global"
 
 -- the line of what a CPU does
 abbrev pub what_line : ℕ → What → List ℕ

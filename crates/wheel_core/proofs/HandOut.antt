@@ -1,21 +1,28 @@
--- what goes out first of a list, as an item comes to its end
-use Rattle.std.proofs.Common.{◌≡◌, ℕ, ◌<◌, ◌≤◌, max, Bool, true, List, [], ◌∷◌, ◌++◌, Option, Some, None, refl, ap, ◌∙◌, sym, subst, inl, inr, leb, arith}
+-- for crates above: what goes out first of a list, also as an item comes to its end
+use Rattle.std.proofs.Common.{◌≡◌, ℕ, ◌<◌, ◌≤◌, max, Bool, true, List, [], ◌∷◌, ◌++◌, Option, Some}
+use Rattle.std.proofs.Common.{None, refl, ap, ◌∙◌, sym, subst, inl, inr, leb, arith}
 use Rattle.std.specs.Prelude.{◌==◌, unwrap_or}
 use Rattle.std.specs.List.{filter, All, Contains}
-use Rattle.std.proofs.lemmas.List.Elements.{filter-append, filter_passes, All-nil, All-same, All-cons, All-head, All-tail, All-weaker, All-filter, All-contains, All-contains_itself, Contains-push, Contains-append_left, Contains-append_right}
-use Rattle.std.proofs.lemmas.Bool.{cases_Bool, cond-true, cond-false, both_ways, eq-eqb, ne_eqb, eqb-true, eqb-false, leb-true, leb-false}
+use Rattle.std.proofs.lemmas.List.Elements.{filter-append, filter_passes, All-nil, All-same}
+use Rattle.std.proofs.lemmas.List.Elements.{All-cons, All-head, All-tail, All-weaker, All-filter}
+use Rattle.std.proofs.lemmas.List.Elements.{All-contains, All-contains_itself, Contains-push}
+use Rattle.std.proofs.lemmas.List.Elements.{Contains-append_left, Contains-append_right}
+use Rattle.std.proofs.lemmas.Bool.{cases_Bool, cond-true, cond-false, both_ways, eq-eqb, ne_eqb}
+use Rattle.std.proofs.lemmas.Bool.{eqb-true, eqb-false, leb-true, leb-false}
 use Rattle.wheel_core.proofs.Ids.{item_queued}
 use Rattle.wheel_core.proofs.Leasts.{least_none, least_below, least_attained}
 use Rattle.std.proofs.lemmas.List.{append-nil}
 use Rattle.std.proofs.lemmas.Option.{none-some, same_Some}
 use Rattle.wheel_core.specs.declared.item.Item.{Item}
-use Rattle.wheel_core.specs.PlainBase.{HasDistinctIds, NoneDue, OutIsDue, least, out_at, first_out, highest, last_armed, last_of_highest}
+use Rattle.wheel_core.specs.PlainBase.{HasDistinctIds, NoneDue, OutIsDue, least, out_at, first_out}
+use Rattle.wheel_core.specs.PlainBase.{highest, last_armed, last_of_highest}
 
 last_armed_push : (items : List Item) (item : Item) → last_armed (items ++ item ∷ []) ≡ Some item
 last_armed_push [] item = refl
 last_armed_push (first ∷ items) item = rw (last_armed_push items item) refl
 
-highest_push : (items : List Item) (item : Item) → highest (items ++ item ∷ []) ≡ max (highest items) item.level
+highest_push : (items : List Item) (item : Item)
+    → highest (items ++ item ∷ []) ≡ max (highest items) item.level
 highest_push [] item = omega arith
 highest_push (first ∷ items) item = rw (highest_push items item) (omega arith)
 
@@ -23,14 +30,16 @@ last_armed_none : (items : List Item) → last_armed items ≡ None → items �
 last_armed_none [] is = refl
 last_armed_none (first ∷ items) is = cc
 
-last_or_first : (first : Item) (items : List Item) (last : Option Item) (item : Item) → Some (unwrap_or last first) ≡ Some item
+last_or_first : (first : Item) (items : List Item) (last : Option Item) (item : Item)
+    → Some (unwrap_or last first) ≡ Some item
     → ((later : Item) → last ≡ Some later → Contains items later) → Contains (first ∷ items) item
 last_or_first first items None item is later =
     subst (Contains (first ∷ items)) (same_Some first item is) (Contains-append_left (first ∷ []) items first (Contains-push [] first))
 last_or_first first items (Some last) item is later =
     Contains-append_right (first ∷ []) items item (subst (Contains items) (same_Some last item is) (later last refl))
 
-last_armed_queued : (items : List Item) (item : Item) → last_armed items ≡ Some item → Contains items item
+last_armed_queued : (items : List Item) (item : Item) → last_armed items ≡ Some item
+    → Contains items item
 last_armed_queued [] item is = absurd (none-some item is)
 last_armed_queued (first ∷ items) item is =
     last_or_first first items (last_armed items) item is (λ later h. last_armed_queued items later h)
@@ -44,7 +53,8 @@ queued_filter p items item queued = (
 )
 
 -- what holds of all that pass
-from_filter : (p : Item → Bool) (P : Item → Type 0) (items : List Item) → All P (filter p items) → All (λ item. p item ≡ true → P item) items
+from_filter : (p : Item → Bool) (P : Item → Type 0) (items : List Item) → All P (filter p items)
+    → All (λ item. p item ≡ true → P item) items
 from_filter p P [] all = All-nil (λ item. p item ≡ true → P item)
 from_filter p P (first ∷ items) all =
     elim (cases_Bool (p first)) [
@@ -59,7 +69,8 @@ from_filter p P (first ∷ items) all =
     ]
 
 -- the highest level is the level of an item, and no item's is higher
-highest_attained : (items : List Item) (level : ℕ) → highest items ≡ level → filter (λ item. item.level == level) items ≡ [] → items ≡ []
+highest_attained : (items : List Item) (level : ℕ) → highest items ≡ level
+    → filter (λ item. item.level == level) items ≡ [] → items ≡ []
 highest_attained [] level is none = refl
 highest_attained (first ∷ []) level is none =
     let same = eq-eqb first.level level (omega arith) in
@@ -80,15 +91,18 @@ highest_above (first ∷ items) =
     All-cons (λ item. item.level ≤ max first.level (highest items)) first items (omega arith)
     (All-weaker (λ item. item.level ≤ highest items) (λ item. item.level ≤ max first.level (highest items)) (λ item h. omega arith) items (highest_above items))
 
--- one more item at the end of a list: it goes out first where no level is above its own, and never where one is
-highest_over : (items : List Item) (item : Item) → highest items ≤ item.level → last_of_highest (items ++ item ∷ []) ≡ Some item
+-- one more item at the end of a list: it goes out first where no level is above its own, and never
+-- where one is
+highest_over : (items : List Item) (item : Item) → highest items ≤ item.level
+    → last_of_highest (items ++ item ∷ []) ≡ Some item
 highest_over items item over =
     let top : highest (items ++ item ∷ []) ≡ item.level = highest_push items item ∙ omega arith in
     let here = eq-eqb item.level item.level refl in
     let kept = filter-append (λ i. i.level == item.level) items (item ∷ []) in
     rw top (rw (kept, here) (last_armed_push (filter (λ i. i.level == item.level) items) item))
 
-highest_under : (items : List Item) (item : Item) → item.level < highest items → last_of_highest (items ++ item ∷ []) ≡ last_of_highest items
+highest_under : (items : List Item) (item : Item) → item.level < highest items
+    → last_of_highest (items ++ item ∷ []) ≡ last_of_highest items
 highest_under items item under =
     let top : highest (items ++ item ∷ []) ≡ highest items = highest_push items item ∙ omega arith in
     let apart = ne_eqb item.level (highest items) (λ same. omega arith) in
@@ -96,7 +110,8 @@ highest_under items item under =
     rw top (rw (kept, apart) (ap last_armed (append-nil (filter (λ i. i.level == highest items) items))))
 
 -- the bucket of a wheel expiry is empty where nothing goes out at it
-pub no_bucket : (wheel : ℕ) (items : List Item) → first_out wheel items ≡ None → filter (λ item. item.wheel == wheel) items ≡ []
+pub no_bucket : (wheel : ℕ) (items : List Item) → first_out wheel items ≡ None
+    → filter (λ item. item.wheel == wheel) items ≡ []
 unfolding first_out
 no_bucket wheel items is =
     highest_attained (filter (λ item. item.wheel == wheel) items) (highest (filter (λ item. item.wheel == wheel) items)) refl
@@ -108,7 +123,8 @@ pub record GoesOut (wheel : ℕ) (items : List Item) (item : Item) : Type 0 wher
   pub wheel_is : item.wheel ≡ wheel
   pub level_is : item.level ≡ highest (filter (λ other. other.wheel == wheel) items)
 
-pub goes_out : (wheel : ℕ) (items : List Item) (item : Item) → first_out wheel items ≡ Some item → GoesOut wheel items item
+pub goes_out : (wheel : ℕ) (items : List Item) (item : Item) → first_out wheel items ≡ Some item
+    → GoesOut wheel items item
 unfolding first_out
 goes_out wheel items item is =
     let bucket = filter (λ item. item.wheel == wheel) items in
@@ -122,7 +138,8 @@ goes_out wheel items item is =
     }
 
 -- what goes out at a time is due, and where nothing does nothing is due
-due_of : (now wheel : ℕ) (items : List Item) (out : Option Item) → HasDistinctIds items → first_out wheel items ≡ out → least items ≡ Some wheel
+due_of : (now wheel : ℕ) (items : List Item) (out : Option Item) → HasDistinctIds items
+    → first_out wheel items ≡ out → least items ≡ Some wheel
     → wheel ≤ now → OutIsDue now items out
 due_of now wheel items None distinct is first due = absurd (least_attained items wheel first (no_bucket wheel items is))
 due_of now wheel items (Some item) distinct is first due =
@@ -140,7 +157,8 @@ due_of now wheel items (Some item) distinct is first due =
           (from_filter (λ other. other.wheel == wheel) (λ other. other.level ≤ highest bucket) items (highest_above bucket));
     }
 
-due_at : (now : ℕ) (items : List Item) (first : Option ℕ) → HasDistinctIds items → least items ≡ first → OutIsDue now items (out_at now first items)
+due_at : (now : ℕ) (items : List Item) (first : Option ℕ) → HasDistinctIds items
+    → least items ≡ first → OutIsDue now items (out_at now first items)
 due_at now items None distinct first =
     let empty = least_none items first in
     All-same (λ item. now < item.wheel) items [] empty (All-nil (λ item. now < item.wheel))
@@ -157,7 +175,8 @@ due_at now items (Some wheel) distinct first =
           subst (OutIsDue now items) (sym out) none
     ]
 
-pub out_is_due : (now : ℕ) (items : List Item) → HasDistinctIds items → OutIsDue now items (out_at now (least items) items)
+pub out_is_due : (now : ℕ) (items : List Item) → HasDistinctIds items
+    → OutIsDue now items (out_at now (least items) items)
 out_is_due now items distinct = due_at now items (least items) distinct refl
 
 -- one more item at the end of the list
@@ -171,13 +190,15 @@ out_push_other wheel items item other =
     ap last_of_highest (kept ∙ (ap (λ rest. bucket ++ rest) (cond-false (item.wheel == wheel) (item ∷ []) [] apart) ∙ append-nil bucket))
 
 bucket_push : (wheel : ℕ) (items : List Item) (item : Item) → item.wheel ≡ wheel
-    → filter (λ i. i.wheel == wheel) (items ++ item ∷ []) ≡ filter (λ i. i.wheel == wheel) items ++ item ∷ []
+    → filter (λ i. i.wheel == wheel) (items ++ item ∷ [])
+    ≡ filter (λ i. i.wheel == wheel) items ++ item ∷ []
 bucket_push wheel items item same =
     let here = eq-eqb item.wheel wheel same in
     let bucket = filter (λ i. i.wheel == wheel) items in
     filter-append (λ i. i.wheel == wheel) items (item ∷ []) ∙ ap (λ rest. bucket ++ rest) (cond-true (item.wheel == wheel) (item ∷ []) [] here)
 
-pub out_push_first : (wheel : ℕ) (items : List Item) (item : Item) → item.wheel ≡ wheel → first_out wheel items ≡ None
+pub out_push_first : (wheel : ℕ) (items : List Item) (item : Item) → item.wheel ≡ wheel
+    → first_out wheel items ≡ None
     → first_out wheel (items ++ item ∷ []) ≡ Some item
 unfolding first_out
 out_push_first wheel items item same none =
@@ -185,14 +206,16 @@ out_push_first wheel items item same none =
     let bucket = filter (λ i. i.wheel == wheel) items in
     ap last_of_highest (bucket_push wheel items item same) ∙ highest_over bucket item (rw empty (omega arith))
 
-pub out_push_over : (wheel : ℕ) (items : List Item) (item best : Item) → item.wheel ≡ wheel → first_out wheel items ≡ Some best
+pub out_push_over : (wheel : ℕ) (items : List Item) (item best : Item) → item.wheel ≡ wheel
+    → first_out wheel items ≡ Some best
     → best.level ≤ item.level → first_out wheel (items ++ item ∷ []) ≡ Some item
 unfolding first_out
 out_push_over wheel items item best same out over =
     let level = (goes_out wheel items best out).level_is in
     ap last_of_highest (bucket_push wheel items item same) ∙ highest_over (filter (λ i. i.wheel == wheel) items) item (omega arith)
 
-pub out_push_under : (wheel : ℕ) (items : List Item) (item best : Item) → item.wheel ≡ wheel → first_out wheel items ≡ Some best
+pub out_push_under : (wheel : ℕ) (items : List Item) (item best : Item) → item.wheel ≡ wheel
+    → first_out wheel items ≡ Some best
     → item.level < best.level → first_out wheel (items ++ item ∷ []) ≡ first_out wheel items
 unfolding first_out
 out_push_under wheel items item best same out under =

@@ -1,10 +1,12 @@
 -- a list of calls, so far
-use Rattle.std.proofs.Common.{◌≡◌, ℕ, ◌<◌, ◌+◌, List, [], ◌∷◌, ◌++◌, length, get_or, take, drop, refl, ap, subst, sym, ◌∙◌, arith, append_assoc, drop-cons, add-one}
+use Rattle.std.proofs.Common.{◌≡◌, ℕ, ◌<◌, ◌+◌, List, [], ◌∷◌, ◌++◌, length, get_or, take, drop}
+use Rattle.std.proofs.Common.{refl, ap, subst, sym, ◌∙◌, arith, append_assoc, drop-cons, add-one}
 use Rattle.std.proofs.lemmas.List.{take_more}
 use Rattle.wheel_core.specs.declared.calls.BaseCall.{BaseCall}
 use Rattle.wheel_core.specs.declared.calls.BaseAnswer.{BaseAnswer}
 use Rattle.wheel_core.specs.PlainBase.{RoomyBase}
-use Rattle.wheel_core.specs.Calls.{MayCallAll, StandsAfterSome, after, after_all, answer_of, answers_to}
+use Rattle.wheel_core.specs.Calls.{MayCallAll, StandsAfterSome, after, after_all, answer_of}
+use Rattle.wheel_core.specs.Calls.{answers_to}
 
 -- the answers so far and those to what is left are those to all, and what is left may be called
 pub record RanSoFar (list : List BaseCall) (i : ℕ) (told : List BaseAnswer) (start base : RoomyBase) : Type 0 where
@@ -13,22 +15,27 @@ pub record RanSoFar (list : List BaseCall) (i : ℕ) (told : List BaseAnswer) (s
   pub made : base ≡ after_all (take i list) start
   pub may : MayCallAll (drop i list) base
 
-after_all_push : (list : List BaseCall) (call : BaseCall) (base : RoomyBase) → after_all (list ++ call ∷ []) base ≡ after call (after_all list base)
+after_all_push : (list : List BaseCall) (call : BaseCall) (base : RoomyBase)
+    → after_all (list ++ call ∷ []) base ≡ after call (after_all list base)
 after_all_push [] call base = refl
 after_all_push (first ∷ list) call base = after_all_push list call (after first base)
 
-next_call : (list : List BaseCall) (i : ℕ) (d : BaseCall) → i < length list → drop i list ≡ get_or list i d ∷ drop (i + 1) list
+next_call : (list : List BaseCall) (i : ℕ) (d : BaseCall) → i < length list
+    → drop i list ≡ get_or list i d ∷ drop (i + 1) list
 next_call list i d within = rw add-one (drop-cons list i d within)
 
 -- the base after one call more
-pub made_more : (list : List BaseCall) (i : ℕ) (d : BaseCall) (start base next : RoomyBase) → i < length list
-    → base ≡ after_all (take i list) start → next ≡ after (get_or list i d) base → next ≡ after_all (take (i + 1) list) start
+pub made_more : (list : List BaseCall) (i : ℕ) (d : BaseCall) (start base next : RoomyBase)
+    → i < length list
+    → base ≡ after_all (take i list) start → next ≡ after (get_or list i d) base
+    → next ≡ after_all (take (i + 1) list) start
 made_more list i d start base next within so_far is =
     is ∙ (ap (after (get_or list i d)) so_far
     ∙ (sym (after_all_push (take i list) (get_or list i d) start) ∙ ap (λ made. after_all made start) (sym (take_more list i d within))))
 
 pub run_more : (list : List BaseCall) (i : ℕ) (d : BaseCall) (told now_told : List BaseAnswer) (answer : BaseAnswer) (start base next : RoomyBase)
-    → i < length list → RanSoFar list i told start base → answer ≡ answer_of (get_or list i d) base.plain → next ≡ after (get_or list i d) base
+    → i < length list → RanSoFar list i told start base
+    → answer ≡ answer_of (get_or list i d) base.plain → next ≡ after (get_or list i d) base
     → now_told ≡ told ++ answer ∷ [] → RanSoFar list (i + 1) now_told start next
 run_more list i d told now_told answer start base next within so_far says is pushed =
     let split = next_call list i d within in
@@ -44,5 +51,6 @@ run_more list i d told now_told answer start base next within so_far says is pus
     }
 
 pub stands_more : (list : List BaseCall) (i : ℕ) (d : BaseCall) (told : List BaseAnswer) (start base next : RoomyBase)
-    → i < length list → RanSoFar list i told start base → next ≡ after (get_or list i d) base → StandsAfterSome list start next
+    → i < length list → RanSoFar list i told start base → next ≡ after (get_or list i d) base
+    → StandsAfterSome list start next
 stands_more list i d told start base next within so_far is = (i + 1, omega arith, made_more list i d start base next within so_far.made is)

@@ -1,5 +1,8 @@
--- timer bases as plain data: a list of items and a clock, how they are forwarded, added to and handed out
-use Rattle.std.specs.Prelude.{◌≡◌, ℕ, ◌+◌, ◌^◌, ◌<◌, ◌≤◌, All, MatchOption, List, [], ◌∷◌, ◌++◌, Option, Some, None, min, max, nat_lt, nat_le, ◌==◌, unwrap_or, if◌then◌else◌, find, filter}
+-- timer bases as plain data: a list of items and a clock, how they are forwarded, added to and
+-- handed out
+use Rattle.std.specs.Prelude.{◌≡◌, ℕ, ◌+◌, ◌^◌, ◌<◌, ◌≤◌, ◌==◌, nat_lt, nat_le, min, max}
+use Rattle.std.specs.Prelude.{List, [], ◌∷◌, ◌++◌, length, All, find, filter}
+use Rattle.std.specs.Prelude.{Option, Some, None, MatchOption, unwrap_or, if◌then◌else◌}
 use Rattle.std.specs.Option.{ForSome}
 use Rattle.wheel_core.specs.WheelExpiry.{wheel_expiry_of, wheel_level_of}
 use Rattle.wheel_core.specs.declared.item.Item.{Item}
@@ -9,13 +12,18 @@ pub record PlainBase : Type 0 where
   pub items : List Item
   pub clock : ℕ
 
--- a base as its callers see it: the plain base, and how many more items it has memory for
+-- a base as its callers see it: the plain base, and how many items there is memory for
 pub record RoomyBase : Type 0 where
   pub plain : PlainBase
-  pub spare : ℕ
+  pub capacity : ℕ
 
-abbrev pub roomy : PlainBase → ℕ → RoomyBase
-roomy plain spare = record { plain = plain; spare = spare }
+-- the base after its plain base was changed; there is memory for as many items as before
+abbrev pub on_plain : (PlainBase → PlainBase) → RoomyBase → RoomyBase
+on_plain change base = record base { plain = change base.plain }
+
+-- the base after memory was taken for so many more items than are queued, where there was less
+abbrev pub reserved : (more : ℕ) → RoomyBase → RoomyBase
+reserved more base = record base { capacity = max base.capacity (length base.plain.items + more) }
 
 -- nothing queued, at the start of time
 abbrev pub empty_base : PlainBase
@@ -31,19 +39,26 @@ abbrev pub least : List Item → Option ℕ
 least [] = None
 least (item ∷ items) = Some (sooner item.wheel (least items))
 
+-- no item has a wheel expiry before this
+abbrev pub NoneSooner : (wheel : ℕ) → List Item → Type 0
+NoneSooner wheel items = All (λ item. wheel ≤ item.wheel) items
+
 -- no queued wheel expiry is below the clock
 abbrev pub NoneBehind : PlainBase → Type 0
 NoneBehind base = ForSome (least base.items) (λ wheel. base.clock ≤ wheel)
 
--- FORWARDING: where the clock is behind now, it becomes the least wheel expiry if that isn't past now, and now otherwise
+-- FORWARDING (forward_timer_base): where the clock is behind now, it becomes the least wheel
+-- expiry if that isn't past now, and now otherwise
 abbrev pub clock_forwarded : (now clock : ℕ) → Option ℕ → ℕ
 clock_forwarded now clock None = if nat_lt clock now then now else clock
-clock_forwarded now clock (Some wheel) = if nat_lt clock now then (if nat_le wheel now then wheel else now) else clock
+clock_forwarded now clock (Some wheel) =
+    if nat_lt clock now then (if nat_le wheel now then wheel else now) else clock
 
 abbrev pub forwarded : (now : ℕ) → PlainBase → PlainBase
 forwarded now base = record base { clock = clock_forwarded now base.clock (least base.items) }
 
--- ADDING: the item that a timer becomes in a base of this clock goes to the end of the list
+-- ADDING (enqueue_timer): the item that a timer becomes in a base of this clock goes to the end
+-- of the list
 abbrev pub placed : (clock id expires job arg : ℕ) → Item
 placed clock id expires job arg = record {
   id = id;
@@ -54,8 +69,9 @@ placed clock id expires job arg = record {
   arg = arg;
 }
 
-abbrev pub added : PlainBase → (id expires job arg : ℕ) → PlainBase
-added base id expires job arg = record base { items = base.items ++ placed base.clock id expires job arg ∷ [] }
+abbrev pub added : (id expires job arg : ℕ) → PlainBase → PlainBase
+added id expires job arg base =
+    record base { items = base.items ++ placed base.clock id expires job arg ∷ [] }
 
 -- the queued item of an id
 abbrev pub item_of : (id : ℕ) → List Item → Option Item
@@ -87,7 +103,8 @@ last_of_highest items = last_armed (filter (λ item. item.level == highest items
 unfoldable pub first_out : (wheel : ℕ) → List Item → Option Item
 first_out wheel items = last_of_highest (filter (λ item. item.wheel == wheel) items)
 
--- HAND-OUT: what goes out next at a time, from the items of the least wheel expiry where that isn't past now
+-- HAND-OUT (collect_expired_timers, expire_timers): what goes out next at a time, from the items
+-- of the least wheel expiry where that isn't past now
 abbrev pub out_at : (now : ℕ) → Option ℕ → List Item → Option Item
 out_at now None items = None
 out_at now (Some wheel) items = if nat_le wheel now then first_out wheel items else None
@@ -98,7 +115,8 @@ next_out now base = out_at now (least base.items) base.items
 -- the base after an item went out; the clock is then past its wheel expiry
 abbrev pub after_out : PlainBase → Option Item → PlainBase
 after_out base None = base
-after_out base (Some item) = record { items = without item.id base.items; clock = max base.clock (item.wheel + 1) }
+after_out base (Some item) =
+    record { items = without item.id base.items; clock = max base.clock (item.wheel + 1) }
 
 abbrev pub taken : (now : ℕ) → PlainBase → PlainBase
 taken now base = after_out base (next_out now base)
@@ -108,11 +126,12 @@ abbrev pub oldest_of : List Item → Option ℕ
 oldest_of [] = None
 oldest_of (item ∷ items) = Some item.id
 
--- the item is that of its id, it is due, and none goes out at an earlier expiry or at the same one from a higher level
+-- the item is that of its id, it is due, and none goes out at an earlier expiry or at the same
+-- one from a higher level
 pub record IsDue (now : ℕ) (items : List Item) (item : Item) : Type 0 where
   pub queued : item_of item.id items ≡ Some item
   pub due : item.wheel ≤ now
-  pub soonest : All (λ other. item.wheel ≤ other.wheel) items
+  pub soonest : NoneSooner item.wheel items
   pub highest : All (λ other. other.wheel ≡ item.wheel → other.level ≤ item.level) items
 
 -- nothing is due
@@ -124,8 +143,9 @@ abbrev pub HasDistinctIds : List Item → Type 0
 HasDistinctIds [] = Unit {0}
 HasDistinctIds (item ∷ items) = (item_of item.id items ≡ None) × HasDistinctIds items
 
--- an item's numbers are those that the wheel gives
+-- an item's numbers are in the ranges of the wheel
 pub record IsPlaced (item : Item) : Type 0 where
+  pub expires : item.expires < 2 ^ 47
   pub wheel : item.wheel ≤ 2 ^ 47
   pub level : item.level < 9
 
@@ -137,3 +157,7 @@ pub record IsSound (items : List Item) : Type 0 where
 -- the item that goes out is due, and none goes out only where none is due
 abbrev pub OutIsDue : (now : ℕ) → List Item → Option Item → Type 0
 OutIsDue now items out = MatchOption out (NoneDue now items) (IsDue now items)
+
+-- one item went
+abbrev pub OneFewer : (old new : PlainBase) → Type 0
+OneFewer old new = length new.items + 1 ≡ length old.items

@@ -1,10 +1,12 @@
--- what one pass over a list of items finds
-use Rattle.std.specs.Prelude.{◌≡◌, ℕ, ◌<◌, List, Option, Some, None, MatchOption, length, remove, slice_get}
+-- what one pass over a list of items finds (no public clause cites it)
+use Rattle.std.specs.Prelude.{◌≡◌, ℕ, ◌<◌, Option, Some, None, MatchOption}
+use Rattle.std.specs.Prelude.{List, length, remove, slice_get}
 use Rattle.wheel_core.specs.declared.item.Item.{Item}
 use Rattle.wheel_core.specs.declared.scan.Scan.{Scan}
 use Rattle.wheel_core.specs.PlainBase.{first_out, item_of, least, out_at, without}
 
--- what goes out first of the items of a wheel expiry stands at a place, and this is the least expiry of the others
+-- what goes out first of the items of a wheel expiry stands at a place, and this is the least
+-- expiry of the others
 pub record IsOut (wheel : ℕ) (items : List Item) (place : ℕ) (others : Option ℕ) : Type 0 where
   pub within : place < length items
   pub out : slice_get items place ≡ first_out wheel items
@@ -22,7 +24,8 @@ MatchOut wheel items (Some place) others = IsOut wheel items place others
 abbrev pub IsScan : (wheel : ℕ) → List Item → Scan → Type 0
 IsScan wheel items scan = MatchOut wheel items scan.out scan.others
 
--- what goes out of a list at a time stands at this place, and this is the least expiry of the others
+-- what goes out of a list at a time stands at this place, and this is the least expiry of the
+-- others
 pub record IsNextAt (now : ℕ) (items : List Item) (others : Option ℕ) (place : ℕ) : Type 0 where
   pub within : place < length items
   pub out : slice_get items place ≡ out_at now (least items) items
@@ -30,7 +33,8 @@ pub record IsNextAt (now : ℕ) (items : List Item) (others : Option ℕ) (place
 
 -- the same, or nothing goes out
 abbrev pub IsNext : (now : ℕ) → List Item → Scan → Type 0
-IsNext now items scan = MatchOption scan.out (out_at now (least items) items ≡ None) (IsNextAt now items scan.others)
+IsNext now items scan =
+    MatchOption scan.out (out_at now (least items) items ≡ None) (IsNextAt now items scan.others)
 
 -- the item of an id stands at this place
 pub record IsPlaceOf (id : ℕ) (items : List Item) (place : ℕ) : Type 0 where

@@ -1,8 +1,8 @@
 //! Any list of calls on a base.
 
 ghost use Rattle.std.specs.Prelude.{◌≡◌, ◌++◌, IfOk, OnOk, OnErr};
-ghost use Rattle.wheel_core.specs.Calls.{MayCall, MayCallAll, StandsAfterSome, after, after_all, answer_of, answers_to};
-ghost use Rattle.wheel_core.specs.PlainBase.{roomy};
+ghost use Rattle.wheel_core.specs.Calls.{MayCall, MayCallAll, StandsAfterSome, after, after_all};
+ghost use Rattle.wheel_core.specs.Calls.{answer_of, answers_to};
 
 use crate::{Item, NoRoom, TimerBase};
 use std::alloc::Global;
@@ -56,10 +56,10 @@ pub enum BaseAnswer {
 
 /// Makes one call.
 fn make_call<B: TimerBase>(base: &mut B, call: &BaseCall) -> Result<BaseAnswer, NoRoom>
-    requires { MayCall call.now (roomy (B.base base.old) (B.spare base.old)) }
-    ensures answer { IfOk result (λ answer. answer ≡ answer_of call.now (B.base base.old)) }
-    ensures after { OnOk result (roomy (B.base base.new) (B.spare base.new) ≡ after call.now (roomy (B.base base.old) (B.spare base.old))) }
-    ensures err { OnErr result (roomy (B.base base.new) (B.spare base.new) ≡ roomy (B.base base.old) (B.spare base.old)) }
+    requires { MayCall call.now (B.base base.old) }
+    ensures answer { IfOk result (λ answer. answer ≡ answer_of call.now (B.base base.old).plain) }
+    ensures after { OnOk result (B.base base.new ≡ after call.now (B.base base.old)) }
+    ensures err { OnErr result (B.base base.new ≡ B.base base.old) }
 {
     Ok(match *call {
         BaseCall::Clock => BaseAnswer::Clock(base.clock()),
@@ -87,18 +87,18 @@ fn make_call<B: TimerBase>(base: &mut B, call: &BaseCall) -> Result<BaseAnswer, 
     })
 }
 
-/// Makes calls in order, and answers what each answered: the same as the plain base would, whichever base it is.
-/// Want of memory comes from a `reserve` or from the list of answers; the calls before it were made, and the base
-/// stands after them.
+/// Makes calls in order, and answers what each answered: the same as the plain base would,
+/// whichever base it is. Want of memory comes from a `reserve` or from the list of answers; the
+/// calls before it were made, and the base stands after them.
 pub fn make_calls<B: TimerBase>(
     alloc: Global,
     base: &mut B,
     calls: &[BaseCall],
 ) -> Result<Vec<BaseAnswer>, NoRoom>
-    requires { MayCallAll calls.now (roomy (B.base base.old) (B.spare base.old)) }
-    ensures answers { IfOk result (λ answers. answers.items ≡ answers_to calls.now (roomy (B.base base.old) (B.spare base.old))) }
-    ensures after { OnOk result (roomy (B.base base.new) (B.spare base.new) ≡ after_all calls.now (roomy (B.base base.old) (B.spare base.old))) }
-    ensures err { OnErr result (StandsAfterSome calls.now (roomy (B.base base.old) (B.spare base.old)) (roomy (B.base base.new) (B.spare base.new))) }
+    requires { MayCallAll calls.now (B.base base.old) }
+    ensures answers { IfOk result (λ told. told.items ≡ answers_to calls.now (B.base base.old)) }
+    ensures after { OnOk result (B.base base.new ≡ after_all calls.now (B.base base.old)) }
+    ensures err { OnErr result (StandsAfterSome calls.now (B.base base.old) (B.base base.new)) }
 {
     let mut answers = Vec::new(alloc);
     answers.reserve(calls.len())?;

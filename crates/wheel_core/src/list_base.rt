@@ -8,14 +8,15 @@ use crate::{Item, NoRoom, TimerBase, wheel_expiry};
 use std::alloc::Global;
 use std::marker::Model;
 
-/// A timer base that keeps its items in one list, in arming order. Looking for an id or taking an item out is one
-/// pass over the list; `first`, and `peek_next` and `take_next` with nothing due, look at no item.
+/// A timer base that keeps its items in one list, in arming order. Looking for an id or taking an
+/// item out is one pass over the list; `first`, and `peek_next` and `take_next` with nothing due,
+/// look at no item.
 #[derive(Drop)]
 pub struct ListBase {
     items: Vec<Item>,
     clock: u64,
     first: Option<u64>,
-    spare: usize,
+    capacity: usize,
 }
 
 impl Model for ListBase {
@@ -25,29 +26,31 @@ impl Model for ListBase {
 
     ghost Value = { RoomyBase };
 
-    ghost view = { λ b. record { plain = record { items = b.items.items; clock = b.clock }; spare = b.spare } };
+    ghost view = { λ b.
+        record {
+          plain = record { items = b.items.items; clock = b.clock };
+          capacity = b.capacity;
+        } };
 
-    ghost invariant = { λ b. KeepsList b.items.items b.first b.spare (vec_capacity b.items) };
+    ghost invariant = { λ b. KeepsList b.items.items b.first b.capacity (vec_capacity b.items) };
 }
 
 impl ListBase {
     /// An empty base at clock 0, with room for no item; it takes no memory.
     pub fn new(alloc: Global) -> ListBase
-        ensures { result ≡ record { plain = empty_base; spare = 0 } }
+        ensures { result ≡ record { plain = empty_base; capacity = 0 } }
     {
         ListBase {
             items: Vec::new(alloc),
             clock: 0,
             first: None,
-            spare: 0,
+            capacity: 0,
         }
     }
 }
 
 impl TimerBase for ListBase {
-    ghost base = { λ b. b.plain };
-
-    ghost spare = { λ b. b.spare };
+    ghost base = { λ b. b };
 
     fn clock(&self) -> u64 {
         self.clock
@@ -86,7 +89,6 @@ impl TimerBase for ListBase {
         };
         self.items.push(item).unwrap();
         self.first = Some(sooner_of(wheel, self.first));
-        self.spare -= 1;
         item
     }
 
@@ -96,7 +98,6 @@ impl TimerBase for ListBase {
         };
         let item = self.items.remove(place);
         self.first = least_left(&self.items, item.wheel, self.first);
-        self.spare += 1;
         Some(item)
     }
 
@@ -120,13 +121,12 @@ impl TimerBase for ListBase {
         let out = self.items.remove(place);
         self.first = scan.others;
         self.clock = self.clock.max(out.wheel + 1);
-        self.spare += 1;
         Some(out)
     }
 
     fn reserve(&mut self, n: usize) -> Result<(), NoRoom> {
         self.items.reserve(n)?;
-        self.spare = self.spare.max(n);
+        self.capacity = self.capacity.max(self.items.len() + n);
         Ok(())
     }
 }

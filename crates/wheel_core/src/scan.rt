@@ -1,7 +1,9 @@
 //! One pass over a list of items.
 
-ghost use Rattle.std.specs.Prelude.{◌≡◌, ℕ, ◌+◌, ◌<◌, ◌==◌, Some, None, MatchOption, length, position, take};
-ghost use Rattle.wheel_core.specs.PlainBase.{HasDistinctIds, OutIsDue, item_of, least, out_at, sooner};
+ghost use Rattle.std.specs.Prelude.{◌≡◌, ℕ, ◌+◌, ◌<◌, ◌==◌, Some, None, MatchOption};
+ghost use Rattle.std.specs.Prelude.{length, position, take};
+ghost use Rattle.wheel_core.specs.PlainBase.{HasDistinctIds, OutIsDue};
+ghost use Rattle.wheel_core.specs.PlainBase.{item_of, least, out_at, sooner};
 ghost use Rattle.wheel_core.specs.Scan.{IsNext, IsPlaceOf, IsScan};
 
 use crate::Item;
@@ -36,7 +38,8 @@ fn least_of(items: &[Item]) -> Option<u64>
     first
 }
 
-/// The least wheel expiry of what is left after an item of the expiry `gone` went, given that before.
+/// The least wheel expiry of what is left after an item of the expiry `gone` went, given that
+/// before.
 pub(crate) fn least_left(items: &[Item], gone: u64, before: Option<u64>) -> Option<u64>
     requires { before ≡ Some (sooner gone (least items.now)) }
     ensures { result ≡ least items.now }
@@ -103,7 +106,8 @@ fn scan_for(items: &[Item], wheel: u64) -> Scan
     scan
 }
 
-/// What of a list goes out at a time, given its least wheel expiry. Where nothing is due no item is looked at.
+/// What of a list goes out at a time, given its least wheel expiry. Where nothing is due no item
+/// is looked at.
 #[tactic(auto, using(crate::proofs::HandOut::out_is_due))]
 pub(crate) fn scan_at(items: &[Item], first: Option<u64>, now: u64) -> Scan
     requires first { first ≡ least items.now }

@@ -1,7 +1,8 @@
 use super::*;
 use std::test::Fail;
 
-// The asked expiry, the clock, and the wheel expiry and level that the rule gives.
+// The asked expiry, the clock, and the wheel expiry and level, computed by hand from the rule: both
+// sides of each border that a timer meets.
 const TABLE: [(u64, u64, u64, u8); 9] = [
     (72, 10, 73, 0),
     (73, 10, 80, 1),
@@ -15,7 +16,7 @@ const TABLE: [(u64, u64, u64, u8); 9] = [
 ];
 
 #[test]
-fn wheel_table(rt: HostRuntime) -> Result<(), Fail> {
+fn each_row_of_the_wheel_table_comes_out(rt: HostRuntime) -> Result<(), Fail> {
     for (expires, clock, wheel, level) in TABLE {
         assert!(rt; expires < 1 << 47 && clock < 1 << 47);
         assert_eq!(rt;
@@ -54,12 +55,14 @@ fn item(id: u32, expires: u64, wheel: u64, level: u8) -> Item {
     }
 }
 
-// Delay 0 right after a hand-out: the clock stands one past it, and so does the next wheel expiry.
+// By hand: right after a hand-out the clock stands one past it, and so does the next wheel expiry.
 #[test]
 #[tactic(auto, unfolding(crate::specs::WheelExpiry::wheel_expiry_of, crate::specs::WheelExpiry::level_of_delay, crate::specs::WheelExpiry::wheel_level_of, crate::specs::PlainBase::first_out))]
-fn delay_zero(rt: HostRuntime) -> Result<(), Fail> {
+fn a_delay_of_zero_right_after_a_hand_out_goes_to_the_next_jiffy(
+    rt: HostRuntime,
+) -> Result<(), Fail> {
     let calls = [
-        BaseCall::Reserve { n: 2 },
+        BaseCall::Reserve { n: 1 },
         BaseCall::Forward { now: 10 },
         BaseCall::Add {
             id: 0,
@@ -98,10 +101,11 @@ fn delay_zero(rt: HostRuntime) -> Result<(), Fail> {
     Ok(())
 }
 
-// Three timers at one wheel expiry: the higher level goes out first, and then the last armed.
+// By hand: of three timers at one wheel expiry the higher level goes out first, and then the last
+// armed.
 #[test]
 #[tactic(auto, unfolding(crate::specs::WheelExpiry::wheel_expiry_of, crate::specs::WheelExpiry::level_of_delay, crate::specs::WheelExpiry::wheel_level_of, crate::specs::PlainBase::first_out))]
-fn hand_out_order(rt: HostRuntime) -> Result<(), Fail> {
+fn the_higher_level_goes_out_first_and_then_the_last_armed(rt: HostRuntime) -> Result<(), Fail> {
     let calls = [
         BaseCall::Reserve { n: 3 },
         BaseCall::Forward { now: 10 },
@@ -160,5 +164,23 @@ fn hand_out_order(rt: HostRuntime) -> Result<(), Fail> {
         BaseAnswer::Clock(81),
     ];
     assert_eq!(rt; answers.as_slice(), wanted.as_slice());
+    Ok(())
+}
+
+// By hand: a drain goes through two levels, with the clock one past each hand-out.
+#[test]
+fn a_drain_goes_through_two_levels(rt: HostRuntime) -> Result<(), Fail> {
+    let mut base = ListBase::new(rt.alloc());
+    base.reserve(2)?;
+    base.forward(10);
+    assert_eq!(rt; base.add(0, 73, 0, 0), item(0, 73, 80, 1));
+    assert_eq!(rt; base.get(1), None);
+    assert_eq!(rt; base.add(1, 72, 0, 0), item(1, 72, 73, 0));
+    assert_eq!(rt; base.first(), Some(73));
+    assert_eq!(rt; base.take_next(80), Some(item(1, 72, 73, 0)));
+    assert_eq!(rt; base.clock(), 74);
+    assert_eq!(rt; base.take_next(80), Some(item(0, 73, 80, 1)));
+    assert_eq!(rt; base.clock(), 81);
+    assert_eq!(rt; base.take_next(80), None);
     Ok(())
 }

@@ -3,7 +3,8 @@ use Rattle.std.proofs.lemmas.Option.{none-some, same_Some}
 use Rattle.wheel_core.specs.Scan.{MatchOut}
 use Rattle.wheel_core.proofs.Passes.{scan_first, scan_over, scan_kept}
 use Rattle.wheel_core.proofs.scan.scan_more.Goals as goal
-use Rattle.wheel_core.proofs.scan.scan_more.Goals.{then-item-wheel+in-Some+else-items-best, else-item-wheel}
+use Rattle.wheel_core.proofs.scan.scan_more.Goals.{then-item-wheel+in-Some+else-items-best}
+use Rattle.wheel_core.proofs.scan.scan_more.Goals.{else-item-wheel}
 
 pub returns-in_default : goal.returns-in_default
 returns-in_default c =

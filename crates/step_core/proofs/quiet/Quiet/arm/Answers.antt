@@ -21,9 +21,9 @@ arm-requires-clause-none_behind c =
 
 pub returns-clause-armed : goal.returns-clause-armed
 returns-clause-armed c =
-    cpu_written _ _ _ _ _ _ _ _ _ (λ (cpu : Cpu). record cpu { global = added (forwarded c.args.self.now.clock cpu.global) c.args.timer.0 (c.args.self.now.clock + c.args.delay) 0 0 })
+    cpu_written _ _ _ _ _ _ _ _ _ (λ (cpu : Cpu). record cpu { global = added c.args.timer.0 (c.args.self.now.clock + c.args.delay) 0 0 (forwarded c.args.self.now.clock cpu.global) })
     c.self.view_is c.requires.cpu_in_range c.from.ensures c.index_mut.ensures.value
-    (c.arm.ensures.cpu ∙ ap (λ (s : State). record c.index_mut.result.now.cpu { global = added (forwarded s.clock c.index_mut.result.now.cpu.global) c.args.timer.0 (s.clock + c.args.delay) 0 0 }) c.self.view_is)
+    (c.arm.ensures.cpu ∙ ap (λ (s : State). record c.index_mut.result.now.cpu { global = added c.args.timer.0 (s.clock + c.args.delay) 0 0 (forwarded s.clock c.index_mut.result.now.cpu.global) }) c.self.view_is)
 
 pub returns-clause-none_behind : goal.returns-clause-none_behind
 returns-clause-none_behind c =

@@ -5,5 +5,8 @@ use Rattle.wheel_core.proofs.list_base.ListBaseTimerBase.get.Goals as goal
 
 pub returns : goal.returns
 returns c =
-    let at = subst (λ items. IsPlaceOf c.args.id items c.in-Some.place) c.deref.ensures.value c.in-Some.ensures in
-    rw (← c.self.view_is) (read_at c.self.inside.items.items c.in-Some.place _ _ at.within c.index.ensures at.item)
+    let at =
+    subst (λ items. IsPlaceOf c.args.id items c.in-Some.place) c.deref.ensures.value
+    c.in-Some.ensures in
+    rw (← c.self.view_is)
+    (read_at c.self.inside.items.items c.in-Some.place _ _ at.within c.index.ensures at.item)
