@@ -1,5 +1,6 @@
 -- items and armings that say the same, in order
-use Rattle.std.proofs.Common.{◌≡◌, ℕ, ◌<◌, List, [], ◌∷◌, ◌++◌, Option, Some, None, refl, ap, subst, sym, ◌∙◌, inl, inr}
+use Rattle.std.proofs.Common.{◌≡◌, ℕ, ◌<◌, List, [], ◌∷◌, ◌++◌, Option, Some, None, refl, ap, subst}
+use Rattle.std.proofs.Common.{sym, ◌∙◌, inl, inr}
 use Rattle.std.specs.Prelude.{◌==◌, map, option_map}
 use Rattle.std.specs.List.{All}
 use Rattle.std.proofs.lemmas.Bool.{cases_Bool}
@@ -32,44 +33,52 @@ drop_key_map f key k (x ∷ xs) =
       | inr there ↦ rw there (ap (λ ys. f x ∷ ys) (drop_key_map f key k xs))
     ]
 
-all_of_map : {X Y : Type 0} (f : X → Y) (P : Y → Type 0) (xs : List X) → All P (map f xs) → All (λ x. P (f x)) xs
+pub all_of_map : {X Y : Type 0} (f : X → Y) (P : Y → Type 0) (xs : List X) → All P (map f xs)
+    → All (λ x. P (f x)) xs
 all_of_map f P [] all = All-nil (λ x. P (f x))
 all_of_map f P (x ∷ xs) all =
-    All-cons (λ x. P (f x)) x xs (All-head P (f x) (map f xs) all) (all_of_map f P xs (All-tail P (f x) (map f xs) all))
+    All-cons (λ x. P (f x)) x xs (All-head P (f x) (map f xs) all)
+    (all_of_map f P xs (All-tail P (f x) (map f xs) all))
 
 without_is : (id : ℕ) (items : List Item) → without id items ≡ drop_key (λ item. item.id) id items
 without_is id [] = refl
 without_is id (first ∷ items) = rw (without_is id items) refl
 
-pub all_without : (P : Item → Type 0) (id : ℕ) (items : List Item) → All P items → All P (without id items)
-all_without P id [] all = all
-all_without P id (first ∷ items) all =
-    elim (cases_Bool (first.id == id)) [
-      | inl here ↦ rw here (All-tail P first items all)
-      | inr there ↦ rw there (All-cons P first (without id items) (All-head P first items all) (all_without P id items (All-tail P first items all)))
-    ]
-
 mapped_none : {X Y : Type 0} (f : X → Y) (o : Option X) → option_map f o ≡ None → o ≡ None
 mapped_none f None is = refl
 mapped_none f (Some x) is = absurd (none-some (f x) (sym is))
 
-mapped_some : {X Y : Type 0} (f : X → Y) (o : Option X) (y : Y) → option_map f o ≡ Some y → (x : X) × (o ≡ Some x) × (f x ≡ y)
+mapped_some : {X Y : Type 0} (f : X → Y) (o : Option X) (y : Y) → option_map f o ≡ Some y
+    → (x : X) × (o ≡ Some x) × (f x ≡ y)
 mapped_some f None y is = absurd (none-some y is)
 mapped_some f (Some x) y is = (x, refl, same_Some (f x) y is)
 
-module _ (items : List Item) (entries : List Entry) (same : map told_by_item items ≡ map told_by_entry entries) where
-  looked_up : (id : ℕ) → option_map told_by_entry (arming_of id entries) ≡ option_map told_by_item (item_of id items)
+module _ (items : List Item) (entries : List Entry) (same : map told_by_item items
+    ≡ map told_by_entry entries) where
+  looked_up : (id : ℕ) → option_map told_by_entry (arming_of id entries)
+      ≡ option_map told_by_item (item_of id items)
   looked_up id =
       sym (at_key_map told_by_entry (λ told. told.timer) id entries)
-      ∙ (ap (λ told. at_key (λ told. told.timer) id told) (sym same) ∙ at_key_map told_by_item (λ told. told.timer) id items)
+      ∙ (ap (λ told. at_key (λ told. told.timer) id told) (sym same)
+      ∙ at_key_map told_by_item (λ told. told.timer) id items)
 
   pub agreed_none : (id : ℕ) → item_of id items ≡ None → arming_of id entries ≡ None
-  agreed_none id none = mapped_none told_by_entry (arming_of id entries) (looked_up id ∙ ap (option_map told_by_item) none)
+  agreed_none id none = mapped_none told_by_entry (arming_of id entries)
+      (looked_up id ∙ ap (option_map told_by_item) none)
 
   pub agreed_found : (id : ℕ) (item : Item) → item_of id items ≡ Some item
-      → (arming : Entry) × (arming_of id entries ≡ Some arming) × (told_by_entry arming ≡ told_by_item item)
+      → (arming : Entry) × (arming_of id entries ≡ Some arming) × (told_by_entry arming
+      ≡ told_by_item item)
   agreed_found id item found =
-      mapped_some told_by_entry (arming_of id entries) (told_by_item item) (looked_up id ∙ ap (option_map told_by_item) found)
+      mapped_some told_by_entry (arming_of id entries) (told_by_item item)
+      (looked_up id ∙ ap (option_map told_by_item) found)
+
+  pub agreed_armed : (id : ℕ) (arming : Entry) → arming_of id entries ≡ Some arming
+      → (item : Item) × (item_of id items ≡ Some item)
+      × (told_by_item item ≡ told_by_entry arming)
+  agreed_armed id arming found =
+      mapped_some told_by_item (item_of id items) (told_by_entry arming)
+      (sym (looked_up id) ∙ ap (option_map told_by_entry) found)
 
   pub agreed_push : (item : Item) (entry : Entry) → told_by_item item ≡ told_by_entry entry
       → map told_by_item (items ++ item ∷ []) ≡ map told_by_entry (entries ++ entry ∷ [])
@@ -77,13 +86,17 @@ module _ (items : List Item) (entries : List Entry) (same : map told_by_item ite
       map-append told_by_item items (item ∷ [])
       ∙ ((λ i. same i ++ told i ∷ []) ∙ sym (map-append told_by_entry entries (entry ∷ [])))
 
-  pub agreed_gone : (id : ℕ) → map told_by_item (without id items) ≡ map told_by_entry (ended id entries)
+  pub agreed_gone : (id : ℕ) → map told_by_item (without id items)
+      ≡ map told_by_entry (ended id entries)
   agreed_gone id =
       rw (without_is id items, ended_is id entries)
       (drop_key_map told_by_item (λ told. told.timer) id items
-      ∙ (ap (λ told. drop_key (λ told. told.timer) id told) same ∙ sym (drop_key_map told_by_entry (λ told. told.timer) id entries)))
+      ∙ (ap (λ told. drop_key (λ told. told.timer) id told) same
+      ∙ sym (drop_key_map told_by_entry (λ told. told.timer) id entries)))
 
-  pub agreed_later : (now : ℕ) → All (λ item. now < item.wheel) items → All (λ entry. now < entry.wheel) entries
+  pub agreed_later : (now : ℕ) → All (λ item. now < item.wheel) items
+      → All (λ entry. now < entry.wheel) entries
   agreed_later now later =
       all_of_map told_by_entry (λ told. now < told.wheel) entries
-      (subst (All (λ told. now < told.wheel)) same (All-map (λ told. now < told.wheel) told_by_item items later))
+      (subst (All (λ told. now < told.wheel)) same (All-map (λ told. now < told.wheel) told_by_item
+      items later))

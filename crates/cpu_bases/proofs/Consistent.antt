@@ -1,204 +1,231 @@
 -- bases and journal stay consistent through each kind of entry
-use Rattle.std.proofs.Common.{◌≡◌, ℕ, ◌^◌, ◌<◌, ◌≤◌, true, false, List, [], ◌∷◌, ◌++◌, Option, Some, None, refl, ap, subst, sym, ◌∙◌, arith}
-use Rattle.std.specs.Prelude.{map, IsSomeAnd, option_map}
-use Rattle.std.proofs.lemmas.Option.{none-some}
+use Rattle.std.proofs.Common.{◌≡◌, ℕ, ◌^◌, ◌<◌, ◌≤◌, true, false, List, [], ◌∷◌, ◌++◌}
+use Rattle.std.proofs.Common.{Option, Some, None, refl, ap, subst, sym, ◌∙◌, arith, inl, inr}
+use Rattle.std.specs.Prelude.{◌==◌, map, IsSomeAnd, option_map}
 use Rattle.std.specs.List.{All}
-use Rattle.std.proofs.lemmas.Bool.{cond-true, cond-false, both_ways}
-use Rattle.std.proofs.lemmas.Bool.Decides.{nat_tests}
+use Rattle.std.proofs.lemmas.Option.{none-some}
+use Rattle.std.proofs.lemmas.Bool.{cases_Bool, cond-true, cond-false}
 use Rattle.std.proofs.lemmas.List.{append-nil}
 use Rattle.std.proofs.lemmas.List.Elements.{All-push, filter-append}
+use Rattle.tm_base.specs.Classes.{same_class}
 use Rattle.tm_base.specs.declared.names.Class.{Class}
-use Rattle.tm_base.specs.declared.names.Class.TheVariants.{Pinned, Global}
+use Rattle.tm_base.specs.declared.names.Class.TheVariants.{Pinned, Global, Deferrable}
 use Rattle.tm_base.specs.declared.names.CpuId.{CpuId}
+use Rattle.tm_base.specs.declared.names.TheConstants.{TIME_LIMIT}
 use Rattle.wheel_core.specs.declared.item.Item.{Item}
-use Rattle.wheel_core.specs.PlainBase.{NoneDue, PlainBase, added, clock_forwarded, forwarded, item_of, least, without}
+use Rattle.wheel_core.specs.PlainBase.{IsPlaced, IsSound, NoneDue, PlainBase, added, forwarded}
+use Rattle.wheel_core.specs.PlainBase.{item_of, without}
+use Rattle.wheel_core.proofs.Ids.{all_without, item_holds, sound_without}
+use Rattle.wheel_core.proofs.Plain.{clock-forwarded_le, placed_in_range, sound_added}
 use Rattle.cpu_bases.specs.declared.entry.Act.{Act}
 use Rattle.cpu_bases.specs.declared.entry.Entry.{Entry}
-use Rattle.cpu_bases.specs.Journals.{Agrees, EachMayFollow, EndsOne, MayFollow, arming_of, ended, of_class, queued_after, queued_by, same_class, told_by_entry, told_by_item}
-use Rattle.cpu_bases.specs.CpuBases.{BaseFits, CpuBases, FitsCpu, IsConsistent, base_of, class_in, entry_of, first_of, gone, item_queued, queued, ticked_entry, with_base, written}
-use Rattle.cpu_bases.proofs.Keyed.{found_all, found_kept, found_whole, kept_drop, kept_other, none_whole}
+use Rattle.cpu_bases.specs.Journals.{Agrees, EndsOne, MayFollow, arming_of, ended}
+use Rattle.cpu_bases.specs.Journals.{entries_of, queued_after, queued_by, told_by_entry}
+use Rattle.cpu_bases.specs.Journals.{told_by_item}
+use Rattle.cpu_bases.specs.CpuBases.{BaseFits, CpuBases, IsConsistent, base_of, changed, class_in}
+use Rattle.cpu_bases.specs.CpuBases.{entry_of, found_or, item_queued, queued}
+use Rattle.cpu_bases.specs.CpuBases.{ticked_entry, written}
+use Rattle.cpu_bases.proofs.Classes.{class_is, class_itself, each_with}
+use Rattle.cpu_bases.proofs.Keyed.{found_kept, found_whole, kept_drop, kept_other, none_tail}
 use Rattle.cpu_bases.proofs.Legal.{distinct_from, ended_is, follow_push, queued_push}
-use Rattle.cpu_bases.proofs.Agreeing.{all_without, agreed_found, agreed_gone, agreed_later, agreed_none, agreed_push}
+use Rattle.cpu_bases.proofs.Agreeing.{agreed_found, agreed_gone, agreed_later, agreed_none}
+use Rattle.cpu_bases.proofs.Agreeing.{agreed_push}
 
--- classes
-class_itself : (class : Class) → same_class class class ≡ true
-class_itself Pinned = refl
-class_itself Global = refl
+-- a timer that is in none of the bases isn't queued by the journal
+none_of_each : (timer : ℕ) (queued : List Entry)
+    → ((class : Class) → arming_of timer (entries_of class queued) ≡ None)
+    → arming_of timer queued ≡ None
+none_of_each timer [] none = refl
+none_of_each timer (first ∷ queued) none =
+    elim (cases_Bool (first.timer.0 == timer)) [
+      | inl here ↦
+          absurd (none-some first (sym (rw (class_itself first.class, here) at (none first.class))))
+      | inr there ↦
+          rw there
+          (none_of_each timer queued
+          (λ class. none_tail (λ e. e.timer.0) (λ e. same_class e.class class) timer first queued
+          (none class)))
+    ]
 
-class_is : (a class : Class) → same_class a class ≡ true → a ≡ class
-class_is Pinned Pinned same = refl
-class_is Pinned Global same = absurd (both_ways (same_class Pinned Global) refl same)
-class_is Global Pinned same = absurd (both_ways (same_class Global Pinned) refl same)
-class_is Global Global same = refl
+or_none : (class : Class) (here : Option Item) (others : Option (Class × Item))
+    → option_map (λ found. found.0) (found_or class here others) ≡ None
+    → (here ≡ None) × (option_map (λ found. found.0) others ≡ None)
+or_none class None others none = (refl, none)
+or_none class (Some item) others none = absurd (none-some class (sym none))
 
-one_or_other : (class : Class) → same_class class Pinned ≡ false → same_class class Global ≡ true
-one_or_other Pinned other = absurd (both_ways (same_class Pinned Pinned) other refl)
-one_or_other Global other = refl
+pub base_none : (cpu : CpuBases) (timer : ℕ) → class_in timer cpu ≡ None → (class : Class)
+    → item_of timer (base_of class cpu).items ≡ None
+base_none cpu timer none =
+    let pinned = or_none Pinned (item_of timer cpu.bases.pinned.items) _ none in
+    let global = or_none Global (item_of timer cpu.bases.global.items) _ pinned.1 in
+    let deferrable = or_none Deferrable (item_of timer cpu.bases.deferrable.items) _ global.1 in
+    by_class pinned.0 global.0 deferrable.0
+  where
+    by_class : item_of timer cpu.bases.pinned.items ≡ None
+        → item_of timer cpu.bases.global.items ≡ None
+        → item_of timer cpu.bases.deferrable.items ≡ None → (class : Class)
+        → item_of timer (base_of class cpu).items ≡ None
+    by_class p g d Pinned = p
+    by_class p g d Global = g
+    by_class p g d Deferrable = d
 
--- a base is changed, and an entry is written
-each_with : (class : Class) (base : PlainBase) (entry : Entry) (bases : CpuBases) → EachMayFollow [] (bases.journal ++ entry ∷ [])
-    → EachMayFollow [] (written entry (with_base class base bases)).journal
-each_with Pinned base entry bases each = each
-each_with Global base entry bases each = each
+pub not_queued : (cpu : CpuBases) (timer : ℕ) → IsConsistent cpu → class_in timer cpu ≡ None
+    → arming_of timer (queued_by cpu.journal) ≡ None
+not_queued cpu timer consistent none =
+    let queued = queued_by cpu.journal in
+    none_of_each timer queued
+    (λ class.
+    agreed_none (base_of class cpu).items (entries_of class queued) (consistent.agrees class) timer
+    (base_none cpu timer none class))
 
-agrees_with : (class : Class) (base : PlainBase) (entry : Entry) (bases : CpuBases) → Agrees class base.items (bases.journal ++ entry ∷ [])
-    → ((k : Class) → same_class class k ≡ false → Agrees k (base_of k bases).items (bases.journal ++ entry ∷ [])) → (k : Class)
-    → Agrees k (base_of k (written entry (with_base class base bases))).items (written entry (with_base class base bases)).journal
-agrees_with Pinned base entry bases own others Pinned = own
-agrees_with Pinned base entry bases own others Global = others Global refl
-agrees_with Global base entry bases own others Pinned = others Pinned refl
-agrees_with Global base entry bases own others Global = own
+-- a timer that is found in a base, and its arming
+pub record IsQueued (cpu : CpuBases) (class : Class) (item : Item) : Type 0 where
+  pub arming : Entry
+  pub found : arming_of item.id (queued_by cpu.journal) ≡ Some arming
+  pub class_is : arming.class ≡ class
+  pub in_class : same_class arming.class class ≡ true
+  pub told : told_by_entry arming ≡ told_by_item item
 
-fits_with : (class : Class) (base : PlainBase) (entry : Entry) (bases : CpuBases) → BaseFits base → ((k : Class) → BaseFits (base_of k bases))
-    → (k : Class) → BaseFits (base_of k (written entry (with_base class base bases)))
-fits_with Pinned base entry bases own others Pinned = own
-fits_with Pinned base entry bases own others Global = others Global
-fits_with Global base entry bases own others Pinned = others Pinned
-fits_with Global base entry bases own others Global = own
+pub queued_item : (cpu : CpuBases) (class : Class) (item : Item) → IsConsistent cpu
+    → item_of item.id (base_of class cpu).items ≡ Some item → IsQueued cpu class item
+queued_item cpu class item consistent found =
+    let queued = queued_by cpu.journal in
+    let armed = agreed_found (base_of class cpu).items (entries_of class queued)
+    (consistent.agrees class) item.id item found in
+    let distinct = distinct_from [] cpu.journal tt consistent.each_may_follow in
+    let in_class =
+    found_kept (λ e. e.timer.0) (λ e. same_class e.class class) item.id queued armed.0 armed.1 in
+    record {
+      arming = armed.0;
+      found =
+          found_whole (λ e. e.timer.0) (λ e. same_class e.class class) item.id queued armed.0
+          distinct armed.1;
+      class_is = class_is armed.0.class class in_class;
+      in_class = in_class;
+      told = armed.2;
+    }
 
-in_time_with : (class : Class) (base : PlainBase) (entry : Entry) (bases : CpuBases) → All (λ e. e.wheel ≤ 2 ^ 47) bases.journal
-    → entry.wheel ≤ 2 ^ 47 → All (λ e. e.wheel ≤ 2 ^ 47) (written entry (with_base class base bases)).journal
-in_time_with Pinned base entry bases all here = All-push (λ e. e.wheel ≤ 2 ^ 47) bases.journal entry all here
-in_time_with Global base entry bases all here = All-push (λ e. e.wheel ≤ 2 ^ 47) bases.journal entry all here
-
--- what the other class's base agrees with hasn't changed
-still_agrees : (k : Class) (items : List Item) (journal : List Entry) (entry : Entry) (queued : List Entry)
-    → queued_after entry.act (queued_by journal) entry ≡ queued → of_class k queued ≡ of_class k (queued_by journal)
-    → Agrees k items journal → Agrees k items (journal ++ entry ∷ [])
-still_agrees k items journal entry queued is same agrees =
-    agrees ∙ ap (map told_by_entry) (sym (ap (of_class k) (queued_push [] journal entry ∙ is) ∙ same))
-
-now_agrees : (k : Class) (items : List Item) (journal : List Entry) (entry : Entry) (queued : List Entry)
-    → queued_after entry.act (queued_by journal) entry ≡ queued → map told_by_item items ≡ map told_by_entry (of_class k queued)
-    → Agrees k items (journal ++ entry ∷ [])
-now_agrees k items journal entry queued is agrees =
-    agrees ∙ ap (λ q. map told_by_entry (of_class k q)) (sym (queued_push [] journal entry ∙ is))
-
--- a timer that is in neither base isn't queued by the journal
-class_none : (pinned global : Option Item) → option_map (λ found. found.0) (first_of pinned global) ≡ None → (pinned ≡ None) × (global ≡ None)
-class_none (Some item) global none = absurd (none-some Pinned (sym none))
-class_none None (Some item) none = absurd (none-some Global (sym none))
-class_none None None none = (refl, refl)
-
-not_queued : (bases : CpuBases) (timer : ℕ) → IsConsistent bases → class_in timer bases ≡ None → arming_of timer (queued_by bases.journal) ≡ None
-not_queued bases timer consistent none =
-    let neither = class_none (item_of timer bases.pinned.items) (item_of timer bases.global.items) none in
-    let queued = queued_by bases.journal in
-    none_whole (λ entry. entry.timer.0) (λ entry. same_class entry.class Pinned) (λ entry. same_class entry.class Global) timer queued
-    (λ entry other. one_or_other entry.class other)
-    (agreed_none bases.pinned.items (of_class Pinned queued) (consistent.agrees Pinned) timer neither.0)
-    (agreed_none bases.global.items (of_class Global queued) (consistent.agrees Global) timer neither.1)
-
-pub base_none : (class : Class) (bases : CpuBases) (timer : ℕ) → class_in timer bases ≡ None → item_of timer (base_of class bases).items ≡ None
-base_none Pinned bases timer none = (class_none (item_of timer bases.pinned.items) (item_of timer bases.global.items) none).0
-base_none Global bases timer none = (class_none (item_of timer bases.pinned.items) (item_of timer bases.global.items) none).1
-
--- forwarding keeps the clock in time
-forwarded_in_time : (time clock : ℕ) (first : Option ℕ) → time < 2 ^ 47 → clock < 2 ^ 47 → clock_forwarded time clock first < 2 ^ 47
-forwarded_in_time time clock None t c = grind (arith, nat_tests)
-forwarded_in_time time clock (Some wheel) t c = grind (arith, nat_tests)
+-- CHANGES: the base of a class is changed and an entry is written, by which these are queued
+pub keeps_changed : (class : Class) (base : PlainBase) (entry : Entry) (cpu : CpuBases)
+    (after : List Entry) → IsConsistent cpu → MayFollow entry.act (queued_by cpu.journal) entry
+    → queued_after entry.act (queued_by cpu.journal) entry ≡ after
+    → map told_by_item base.items ≡ map told_by_entry (entries_of class after)
+    → ((k : Class) → same_class class k ≡ false
+    → entries_of k after ≡ entries_of k (queued_by cpu.journal))
+    → BaseFits base → entry.wheel ≤ TIME_LIMIT → IsConsistent (changed class base entry cpu)
+keeps_changed class base entry cpu after consistent may is own others fits in_time =
+    let after_is = queued_push [] cpu.journal entry ∙ is in
+    record {
+      each_may_follow = follow_push [] cpu.journal entry consistent.each_may_follow may;
+      agrees =
+          each_with (λ k b. Agrees k b.items (cpu.journal ++ entry ∷ [])) class base cpu.bases
+          (own ∙ ap (λ q. map told_by_entry (entries_of class q)) (sym after_is))
+          (λ k other.
+          consistent.agrees k
+          ∙ ap (map told_by_entry) (sym (ap (entries_of k) after_is ∙ others k other)));
+      fits = each_with (λ k b. BaseFits b) class base cpu.bases fits (λ k other. consistent.fits k);
+      in_time = All-push (λ e. e.wheel ≤ TIME_LIMIT) cpu.journal entry consistent.in_time in_time;
+    }
 
 -- QUEUEING, by an act that is an arming
-pub keeps_queued : (act : Act) (line at time : ℕ) (class : Class) (timer expires job arg : ℕ) (by : CpuId) (bases : CpuBases)
-    → ((queued : List Entry) (entry : Entry) → arming_of entry.timer.0 queued ≡ None → MayFollow act queued entry)
-    → ((queued : List Entry) (entry : Entry) → queued_after act queued entry ≡ queued ++ entry ∷ [])
-    → IsConsistent bases → class_in timer bases ≡ None → timer < 2 ^ 16 → expires < 2 ^ 47 → time < 2 ^ 47
-    → (item_queued time class timer expires job arg bases).wheel ≤ 2 ^ 47 → IsConsistent (queued act line at time class timer expires job arg by bases)
-keeps_queued act line at time class timer expires job arg by bases follows longer consistent none timer_fits expires_fits time_fits wheel_fits =
-    let base = base_of class bases in
-    let item = item_queued time class timer expires job arg bases in
+pub keeps_queued : (act : Act) (line at time : ℕ) (class : Class) (timer expires job arg : ℕ)
+    (by : CpuId) (cpu : CpuBases)
+    → ((queued : List Entry) (entry : Entry) → arming_of entry.timer.0 queued ≡ None
+    → MayFollow act queued entry)
+    → ((queued : List Entry) (entry : Entry)
+    → queued_after act queued entry ≡ queued ++ entry ∷ [])
+    → IsConsistent cpu → class_in timer cpu ≡ None → timer < 2 ^ 16 → expires < TIME_LIMIT
+    → time < TIME_LIMIT
+    → IsConsistent (queued act line at time class timer expires job arg by cpu)
+keeps_queued act line at time class timer expires job arg by cpu follows longer consistent none
+    timer_fits expires_fits time_fits =
+    let base = base_of class cpu in
+    let item = item_queued time class timer expires job arg cpu in
     let entry = entry_of act line at class item by in
-    let before = queued_by bases.journal in
-    let after = longer before entry in
+    let before = queued_by cpu.journal in
     let fits = consistent.fits class in
-    record {
-      each_may_follow =
-          each_with class (added (forwarded time base) timer expires job arg) entry bases
-          (follow_push [] bases.journal entry consistent.each_may_follow (follows before entry (not_queued bases timer consistent none)));
-      agrees =
-          agrees_with class (added (forwarded time base) timer expires job arg) entry bases
-          (now_agrees class (base.items ++ item ∷ []) bases.journal entry (before ++ entry ∷ []) after
-          (agreed_push base.items (of_class class before) (consistent.agrees class) item entry refl
-          ∙ ap (map told_by_entry) (sym (filter-append (λ e. same_class e.class class) before (entry ∷ [])
-          ∙ ap (λ rest. of_class class before ++ rest) (cond-true (same_class class class) (entry ∷ []) [] (class_itself class))))))
-          (λ k other. still_agrees k (base_of k bases).items bases.journal entry (before ++ entry ∷ []) after
-          (filter-append (λ e. same_class e.class k) before (entry ∷ [])
-          ∙ (ap (λ rest. of_class k before ++ rest) (cond-false (same_class class k) (entry ∷ []) [] other) ∙ append-nil (of_class k before)))
-          (consistent.agrees k));
-      fits =
-          fits_with class (added (forwarded time base) timer expires job arg) entry bases
-          (record {
-            clock = forwarded_in_time time base.clock (least base.items) time_fits fits.clock;
-            items = All-push FitsCpu base.items item fits.items (record { timer = timer_fits; expires = expires_fits; wheel = wheel_fits });
-          }) consistent.fits;
-      in_time = in_time_with class (added (forwarded time base) timer expires job arg) entry bases consistent.in_time wheel_fits;
-    }
+    let near = clock-forwarded_le time base in
+    let clock_fits = fits.clock in
+    let clock : (forwarded time base).clock < TIME_LIMIT = omega arith in
+    let placed = placed_in_range (forwarded time base).clock timer expires job arg expires_fits
+    clock in
+    keeps_changed class (added timer expires job arg (forwarded time base)) entry cpu
+    (before ++ entry ∷ []) consistent (follows before entry (not_queued cpu timer consistent none))
+    (longer before entry)
+    (agreed_push base.items (entries_of class before) (consistent.agrees class) item entry refl
+    ∙ ap (map told_by_entry)
+    (sym (filter-append (λ e. same_class e.class class) before (entry ∷ [])
+    ∙ ap (λ rest. entries_of class before ++ rest)
+    (cond-true (same_class class class) (entry ∷ []) [] (class_itself class)))))
+    (λ k other.
+    filter-append (λ e. same_class e.class k) before (entry ∷ [])
+    ∙ (ap (λ rest. entries_of k before ++ rest)
+    (cond-false (same_class class k) (entry ∷ []) [] other)
+    ∙ append-nil (entries_of k before)))
+    (record {
+      clock = clock;
+      sound =
+          sound_added timer expires job arg (forwarded time base) expires_fits clock
+          (base_none cpu timer none class) fits.sound;
+      timers = All-push (λ i. i.id < 2 ^ 16) base.items item fits.timers timer_fits;
+    }) placed.wheel
 
 -- GOING, by an act that is an end
-pub keeps_gone : (act : Act) (line at : ℕ) (class : Class) (item : Item) (by : CpuId) (base : PlainBase) (bases : CpuBases)
-    → ((queued : List Entry) (entry : Entry) → EndsOne queued entry → entry.at ≡ at → entry.wheel ≡ item.wheel → MayFollow act queued entry)
-    → ((queued : List Entry) (entry : Entry) → queued_after act queued entry ≡ ended entry.timer.0 queued)
-    → IsConsistent bases → item_of item.id (base_of class bases).items ≡ Some item
-    → base.items ≡ without item.id (base_of class bases).items → base.clock < 2 ^ 47
-    → IsConsistent (gone act line at class item by base bases)
-keeps_gone act line at class item by base bases follows shorter consistent found left clock_fits =
+pub keeps_gone : (act : Act) (line at : ℕ) (class : Class) (item : Item) (by : CpuId)
+    (base : PlainBase) (cpu : CpuBases)
+    → ((queued : List Entry) (entry : Entry) → EndsOne queued entry → entry.at ≡ at
+    → entry.wheel ≡ item.wheel → MayFollow act queued entry)
+    → ((queued : List Entry) (entry : Entry)
+    → queued_after act queued entry ≡ ended entry.timer.0 queued)
+    → IsConsistent cpu → item_of item.id (base_of class cpu).items ≡ Some item
+    → base.items ≡ without item.id (base_of class cpu).items → base.clock < TIME_LIMIT
+    → IsConsistent (changed class base (entry_of act line at class item by) cpu)
+keeps_gone act line at class item by base cpu follows shorter consistent found left clock_fits =
     let entry = entry_of act line at class item by in
-    let key : Entry → ℕ = λ e. e.timer.0 in
-    let before = queued_by bases.journal in
-    let after = shorter before entry in
-    let items = (base_of class bases).items in
+    let key = λ (e : Entry). e.timer.0 in
+    let before = queued_by cpu.journal in
+    let items = (base_of class cpu).items in
     let agreed = consistent.agrees class in
-    let armed = agreed_found items (of_class class before) agreed item.id item found in
-    let arming = armed.0 in
-    let distinct = distinct_from [] bases.journal tt consistent.each_may_follow in
-    let whole = found_whole key (λ e. same_class e.class class) item.id before arming distinct armed.1 in
-    let in_class = found_kept key (λ e. same_class e.class class) item.id before arming armed.1 in
-    let class_same = class_is arming.class class in_class in
+    let fits = consistent.fits class in
+    let there = queued_item cpu class item consistent found in
     let ends : EndsOne before entry =
-    subst (λ o. IsSomeAnd o (λ a. (a.class ≡ class) × (a.wheel ≡ item.wheel))) (sym whole) (class_same, ap (λ told. told.wheel) armed.2) in
-    record {
-      each_may_follow =
-          each_with class base entry bases
-          (follow_push [] bases.journal entry consistent.each_may_follow (follows before entry ends refl refl));
-      agrees =
-          agrees_with class base entry bases
-          (now_agrees class base.items bases.journal entry (ended item.id before) after
-          (ap (map told_by_item) left
-          ∙ (agreed_gone items (of_class class before) agreed item.id
-          ∙ ap (map told_by_entry) (ended_is item.id (of_class class before)
-          ∙ (sym (kept_drop key (λ e. same_class e.class class) item.id before arming whole in_class) ∙ sym (ap (of_class class) (ended_is item.id before)))))))
-          (λ k other. still_agrees k (base_of k bases).items bases.journal entry (ended item.id before) after
-          (ap (of_class k) (ended_is item.id before)
-          ∙ kept_other key (λ e. same_class e.class k) item.id before arming whole (ap (λ c. same_class c k) class_same ∙ other))
-          (consistent.agrees k));
-      fits =
-          fits_with class base entry bases
-          (record {
-            clock = clock_fits;
-            items = subst (All FitsCpu) (sym left) (all_without FitsCpu item.id items (consistent.fits class).items);
-          }) consistent.fits;
-      in_time =
-          in_time_with class base entry bases consistent.in_time
-          (found_all (λ i. i.id) FitsCpu item.id items item (consistent.fits class).items found).wheel;
-    }
+    subst (λ o. IsSomeAnd o (λ a. (a.class ≡ class) × (a.wheel ≡ item.wheel))) (sym there.found)
+    (there.class_is, ap (λ told. told.wheel) there.told) in
+    keeps_changed class base entry cpu (ended item.id before) consistent
+    (follows before entry ends refl refl) (shorter before entry)
+    (ap (map told_by_item) left
+    ∙ (agreed_gone items (entries_of class before) agreed item.id
+    ∙ ap (map told_by_entry)
+    (ended_is item.id (entries_of class before)
+    ∙ (sym (kept_drop key (λ e. same_class e.class class) item.id before there.arming there.found
+    there.in_class)
+    ∙ sym (ap (entries_of class) (ended_is item.id before))))))
+    (λ k other.
+    ap (entries_of k) (ended_is item.id before)
+    ∙ kept_other key (λ e. same_class e.class k) item.id before there.arming there.found
+    (ap (λ c. same_class c k) there.class_is ∙ other))
+    (record {
+      clock = clock_fits;
+      sound = subst IsSound (sym left) (sound_without item.id items fits.sound);
+      timers = subst (All (λ i. i.id < 2 ^ 16)) (sym left)
+          (all_without (λ i. i.id < 2 ^ 16) item.id items fits.timers);
+    }) (item_holds IsPlaced item.id items item fits.sound.placed found).wheel
 
 -- DRAINED: nothing of the class is due
-base_written : (k : Class) (entry : Entry) (bases : CpuBases) → base_of k (written entry bases) ≡ base_of k bases
-base_written Pinned entry bases = refl
-base_written Global entry bases = refl
-
-pub keeps_ticked : (now : ℕ) (class : Class) (by : CpuId) (bases : CpuBases) → IsConsistent bases → NoneDue now (base_of class bases).items
-    → now ≤ 2 ^ 47 → IsConsistent (written (ticked_entry now class by) bases)
-keeps_ticked now class by bases consistent none now_fits =
+pub keeps_ticked : (now : ℕ) (class : Class) (by : CpuId) (cpu : CpuBases) → IsConsistent cpu
+    → NoneDue now (base_of class cpu).items → now ≤ TIME_LIMIT
+    → IsConsistent (written (ticked_entry now class by) cpu)
+keeps_ticked now class by cpu consistent none now_fits =
     let entry = ticked_entry now class by in
-    let before = queued_by bases.journal in
+    let before = queued_by cpu.journal in
     record {
       each_may_follow =
-          follow_push [] bases.journal entry consistent.each_may_follow
-          (agreed_later (base_of class bases).items (of_class class before) (consistent.agrees class) now none);
+          follow_push [] cpu.journal entry consistent.each_may_follow
+          (agreed_later (base_of class cpu).items (entries_of class before)
+          (consistent.agrees class) now none);
       agrees = λ k.
-          subst (λ base. Agrees k base.items (bases.journal ++ entry ∷ [])) (sym (base_written k entry bases))
-          (still_agrees k (base_of k bases).items bases.journal entry before refl refl (consistent.agrees k));
-      fits = λ k. subst BaseFits (sym (base_written k entry bases)) (consistent.fits k);
-      in_time = All-push (λ e. e.wheel ≤ 2 ^ 47) bases.journal entry consistent.in_time now_fits;
+          consistent.agrees k
+          ∙ ap (λ q. map told_by_entry (entries_of k q)) (sym (queued_push [] cpu.journal entry));
+      fits = consistent.fits;
+      in_time = All-push (λ e. e.wheel ≤ TIME_LIMIT) cpu.journal entry consistent.in_time now_fits;
     }

@@ -1,87 +1,35 @@
 -- the bases of a CPU as plain data, and what each call makes of them
-use Rattle.std.specs.Prelude.{ℕ, ◌+◌, ◌-◌, ◌^◌, ◌<◌, ◌≤◌, List, [], ◌∷◌, ◌++◌, Option, Some, None, All, max, nat_lt, option_map, unwrap_or, if◌then◌else◌}
-use Rattle.tm_base.specs.declared.names.TheConstants.{NEVER}
+use Rattle.std.specs.Prelude.{ℕ, zero, suc, ◌+◌, ◌^◌, ◌<◌, ◌≤◌, List, [], ◌∷◌, ◌++◌}
+use Rattle.std.specs.Prelude.{Option, Some, None, All, is_some, length, max, nat_lt}
+use Rattle.std.specs.Prelude.{option_map, unwrap_or, if◌then◌else◌}
+use Rattle.tm_base.specs.declared.names.TheConstants.{NEVER, TIME_LIMIT}
 use Rattle.tm_base.specs.declared.names.Class.{Class}
-use Rattle.tm_base.specs.declared.names.Class.TheVariants.{Pinned, Global}
+use Rattle.tm_base.specs.declared.names.Class.TheVariants.{Pinned, Global, Deferrable}
 use Rattle.tm_base.specs.declared.names.CpuId.{CpuId}
 use Rattle.wheel_core.specs.declared.item.Item.{Item}
-use Rattle.wheel_core.specs.PlainBase.{PlainBase, added, forwarded, item_of, least, next_out, placed, removed, taken}
+use Rattle.wheel_core.specs.PlainBase.{PlainBase, IsSound, added, empty_base, forwarded}
+use Rattle.wheel_core.specs.PlainBase.{item_of, least, next_out, placed, removed, taken}
 use Rattle.cpu_bases.specs.declared.entry.Act.{Act}
-use Rattle.cpu_bases.specs.declared.entry.Act.TheVariants.{Armed, Handed, Cancelled, MovedOut, MovedIn, Ticked}
+use Rattle.cpu_bases.specs.declared.entry.Act.TheVariants as acts
 use Rattle.cpu_bases.specs.declared.entry.Entry.{Entry}
 use Rattle.cpu_bases.specs.declared.entry.NextEvents.{NextEvents}
+use Rattle.cpu_bases.specs.ByClass.{ByClass, of_class, with_class}
 use Rattle.cpu_bases.specs.Journals.{Agrees, EachMayFollow}
 
--- two plain bases, and the journal of what was done to them
+-- a plain base for each class, and the journal of what was done to them
 pub record CpuBases : Type 0 where
-  pub pinned : PlainBase
-  pub global : PlainBase
+  pub bases : ByClass PlainBase
   pub journal : List Entry
 
--- how many more timers and entries there is memory for
-pub record Room : Type 0 where
-  pub pinned : ℕ
-  pub global : ℕ
-  pub entries : ℕ
-
--- what a caller sees
-pub record RoomyBases : Type 0 where
-  pub plain : CpuBases
-  pub room : Room
-
 abbrev pub base_of : Class → CpuBases → PlainBase
-base_of Pinned bases = bases.pinned
-base_of Global bases = bases.global
+base_of class cpu = of_class class cpu.bases
 
-abbrev pub with_base : Class → PlainBase → CpuBases → CpuBases
-with_base Pinned base bases = record bases { pinned = base }
-with_base Global base bases = record bases { global = base }
-
-abbrev pub room_of : Class → Room → ℕ
-room_of Pinned room = room.pinned
-room_of Global room = room.global
-
--- the room after an entry, and after an entry by which a timer came or went
-abbrev pub room_written : Room → Room
-room_written room = record room { entries = room.entries - 1 }
-
-abbrev pub room_queued : Class → Room → Room
-room_queued Pinned room = record { pinned = room.pinned - 1; global = room.global; entries = room.entries - 1 }
-room_queued Global room = record { pinned = room.pinned; global = room.global - 1; entries = room.entries - 1 }
-
-abbrev pub room_gone : Class → Room → Room
-room_gone Pinned room = record { pinned = room.pinned + 1; global = room.global; entries = room.entries - 1 }
-room_gone Global room = record { pinned = room.pinned; global = room.global + 1; entries = room.entries - 1 }
-
--- the room after an item of a class went out by an entry, or none did
-abbrev pub room_out : Option (Class × Item) → Room → Room
-room_out None room = room
-room_out (Some (class, item)) room = room_gone class room
-
-abbrev pub room_out_of : Class → Option Item → Room → Room
-room_out_of class None room = room
-room_out_of class (Some item) room = room_gone class room
-
--- and after a hand-out, by which an entry is written in either case
-abbrev pub room_handed_out : Class → Option Item → Room → Room
-room_handed_out class None room = room_written room
-room_handed_out class (Some item) room = room_gone class room
-
--- the room after so much was asked for
-abbrev pub room_reserved : (timers entries : ℕ) → Room → Room
-room_reserved timers entries room =
-    record { pinned = max room.pinned timers; global = max room.global timers; entries = max room.entries entries }
-
--- room for so many timers in each base, and for so many entries
-pub record HasRoom (timers entries : ℕ) (room : Room) : Type 0 where
-  pub pinned : timers ≤ room.pinned
-  pub global : timers ≤ room.global
-  pub journal : entries ≤ room.entries
-
-pub record NoLessRoom (old new : Room) : Type 0 where
-  pub pinned : old.pinned ≤ new.pinned
-  pub global : old.global ≤ new.global
-  pub journal : old.entries ≤ new.entries
+-- nothing queued and nothing written, at the start of time
+abbrev pub empty_bases : CpuBases
+empty_bases = record {
+  bases = record { pinned = empty_base; global = empty_base; deferrable = empty_base };
+  journal = [];
+}
 
 -- ENTRIES: what an act on an item is written as
 abbrev pub entry_of : Act → (line at : ℕ) → Class → Item → CpuId → Entry
@@ -98,10 +46,10 @@ entry_of act line at class item by = record {
   by = by;
 }
 
--- and that a base was drained
+-- and that the base of a class was drained
 abbrev pub ticked_entry : (at : ℕ) → Class → CpuId → Entry
 ticked_entry at class by = record {
-  act = Ticked;
+  act = acts.Ticked;
   line = 0;
   at = at;
   timer = record { 0 = 0 };
@@ -114,93 +62,158 @@ ticked_entry at class by = record {
 }
 
 abbrev pub written : Entry → CpuBases → CpuBases
-written entry bases = record bases { journal = bases.journal ++ entry ∷ [] }
+written entry cpu = record cpu { journal = cpu.journal ++ entry ∷ [] }
 
--- QUEUEING: a base is forwarded to a time, and a timer is added to it
+-- a change of the base of a class, and the entry that tells it
+abbrev pub changed : Class → PlainBase → Entry → CpuBases → CpuBases
+changed class base entry cpu = record {
+  bases = with_class class base cpu.bases;
+  journal = cpu.journal ++ entry ∷ [];
+}
+
+-- QUEUEING: the base of a class is forwarded to a time, and a timer is added to it
 abbrev pub item_queued : (time : ℕ) → Class → (timer expires job arg : ℕ) → CpuBases → Item
-item_queued time class timer expires job arg bases =
-    placed (forwarded time (base_of class bases)).clock timer expires job arg
+item_queued time class timer expires job arg cpu =
+    placed (forwarded time (base_of class cpu)).clock timer expires job arg
 
-abbrev pub queued : (act : Act) (line at time : ℕ) → Class → (timer expires job arg : ℕ) → CpuId → CpuBases → CpuBases
-queued act line at time class timer expires job arg by bases =
-    written (entry_of act line at class (item_queued time class timer expires job arg bases) by)
-    (with_base class (added (forwarded time (base_of class bases)) timer expires job arg) bases)
+abbrev pub queued : Act → (line at time : ℕ) → Class → (timer expires job arg : ℕ) → CpuId
+    → CpuBases → CpuBases
+queued act line at time class timer expires job arg by cpu =
+    changed class (added timer expires job arg (forwarded time (base_of class cpu)))
+    (entry_of act line at class (item_queued time class timer expires job arg cpu) by) cpu
 
--- arming at a time, and moving in, for which the base is forwarded to the next jiffy
-abbrev pub armed : (now : ℕ) → Class → (timer expires job arg line : ℕ) → CpuId → CpuBases → CpuBases
-armed now class timer expires job arg line by bases = queued Armed line now now class timer expires job arg by bases
+-- arming, for which the base is forwarded to now
+abbrev pub armed : (now : ℕ) → Class → (timer expires job arg line : ℕ) → CpuId
+    → CpuBases → CpuBases
+armed now class timer expires job arg line by cpu =
+    queued acts.Armed line now now class timer expires job arg by cpu
 
-abbrev pub moved_in : (now : ℕ) → Class → (timer expires job arg : ℕ) → CpuId → CpuBases → CpuBases
-moved_in now class timer expires job arg by bases = queued MovedIn 0 now (now + 1) class timer expires job arg by bases
+-- moving in, for which it is forwarded to the next jiffy
+abbrev pub moved_in : (now : ℕ) → Class → (timer expires job arg : ℕ) → CpuId
+    → CpuBases → CpuBases
+moved_in now class timer expires job arg by cpu =
+    queued acts.MovedIn 0 now (now + 1) class timer expires job arg by cpu
 
--- GOING: an item goes out of its base, which is left as given, or nothing goes
-abbrev pub gone : (act : Act) (line at : ℕ) → Class → Item → CpuId → PlainBase → CpuBases → CpuBases
-gone act line at class item by base bases = written (entry_of act line at class item by) (with_base class base bases)
-
--- the class of a queued timer with its item
-abbrev pub first_of : Option Item → Option Item → Option (Class × Item)
-first_of (Some item) other = Some (Pinned, item)
-first_of None (Some item) = Some (Global, item)
-first_of None None = None
+-- LOOKING UP: the class and item of a queued timer
+abbrev pub found_or : Class → Option Item → Option (Class × Item) → Option (Class × Item)
+found_or class (Some item) others = Some (class, item)
+found_or class None others = others
 
 abbrev pub found_in : (timer : ℕ) → CpuBases → Option (Class × Item)
-found_in timer bases = first_of (item_of timer bases.pinned.items) (item_of timer bases.global.items)
+found_in timer cpu =
+    found_or Pinned (item_of timer cpu.bases.pinned.items)
+    (found_or Global (item_of timer cpu.bases.global.items)
+    (found_or Deferrable (item_of timer cpu.bases.deferrable.items) None))
 
 abbrev pub class_in : (timer : ℕ) → CpuBases → Option Class
-class_in timer bases = option_map (λ found. found.0) (found_in timer bases)
+class_in timer cpu = option_map (λ found. found.0) (found_in timer cpu)
 
 abbrev pub item_in : (timer : ℕ) → CpuBases → Option Item
-item_in timer bases = option_map (λ found. found.1) (found_in timer bases)
+item_in timer cpu = option_map (λ found. found.1) (found_in timer cpu)
 
--- cancelling: the timer goes out of the base that it is in
-abbrev pub after_cancel : Option (Class × Item) → (now timer line : ℕ) → CpuId → CpuBases → CpuBases
-after_cancel None now timer line by bases = bases
-after_cancel (Some (class, item)) now timer line by bases = gone Cancelled line now class item by (removed timer (base_of class bases)) bases
+-- CANCELLING: the timer goes out of the base that it is in
+abbrev pub after_cancel : Option (Class × Item) → (now line : ℕ) → CpuId → CpuBases → CpuBases
+after_cancel None now line by cpu = cpu
+after_cancel (Some (class, item)) now line by cpu =
+    changed class (removed item.id (base_of class cpu))
+    (entry_of acts.Cancelled line now class item by) cpu
 
 abbrev pub cancelled : (now timer line : ℕ) → CpuId → CpuBases → CpuBases
-cancelled now timer line by bases = after_cancel (found_in timer bases) now timer line by bases
+cancelled now timer line by cpu = after_cancel (found_in timer cpu) now line by cpu
 
--- handing out: the next due item goes out, or the base counts as drained
+-- HANDING OUT: the next due item goes out, or the base counts as drained
 abbrev pub after_hand_out : Option Item → (now : ℕ) → Class → CpuId → CpuBases → CpuBases
-after_hand_out None now class by bases = written (ticked_entry now class by) bases
-after_hand_out (Some item) now class by bases = gone Handed 0 now class item by (taken now (base_of class bases)) bases
+after_hand_out None now class by cpu = written (ticked_entry now class by) cpu
+after_hand_out (Some item) now class by cpu =
+    changed class (taken now (base_of class cpu)) (entry_of acts.Handed 0 now class item by) cpu
 
 abbrev pub handed_out : (now : ℕ) → Class → CpuId → CpuBases → CpuBases
-handed_out now class by bases = after_hand_out (next_out now (base_of class bases)) now class by bases
+handed_out now class by cpu =
+    after_hand_out (next_out now (base_of class cpu)) now class by cpu
 
--- moving out: the first item in arming order goes out
+-- a whole drain, of at most so many items: item by item as long as one is due, then `Ticked`
+abbrev pub drained : (most now : ℕ) → Class → CpuId → CpuBases → CpuBases
+drained zero now class by cpu = handed_out now class by cpu
+drained (suc most) now class by cpu =
+    let after = handed_out now class by cpu in
+    if is_some (next_out now (base_of class cpu)) then drained most now class by after else after
+
+-- MOVING OUT: the first item in arming order goes out
 abbrev pub oldest_in : List Item → Option Item
 oldest_in [] = None
 oldest_in (item ∷ items) = Some item
 
 abbrev pub after_move_out : Option Item → (now : ℕ) → Class → CpuId → CpuBases → CpuBases
-after_move_out None now class by bases = bases
-after_move_out (Some item) now class by bases = gone MovedOut 0 now class item by (removed item.id (base_of class bases)) bases
+after_move_out None now class by cpu = cpu
+after_move_out (Some item) now class by cpu =
+    changed class (removed item.id (base_of class cpu))
+    (entry_of acts.MovedOut 0 now class item by) cpu
 
 abbrev pub moved_out : (now : ℕ) → Class → CpuId → CpuBases → CpuBases
-moved_out now class by bases = after_move_out (oldest_in (base_of class bases).items) now class by bases
+moved_out now class by cpu = after_move_out (oldest_in (base_of class cpu).items) now class by cpu
 
--- FIRST EVENTS: the least wheel expiries, and the global one where it comes before the pinned one
+-- FIRST EVENTS: the least wheel expiries of the pinned and the global base, and the global one
+-- where it comes before the pinned one
+abbrev pub first_of : Class → CpuBases → ℕ
+first_of class cpu = unwrap_or (least (base_of class cpu).items) NEVER
+
 abbrev pub events_of : CpuBases → NextEvents
-events_of bases =
-    let pin = unwrap_or (least bases.pinned.items) NEVER in
-    let first_global = unwrap_or (least bases.global.items) NEVER in
-    record { pin = pin; first_global = first_global; next = if nat_lt first_global pin then first_global else NEVER }
+events_of cpu =
+    let pin = first_of Pinned cpu in
+    let first_global = first_of Global cpu in
+    record {
+      pin = pin;
+      first_global = first_global;
+      next = if nat_lt first_global pin then first_global else NEVER;
+    }
 
--- an item's timer and expiries are in range
-pub record FitsCpu (item : Item) : Type 0 where
-  pub timer : item.id < 2 ^ 16
-  pub expires : item.expires < 2 ^ 47
-  pub wheel : item.wheel ≤ 2 ^ 47
-
--- a base's clock and items are in range
+-- WHAT IS KEPT: a base's clock and items are in range, and no timer is queued twice
 pub record BaseFits (base : PlainBase) : Type 0 where
-  pub clock : base.clock < 2 ^ 47
-  pub items : All FitsCpu base.items
+  pub clock : base.clock < TIME_LIMIT
+  pub sound : IsSound base.items
+  pub timers : All (λ item. item.id < 2 ^ 16) base.items
 
 -- what a CPU's bases keep, whatever times their calls are given
-pub record IsConsistent (bases : CpuBases) : Type 0 where
-  pub each_may_follow : EachMayFollow [] bases.journal
-  pub agrees : (class : Class) → Agrees class (base_of class bases).items bases.journal
-  pub fits : (class : Class) → BaseFits (base_of class bases)
-  pub in_time : All (λ entry. entry.wheel ≤ 2 ^ 47) bases.journal
+pub record IsConsistent (cpu : CpuBases) : Type 0 where
+  pub each_may_follow : EachMayFollow [] cpu.journal
+  pub agrees : (class : Class) → Agrees class (base_of class cpu).items cpu.journal
+  pub fits : (class : Class) → BaseFits (base_of class cpu)
+  pub in_time : All (λ entry. entry.wheel ≤ TIME_LIMIT) cpu.journal
+
+-- a base's clock isn't past the next jiffy
+abbrev pub NotAhead : (now : ℕ) → PlainBase → Type 0
+NotAhead now base = base.clock ≤ now + 1
+
+-- ROOM: for how many timers each base has memory, and for how many entries the journal has
+pub record Room : Type 0 where
+  pub timers : ℕ
+  pub entries : ℕ
+
+-- what a caller sees
+pub record RoomyBases : Type 0 where
+  pub plain : CpuBases
+  pub room : Room
+
+-- a change that takes no memory and gives none back
+abbrev pub on_bases : (CpuBases → CpuBases) → RoomyBases → RoomyBases
+on_bases change all = record all { plain = change all.plain }
+
+abbrev pub most_queued : ByClass PlainBase → ℕ
+most_queued bases =
+    max (length bases.pinned.items)
+    (max (length bases.global.items) (length bases.deferrable.items))
+
+-- after room for so many more timers in each base and so many more entries was asked for
+abbrev pub with_room : (timers entries : ℕ) → RoomyBases → RoomyBases
+with_room timers entries all = record {
+  plain = all.plain;
+  room = record {
+    timers = max all.room.timers (most_queued all.plain.bases + timers);
+    entries = max all.room.entries (length all.plain.journal + entries);
+  };
+}
+
+-- room for so many more timers in each base, and for so many more entries
+pub record HasRoom (timers entries : ℕ) (all : RoomyBases) : Type 0 where
+  pub in_bases : most_queued all.plain.bases + timers ≤ all.room.timers
+  pub in_journal : length all.plain.journal + entries ≤ all.room.entries

@@ -1,4 +1,7 @@
+pub mod ByClass
 pub mod Journals
 pub mod CpuBases
-pub mod TwoBases
+pub mod Trio
+pub mod Replay
+pub mod Laws
 pub mod Calls

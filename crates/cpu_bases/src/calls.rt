@@ -1,9 +1,12 @@
 //! Any list of calls on the bases of a CPU.
 
 ghost use Rattle.std.specs.Prelude.{◌≡◌, ℕ, ◌≤◌, IfOk, OnOk, OnErr};
-ghost use Rattle.cpu_bases.specs.Calls.{MayCall, MayCallAll, StandsAfterSome, StaysLegal, after, after_all, answer_of, answers_to, time_of};
+ghost use Rattle.cpu_bases.specs.Calls.{IsByRight, MayCall, MayCallAll, StandsAfterSome};
+ghost use Rattle.cpu_bases.specs.Calls.{StaysLegal, after, after_all, answer_of, answers_to};
+ghost use Rattle.cpu_bases.specs.Calls.{time_of};
 ghost use Rattle.cpu_bases.specs.CpuBases.{IsConsistent};
 ghost use Rattle.cpu_bases.specs.Journals.{LegalUpTo};
+ghost use Rattle.cpu_bases.specs.Replay.{AddsReplay, KeepsReplay};
 
 use crate::{Bases, NextEvents};
 use std::alloc::Global;
@@ -76,8 +79,11 @@ fn make_call<B: TimerBase>(bases: &mut Bases<B>, call: &BasesCall) -> Result<Bas
     requires { MayCall call.now bases.old }
     ensures answer { IfOk result (λ answer. answer ≡ answer_of call.now bases.old.plain) }
     ensures after { OnOk result (bases.new ≡ after call.now bases.old) }
-    ensures err { OnErr result (bases.new.plain ≡ bases.old.plain) }
-    ensures legal { (time : ℕ) → time ≤ time_of call.now time → LegalUpTo time bases.old.plain.journal → LegalUpTo (time_of call.now time) bases.new.plain.journal }
+    ensures err { OnErr result (bases.new ≡ bases.old) }
+    ensures replay { AddsReplay bases.old.plain bases.new.plain }
+    ensures legal { (cpu time : ℕ) → time ≤ time_of call.now time → IsByRight cpu call.now
+        → LegalUpTo cpu time bases.old.plain.journal
+        → LegalUpTo cpu (time_of call.now time) bases.new.plain.journal }
 {
     Ok(match *call {
         BasesCall::Reserve { timers, entries } => {
@@ -116,10 +122,11 @@ fn make_call<B: TimerBase>(bases: &mut Bases<B>, call: &BasesCall) -> Result<Bas
     })
 }
 
-/// Makes calls in order, and answers what each answered: the same as two plain bases and a journal would. The bases
-/// agree with the journal then, and where the journal was legal and each call is given a time that isn't before the
-/// last, it still is. Want of memory comes from a `reserve` or from the list of answers; the calls before it were
-/// made.
+/// Makes calls in order, and answers what each answered: the same as three plain bases and a
+/// journal would. The bases agree with the journal then and are its replay; and where the journal
+/// was legal, each call is given a time that isn't before the last, and a CPU's pinned and
+/// deferrable timers are handed out by itself, it still is. Want of memory comes from a `reserve`
+/// or from the list of answers; the calls before it were made.
 pub fn make_calls<B: TimerBase>(
     alloc: Global,
     bases: &mut Bases<B>,
@@ -130,7 +137,8 @@ pub fn make_calls<B: TimerBase>(
     ensures after { OnOk result (bases.new ≡ after_all calls.now bases.old) }
     ensures consistent { OnOk result (IsConsistent bases.new.plain) }
     ensures legal { OnOk result (StaysLegal calls.now bases.old.plain bases.new.plain) }
-    ensures err { OnErr result (StandsAfterSome calls.now bases.old bases.new.plain) }
+    ensures replay { KeepsReplay bases.old.plain bases.new.plain }
+    ensures err { OnErr result (StandsAfterSome calls.now bases.old bases.new) }
 {
     let mut answers = Vec::new(alloc);
     answers.reserve(calls.len())?;

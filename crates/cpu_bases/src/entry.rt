@@ -19,8 +19,8 @@ pub enum Act {
     Ticked,
 }
 
-/// An entry of a journal. Of `Ticked` the timer, `expires`, `job` and `arg` are 0, and `wheel` is `at`; of every
-/// other act `expires`, `wheel`, `job` and `arg` are those of the timer's item.
+/// An entry of a journal. Of `Ticked` the timer, `expires`, `job` and `arg` are 0, and `wheel` is
+/// `at`; of every other act `expires`, `wheel`, `job` and `arg` are those of the timer's item.
 #[derive(Clone, Copy, Debug, PartialEq, Eq)]
 pub struct Entry {
     pub act: Act,
@@ -43,13 +43,15 @@ pub struct Entry {
     pub by: CpuId,
 }
 
-/// The first events of a CPU, in jiffies; `NEVER` where there is none.
+/// The first events of a CPU, in jiffies; `NEVER` where there is none. Deferrable timers are no
+/// events: they neither wake a CPU nor keep it from idling.
 #[derive(Clone, Copy, Debug, PartialEq, Eq)]
 pub struct NextEvents {
     /// The least wheel expiry of the pinned base.
     pub pin: Jiffy,
     /// The least wheel expiry of the global base.
     pub first_global: Jiffy,
-    /// The event that the CPU has in the hierarchy: `first_global` where it comes before `pin`, else `NEVER`.
+    /// The event that the CPU has in the hierarchy: `first_global` where it comes before `pin`,
+    /// else `NEVER`.
     pub next: Jiffy,
 }

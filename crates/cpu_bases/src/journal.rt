@@ -1,6 +1,7 @@
 //! Journals.
 
-ghost use Rattle.std.specs.Prelude.{◌≡◌, ◌-◌, ◌<◌, ◌≤◌, ◌∷◌, ◌++◌, [], IsOk, OnOk, OnErr, length, max, slice_get};
+ghost use Rattle.std.specs.Prelude.{◌≡◌, ◌+◌, ◌<◌, ◌≤◌, ◌∷◌, ◌++◌, [], length, max, slice_get};
+ghost use Rattle.std.specs.Prelude.{IsOk, OnOk, OnErr};
 ghost use Rattle.std.specs.Option.{option_copied};
 
 use crate::Entry;
@@ -12,28 +13,29 @@ use tm_base::NoMemory;
 #[derive(Drop)]
 pub struct Journal {
     entries: Vec<Entry>,
-    spare: usize,
+    capacity: usize,
 }
 
 impl Model for Journal {
-    ghost use Rattle.std.specs.Prelude.{◌+◌, ◌≤◌, vec_capacity, vec_len};
+    ghost use Rattle.std.specs.Prelude.{◌≤◌, vec_capacity, vec_len};
     ghost use Rattle.cpu_bases.specs.Journals.{RoomyJournal};
 
     ghost Value = { RoomyJournal };
 
-    ghost view = { λ j. record { entries = j.entries.items; spare = j.spare } };
+    ghost view = { λ j. record { entries = j.entries.items; capacity = j.capacity } };
 
-    ghost invariant = { λ j. vec_len j.entries + j.spare ≤ vec_capacity j.entries };
+    ghost invariant = { (λ j. (vec_len j.entries ≤ j.capacity)
+        × (j.capacity ≤ vec_capacity j.entries)) };
 }
 
 impl Journal {
     /// An empty journal, with room for no entry; it takes no memory.
     pub fn new(alloc: Global) -> Journal
-        ensures { result ≡ record { entries = []; spare = 0 } }
+        ensures { result ≡ record { entries = []; capacity = 0 } }
     {
         Journal {
             entries: Vec::new(alloc),
-            spare: 0,
+            capacity: 0,
         }
     }
 
@@ -53,34 +55,37 @@ impl Journal {
 
     /// Adds an entry at the end. Want of memory leaves the journal as it was.
     pub fn push(&mut self, item: Entry) -> Result<(), NoMemory>
-        ensures enough { 0 < self.old.spare → IsOk result }
+        ensures enough { length self.old.entries < self.old.capacity → IsOk result }
         ensures entries { OnOk result (self.new.entries ≡ self.old.entries ++ item ∷ []) }
-        ensures spare { OnOk result (self.new.spare ≡ self.old.spare - 1) }
+        ensures capacity { OnOk result
+            (self.new.capacity ≡ max self.old.capacity (length self.old.entries + 1)) }
         ensures err { OnErr result (self.new ≡ self.old) }
     {
-        self.entries.push(item)?;
-        self.spare = self.spare.saturating_sub(1);
+        self.reserve(1)?;
+        self.write(item);
         Ok(())
     }
 
     /// Adds an entry for which there is room.
     pub(crate) fn write(&mut self, entry: Entry)
-        requires { 0 < self.old.spare }
-        ensures { self.new ≡ record { entries = self.old.entries ++ entry ∷ []; spare = self.old.spare - 1 } }
+        requires { length self.old.entries < self.old.capacity }
+        ensures entries { self.new.entries ≡ self.old.entries ++ entry ∷ [] }
+        ensures capacity { self.new.capacity ≡ self.old.capacity }
     {
         self.entries.push(entry).unwrap();
-        self.spare -= 1;
     }
 
-    /// Takes memory for `n` more entries, where there is less. Want of memory leaves the journal as it was.
+    /// Takes memory for `n` more entries, where there is less. Want of memory leaves the journal
+    /// as it was.
     pub(crate) fn reserve(&mut self, n: usize) -> Result<(), NoMemory>
-        ensures enough { n ≤ self.old.spare → IsOk result }
+        ensures enough { length self.old.entries + n ≤ self.old.capacity → IsOk result }
         ensures entries { self.new.entries ≡ self.old.entries }
-        ensures ok { OnOk result (self.new.spare ≡ max self.old.spare n) }
-        ensures err { OnErr result (self.new.spare ≡ self.old.spare) }
+        ensures ok { OnOk result
+            (self.new.capacity ≡ max self.old.capacity (length self.old.entries + n)) }
+        ensures err { OnErr result (self.new ≡ self.old) }
     {
         self.entries.reserve(n)?;
-        self.spare = self.spare.max(n);
+        self.capacity = self.capacity.max(self.entries.len() + n);
         Ok(())
     }
 }

@@ -1,16 +1,19 @@
-//! The timer bases of one CPU: one for pinned timers, one for global ones, and the journal of what was done to them.
+//! The timer bases of one CPU, one for each class of timers, and the journal of what was done to
+//! them.
 #![tactic(auto)]
 
 mod bases;
 mod calls;
 mod entry;
 mod journal;
-mod pair;
+mod laws;
+mod trio;
 
 pub use bases::Bases;
 pub use calls::{BasesAnswer, BasesCall, make_calls};
 pub use entry::{Act, Entry, NextEvents};
 pub use journal::Journal;
+pub use laws::{law_bases, law_calls, law_journals};
 
 #[cfg(test)]
 mod tests;

@@ -1,27 +1,60 @@
-use Rattle.std.proofs.Common.{◌≡◌, None, refl, subst, sym, arith}
+use Rattle.std.proofs.Common.{◌≡◌, subst, sym, arith}
+use Rattle.wheel_core.specs.PlainBase.{added, forwarded}
 use Rattle.cpu_bases.specs.declared.entry.Act.TheVariants.{Armed}
-use Rattle.cpu_bases.specs.CpuBases.{class_in}
-use Rattle.cpu_bases.specs.Journals.{LegalUpTo}
-use Rattle.cpu_bases.specs.TwoBases.{plain_of}
-use Rattle.cpu_bases.proofs.Steps.{Steps, clock_fits, queue_steps}
+use Rattle.cpu_bases.specs.CpuBases.{IsConsistent, armed}
+use Rattle.cpu_bases.specs.Laws.{Keeps, MayQueue}
+use Rattle.cpu_bases.specs.Trio.{plain_of}
+use Rattle.cpu_bases.proofs.Keeping.{arming_keeps}
+use Rattle.cpu_bases.proofs.Steps.{kept_so, stored_queued}
 use Rattle.cpu_bases.proofs.bases.Bases.arm.Goals as goal
 
-pub queue-item-requires-clause-clock_in_time : goal.queue-item-requires-clause-clock_in_time
-queue-item-requires-clause-clock_in_time g c = clock_fits c.args.class c.self.inside.two c.self.inside.journal c.self.invariant
+-- the bases as they were, and what was done to them
+law : (g : _) (c : goal.After-write g)
+    → let old = plain_of c.self.inside.trio c.self.inside.journal.entries in
+    let new = armed c.args.now c.args.class c.from-id.result c.args.expires c.args.job c.args.arg
+    c.args.line c.args.by old in
+    IsConsistent new × Keeps c.args.now old new
+law g c =
+    let asked : MayQueue c.args.now c.args.class c.args.timer.0 c.args.expires
+    c.args.self.now.plain = record {
+      now_in_time = c.requires.now_in_time;
+      expires_in_time = c.requires.expires_in_time;
+      timer_fits = omega arith;
+      not_queued = c.requires.not_queued;
+      none_behind = c.requires.none_behind;
+    } in
+    let may =
+    subst (λ b. MayQueue c.args.now c.args.class c.from-id.result c.args.expires b.plain)
+    (sym c.self.view_is)
+    (subst (λ t. MayQueue c.args.now c.args.class t c.args.expires c.args.self.now.plain)
+    (sym c.from-id.ensures) asked) in
+    arming_keeps c.args.now c.args.class c.from-id.result c.args.expires c.args.job c.args.arg
+    c.args.line c.args.by
+    (plain_of c.self.inside.trio c.self.inside.journal.entries) c.self.invariant.consistent may
 
-step : (g : _) (c : goal.After-write g) → Steps c.args.now c.queue-item.new.self c.self.inside.journal c.write.new.self
-step g c =
-    let none = subst (λ b. class_in c.args.timer.0 b.plain ≡ None) (sym c.self.view_is) c.requires.not_queued in
-    let timer = c.from.ensures in
-    queue_steps Armed c.args.line c.args.now c.args.now c.args.class c.from.result c.args.expires c.args.job c.args.arg c.args.by
-    c.self.inside.two c.queue-item.new.self c.self.inside.journal c.write.new.self c.queue-item.result c.entry_for.result
-    (λ _ _ none. none) (λ _ _. refl) c.self.invariant
-    (subst (λ t. class_in t (plain_of c.self.inside.two c.self.inside.journal) ≡ None) (sym timer) none)
-    (omega arith) c.requires.expires_in_time (omega arith) c.queue-item.ensures.keeps_time.in_time
-    c.queue-item.ensures.item c.queue-item.ensures.after c.entry_for.ensures c.write.ensures
+became : (g : _) (c : goal.After-write g)
+    → plain_of c.queue-item.new.self c.write.new.self.entries
+    ≡ armed c.args.now c.args.class c.from-id.result c.args.expires c.args.job c.args.arg
+    c.args.line c.args.by
+    (plain_of c.self.inside.trio c.self.inside.journal.entries)
+became g c =
+    stored_queued Armed c.args.line c.args.now c.args.now c.args.class c.from-id.result
+    c.args.expires
+    c.args.job c.args.arg c.args.by c.self.inside.trio c.queue-item.new.self
+    c.self.inside.journal.entries c.write.new.self.entries c.queue-item.result c.entry_for.result
+    c.queue-item.ensures.item c.queue-item.ensures.after c.entry_for.ensures c.write.ensures.entries
 
 pub invariant_of-self : goal.invariant_of-self
-invariant_of-self g c = (step g c).consistent
+invariant_of-self g c =
+    kept_so c.self.inside.timers c.args.class
+    (λ b. added c.from-id.result c.args.expires c.args.job c.args.arg (forwarded c.args.now b))
+    c.self.inside.trio c.queue-item.new.self
+    c.self.inside.journal.entries c.write.new.self.entries _ c.self.invariant
+    c.queue-item.ensures.after (became g c) (law g c).0
 
-pub returns-clause-legal : goal.returns-clause-legal
-returns-clause-legal g c = λ upto. (step g c).legal (subst (λ b. LegalUpTo c.args.now b.plain.journal) (sym c.self.view_is) upto)
+pub returns-clause-keeps : goal.returns-clause-keeps
+returns-clause-keeps g c =
+    subst (λ b. Keeps c.args.now b.plain (plain_of c.queue-item.new.self c.write.new.self.entries))
+    c.self.view_is
+    (subst (Keeps c.args.now (plain_of c.self.inside.trio c.self.inside.journal.entries))
+    (sym (became g c)) (law g c).1)

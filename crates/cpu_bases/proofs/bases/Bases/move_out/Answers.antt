@@ -1,28 +1,41 @@
-use Rattle.std.proofs.Common.{ap, subst, sym, ◌∙◌, refl}
+use Rattle.std.proofs.Common.{◌≡◌, subst, sym}
+use Rattle.cpu_bases.specs.CpuBases.{moved_out}
+use Rattle.cpu_bases.specs.ByClass.{of_class}
+use Rattle.cpu_bases.specs.Laws.{Keeps}
+use Rattle.cpu_bases.specs.Trio.{plain_of}
 use Rattle.wheel_core.specs.PlainBase.{removed}
-use Rattle.cpu_bases.specs.declared.entry.Act.TheVariants.{MovedOut}
-use Rattle.cpu_bases.specs.Journals.{LegalUpTo}
-use Rattle.cpu_bases.specs.TwoBases.{roomy_of, with_roomy}
-use Rattle.cpu_bases.proofs.Steps.{Steps, clock_fits, found_fits, gone_steps, oldest_is}
+use Rattle.cpu_bases.proofs.Keeping.{moving_out_keeps, oldest_found}
+use Rattle.cpu_bases.proofs.Steps.{id_fits, kept_so, stored_oldest}
 use Rattle.cpu_bases.proofs.bases.Bases.move_out.Goals as goal
 
 pub entry_for-requires : goal.entry_for-requires
 entry_for-requires g c =
-    let oldest = oldest_is (roomy_of c.args.class c.self.inside.two).plain.items c.in-Some.item c.in-Some.ensures.item in
-    found_fits c.args.class c.self.inside.two c.self.inside.journal c.in-Some.item.id c.in-Some.item c.self.invariant oldest.found
+    id_fits c.args.class c.in-Some.item c.self.inside.trio c.self.inside.journal.entries
+    c.self.invariant.consistent
+    (oldest_found (of_class c.args.class c.self.inside.trio).plain.items c.in-Some.item
+    (sym c.in-Some.ensures.item))
 
-step : (g : _) (c : goal.After-write g) → Steps c.args.now c.take_oldest.new.self c.self.inside.journal c.write.new.self
-step g c =
-    let base = roomy_of c.args.class c.self.inside.two in
-    let oldest = oldest_is base.plain.items c.in-Some.item c.in-Some.ensures.item in
-    gone_steps MovedOut 0 c.args.now c.args.class c.in-Some.item c.args.by (removed c.in-Some.item.id base.plain) _
-    c.self.inside.two c.take_oldest.new.self c.self.inside.journal c.write.new.self c.entry_for.result
-    (λ _ _ ends _ _. ends) (λ _ _. refl) c.self.invariant oldest.found refl
-    (clock_fits c.args.class c.self.inside.two c.self.inside.journal c.self.invariant)
-    (c.in-Some.ensures.after ∙ ap (λ b. with_roomy c.args.class b c.self.inside.two) (oldest.rest base)) c.entry_for.ensures c.write.ensures
+became : (g : _) (c : goal.After-write g)
+    → plain_of c.take_oldest.new.self c.write.new.self.entries
+    ≡ moved_out c.args.now c.args.class c.args.by
+    (plain_of c.self.inside.trio c.self.inside.journal.entries)
+became g c =
+    stored_oldest c.args.now c.args.class c.args.by c.self.inside.trio c.take_oldest.new.self
+    c.self.inside.journal.entries c.write.new.self.entries c.in-Some.item c.entry_for.result
+    c.in-Some.ensures.item c.in-Some.ensures.after c.entry_for.ensures c.write.ensures.entries
 
 pub invariant_of-self-2 : goal.invariant_of-self-2
-invariant_of-self-2 g c = (step g c).consistent
+invariant_of-self-2 g c =
+    let cpu = plain_of c.self.inside.trio c.self.inside.journal.entries in
+    kept_so c.self.inside.timers c.args.class (removed c.in-Some.item.id) c.self.inside.trio
+    c.take_oldest.new.self c.self.inside.journal.entries c.write.new.self.entries _
+    c.self.invariant c.in-Some.ensures.after (became g c)
+    (moving_out_keeps c.args.now c.args.class c.args.by cpu c.self.invariant.consistent).0
 
-pub returns-clause-legal : goal.returns-clause-legal
-returns-clause-legal g c = λ upto. (step g c).legal (subst (λ b. LegalUpTo c.args.now b.plain.journal) (sym c.self.view_is) upto)
+pub returns-clause-keeps : goal.returns-clause-keeps
+returns-clause-keeps g c =
+    let cpu = plain_of c.self.inside.trio c.self.inside.journal.entries in
+    subst (λ b. Keeps c.args.now b.plain (plain_of c.take_oldest.new.self c.write.new.self.entries))
+    c.self.view_is
+    (subst (Keeps c.args.now cpu) (sym (became g c))
+    (moving_out_keeps c.args.now c.args.class c.args.by cpu c.self.invariant.consistent).1)
