@@ -1,13 +1,19 @@
 //! A text that is written line by line, each line piece by piece.
 
-ghost use Rattle.std.specs.Prelude.{◌≡◌, ◌+◌, ◌<◌, [], ◌∷◌, ◌++◌, OnOk};
+ghost use Rattle.std.specs.Prelude.{◌≡◌, [], ◌++◌, take};
 ghost use Rattle.std.specs.Fmt.{decimal};
+ghost use Rattle.tm_report.specs.Words.{class_word, group_text, number_word, time_word};
+ghost use Rattle.tm_report.specs.Drafts.{Adds};
 
+use itoa::Buffer;
 use std::alloc::Global;
 use std::marker::Model;
-use tm_base::NoMemory;
+use tm_base::{Class, Jiffy, NEVER, NoMemory};
 
-/// Finished lines, and behind them the pieces of a line that is begun. Each byte goes straight to its place.
+/// Finished lines, and behind them the pieces of a line that is begun. Each byte goes straight to
+/// its place; memory is taken only where the room of the text so far is used up.
+///
+/// A word is written with the space before it, but for the first of a line, which is a piece.
 #[derive(Drop)]
 pub struct Draft {
     bytes: Vec<u8>,
@@ -20,13 +26,16 @@ impl Model for Draft {
 
     ghost Value = { Written };
 
-    ghost view = { λ d. record { finished = take d.finished d.bytes.items; begun = drop d.finished d.bytes.items } };
+    ghost view = { λ d. record {
+      finished = take d.finished d.bytes.items;
+      begun = drop d.finished d.bytes.items;
+    } };
 
     ghost invariant = { λ d. d.finished ≤ vec_len d.bytes };
 }
 
 impl Draft {
-    /// The empty text.
+    /// The empty text. It takes no memory.
     pub fn new(alloc: Global) -> Draft
         ensures { result ≡ record { finished = []; begun = [] } }
     {
@@ -37,36 +46,53 @@ impl Draft {
     }
 
     /// Writes a piece as it is.
-    pub fn word(&mut self, piece: &[u8]) -> Result<(), NoMemory>
-        ensures ok { OnOk result (self.new.begun ≡ self.old.begun ++ piece.now) }
-        ensures kept { self.new.finished ≡ self.old.finished }
+    pub fn piece(&mut self, piece: &[u8]) -> Result<(), NoMemory>
+        ensures { Adds result self.old self.new piece.now }
     {
         self.bytes.extend_from_slice(piece)?;
         Ok(())
     }
 
-    /// Writes a number in decimal, from its first digit on.
-    #[tactic(auto, using(std::proofs::lemmas::Fmt::decimal_digit, std::proofs::lemmas::Fmt::decimal_step, std::proofs::lemmas::List::append_assoc))]
+    /// Writes a number in decimal.
     pub fn number(&mut self, n: u64) -> Result<(), NoMemory>
-        ensures ok { OnOk result (self.new.begun ≡ self.old.begun ++ decimal n) }
-        ensures kept { self.new.finished ≡ self.old.finished }
+        ensures { Adds result self.old self.new (decimal n) }
     {
-        if n < 10 {
-            return self.digit(n as u8);
-        }
-        self.number(n / 10)?;
-        self.digit((n % 10) as u8)?;
-        Ok(())
+        self.piece(Buffer::new().format(n).as_bytes())
     }
 
-    // One digit.
-    fn digit(&mut self, d: u8) -> Result<(), NoMemory>
-        requires { d < 10 }
-        ensures ok { OnOk result (self.new.begun ≡ self.old.begun ++ (48 + d) ∷ []) }
-        ensures kept { self.new.finished ≡ self.old.finished }
+    /// Writes a number as the next word.
+    pub fn number_word(&mut self, n: u64) -> Result<(), NoMemory>
+        ensures { Adds result self.old self.new (number_word n) }
     {
-        self.bytes.push(b'0' + d)?;
-        Ok(())
+        self.piece(b" ")?;
+        self.number(n)
+    }
+
+    /// Writes a wakeup or an expiry, in jiffies, as the next word: a number, or `never`.
+    pub fn time_word(&mut self, at: Jiffy) -> Result<(), NoMemory>
+        ensures { Adds result self.old self.new (time_word at) }
+    {
+        if at == NEVER {
+            return self.piece(b" never");
+        }
+        self.number_word(at)
+    }
+
+    /// Writes a class as the next word.
+    pub fn class_word(&mut self, class: Class) -> Result<(), NoMemory>
+        ensures { Adds result self.old self.new (class_word class) }
+    {
+        self.piece(b" ")?;
+        self.piece(class.word().as_bytes())
+    }
+
+    /// Writes a group, by its level and its place there, with no space around it.
+    pub fn group(&mut self, level: u8, place: u16) -> Result<(), NoMemory>
+        ensures { Adds result self.old self.new (group_text level place) }
+    {
+        self.number(u64::from(level))?;
+        self.piece(b":")?;
+        self.number(u64::from(place))
     }
 
     /// What was begun is a finished line from here on.
@@ -80,6 +106,15 @@ impl Draft {
     pub fn discard(&mut self)
         ensures { self.new ≡ record { finished = self.old.finished; begun = [] } }
     {
+        self.bytes.truncate(self.finished);
+    }
+
+    /// Keeps the first `len` bytes of the finished lines, or all where they are fewer, and nothing
+    /// of what was begun.
+    pub fn truncate(&mut self, len: usize)
+        ensures { self.new ≡ record { finished = take len self.old.finished; begun = [] } }
+    {
+        self.finished = self.finished.min(len);
         self.bytes.truncate(self.finished);
     }
 

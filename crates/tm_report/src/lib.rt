@@ -6,6 +6,7 @@ mod lines;
 mod reports;
 mod texts;
 
+pub use drafts::Draft;
 pub use lines::{Line, ShownCover, ShownReply};
 pub use reports::{Report, text_of};
 

@@ -4,8 +4,8 @@ use tm_base::{Class, CpuId, Jiffy, TimerId};
 
 /// One line of a report: what happened at the jiffy `now`, or what is left at the end.
 ///
-/// Times are in jiffies. `wheel` is a wheel expiry, `until` a programmed wakeup and `first` a first event; each of
-/// them, and no `now`, is written `never` where it is `NEVER`.
+/// Times are in jiffies. `wheel` is a wheel expiry, `until` a programmed wakeup and `first` a first
+/// event; each of them, and no `now`, is written `never` where it is `NEVER`.
 #[derive(Clone, Copy)]
 pub enum Line {
     /// CPU `cpu` armed `timer`, which expires at `wheel`.
@@ -16,8 +16,9 @@ pub enum Line {
         class: Class,
         wheel: Jiffy,
     },
-    /// CPU `runner` took `timer` from the base of CPU `home`, where it expired at `wheel`, and ran its job, which
-    /// answered `reply` (the kernel's `expire_timers`).
+    /// CPU `runner` took `timer` from the base of CPU `home`, where it expired at `wheel`, and ran
+    /// its job, which answered `reply` (the kernel's `expire_timers`; for another CPU's timer its
+    /// `timer_expire_remote`).
     Run {
         now: Jiffy,
         runner: CpuId,
@@ -26,13 +27,28 @@ pub enum Line {
         wheel: Jiffy,
         reply: ShownReply,
     },
-    /// CPU `cpu` went idle and wakes by itself at `until` (the kernel's `tmigr_cpu_deactivate`).
+    /// CPU `cpu` cancelled `timer`, which was queued on CPU `home` (the kernel's `timer_delete`).
+    Cancel {
+        now: Jiffy,
+        cpu: CpuId,
+        timer: TimerId,
+        home: CpuId,
+    },
+    /// CPU `cpu` wanted to cancel `timer`, which is queued nowhere.
+    NotQueued {
+        now: Jiffy,
+        cpu: CpuId,
+        timer: TimerId,
+    },
+    /// CPU `cpu` went idle and wakes by itself at `until` (the kernel's `tmigr_cpu_deactivate`, and
+    /// `timer_use_tmigr` for the minimum with the CPU's own timers).
     Idle {
         now: Jiffy,
         cpu: CpuId,
         until: Jiffy,
     },
-    /// CPU `cpu` tried to go idle and stays active, since its first event is at most one jiffy ahead.
+    /// CPU `cpu` tried to go idle and stays active, since its first event is at most one jiffy
+    /// ahead (the kernel's `timer_base_try_to_set_idle`).
     Stay {
         now: Jiffy,
         cpu: CpuId,
@@ -43,14 +59,47 @@ pub enum Line {
         now: Jiffy,
         cpu: CpuId,
     },
-    /// CPU `cpu` is idle, and `cover` answers for the first of its global timers, which expires at `wheel`.
+    /// CPU `cpu` went offline (the kernel's `tmigr_cpu_offline`).
+    Offline {
+        now: Jiffy,
+        cpu: CpuId,
+    },
+    /// CPU `cpu`, which went offline as the last active one, handed the first event of the
+    /// hierarchy on to CPU `to`, which was woken for it.
+    Handed {
+        now: Jiffy,
+        cpu: CpuId,
+        to: CpuId,
+    },
+    /// CPU `cpu` came online (the kernel's `tmigr_cpu_online`).
+    Online {
+        now: Jiffy,
+        cpu: CpuId,
+    },
+    /// CPU `cpu` takes over the timers of a CPU that went offline.
+    Control {
+        now: Jiffy,
+        cpu: CpuId,
+    },
+    /// `timer` was moved from CPU `from`, which is offline, to CPU `to`, where it expires at
+    /// `wheel` (the kernel's `timers_dead_cpu`).
+    Moved {
+        now: Jiffy,
+        timer: TimerId,
+        from: CpuId,
+        to: CpuId,
+        wheel: Jiffy,
+    },
+    /// CPU `cpu` is idle, and `cover` answers for the first of its global timers, which expires at
+    /// `wheel`.
     Cover {
         now: Jiffy,
         cpu: CpuId,
         wheel: Jiffy,
         cover: ShownCover,
     },
-    /// The operation on line `line` of the script, by CPU `cpu`, was refused; `number` is its `OpFault::number`, 1 to 5.
+    /// The operation on line `line` of the script, by CPU `cpu`, was refused; `number` is its
+    /// `OpFault::number`, 1 to 5.
     Refused {
         now: Jiffy,
         cpu: CpuId,
@@ -85,7 +134,8 @@ pub enum ShownReply {
     Done,
     /// The job left this mark.
     Mark(u32),
-    /// The job armed its timer again, on the CPU that ran it; `wheel` is the new wheel expiry, in jiffies.
+    /// The job armed its timer again, on the CPU that ran it; `wheel` is the new wheel expiry, in
+    /// jiffies.
     Again { class: Class, wheel: Jiffy },
     /// The job armed its timer again, which was queued on CPU `cpu` by then.
     Skip { cpu: CpuId },
@@ -94,8 +144,8 @@ pub enum ShownReply {
 /// What answers for the first global timer of an idle CPU, as a line shows it.
 #[derive(Clone, Copy)]
 pub enum ShownCover {
-    /// The lowest active group of the CPU's path, number `place` of its `level` (both from 0, leaves at level 0),
-    /// whose migrators lead to the active CPU `cpu`.
+    /// The lowest active group of the CPU's path, number `place` of its `level` (both from 0,
+    /// leaves at level 0), whose migrators lead to the active CPU `cpu`.
     Migrator { level: u8, place: u16, cpu: CpuId },
     /// CPU `cpu` is idle and wakes by itself at the jiffy `at`, in time for the timer.
     Wake { cpu: CpuId, at: Jiffy },

@@ -1,6 +1,6 @@
 //! Whole reports.
 
-ghost use Rattle.std.specs.Prelude.{◌≡◌, [], ◌++◌, IfOk, OnOk, OnErr};
+ghost use Rattle.std.specs.Prelude.{◌≡◌, [], ◌++◌, IfOk, OnOk, OnErr, take};
 ghost use Rattle.tm_report.specs.Lines.{line_text};
 
 use crate::drafts::Draft;
@@ -10,7 +10,8 @@ use std::alloc::Global;
 use std::marker::Model;
 use tm_base::NoMemory;
 
-/// The exact bytes of a line, its line feed included. `NoMemory` comes only where memory is wanting.
+/// The exact bytes of a line, its line feed included. `NoMemory` comes only where memory is
+/// wanting.
 pub fn text_of(alloc: Global, line: &Line) -> Result<Vec<u8>, NoMemory>
     ensures { IfOk result (λ text. text.items ≡ line_text line.now) }
 {
@@ -19,7 +20,8 @@ pub fn text_of(alloc: Global, line: &Line) -> Result<Vec<u8>, NoMemory>
     Ok(report.into_text())
 }
 
-/// A report that grows line by line, seen as its text: the texts of the pushed lines, one after the other.
+/// A report that grows line by line, seen as its text: the texts of the pushed lines, one after the
+/// other.
 #[derive(Drop)]
 pub struct Report {
     draft: Draft,
@@ -56,6 +58,13 @@ impl Report {
         }
         self.draft.finish();
         Ok(())
+    }
+
+    /// Keeps the first `len` bytes of the text, or all where they are fewer.
+    pub fn truncate(&mut self, len: usize)
+        ensures { self.new ≡ take len self.old }
+    {
+        self.draft.truncate(len);
     }
 
     /// The text so far: the lines in the order in which they were pushed, each with its line feed.

@@ -2,12 +2,9 @@ use super::*;
 use std::test::Fail;
 use tm_base::{Class, CpuId, NEVER, TimerId};
 
+// Each text is written by hand, word by word, from the table of lines in `docs/FORMATS.md`.
 #[test]
-fn texts_of_lines(rt: HostRuntime) -> Result<(), Fail> {
-    let again = ShownReply::Again {
-        class: Class::Global,
-        wheel: 168,
-    };
+fn each_line_has_the_text_of_the_table_of_lines(rt: HostRuntime) -> Result<(), Fail> {
     let cases = [
         (arm(10, 1, 1, Class::Pinned, 216), "arm 10 1 1 pinned 216\n"),
         (
@@ -15,20 +12,42 @@ fn texts_of_lines(rt: HostRuntime) -> Result<(), Fail> {
             "arm 10 0 0 global 1056964608\n",
         ),
         (
-            run(61, 8, 0, 0, 61, ShownReply::Done),
-            "run 61 8 0 0 61 done\n",
+            arm(10, 511, 4_095, Class::Deferrable, 61),
+            "arm 10 511 4095 deferrable 61\n",
         ),
+        (run(61, 8, 0, ShownReply::Done), "run 61 8 0 0 61 done\n"),
         (
-            run(61, 0, 1, 0, 61, ShownReply::Mark(7)),
+            run(61, 0, 1, ShownReply::Mark(7)),
             "run 61 0 1 0 61 mark 7\n",
         ),
         (
-            run(61, 0, 0, 1, 61, again),
-            "run 61 0 0 1 61 again global 168\n",
+            run(61, 0, 0, again(Class::Global, 168)),
+            "run 61 0 0 0 61 again global 168\n",
         ),
         (
-            run(61, 0, 0, 1, 61, ShownReply::Skip { cpu: CpuId(1) }),
-            "run 61 0 0 1 61 skip 1\n",
+            run(61, 0, 0, again(Class::Pinned, 168)),
+            "run 61 0 0 0 61 again pinned 168\n",
+        ),
+        (
+            run(61, 0, 0, ShownReply::Skip { cpu: CpuId(1) }),
+            "run 61 0 0 0 61 skip 1\n",
+        ),
+        (
+            Line::Cancel {
+                now: 20,
+                cpu: CpuId(0),
+                timer: TimerId(3),
+                home: CpuId(1),
+            },
+            "cancel 20 0 3 1\n",
+        ),
+        (
+            Line::NotQueued {
+                now: 20,
+                cpu: CpuId(0),
+                timer: TimerId(3),
+            },
+            "none 20 0 3\n",
         ),
         (idle(10, 8, 61), "idle 10 8 61\n"),
         (idle(10, 1, NEVER), "idle 10 1 never\n"),
@@ -48,13 +67,49 @@ fn texts_of_lines(rt: HostRuntime) -> Result<(), Fail> {
             "wake 20 8\n",
         ),
         (
-            cover(20, 0, 61, migrator(1, 0, 8)),
-            "cover 20 0 61 migrator 1:0 8\n",
+            Line::Offline {
+                now: 20,
+                cpu: CpuId(1),
+            },
+            "offline 20 1\n",
         ),
         (
-            cover(10, 0, 61, own_wakeup(8, 61)),
-            "cover 10 0 61 wake 8 61\n",
+            Line::Handed {
+                now: 20,
+                cpu: CpuId(1),
+                to: CpuId(0),
+            },
+            "handed 20 1 0\n",
         ),
+        (
+            Line::Online {
+                now: 30,
+                cpu: CpuId(1),
+            },
+            "online 30 1\n",
+        ),
+        (
+            Line::Control {
+                now: 20,
+                cpu: CpuId(0),
+            },
+            "control 20 0\n",
+        ),
+        (
+            Line::Moved {
+                now: 20,
+                timer: TimerId(3),
+                from: CpuId(1),
+                to: CpuId(0),
+                wheel: 73,
+            },
+            "moved 20 3 1 0 73\n",
+        ),
+        (
+            cover(20, 0, migrator(1, 0, 8)),
+            "cover 20 0 61 migrator 1:0 8\n",
+        ),
+        (cover(10, 0, own_wakeup(8, 61)), "cover 10 0 61 wake 8 61\n"),
         (
             Line::Refused {
                 now: 20,
@@ -92,16 +147,16 @@ fn texts_of_lines(rt: HostRuntime) -> Result<(), Fail> {
     Ok(())
 }
 
-// The last CPU to go idle wakes for the timer of another.
+// By hand from the same table: the last CPU to go idle wakes for the timer of another.
 #[test]
 fn a_report_is_its_lines_in_order(rt: HostRuntime) -> Result<(), Fail> {
     let lines = [
-        arm(10, 1, 0, Class::Global, 61),
-        idle(10, 1, NEVER),
-        cover(10, 1, 61, migrator(0, 0, 0)),
-        idle(20, 0, 61),
-        cover(20, 1, 61, own_wakeup(0, 61)),
-        run(61, 0, 0, 1, 61, ShownReply::Done),
+        arm(10, 0, 0, Class::Global, 61),
+        idle(10, 0, NEVER),
+        cover(10, 0, migrator(0, 0, 1)),
+        idle(20, 1, 61),
+        cover(20, 0, own_wakeup(1, 61)),
+        run(61, 1, 0, ShownReply::Done),
         Line::End { now: 100 },
     ];
     let mut report = Report::new(rt.alloc());
@@ -109,9 +164,13 @@ fn a_report_is_its_lines_in_order(rt: HostRuntime) -> Result<(), Fail> {
     for line in lines {
         report.push(&line)?;
     }
-    let want = b"arm 10 1 0 global 61\nidle 10 1 never\ncover 10 1 61 migrator 0:0 0\n\
-        idle 20 0 61\ncover 20 1 61 wake 0 61\nrun 61 0 0 1 61 done\nend 100\n";
+    let want = b"arm 10 0 0 global 61\nidle 10 0 never\ncover 10 0 61 migrator 0:0 1\n\
+        idle 20 1 61\ncover 20 0 61 wake 1 61\nrun 61 1 0 0 61 done\nend 100\n";
     assert_eq!(rt; report.text(), want.as_slice());
+    report.truncate(21);
+    assert_eq!(rt; report.text(), b"arm 10 0 0 global 61\n".as_slice());
+    report.truncate(99);
+    assert_eq!(rt; report.text().len(), 21);
     Ok(())
 }
 
@@ -125,15 +184,20 @@ fn arm(now: u64, cpu: u16, timer: u16, class: Class, wheel: u64) -> Line {
     }
 }
 
-fn run(now: u64, runner: u16, timer: u16, home: u16, wheel: u64, reply: ShownReply) -> Line {
+// CPU 0's timer runs at its wheel expiry.
+fn run(now: u64, runner: u16, timer: u16, reply: ShownReply) -> Line {
     Line::Run {
         now,
         runner: CpuId(runner),
         timer: TimerId(timer),
-        home: CpuId(home),
-        wheel,
+        home: CpuId(0),
+        wheel: now,
         reply,
     }
+}
+
+fn again(class: Class, wheel: u64) -> ShownReply {
+    ShownReply::Again { class, wheel }
 }
 
 fn idle(now: u64, cpu: u16, until: u64) -> Line {
@@ -144,11 +208,12 @@ fn idle(now: u64, cpu: u16, until: u64) -> Line {
     }
 }
 
-fn cover(now: u64, cpu: u16, wheel: u64, cover: ShownCover) -> Line {
+// A cover of a timer at 61.
+fn cover(now: u64, cpu: u16, cover: ShownCover) -> Line {
     Line::Cover {
         now,
         cpu: CpuId(cpu),
-        wheel,
+        wheel: 61,
         cover,
     }
 }

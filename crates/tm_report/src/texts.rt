@@ -1,30 +1,27 @@
 //! The text of each line.
 #![tactic(auto, unfolding(crate::specs::Lines::words_text, crate::specs::Lines::line_text))]
 
-ghost use Rattle.std.specs.Prelude.{◌≡◌, ◌++◌, OnOk, codes};
-ghost use Rattle.std.specs.Fmt.{decimal};
-ghost use Rattle.tm_base.specs.Classes.{class_text};
-ghost use Rattle.tm_report.specs.Words.{time_text};
-ghost use Rattle.tm_report.specs.Replies.{reply_text};
-ghost use Rattle.tm_report.specs.Covers.{cover_text};
+ghost use Rattle.std.specs.Prelude.{◌++◌};
+ghost use Rattle.tm_report.specs.Words.{number_word, time_word};
+ghost use Rattle.tm_report.specs.Replies.{reply_words};
+ghost use Rattle.tm_report.specs.Covers.{cover_words};
 ghost use Rattle.tm_report.specs.Lines.{words_text, line_text};
+ghost use Rattle.tm_report.specs.Drafts.{Adds};
 
 use crate::drafts::Draft;
 use crate::lines::{Line, ShownCover, ShownReply};
-use tm_base::{Class, CpuId, Jiffy, NEVER, NoMemory, TimerId};
+use tm_base::{Class, CpuId, Jiffy, NoMemory, TimerId};
 
 /// Writes a line behind what the draft has begun.
 pub fn write_line(draft: &mut Draft, line: &Line) -> Result<(), NoMemory>
-    ensures ok { OnOk result (draft.new.begun ≡ draft.old.begun ++ line_text line.now) }
-    ensures kept { draft.new.finished ≡ draft.old.finished }
+    ensures { Adds result draft.old draft.new (line_text line.now) }
 {
     write_words(draft, line)?;
-    draft.word(b"\n")
+    draft.piece(b"\n")
 }
 
 fn write_words(draft: &mut Draft, line: &Line) -> Result<(), NoMemory>
-    ensures ok { OnOk result (draft.new.begun ≡ draft.old.begun ++ words_text line.now) }
-    ensures kept { draft.new.finished ≡ draft.old.finished }
+    ensures { Adds result draft.old draft.new (words_text line.now) }
 {
     match line {
         Line::Arm {
@@ -42,9 +39,27 @@ fn write_words(draft: &mut Draft, line: &Line) -> Result<(), NoMemory>
             wheel,
             reply,
         } => write_run(draft, *now, *runner, *timer, *home, *wheel, reply),
-        Line::Idle { now, cpu, until } => write_event_at(draft, b"idle ", *now, *cpu, *until),
-        Line::Stay { now, cpu, first } => write_event_at(draft, b"stay ", *now, *cpu, *first),
-        Line::Wake { now, cpu } => write_event(draft, b"wake ", *now, *cpu),
+        Line::Cancel {
+            now,
+            cpu,
+            timer,
+            home,
+        } => write_cancel(draft, *now, *cpu, *timer, *home),
+        Line::NotQueued { now, cpu, timer } => write_not_queued(draft, *now, *cpu, *timer),
+        Line::Idle { now, cpu, until } => write_event_at(draft, b"idle", *now, *cpu, *until),
+        Line::Stay { now, cpu, first } => write_event_at(draft, b"stay", *now, *cpu, *first),
+        Line::Wake { now, cpu } => write_event(draft, b"wake", *now, *cpu),
+        Line::Offline { now, cpu } => write_event(draft, b"offline", *now, *cpu),
+        Line::Handed { now, cpu, to } => write_handed(draft, *now, *cpu, *to),
+        Line::Online { now, cpu } => write_event(draft, b"online", *now, *cpu),
+        Line::Control { now, cpu } => write_event(draft, b"control", *now, *cpu),
+        Line::Moved {
+            now,
+            timer,
+            from,
+            to,
+            wheel,
+        } => write_moved(draft, *now, *timer, *from, *to, *wheel),
         Line::Cover {
             now,
             cpu,
@@ -70,7 +85,7 @@ fn write_words(draft: &mut Draft, line: &Line) -> Result<(), NoMemory>
             class,
             wheel,
         } => write_left(draft, *timer, *cpu, *class, *wheel),
-        Line::End { now } => word_and_number(draft, b"end ", *now),
+        Line::End { now } => write_end(draft, *now),
     }
 }
 
@@ -82,13 +97,12 @@ fn write_arm(
     class: Class,
     wheel: Jiffy,
 ) -> Result<(), NoMemory>
-    ensures ok { OnOk result (draft.new.begun ≡ draft.old.begun ++ words_text (Line.Arm now cpu timer class wheel)) }
-    ensures kept { draft.new.finished ≡ draft.old.finished }
+    ensures { Adds result draft.old draft.new (words_text (Line.Arm now cpu timer class wheel)) }
 {
-    write_event(draft, b"arm ", now, cpu)?;
-    next_number(draft, u64::from(timer.0))?;
-    next_class(draft, class)?;
-    next_time(draft, wheel)
+    write_event(draft, b"arm", now, cpu)?;
+    draft.number_word(u64::from(timer.0))?;
+    draft.class_word(class)?;
+    draft.time_word(wheel)
 }
 
 fn write_run(
@@ -100,16 +114,65 @@ fn write_run(
     wheel: Jiffy,
     reply: &ShownReply,
 ) -> Result<(), NoMemory>
-    ensures ok { OnOk result (draft.new.begun
-        ≡ draft.old.begun ++ words_text (Line.Run now runner timer home wheel reply.now)) }
-    ensures kept { draft.new.finished ≡ draft.old.finished }
+    ensures { Adds result draft.old draft.new
+        (words_text (Line.Run now runner timer home wheel reply.now)) }
 {
-    write_event(draft, b"run ", now, runner)?;
-    next_number(draft, u64::from(timer.0))?;
-    next_number(draft, u64::from(home.0))?;
-    next_time(draft, wheel)?;
-    draft.word(b" ")?;
+    write_event(draft, b"run", now, runner)?;
+    draft.number_word(u64::from(timer.0))?;
+    draft.number_word(u64::from(home.0))?;
+    draft.time_word(wheel)?;
     write_reply(draft, reply)
+}
+
+fn write_cancel(
+    draft: &mut Draft,
+    now: Jiffy,
+    cpu: CpuId,
+    timer: TimerId,
+    home: CpuId,
+) -> Result<(), NoMemory>
+    ensures { Adds result draft.old draft.new (words_text (Line.Cancel now cpu timer home)) }
+{
+    write_event(draft, b"cancel", now, cpu)?;
+    draft.number_word(u64::from(timer.0))?;
+    draft.number_word(u64::from(home.0))
+}
+
+fn write_not_queued(
+    draft: &mut Draft,
+    now: Jiffy,
+    cpu: CpuId,
+    timer: TimerId,
+) -> Result<(), NoMemory>
+    ensures { Adds result draft.old draft.new (words_text (Line.NotQueued now cpu timer)) }
+{
+    write_event(draft, b"none", now, cpu)?;
+    draft.number_word(u64::from(timer.0))
+}
+
+fn write_handed(draft: &mut Draft, now: Jiffy, cpu: CpuId, to: CpuId) -> Result<(), NoMemory>
+    ensures { Adds result draft.old draft.new (words_text (Line.Handed now cpu to)) }
+{
+    write_event(draft, b"handed", now, cpu)?;
+    draft.number_word(u64::from(to.0))
+}
+
+fn write_moved(
+    draft: &mut Draft,
+    now: Jiffy,
+    timer: TimerId,
+    from: CpuId,
+    to: CpuId,
+    wheel: Jiffy,
+) -> Result<(), NoMemory>
+    ensures { Adds result draft.old draft.new (words_text (Line.Moved now timer from to wheel)) }
+{
+    draft.piece(b"moved")?;
+    draft.number_word(now)?;
+    draft.number_word(u64::from(timer.0))?;
+    draft.number_word(u64::from(from.0))?;
+    draft.number_word(u64::from(to.0))?;
+    draft.time_word(wheel)
 }
 
 fn write_cover(
@@ -119,11 +182,9 @@ fn write_cover(
     wheel: Jiffy,
     cover: &ShownCover,
 ) -> Result<(), NoMemory>
-    ensures ok { OnOk result (draft.new.begun ≡ draft.old.begun ++ words_text (Line.Cover now cpu wheel cover.now)) }
-    ensures kept { draft.new.finished ≡ draft.old.finished }
+    ensures { Adds result draft.old draft.new (words_text (Line.Cover now cpu wheel cover.now)) }
 {
-    write_event_at(draft, b"cover ", now, cpu, wheel)?;
-    draft.word(b" ")?;
+    write_event_at(draft, b"cover", now, cpu, wheel)?;
     write_shown_cover(draft, cover)
 }
 
@@ -134,12 +195,11 @@ fn write_refused(
     line: u32,
     number: u8,
 ) -> Result<(), NoMemory>
-    ensures ok { OnOk result (draft.new.begun ≡ draft.old.begun ++ words_text (Line.Refused now cpu line number)) }
-    ensures kept { draft.new.finished ≡ draft.old.finished }
+    ensures { Adds result draft.old draft.new (words_text (Line.Refused now cpu line number)) }
 {
-    write_event(draft, b"refused ", now, cpu)?;
-    next_number(draft, u64::from(line))?;
-    next_number(draft, u64::from(number))
+    write_event(draft, b"refused", now, cpu)?;
+    draft.number_word(u64::from(line))?;
+    draft.number_word(u64::from(number))
 }
 
 fn write_refused_queued(
@@ -150,12 +210,11 @@ fn write_refused_queued(
     number: u8,
     holder: CpuId,
 ) -> Result<(), NoMemory>
-    ensures ok { OnOk result (draft.new.begun
-        ≡ draft.old.begun ++ words_text (Line.RefusedQueued now cpu line number holder)) }
-    ensures kept { draft.new.finished ≡ draft.old.finished }
+    ensures { Adds result draft.old draft.new
+        (words_text (Line.RefusedQueued now cpu line number holder)) }
 {
     write_refused(draft, now, cpu, line, number)?;
-    next_number(draft, u64::from(holder.0))
+    draft.number_word(u64::from(holder.0))
 }
 
 fn write_left(
@@ -165,58 +224,69 @@ fn write_left(
     class: Class,
     wheel: Jiffy,
 ) -> Result<(), NoMemory>
-    ensures ok { OnOk result (draft.new.begun ≡ draft.old.begun ++ words_text (Line.Left timer cpu class wheel)) }
-    ensures kept { draft.new.finished ≡ draft.old.finished }
+    ensures { Adds result draft.old draft.new (words_text (Line.Left timer cpu class wheel)) }
 {
-    word_and_number(draft, b"left ", u64::from(timer.0))?;
-    next_number(draft, u64::from(cpu.0))?;
-    next_class(draft, class)?;
-    next_time(draft, wheel)
+    draft.piece(b"left")?;
+    draft.number_word(u64::from(timer.0))?;
+    draft.number_word(u64::from(cpu.0))?;
+    draft.class_word(class)?;
+    draft.time_word(wheel)
 }
 
-// What a job answered, with no space around it.
+fn write_end(draft: &mut Draft, now: Jiffy) -> Result<(), NoMemory>
+    ensures { Adds result draft.old draft.new (words_text (Line.End now)) }
+{
+    draft.piece(b"end")?;
+    draft.number_word(now)
+}
+
+// What a job answered.
 fn write_reply(draft: &mut Draft, reply: &ShownReply) -> Result<(), NoMemory>
-    ensures ok { OnOk result (draft.new.begun ≡ draft.old.begun ++ reply_text reply.now) }
-    ensures kept { draft.new.finished ≡ draft.old.finished }
+    ensures { Adds result draft.old draft.new (reply_words reply.now) }
 {
     match reply {
-        ShownReply::Done => draft.word(b"done"),
-        ShownReply::Mark(number) => word_and_number(draft, b"mark ", u64::from(*number)),
-        ShownReply::Again { class, wheel } => {
-            draft.word(b"again")?;
-            next_class(draft, *class)?;
-            next_time(draft, *wheel)
+        ShownReply::Done => draft.piece(b" done"),
+        ShownReply::Mark(number) => {
+            draft.piece(b" mark")?;
+            draft.number_word(u64::from(*number))
         }
-        ShownReply::Skip { cpu } => word_and_number(draft, b"skip ", u64::from(cpu.0)),
+        ShownReply::Again { class, wheel } => {
+            draft.piece(b" again")?;
+            draft.class_word(*class)?;
+            draft.time_word(*wheel)
+        }
+        ShownReply::Skip { cpu } => {
+            draft.piece(b" skip")?;
+            draft.number_word(u64::from(cpu.0))
+        }
     }
 }
 
-// What answers for a timer, with no space around it.
+// What answers for a timer.
 fn write_shown_cover(draft: &mut Draft, cover: &ShownCover) -> Result<(), NoMemory>
-    ensures ok { OnOk result (draft.new.begun ≡ draft.old.begun ++ cover_text cover.now) }
-    ensures kept { draft.new.finished ≡ draft.old.finished }
+    ensures { Adds result draft.old draft.new (cover_words cover.now) }
 {
     match cover {
         ShownCover::Migrator { level, place, cpu } => {
-            word_and_number(draft, b"migrator ", u64::from(*level))?;
-            word_and_number(draft, b":", u64::from(*place))?;
-            next_number(draft, u64::from(cpu.0))
+            draft.piece(b" migrator ")?;
+            draft.group(*level, *place)?;
+            draft.number_word(u64::from(cpu.0))
         }
         ShownCover::Wake { cpu, at } => {
-            word_and_number(draft, b"wake ", u64::from(cpu.0))?;
-            next_time(draft, *at)
+            draft.piece(b" wake")?;
+            draft.number_word(u64::from(cpu.0))?;
+            draft.time_word(*at)
         }
     }
 }
 
-// The words with which most lines begin: their name, which ends in a space, the jiffy and the CPU.
+// The words with which most lines begin: their name, the jiffy and the CPU.
 fn write_event(draft: &mut Draft, name: &[u8], now: Jiffy, cpu: CpuId) -> Result<(), NoMemory>
-    ensures ok { OnOk result (draft.new.begun
-        ≡ draft.old.begun ++ name.now ++ decimal now ++ codes " " ++ decimal cpu.0) }
-    ensures kept { draft.new.finished ≡ draft.old.finished }
+    ensures { Adds result draft.old draft.new (name.now ++ number_word now ++ number_word cpu.0) }
 {
-    word_and_number(draft, name, now)?;
-    next_number(draft, u64::from(cpu.0))
+    draft.piece(name)?;
+    draft.number_word(now)?;
+    draft.number_word(u64::from(cpu.0))
 }
 
 // The same for an event with a wakeup or an expiry.
@@ -227,51 +297,9 @@ fn write_event_at(
     cpu: CpuId,
     at: Jiffy,
 ) -> Result<(), NoMemory>
-    ensures ok { OnOk result (draft.new.begun
-        ≡ draft.old.begun ++ name.now ++ decimal now ++ codes " " ++ decimal cpu.0 ++ codes " " ++ time_text at) }
-    ensures kept { draft.new.finished ≡ draft.old.finished }
+    ensures { Adds result draft.old draft.new
+        (name.now ++ number_word now ++ number_word cpu.0 ++ time_word at) }
 {
     write_event(draft, name, now, cpu)?;
-    next_time(draft, at)
-}
-
-// A word as it is, and a number right behind it.
-fn word_and_number(draft: &mut Draft, word: &[u8], n: u64) -> Result<(), NoMemory>
-    ensures ok { OnOk result (draft.new.begun ≡ draft.old.begun ++ word.now ++ decimal n) }
-    ensures kept { draft.new.finished ≡ draft.old.finished }
-{
-    draft.word(word)?;
-    draft.number(n)
-}
-
-// A number as the next word, with the space before it.
-fn next_number(draft: &mut Draft, n: u64) -> Result<(), NoMemory>
-    ensures ok { OnOk result (draft.new.begun ≡ draft.old.begun ++ codes " " ++ decimal n) }
-    ensures kept { draft.new.finished ≡ draft.old.finished }
-{
-    draft.word(b" ")?;
-    draft.number(n)
-}
-
-// A wakeup or an expiry as the next word, with the space before it.
-fn next_time(draft: &mut Draft, at: Jiffy) -> Result<(), NoMemory>
-    ensures ok { OnOk result (draft.new.begun ≡ draft.old.begun ++ codes " " ++ time_text at) }
-    ensures kept { draft.new.finished ≡ draft.old.finished }
-{
-    if at == NEVER {
-        return draft.word(b" never");
-    }
-    next_number(draft, at)
-}
-
-// A class as the next word, with the space before it.
-fn next_class(draft: &mut Draft, class: Class) -> Result<(), NoMemory>
-    ensures ok { OnOk result (draft.new.begun ≡ draft.old.begun ++ codes " " ++ class_text class) }
-    ensures kept { draft.new.finished ≡ draft.old.finished }
-{
-    match class {
-        Class::Pinned => draft.word(b" pinned"),
-        Class::Global => draft.word(b" global"),
-        Class::Deferrable => draft.word(b" deferrable"),
-    }
+    draft.time_word(at)
 }
