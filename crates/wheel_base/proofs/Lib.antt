@@ -1,0 +1,10 @@
+pub mod Filing
+pub mod Stores
+pub mod Leaving
+pub mod Names
+pub mod Granules
+pub mod Marked
+pub mod GoingOut
+pub mod Timed
+pub mod Places
+pub mod Moving
