@@ -10,10 +10,10 @@ use crate::words::is_play;
 use crate::{PLAYED, READ_FAULT, SCRIPT_REFUSED, USAGE, WRITE_FAULT};
 use std::alloc::Global;
 use tm_base::NoMemory;
-use tm_driver::play;
+use first_driver::play;
 use tm_io::{ReadFault, Source, read_all};
 use tm_report::Report;
-use tm_script::{ReadScript, read_script};
+use first_script::{ReadScript, read_script};
 
 /// The most bytes that a script has.
 const MOST_BYTES: usize = 65_536;
