@@ -1,0 +1,3 @@
+mod Scripts
+mod Turns
+mod Unknown

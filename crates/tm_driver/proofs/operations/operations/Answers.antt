@@ -1,0 +1,16 @@
+use Rattle.std.proofs.Common.{rules}
+use Rattle.play_rules.proofs.Loops.{operations_all, operations_more}
+use Rattle.play_rules.proofs.Plays.{gains_then}
+use Rattle.tm_driver.proofs.operations.operations.Goals as goal
+
+pub loop-op-preserved : goal.loop-op-preserved
+loop-op-preserved g c =
+    let done = c.in_ok-operation.ensures in
+    record {
+      rest = operations_more _ _ _ _ _ _ _ _ _ _ c.loop-op.invariant.rest c.loop-op-test.true done.prints;
+      same = search rules;
+      gains = gains_then _ _ _ c.loop-op.invariant.gains done.gains;
+    }
+
+pub returns-clause-prints : goal.returns-clause-prints
+returns-clause-prints g c = operations_all _ _ _ _ _ _ _ c.loop-op.invariant.rest c.loop-op-test.false

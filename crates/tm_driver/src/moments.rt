@@ -1,0 +1,164 @@
+//! The moments of a play.
+
+ghost use Rattle.std.specs.Prelude.{◌≡◌, ◌<◌, ◌≤◌, All, IfErr, OnOk};
+ghost use Rattle.std.specs.Option.{ForSome, option_copied};
+ghost use Rattle.play_rules.specs.Machines.{Same, SameBuild};
+ghost use Rattle.play_rules.specs.Moments.{moment, moment_at, moment_now, moments_after, next_moment, next_said, scripted, turn, turns};
+ghost use Rattle.play_rules.specs.Parts.{Gains, Prints};
+ghost use Rattle.tm_base.specs.declared.limits.TheConstants.{SCRIPT_TIME_LIMIT};
+ghost use Rattle.tm_driver.specs.Outcomes.{EndsEarly, PlaysOut, script_turns, work_limit};
+ghost use Rattle.tm_driver.specs.Conditions.{IsMomentInRange, IsPlayable};
+
+use crate::interrupts::{having_interrupt, interrupts};
+use crate::moving::{clear_after, covers};
+use crate::operations::operations;
+use crate::outcomes::DriveFault;
+use job_table::Jobs;
+use play_rules::Machine;
+use crate::telling::Telling;
+use tm_base::{CpuSet, Jiffy, NoMemory, WORK_LIMIT_V1, WORK_LIMIT_V2};
+use tm_script::{Moment, Script};
+
+/// What the script has for a moment: its operations, the timers of a CPU that went offline, and the covers.
+fn scripted<M: Machine>(
+    machine: &mut M,
+    due: Option<&Moment>,
+    telling: &mut Telling,
+) -> Result<(), NoMemory>
+    requires { ForSome (option_copied due)
+        (IsMomentInRange (M.rules.cpus (M.world machine.old)) (M.rules.timers (M.world machine.old))) }
+    ensures prints { OnOk result
+        (Prints (scripted M.rules (option_copied due.entry) (M.world machine.old))
+            telling.old telling.new (M.world machine.new)) }
+    ensures same { OnOk result (Same M.rules (M.world machine.old) (M.world machine.new)) }
+    ensures gains { Gains telling.old.text telling.new.text }
+{
+    let Some(due) = due else {
+        return Ok(());
+    };
+    operations(machine, due.ops.as_slice(), telling)?;
+    clear_after(machine, due.ops.as_slice(), telling)?;
+    covers(machine, telling)
+}
+
+/// One moment, of which the CPUs that have an interrupt are known: it may be handed others than those of the clock.
+fn moment<M: Machine, J: Jobs>(
+    machine: &mut M,
+    jobs: &J,
+    interrupted: &CpuSet,
+    due: Option<&Moment>,
+    telling: &mut Telling,
+) -> Result<(), NoMemory>
+    requires { ForSome (option_copied due)
+        (IsMomentInRange (M.rules.cpus (M.world machine.old)) (M.rules.timers (M.world machine.old))) }
+    ensures prints { OnOk result
+        (Prints
+            (moment (J.replies jobs.now) M.rules interrupted.now (option_copied due.entry)
+                (M.world machine.old))
+            telling.old telling.new (M.world machine.new)) }
+    ensures same { OnOk result (Same M.rules (M.world machine.old) (M.world machine.new)) }
+    ensures gains { Gains telling.old.text telling.new.text }
+{
+    telling.count();
+    interrupts(machine, jobs, interrupted, telling)?;
+    scripted(machine, due, telling)
+}
+
+/// The script's moment of a time, where these are still to come.
+fn moment_due(left: &[Moment], now: Jiffy) -> Option<&Moment>
+    ensures { option_copied result ≡ moment_at now left.now }
+{
+    match left {
+        [due, ..] if due.at == now => Some(due),
+        _ => None,
+    }
+}
+
+/// The moments that are still to come after a time.
+fn still_to_come(left: &[Moment], now: Jiffy) -> &[Moment]
+    ensures { result.now ≡ moments_after now left.now }
+{
+    match left {
+        [due, rest @ ..] if due.at == now => rest,
+        _ => left,
+    }
+}
+
+/// The moment of a time, which the clock comes to.
+fn turn<M: Machine, J: Jobs>(
+    machine: &mut M,
+    jobs: &J,
+    left: &[Moment],
+    now: Jiffy,
+    telling: &mut Telling,
+) -> Result<(), NoMemory>
+    requires not_back { M.rules.clock (M.world machine.old) ≤ now }
+    requires in_time { now < SCRIPT_TIME_LIMIT }
+    requires in_range { All
+        (IsMomentInRange (M.rules.cpus (M.world machine.old)) (M.rules.timers (M.world machine.old))) left.now }
+    ensures prints { OnOk result
+        (Prints (turn (J.replies jobs.now) M.rules left.now now (M.world machine.old)).played
+            telling.old telling.new (M.world machine.new)) }
+    ensures clock { OnOk result (M.rules.clock (M.world machine.new) ≡ now) }
+    ensures same { OnOk result (SameBuild M.rules (M.world machine.old) (M.world machine.new)) }
+    ensures gains { Gains telling.old.text telling.new.text }
+{
+    machine.set_clock(now);
+    let interrupted = having_interrupt(machine);
+    moment(machine, jobs, &interrupted, moment_due(left, now), telling)
+}
+
+/// When the next moment comes, in jiffies: the next interrupt, the script's next moment or the end.
+pub fn next_moment<M: Machine>(machine: &M, left: &[Moment], end: Jiffy) -> Jiffy
+    requires { M.rules.clock (M.world machine.now) < SCRIPT_TIME_LIMIT }
+    ensures { result ≡ next_moment M.rules end left.now (M.world machine.now) }
+{
+    let said = match left {
+        [next, ..] => next.at,
+        [] => end,
+    };
+    machine.next_interrupt().min(said).max(machine.clock() + 1)
+}
+
+/// The moments of a script from jiffy 0 to its end. Where the work has reached the limit after a moment that isn't the
+/// last, the play is broken off there with that count.
+pub(crate) fn moments<M: Machine, J: Jobs>(
+    machine: &mut M,
+    jobs: &J,
+    script: &Script,
+    telling: &mut Telling,
+) -> Result<(), DriveFault>
+    requires start { M.rules.clock (M.world machine.old) ≡ 0 }
+    requires playable { IsPlayable (M.rules.cpus (M.world machine.old)) (M.rules.timers (M.world machine.old)) script.now }
+    requires no_work { telling.old.work ≡ 0 }
+    ensures whole { OnOk result
+        (PlaysOut (work_limit script.now.version)
+            (script_turns (J.replies jobs.now) M.rules script.now (M.world machine.old)) (M.world machine.old)
+            telling.old telling.new (M.world machine.new)) }
+    ensures fault { IfErr result (λ fault.
+        EndsEarly (work_limit script.now.version)
+            (script_turns (J.replies jobs.now) M.rules script.now (M.world machine.old)) fault
+            telling.old.text telling.new.text) }
+    ensures gains { Gains telling.old.text telling.new.text }
+{
+    let limit = work_limit(script.version);
+    let mut left = script.moments.as_slice();
+    let mut now = 0;
+    while now < script.end {
+        turn(machine, jobs, left, now, telling)?;
+        if telling.work() >= limit {
+            return Err(DriveFault::WorkSpent { count: telling.work() });
+        }
+        left = still_to_come(left, now);
+        now = next_moment(machine, left, script.end);
+    }
+    turn(machine, jobs, left, now, telling)?;
+    Ok(())
+}
+
+/// How much work a play may have before its last moment, by the version of its script.
+fn work_limit(version: u8) -> u32
+    ensures { result ≡ work_limit version }
+{
+    if version == 1 { WORK_LIMIT_V1 } else { WORK_LIMIT_V2 }
+}

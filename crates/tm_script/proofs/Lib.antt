@@ -1,0 +1,16 @@
+pub mod Ranges
+pub mod Rows
+pub mod IsolatedLaws
+pub mod Members
+pub mod Steps
+pub mod Bridge
+pub mod LineLaws
+pub mod ReadLaws
+pub mod BodyLaws
+pub mod BodyAgain
+pub mod HeadLaws
+pub mod ClearLaws
+pub mod ScriptLaws
+pub mod KnownLaws
+pub mod PrintLaws
+pub mod FactLaws
