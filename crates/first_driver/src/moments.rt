@@ -12,9 +12,9 @@ ghost use Rattle.first_driver.specs.Conditions.{AllInFront, SameMachine};
 
 use crate::operations::{covers, operations};
 use first_machine::{Quiet, law_settled};
+use first_script::{Moment, Script};
 use tm_base::{CpuId, Jiffy, NoMemory};
 use tm_report::{Line, Report, ShownReply};
-use first_script::{Moment, Script};
 
 /// What is due on one CPU is handed out and run on another one, each timer with its line.
 fn hand_out(

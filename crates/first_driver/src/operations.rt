@@ -10,9 +10,9 @@ ghost use Rattle.first_rules.specs.Prints.{Prints};
 ghost use Rattle.first_driver.specs.Conditions.{AllInFront, SameMachine};
 
 use first_machine::{Cover, Quiet};
+use first_script::{Op, What};
 use tm_base::{Class, CpuId, Jiffy, NoMemory, OpFault, TimerId};
 use tm_report::{Line, Report, ShownCover};
-use first_script::{Op, What};
 
 /// A CPU arms a timer.
 fn arm(

@@ -7,11 +7,11 @@ ghost use Rattle.first_rules.specs.Settled.{IsSettled};
 
 use crate::closing::close;
 use crate::moments::moments;
-use std::alloc::Global;
 use first_machine::Quiet;
+use first_script::Script;
+use std::alloc::Global;
 use tm_base::NoMemory;
 use tm_report::Report;
-use first_script::Script;
 
 /// Plays a script from jiffy 0 to its end, and adds the lines of the play to the report, in their order. It answers the
 /// machine as it stands at the end. Want of memory may leave some of the lines in the report.

@@ -164,7 +164,7 @@ module _ {S : Type 0} (r : Rules S) where
       let there = rw (below n i low, is) at rest in
       let done = prints_line line m.state mid new (text ∙ ap (λ l. mid.text ++ line_text l) told) (tally ∙ ap (tallied mid.tally) told) work in
       continues_then (printing line m.state) (moves r (n - (i + 1)) from to) whole old mid new next there
-        (prints_at (printing line m.state) mid new m.state next state done)
+      (prints_at (printing line m.state) mid new m.state next state done)
 
   pub moves_none : (n i from to : ℕ) (o : Option (Moved S)) (whole : Played S) (old now : Progress) (s next : S)
       → Continues (moves r (n - i) from to s) now whole old → i < n → r.moved s from to ≡ o → option_map (λ m. m.mover) o ≡ None
@@ -193,7 +193,7 @@ module _ {S : Type 0} (r : Rules S) (s : S) where
       let line = lines.Cover (r.clock s) (cpu_id i) a.wheel a.cover in
       let done = prints_line line s mid new (text ∙ ap (λ l. mid.text ++ line_text l) told) (tally ∙ ap (tallied mid.tally) told) work in
       continues_then (printing line s)
-        (λ t. lines_told (cover_lines r (n - (i + 1)) (i + 1) s) t) whole old mid new s there done
+      (λ t. lines_told (cover_lines r (n - (i + 1)) (i + 1) s) t) whole old mid new s there done
 
   pub covers_less : (n i : ℕ) (whole : Played S) (old now : Progress)
       → Continues (lines_told (cover_lines r (n - i) i s) s) now whole old → i < n → r.cover s i ≡ None
@@ -217,7 +217,7 @@ module _ {S : Type 0} (r : Rules S) (s : S) where
       let there = rw (below n i low, is) at rest in
       let line = lines.Left (timer_id i) held.cpu held.class held.wheel in
       continues_then (printing line s)
-        (λ t. lines_told (left r (n - (i + 1)) (i + 1) s) t) whole old mid new s there (prints_line line s mid new text tally work)
+      (λ t. lines_told (left r (n - (i + 1)) (i + 1) s) t) whole old mid new s there (prints_line line s mid new text tally work)
 
   pub left_less : (n i : ℕ) (whole : Played S) (old now : Progress)
       → Continues (lines_told (left r (n - i) i s) s) now whole old → i < n → r.queued s i ≡ None

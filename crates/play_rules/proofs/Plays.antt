@@ -30,19 +30,19 @@ module _ {S : Type 0} where
       let works : (f s).work ≡ (f p.state).work = ap (λ (q : Played S). q.work) same in
       record {
         text =
-          (λ i. done.text i ++ lines i)
-          ∙ append_assoc mid.text (report_text p.lines) (report_text (f p.state).lines)
-          ∙ ap (λ t. mid.text ++ t) (sym (flat_map-append line_text p.lines (f p.state).lines))
-          ∙ c.text;
+            (λ i. done.text i ++ lines i)
+            ∙ append_assoc mid.text (report_text p.lines) (report_text (f p.state).lines)
+            ∙ ap (λ t. mid.text ++ t) (sym (flat_map-append line_text p.lines (f p.state).lines))
+            ∙ c.text;
         tally =
-          (λ i. tallied_all (done.tally i) (same i).lines)
-          ∙ sym (fold-append tallied mid.tally p.lines (f p.state).lines)
-          ∙ c.tally;
+            (λ i. tallied_all (done.tally i) (same i).lines)
+            ∙ sym (fold-append tallied mid.tally p.lines (f p.state).lines)
+            ∙ c.tally;
         work =
-          ap (λ n. counted (new.work + n)) works
-          ∙ counted_more new.work (mid.work + p.work) (f p.state).work done.work
-          ∙ (let assoc : (mid.work + p.work) + (f p.state).work ≡ mid.work + (p.work + (f p.state).work) = omega arith in ap counted assoc)
-          ∙ c.work;
+            ap (λ n. counted (new.work + n)) works
+            ∙ counted_more new.work (mid.work + p.work) (f p.state).work done.work
+            ∙ (let assoc : (mid.work + p.work) + (f p.state).work ≡ mid.work + (p.work + (f p.state).work) = omega arith in ap counted assoc)
+            ∙ c.work;
         state = ap (λ (q : Played S). q.state) same ∙ c.state;
       }
 

@@ -73,5 +73,5 @@ cover_where s c (Some wheel) = option_map (answerer wheel) (cover_for s c wheel)
 abbrev pub cover_of : State → (c : ℕ) → Option Answerer
 cover_of s c =
     if (cpu_at s c).online && (cpu_at s c).idle
-      then cover_where s c (least (cpu_at s c).bases.bases.global.items)
-      else None
+    then cover_where s c (least (cpu_at s c).bases.bases.global.items)
+    else None

@@ -44,7 +44,7 @@ woken_migrator s c g =
 abbrev pub woken : State → (c : ℕ) → State
 woken s c =
     with_cpu (with_migrators s (woken_migrator s c)) c
-      (record (cpu_at s c) { idle = false; wakeup = NEVER; told = NEVER })
+    (record (cpu_at s c) { idle = false; wakeup = NEVER; told = NEVER })
 
 -- REST: each group of the path whose migrator is the child towards the CPU, where that child is now inactive, takes its
 -- lowest active child, or none

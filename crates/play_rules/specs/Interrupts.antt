@@ -130,8 +130,8 @@ module _ {S : Type 0} (jobs : Replies) (r : Rules S) where
   abbrev pub interrupt : (c : ℕ) → S → Played S
   interrupt c s =
       and_then
-        (and_then (and_then (counting (r.entered s c)) (drains c)) (looks (r.levels s) c 0))
-        (λ t. silent (r.ended t c))
+      (and_then (and_then (counting (r.entered s c)) (drains c)) (looks (r.levels s) c 0))
+      (λ t. silent (r.ended t c))
 
   abbrev pub interrupt_where : Bool → (c : ℕ) → S → Played S
   interrupt_where false c s = silent s

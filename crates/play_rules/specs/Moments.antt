@@ -66,8 +66,8 @@ module _ {S : Type 0} (jobs : Replies) (r : Rules S) where
   turns zero end now ms s = []
   turns (suc n) end now ms s =
       turn_then (now == end)
-        (λ t. turns n end (next_moment r end (moments_after now ms) t) (moments_after now ms) t)
-        (turn ms now s)
+      (λ t. turns n end (next_moment r end (moments_after now ms) t) (moments_after now ms) t)
+      (turn ms now s)
 
 -- what is read off a list of moments: the lines, the state after the last, a fact after each
 abbrev pub turn_lines : {S : Type 0} → List (Turn S) → List Line
@@ -111,4 +111,3 @@ module _ {S : Type 0} (r : Rules S) where
   -- the lines of a whole play
   abbrev pub whole_lines : (end : ℕ) → S → List (Turn S) → List Line
   whole_lines end start ts = turn_lines ts ++ closing end (last_state start ts)
-

@@ -46,14 +46,14 @@ module _ {S : Type 0} (r : Rules S) where
   abbrev pub not_active : S → (c : ℕ) → Option OpFault
   not_active s c =
       if r.is_online s c
-        then if r.is_idle s c then Some faults.NotActive else None
-        else Some faults.Offline
+      then if r.is_idle s c then Some faults.NotActive else None
+      else Some faults.Offline
 
   abbrev pub not_idle : S → (c : ℕ) → Option OpFault
   not_idle s c =
       if r.is_online s c
-        then if r.is_idle s c then None else Some faults.NotIdle
-        else Some faults.Offline
+      then if r.is_idle s c then None else Some faults.NotIdle
+      else Some faults.Offline
 
   abbrev pub held_by : Option Queued → Option OpFault
   held_by queued = option_map (λ held. faults.Queued held.cpu) queued
@@ -144,8 +144,8 @@ module _ {S : Type 0} (r : Rules S) where
   move_printed from to None rest s = silent s
   move_printed from to (Some m) rest s =
       and_then
-        (printing (lines.Moved (r.clock s) m.mover.timer (cpu_id from) (cpu_id to) m.mover.wheel) m.state)
-        rest
+      (printing (lines.Moved (r.clock s) m.mover.timer (cpu_id from) (cpu_id to) m.mover.wheel) m.state)
+      rest
 
   unfoldable pub moves : (n from to : ℕ) → S → Played S
   moves zero from to s = silent s

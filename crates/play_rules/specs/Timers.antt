@@ -73,7 +73,7 @@ oldest_of_class class bases = option_map (λ item. (class, item)) (oldest_in (ba
 abbrev pub first_to_move : CpuBases → Option (Class × Item)
 first_to_move bases =
     option_or (oldest_of_class Pinned bases)
-      (option_or (oldest_of_class Global bases) (oldest_of_class Deferrable bases))
+    (option_or (oldest_of_class Global bases) (oldest_of_class Deferrable bases))
 
 abbrev pub moved_out_of : State → (from to : ℕ) → Class → State
 moved_out_of s from to class =
@@ -87,7 +87,7 @@ moved_into s to (class, item) = record {
     wheel = (item_queued (s.clock + 1) class item.id item.expires item.job item.arg (bases_at s to)).wheel;
   };
   state = with_bases s to
-    (moved_in s.clock class item.id item.expires item.job item.arg (record { 0 = to }) (bases_at s to));
+      (moved_in s.clock class item.id item.expires item.job item.arg (record { 0 = to }) (bases_at s to));
 }
 
 abbrev pub moved_one : State → (from to : ℕ) → Class × Item → Moved State
@@ -105,8 +105,8 @@ count_on s c =
 abbrev pub controller : State → Option ℕ
 controller s =
     option_or
-      (find (λ d. is_placed s d && ((cpu_at s d).online && not (cpu_at s d).idle)) (all_cpus s))
-      (find (λ d. is_placed s d && (cpu_at s d).online) (all_cpus s))
+    (find (λ d. is_placed s d && ((cpu_at s d).online && not (cpu_at s d).idle)) (all_cpus s))
+    (find (λ d. is_placed s d && (cpu_at s d).online) (all_cpus s))
 
 abbrev pub controlling : State → (d : ℕ) → State
 controlling s d = if (cpu_at s d).idle then woken s d else s

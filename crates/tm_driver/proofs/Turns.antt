@@ -20,12 +20,12 @@ module _ {S : Type 0} (jobs : Replies) (r : Rules S) (end : ℕ) where
   -- a moment before the end, and those behind it
   turns_more : (m now : ℕ) (ms : List Moment) (s next : S) → now < end → next ≡ (turn jobs r ms now s).played.state
       → turns jobs r (suc m) end now ms s
-          ≡ turn jobs r ms now s ∷ turns jobs r m end (next_moment r end (moments_after now ms) next) (moments_after now ms) next
+      ≡ turn jobs r ms now s ∷ turns jobs r m end (next_moment r end (moments_after now ms) next) (moments_after now ms) next
   unfolding turns
   turns_more m now ms s next low state =
       let other : now ≢ end = λ same. omega (arith, same, low) in
       rw (ne_eqb now end other)
-        (ap (λ u. turn jobs r ms now s ∷ turns jobs r m end (next_moment r end (moments_after now ms) u) (moments_after now ms) u) (sym state))
+      (ap (λ u. turn jobs r ms now s ∷ turns jobs r m end (next_moment r end (moments_after now ms) u) (moments_after now ms) u) (sym state))
 
   -- the last moment
   turns_last : (m now : ℕ) (ms : List Moment) (s : S) → now ≡ end → turns jobs r (suc m) end now ms s ≡ turn jobs r ms now s ∷ []
@@ -36,7 +36,7 @@ module _ {S : Type 0} (jobs : Replies) (r : Rules S) (end : ℕ) where
   unfolding turns
   turns_some m now ms s =
       elim (now == end) as (λ b. (x : Turn S) × (xs : List (Turn S))
-          × (turn_then b (λ t. turns jobs r m end (next_moment r end (moments_after now ms) t) (moments_after now ms) t) (turn jobs r ms now s) ≡ x ∷ xs)) [
+      × (turn_then b (λ t. turns jobs r m end (next_moment r end (moments_after now ms) t) (moments_after now ms) t) (turn jobs r ms now s) ≡ x ∷ xs)) [
         | true ↦ (turn jobs r ms now s, [], refl)
         | false ↦ (turn jobs r ms now s, turns jobs r m end (next_moment r end (moments_after now ms) (turn jobs r ms now s).played.state) (moments_after now ms) (turn jobs r ms now s).played.state, refl)
       ]
@@ -112,8 +112,8 @@ module _ {S : Type 0} (jobs : Replies) (r : Rules S) (end limit : ℕ) (whole : 
         ∙ ap (λ x. x ++ report_text (turn jobs r ms now s).played.lines) far.text
         ∙ append_assoc old.text (report_text (turn_lines far.done)) (report_text (turn jobs r ms now s).played.lines)
         ∙ ap (λ x. old.text ++ x)
-            (sym (flat_map-append line_text (turn_lines far.done) (turn jobs r ms now s).played.lines)
-            ∙ ap report_text (sym (turn_lines_push far.done (turn jobs r ms now s))))
+        (sym (flat_map-append line_text (turn_lines far.done) (turn jobs r ms now s).played.lines)
+        ∙ ap report_text (sym (turn_lines_push far.done (turn jobs r ms now s))))
 
     tally_then : new.tally ≡ tallied_all old.tally (turn_lines (far.done ++ turn jobs r ms now s ∷ []))
     tally_then =
@@ -143,27 +143,27 @@ module _ {S : Type 0} (jobs : Replies) (r : Rules S) (end limit : ℕ) (whole : 
           let some = turns_some jobs r end (end - far.count - 1) (next_moment r end (moments_after now ms) next) (moments_after now ms) next in
           let left : suc (end - far.count - 1) ≡ end + 1 - (far.count + 1) = omega (arith, far.few, low) in
           let behind : rest ≡ turns jobs r (end + 1 - (far.count + 1)) end (next_moment r end (moments_after now ms) next) (moments_after now ms) next =
-              ap (λ k. turns jobs r k end (next_moment r end (moments_after now ms) next) (moments_after now ms) next) left in
+          ap (λ k. turns jobs r k end (next_moment r end (moments_after now ms) next) (moments_after now ms) next) left in
           record {
             done = far.done ++ turn jobs r ms now s ∷ [];
             count = far.count + 1;
             work = far.work + (turn jobs r ms now s).played.work;
             few = omega (arith, far.few, later);
             split =
-              far.split ∙ ap (λ x. far.done ++ x) (here ∙ ap (λ x. turn jobs r ms now s ∷ x) behind)
-              ∙ sym (append_assoc far.done (turn jobs r ms now s ∷ []) _);
+                far.split ∙ ap (λ x. far.done ++ x) (here ∙ ap (λ x. turn jobs r ms now s ∷ x) behind)
+                ∙ sym (append_assoc far.done (turn jobs r ms now s ∷ []) _);
             text = lines_then;
             tally = tally_then;
             worked = work_then;
             state = printed.state ∙ sym (last_push start far.done (turn jobs r ms now s));
             spent =
-              far.spent ∙ ap (spent_at limit far.work) here
-              ∙ spent_more limit far.work (turn jobs r ms now s) rest some.0 some.1 some.2 below
-              ∙ ap (spent_at limit (far.work + (turn jobs r ms now s).played.work)) behind;
+                far.spent ∙ ap (spent_at limit far.work) here
+                ∙ spent_more limit far.work (turn jobs r ms now s) rest some.0 some.1 some.2 below
+                ∙ ap (spent_at limit (far.work + (turn jobs r ms now s).played.work)) behind;
             ended =
-              far.ended ∙ ap (λ x. far.done ++ finished limit far.work x) here
-              ∙ ap (λ x. far.done ++ x) (finished_more limit far.work (turn jobs r ms now s) rest below ∙ ap (λ x. turn jobs r ms now s ∷ finished limit (far.work + (turn jobs r ms now s).played.work) x) behind)
-              ∙ sym (append_assoc far.done (turn jobs r ms now s ∷ []) _);
+                far.ended ∙ ap (λ x. far.done ++ finished limit far.work x) here
+                ∙ ap (λ x. far.done ++ x) (finished_more limit far.work (turn jobs r ms now s) rest below ∙ ap (λ x. turn jobs r ms now s ∷ finished limit (far.work + (turn jobs r ms now s).played.work) x) behind)
+                ∙ sym (append_assoc far.done (turn jobs r ms now s ∷ []) _);
           }
 
       -- the work has reached its limit
@@ -174,14 +174,14 @@ module _ {S : Type 0} (jobs : Replies) (r : Rules S) (end limit : ℕ) (whole : 
           let reached : nat_le limit (far.work + (turn jobs r ms now s).played.work) ≡ true = le-leb _ _ (omega (arith, same, enough)) in
           record {
             spent =
-              ap (option_map counted)
+                ap (option_map counted)
                 (far.spent ∙ ap (spent_at limit far.work) here ∙ spent_here limit far.work (turn jobs r ms now s) rest some.0 some.1 some.2 reached)
-              ∙ ap Some same;
+                ∙ ap Some same;
             text =
-              lines_then
-              ∙ ap (λ x. old.text ++ report_text (turn_lines x))
-                  (sym (far.ended ∙ ap (λ x. far.done ++ finished limit far.work x) here
-                  ∙ ap (λ x. far.done ++ x) (finished_here limit far.work (turn jobs r ms now s) rest reached)));
+                lines_then
+                ∙ ap (λ x. old.text ++ report_text (turn_lines x))
+                (sym (far.ended ∙ ap (λ x. far.done ++ finished limit far.work x) here
+                ∙ ap (λ x. far.done ++ x) (finished_here limit far.work (turn jobs r ms now s) rest reached)));
           }
 
     -- the last moment
@@ -189,7 +189,7 @@ module _ {S : Type 0} (jobs : Replies) (r : Rules S) (end limit : ℕ) (whole : 
     all_done last =
         let fuel : end + 1 - far.count ≡ suc (end - far.count) = omega (arith, far.few, last) in
         let here : turns jobs r (end + 1 - far.count) end now ms s ≡ turn jobs r ms now s ∷ [] =
-            ap (λ k. turns jobs r k end now ms s) fuel ∙ turns_last jobs r end (end - far.count) now ms s last in
+        ap (λ k. turns jobs r k end now ms s) fuel ∙ turns_last jobs r end (end - far.count) now ms s last in
         let all : whole ≡ far.done ++ turn jobs r ms now s ∷ [] = far.split ∙ ap (λ x. far.done ++ x) here in
         record {
           told = record {

@@ -4,8 +4,8 @@ ghost use Rattle.std.specs.Prelude.{◌≡◌, ◌<◌, OnOk};
 ghost use Rattle.play_rules.specs.Moments.{closing, left};
 ghost use Rattle.play_rules.specs.Parts.{Gains, Prints, lines_told};
 
-use play_rules::Machine;
 use crate::telling::Telling;
+use play_rules::Machine;
 use tm_base::{Jiffy, NoMemory, TimerId};
 use tm_report::Line;
 
@@ -13,9 +13,9 @@ use tm_report::Line;
 fn left_over<M: Machine>(machine: &M, telling: &mut Telling) -> Result<(), NoMemory>
     ensures prints { OnOk result
         (Prints
-            (lines_told (left M.rules (M.rules.timers (M.world machine.now)) 0 (M.world machine.now))
-                (M.world machine.now))
-            telling.old telling.new (M.world machine.now)) }
+        (lines_told (left M.rules (M.rules.timers (M.world machine.now)) 0 (M.world machine.now))
+        (M.world machine.now))
+        telling.old telling.new (M.world machine.now)) }
     ensures gains { Gains telling.old.text telling.new.text }
 {
     for number in 0..machine.timers() {
@@ -40,7 +40,7 @@ pub(crate) fn close<M: Machine>(
 ) -> Result<(), NoMemory>
     ensures prints { OnOk result
         (Prints (lines_told (closing M.rules end (M.world machine.now)) (M.world machine.now))
-            telling.old telling.new (M.world machine.now)) }
+        telling.old telling.new (M.world machine.now)) }
     ensures gains { Gains telling.old.text telling.new.text }
 {
     left_over(machine, telling)?;

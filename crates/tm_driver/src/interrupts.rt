@@ -7,9 +7,9 @@ ghost use Rattle.play_rules.specs.Machines.{Same};
 ghost use Rattle.play_rules.specs.Parts.{Gains, Prints};
 
 use crate::jobs::drain;
+use crate::telling::Telling;
 use job_table::Jobs;
 use play_rules::Machine;
-use crate::telling::Telling;
 use tm_base::{Class, CpuId, CpuSet, NoMemory};
 
 /// A look tries a CPU that it named: it leaves it alone, or runs its due global timers.
@@ -24,7 +24,7 @@ fn try_one<M: Machine, J: Jobs>(
     requires other { other.0 < M.rules.cpus (M.world machine.old) }
     ensures prints { OnOk result
         (Prints (try (J.replies jobs.now) M.rules cpu.0 other.0 (M.world machine.old))
-            telling.old telling.new (M.world machine.new)) }
+        telling.old telling.new (M.world machine.new)) }
     ensures same { OnOk result (Same M.rules (M.world machine.old) (M.world machine.new)) }
     ensures gains { Gains telling.old.text telling.new.text }
 {
@@ -48,9 +48,9 @@ fn look<M: Machine, J: Jobs>(
     requires { cpu.0 < M.rules.cpus (M.world machine.old) }
     ensures prints { OnOk result
         (Prints
-            (look (J.replies jobs.now) M.rules (M.rules.cpus (M.world machine.old)) cpu.0 level set.empty
-                (M.world machine.old))
-            telling.old telling.new (M.world machine.new)) }
+        (look (J.replies jobs.now) M.rules (M.rules.cpus (M.world machine.old)) cpu.0 level set.empty
+        (M.world machine.old))
+        telling.old telling.new (M.world machine.new)) }
     ensures same { OnOk result (Same M.rules (M.world machine.old) (M.world machine.new)) }
     ensures gains { Gains telling.old.text telling.new.text }
 {
@@ -75,9 +75,9 @@ fn looks<M: Machine, J: Jobs>(
     requires { cpu.0 < M.rules.cpus (M.world machine.old) }
     ensures prints { OnOk result
         (Prints
-            (looks (J.replies jobs.now) M.rules (M.rules.levels (M.world machine.old)) cpu.0 0
-                (M.world machine.old))
-            telling.old telling.new (M.world machine.new)) }
+        (looks (J.replies jobs.now) M.rules (M.rules.levels (M.world machine.old)) cpu.0 0
+        (M.world machine.old))
+        telling.old telling.new (M.world machine.new)) }
     ensures same { OnOk result (Same M.rules (M.world machine.old) (M.world machine.new)) }
     ensures gains { Gains telling.old.text telling.new.text }
 {
@@ -100,7 +100,7 @@ fn drains<M: Machine, J: Jobs>(
     requires { cpu.0 < M.rules.cpus (M.world machine.old) }
     ensures prints { OnOk result
         (Prints (drains (J.replies jobs.now) M.rules cpu.0 (M.world machine.old))
-            telling.old telling.new (M.world machine.new)) }
+        telling.old telling.new (M.world machine.new)) }
     ensures same { OnOk result (Same M.rules (M.world machine.old) (M.world machine.new)) }
     ensures gains { Gains telling.old.text telling.new.text }
 {
@@ -119,7 +119,7 @@ fn interrupt<M: Machine, J: Jobs>(
     requires { cpu.0 < M.rules.cpus (M.world machine.old) }
     ensures prints { OnOk result
         (Prints (interrupt (J.replies jobs.now) M.rules cpu.0 (M.world machine.old))
-            telling.old telling.new (M.world machine.new)) }
+        telling.old telling.new (M.world machine.new)) }
     ensures same { OnOk result (Same M.rules (M.world machine.old) (M.world machine.new)) }
     ensures gains { Gains telling.old.text telling.new.text }
 {
@@ -142,9 +142,9 @@ fn interrupt_if_due<M: Machine, J: Jobs>(
     requires { cpu.0 < M.rules.cpus (M.world machine.old) }
     ensures prints { OnOk result
         (Prints
-            (interrupt_where (J.replies jobs.now) M.rules (set.contains due.now cpu.0) cpu.0
-                (M.world machine.old))
-            telling.old telling.new (M.world machine.new)) }
+        (interrupt_where (J.replies jobs.now) M.rules (set.contains due.now cpu.0) cpu.0
+        (M.world machine.old))
+        telling.old telling.new (M.world machine.new)) }
     ensures same { OnOk result (Same M.rules (M.world machine.old) (M.world machine.new)) }
     ensures gains { Gains telling.old.text telling.new.text }
 {
@@ -163,9 +163,9 @@ pub(crate) fn interrupts<M: Machine, J: Jobs>(
 ) -> Result<(), NoMemory>
     ensures prints { OnOk result
         (Prints
-            (interrupts (J.replies jobs.now) M.rules (M.rules.cpus (M.world machine.old)) 0 due.now
-                (M.world machine.old))
-            telling.old telling.new (M.world machine.new)) }
+        (interrupts (J.replies jobs.now) M.rules (M.rules.cpus (M.world machine.old)) 0 due.now
+        (M.world machine.old))
+        telling.old telling.new (M.world machine.new)) }
     ensures same { OnOk result (Same M.rules (M.world machine.old) (M.world machine.new)) }
     ensures gains { Gains telling.old.text telling.new.text }
 {

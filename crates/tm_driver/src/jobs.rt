@@ -5,9 +5,9 @@ ghost use Rattle.play_rules.specs.Interrupts.{again, drain, reply_to, run_job, r
 ghost use Rattle.play_rules.specs.Machines.{IsTimerOf, Same};
 ghost use Rattle.play_rules.specs.Parts.{Gains, Prints};
 
+use crate::telling::Telling;
 use job_table::{JobCall, JobReply, Jobs};
 use play_rules::{Arming, Machine};
-use crate::telling::Telling;
 use tm_base::{Class, CpuId, NoMemory, TimerId};
 use tm_report::{Line, ShownReply};
 use wheel_core::Item;
@@ -24,10 +24,10 @@ fn arm_again<M: Machine>(
     requires timer { IsTimerOf (M.rules.timers (M.world machine.old)) item }
     ensures reply { IfOk result (λ shown.
         shown ≡ (again M.rules (M.rules.queued (M.world machine.old) item.id) runner.0 item class delay
-            (M.world machine.old)).reply) }
+        (M.world machine.old)).reply) }
     ensures state { OnOk result (M.world machine.new ≡
         (again M.rules (M.rules.queued (M.world machine.old) item.id) runner.0 item class delay
-            (M.world machine.old)).state) }
+        (M.world machine.old)).state) }
     ensures same { OnOk result (Same M.rules (M.world machine.old) (M.world machine.new)) }
 {
     let timer = TimerId(item.id as u16);
@@ -87,7 +87,7 @@ fn run_job<M: Machine, J: Jobs>(
     requires timer { IsTimerOf (M.rules.timers (M.world machine.old)) item }
     ensures prints { OnOk result
         (Prints (run_job (J.replies jobs.now) M.rules home.0 runner.0 item (M.world machine.old))
-            telling.old telling.new (M.world machine.new)) }
+        telling.old telling.new (M.world machine.new)) }
     ensures same { OnOk result (Same M.rules (M.world machine.old) (M.world machine.new)) }
     ensures gains { Gains telling.old.text telling.new.text }
 {
@@ -117,7 +117,7 @@ fn run_jobs<M: Machine, J: Jobs>(
     requires timers { All (IsTimerOf (M.rules.timers (M.world machine.old))) items.now }
     ensures prints { OnOk result
         (Prints (run_jobs (J.replies jobs.now) M.rules home.0 runner.0 items.now (M.world machine.old))
-            telling.old telling.new (M.world machine.new)) }
+        telling.old telling.new (M.world machine.new)) }
     ensures same { OnOk result (Same M.rules (M.world machine.old) (M.world machine.new)) }
     ensures gains { Gains telling.old.text telling.new.text }
 {
@@ -140,7 +140,7 @@ pub(crate) fn drain<M: Machine, J: Jobs>(
     requires runner { runner.0 < M.rules.cpus (M.world machine.old) }
     ensures prints { OnOk result
         (Prints (drain (J.replies jobs.now) M.rules home.0 class runner.0 (M.world machine.old))
-            telling.old telling.new (M.world machine.new)) }
+        telling.old telling.new (M.world machine.new)) }
     ensures same { OnOk result (Same M.rules (M.world machine.old) (M.world machine.new)) }
     ensures gains { Gains telling.old.text telling.new.text }
 {

@@ -13,9 +13,9 @@ use crate::interrupts::{having_interrupt, interrupts};
 use crate::moving::{clear_after, covers};
 use crate::operations::operations;
 use crate::outcomes::DriveFault;
+use crate::telling::Telling;
 use job_table::Jobs;
 use play_rules::Machine;
-use crate::telling::Telling;
 use tm_base::{CpuSet, Jiffy, NoMemory, WORK_LIMIT_V1, WORK_LIMIT_V2};
 use tm_script::{Moment, Script};
 
@@ -29,7 +29,7 @@ fn scripted<M: Machine>(
         (IsMomentInRange (M.rules.cpus (M.world machine.old)) (M.rules.timers (M.world machine.old))) }
     ensures prints { OnOk result
         (Prints (scripted M.rules (option_copied due.entry) (M.world machine.old))
-            telling.old telling.new (M.world machine.new)) }
+        telling.old telling.new (M.world machine.new)) }
     ensures same { OnOk result (Same M.rules (M.world machine.old) (M.world machine.new)) }
     ensures gains { Gains telling.old.text telling.new.text }
 {
@@ -53,9 +53,9 @@ fn moment<M: Machine, J: Jobs>(
         (IsMomentInRange (M.rules.cpus (M.world machine.old)) (M.rules.timers (M.world machine.old))) }
     ensures prints { OnOk result
         (Prints
-            (moment (J.replies jobs.now) M.rules interrupted.now (option_copied due.entry)
-                (M.world machine.old))
-            telling.old telling.new (M.world machine.new)) }
+        (moment (J.replies jobs.now) M.rules interrupted.now (option_copied due.entry)
+        (M.world machine.old))
+        telling.old telling.new (M.world machine.new)) }
     ensures same { OnOk result (Same M.rules (M.world machine.old) (M.world machine.new)) }
     ensures gains { Gains telling.old.text telling.new.text }
 {
@@ -98,7 +98,7 @@ fn turn<M: Machine, J: Jobs>(
         (IsMomentInRange (M.rules.cpus (M.world machine.old)) (M.rules.timers (M.world machine.old))) left.now }
     ensures prints { OnOk result
         (Prints (turn (J.replies jobs.now) M.rules left.now now (M.world machine.old)).played
-            telling.old telling.new (M.world machine.new)) }
+        telling.old telling.new (M.world machine.new)) }
     ensures clock { OnOk result (M.rules.clock (M.world machine.new) ≡ now) }
     ensures same { OnOk result (SameBuild M.rules (M.world machine.old) (M.world machine.new)) }
     ensures gains { Gains telling.old.text telling.new.text }
@@ -133,12 +133,12 @@ pub(crate) fn moments<M: Machine, J: Jobs>(
     requires no_work { telling.old.work ≡ 0 }
     ensures whole { OnOk result
         (PlaysOut (work_limit script.now.version)
-            (script_turns (J.replies jobs.now) M.rules script.now (M.world machine.old)) (M.world machine.old)
-            telling.old telling.new (M.world machine.new)) }
+        (script_turns (J.replies jobs.now) M.rules script.now (M.world machine.old)) (M.world machine.old)
+        telling.old telling.new (M.world machine.new)) }
     ensures fault { IfErr result (λ fault.
         EndsEarly (work_limit script.now.version)
-            (script_turns (J.replies jobs.now) M.rules script.now (M.world machine.old)) fault
-            telling.old.text telling.new.text) }
+        (script_turns (J.replies jobs.now) M.rules script.now (M.world machine.old)) fault
+        telling.old.text telling.new.text) }
     ensures gains { Gains telling.old.text telling.new.text }
 {
     let limit = work_limit(script.version);
@@ -147,7 +147,9 @@ pub(crate) fn moments<M: Machine, J: Jobs>(
     while now < script.end {
         turn(machine, jobs, left, now, telling)?;
         if telling.work() >= limit {
-            return Err(DriveFault::WorkSpent { count: telling.work() });
+            return Err(DriveFault::WorkSpent {
+                count: telling.work(),
+            });
         }
         left = still_to_come(left, now);
         now = next_moment(machine, left, script.end);
@@ -160,5 +162,9 @@ pub(crate) fn moments<M: Machine, J: Jobs>(
 fn work_limit(version: u8) -> u32
     ensures { result ≡ work_limit version }
 {
-    if version == 1 { WORK_LIMIT_V1 } else { WORK_LIMIT_V2 }
+    if version == 1 {
+        WORK_LIMIT_V1
+    } else {
+        WORK_LIMIT_V2
+    }
 }

@@ -7,8 +7,8 @@ ghost use Rattle.play_rules.specs.Parts.{Gains, Prints};
 ghost use Rattle.tm_report.specs.Lines.{report_text};
 ghost use Rattle.tm_driver.specs.Conditions.{IsOpInRange};
 
-use play_rules::Machine;
 use crate::telling::Telling;
+use play_rules::Machine;
 use tm_base::{CpuId, NoMemory};
 use tm_report::Line;
 use tm_script::{Op, What};
@@ -96,7 +96,7 @@ pub(crate) fn clear_after<M: Machine>(
     requires { All (IsOpInRange (M.rules.cpus (M.world machine.old)) (M.rules.timers (M.world machine.old))) ops.now }
     ensures prints { OnOk result
         (Prints (clear_after M.rules (leaver ops.now) (M.world machine.old))
-            telling.old telling.new (M.world machine.new)) }
+        telling.old telling.new (M.world machine.new)) }
     ensures same { OnOk result (Same M.rules (M.world machine.old) (M.world machine.new)) }
     ensures gains { Gains telling.old.text telling.new.text }
 {

@@ -7,8 +7,8 @@ ghost use Rattle.play_rules.specs.Operations.{arm, cancel, clear, clear_after, c
 ghost use Rattle.play_rules.specs.Parts.{Gains, Prints};
 ghost use Rattle.tm_driver.specs.Conditions.{IsOpInRange};
 
-use play_rules::{Arming, Cancelling, Machine};
 use crate::telling::Telling;
+use play_rules::{Arming, Cancelling, Machine};
 use tm_base::{CpuId, Jiffy, NoMemory, OpFault};
 use tm_report::Line;
 use tm_script::{Op, What};
@@ -142,8 +142,8 @@ fn cancel<M: Machine>(
     requires timer { cancelling.timer.0 < M.rules.timers (M.world machine.old) }
     ensures prints { OnOk result
         (Prints
-            (cancel M.rules cancelling (M.world machine.old))
-            telling.old telling.new (M.world machine.new)) }
+        (cancel M.rules cancelling (M.world machine.old))
+        telling.old telling.new (M.world machine.new)) }
     ensures same { OnOk result (Same M.rules (M.world machine.old) (M.world machine.new)) }
     ensures gains { Gains telling.old.text telling.new.text }
 {
@@ -248,7 +248,7 @@ fn done<M: Machine>(machine: &mut M, op: &Op, telling: &mut Telling) -> Result<(
     requires allowed { refusal M.rules op.now.what op.now.cpu.0 (M.world machine.old) ≡ None }
     ensures prints { OnOk result
         (Prints (done M.rules op.now.what op.now.line op.now.cpu (M.world machine.old))
-            telling.old telling.new (M.world machine.new)) }
+        telling.old telling.new (M.world machine.new)) }
     ensures same { OnOk result (Same M.rules (M.world machine.old) (M.world machine.new)) }
     ensures gains { Gains telling.old.text telling.new.text }
 {
@@ -305,7 +305,11 @@ fn operation<M: Machine>(machine: &mut M, op: &Op, telling: &mut Telling) -> Res
 }
 
 /// The operations of a moment, in line order.
-pub(crate) fn operations<M: Machine>(machine: &mut M, ops: &[Op], telling: &mut Telling) -> Result<(), NoMemory>
+pub(crate) fn operations<M: Machine>(
+    machine: &mut M,
+    ops: &[Op],
+    telling: &mut Telling,
+) -> Result<(), NoMemory>
     requires { All (IsOpInRange (M.rules.cpus (M.world machine.old)) (M.rules.timers (M.world machine.old))) ops.now }
     ensures prints { OnOk result
         (Prints (operations M.rules ops.now (M.world machine.old)) telling.old telling.new (M.world machine.new)) }

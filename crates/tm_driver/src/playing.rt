@@ -66,11 +66,11 @@ fn play_known<M: Machine, J: Jobs>(
     requires no_work { telling.old.work ≡ 0 }
     ensures whole { OnOk result
         (TellsAll M.rules (J.replies jobs.now) script.now (M.world machine.old)
-            telling.old telling.new (M.world machine.new)) }
+        telling.old telling.new (M.world machine.new)) }
     ensures fault { IfErr result (λ fault.
         EndsEarly (work_limit script.now.version)
-            (script_turns (J.replies jobs.now) M.rules script.now (M.world machine.old)) fault
-            telling.old.text telling.new.text) }
+        (script_turns (J.replies jobs.now) M.rules script.now (M.world machine.old)) fault
+        telling.old.text telling.new.text) }
     ensures gains { Gains telling.old.text telling.new.text }
 {
     moments(machine, jobs, script, telling)?;
@@ -91,10 +91,10 @@ pub fn play_on<M: Machine, J: Jobs>(
     requires playable { IsPlayable (M.rules.cpus (M.world machine.old)) (M.rules.timers (M.world machine.old)) script.now }
     ensures whole { IfOk result (λ tally.
         PlaysWhole M.rules (J.replies jobs.now) (J.count jobs.now) script.now (M.world machine.old)
-            report.old report.new tally (M.world machine.new)) }
+        report.old report.new tally (M.world machine.new)) }
     ensures fault { IfErr result (λ fault.
         SaysFault M.rules (J.replies jobs.now) (J.count jobs.now) script.now (M.world machine.old) fault
-            report.old report.new) }
+        report.old report.new) }
 {
     if let Some(UnknownJob { line, job }) = first_unknown_job(script, jobs) {
         return Err(DriveFault::BadJob { line, job });

@@ -30,7 +30,11 @@ impl Model for Telling {
 fn tallied_run(tally: Tally, runner: CpuId, home: CpuId, reply: ShownReply) -> Tally
     ensures { result ≡ tallied_run tally runner home reply }
 {
-    let remote = if runner == home { tally.remote } else { tally.remote.saturating_add(1) };
+    let remote = if runner == home {
+        tally.remote
+    } else {
+        tally.remote.saturating_add(1)
+    };
     let armed = match reply {
         ShownReply::Again { .. } => tally.armed.saturating_add(1),
         _ => tally.armed,
@@ -48,15 +52,44 @@ fn tallied(tally: Tally, line: &Line) -> Tally
     ensures { result ≡ tallied tally line.now }
 {
     match *line {
-        Line::Arm { .. } => Tally { armed: tally.armed.saturating_add(1), ..tally },
-        Line::Run { runner, home, reply, .. } => tallied_run(tally, runner, home, reply),
-        Line::Cancel { .. } => Tally { cancels: tally.cancels.saturating_add(1), ..tally },
-        Line::Idle { .. } => Tally { idles: tally.idles.saturating_add(1), ..tally },
-        Line::Stay { .. } => Tally { stays: tally.stays.saturating_add(1), ..tally },
-        Line::Wake { .. } => Tally { wakes: tally.wakes.saturating_add(1), ..tally },
-        Line::Refused { .. } => Tally { refused: tally.refused.saturating_add(1), ..tally },
-        Line::RefusedQueued { .. } => Tally { refused: tally.refused.saturating_add(1), ..tally },
-        Line::Left { .. } => Tally { left: tally.left.saturating_add(1), ..tally },
+        Line::Arm { .. } => Tally {
+            armed: tally.armed.saturating_add(1),
+            ..tally
+        },
+        Line::Run {
+            runner,
+            home,
+            reply,
+            ..
+        } => tallied_run(tally, runner, home, reply),
+        Line::Cancel { .. } => Tally {
+            cancels: tally.cancels.saturating_add(1),
+            ..tally
+        },
+        Line::Idle { .. } => Tally {
+            idles: tally.idles.saturating_add(1),
+            ..tally
+        },
+        Line::Stay { .. } => Tally {
+            stays: tally.stays.saturating_add(1),
+            ..tally
+        },
+        Line::Wake { .. } => Tally {
+            wakes: tally.wakes.saturating_add(1),
+            ..tally
+        },
+        Line::Refused { .. } => Tally {
+            refused: tally.refused.saturating_add(1),
+            ..tally
+        },
+        Line::RefusedQueued { .. } => Tally {
+            refused: tally.refused.saturating_add(1),
+            ..tally
+        },
+        Line::Left { .. } => Tally {
+            left: tally.left.saturating_add(1),
+            ..tally
+        },
         _ => tally,
     }
 }

@@ -11,13 +11,13 @@ loop-number-preserved g c =
           let told = w.in_ok-tell.ensures in
           record {
             rest = rw w.telling-is (left_more _ _ _ _ _ _ _ _ _ c.loop-number.invariant.rest
-              (omega (arith, c.loop-number-test.true, c.timers-number-end.ensures)) (sym w.in-Some.ensures) told.text told.tally told.work);
+                (omega (arith, c.loop-number-test.true, c.timers-number-end.ensures)) (sym w.in-Some.ensures) told.text told.tally told.work);
             gains = rw w.telling-is (gains_then _ _ _ c.loop-number.invariant.gains (_, told.text));
           }
       | in_default w ↦
           record {
             rest = rw w.telling-is (left_less _ _ _ _ _ _ _ c.loop-number.invariant.rest
-              (omega (arith, c.loop-number-test.true, c.timers-number-end.ensures)) (sym w.in_default.ensures));
+                (omega (arith, c.loop-number-test.true, c.timers-number-end.ensures)) (sym w.in_default.ensures));
             gains = rw w.telling-is c.loop-number.invariant.gains;
           }
     ]
@@ -25,4 +25,4 @@ loop-number-preserved g c =
 pub returns-clause-prints : goal.returns-clause-prints
 returns-clause-prints g c =
     left_all _ _ _ _ _ _ _ c.loop-number.invariant.rest
-      (omega (arith, c.loop-number-test.false, c.timers-number-end.ensures))
+    (omega (arith, c.loop-number-test.false, c.timers-number-end.ensures))

@@ -8,7 +8,7 @@ loop-cpu-preserved g c =
     let done = c.in_ok-interrupt_if_due.ensures in
     record {
       rest = interrupted_more _ _ _ _ _ _ _ _ _ _ _ c.loop-cpu.invariant.rest
-        (omega (arith, c.loop-cpu-test.true, c.cpus-cpu-end.ensures.count)) done.prints;
+          (omega (arith, c.loop-cpu-test.true, c.cpus-cpu-end.ensures.count)) done.prints;
       same = search rules;
       gains = gains_then _ _ _ c.loop-cpu.invariant.gains done.gains;
     }
@@ -16,4 +16,4 @@ loop-cpu-preserved g c =
 pub returns-clause-prints : goal.returns-clause-prints
 returns-clause-prints g c =
     interrupted_all _ _ _ _ _ _ _ _ _ c.loop-cpu.invariant.rest
-      (omega (arith, c.loop-cpu-test.false, c.cpus-cpu-end.ensures.count))
+    (omega (arith, c.loop-cpu-test.false, c.cpus-cpu-end.ensures.count))

@@ -8,7 +8,7 @@ loop-turn-preserved g c =
     let done = c.in_ok-try_one.ensures in
     record {
       rest = rw c.add.ensures.added (looked_more _ _ _ _ _ _ _ _ _ _ _ _ _ _ c.loop-turn.invariant.rest
-        (omega (arith, c.loop-turn-test.true, c.cpus-turn-end.ensures.count)) (sym c.in-Some.ensures.named) done.prints);
+          (omega (arith, c.loop-turn-test.true, c.cpus-turn-end.ensures.count)) (sym c.in-Some.ensures.named) done.prints);
       same = search rules;
       gains = gains_then _ _ _ c.loop-turn.invariant.gains done.gains;
     }
@@ -16,9 +16,9 @@ loop-turn-preserved g c =
 pub returns-in_default-clause-prints : goal.returns-in_default-clause-prints
 returns-in_default-clause-prints g c =
     looked_none _ _ _ _ _ _ _ _ _ _ _ c.loop-turn.invariant.rest
-      (omega (arith, c.loop-turn-test.true, c.cpus-turn-end.ensures.count)) (sym c.in_default.ensures.named)
+    (omega (arith, c.loop-turn-test.true, c.cpus-turn-end.ensures.count)) (sym c.in_default.ensures.named)
 
 pub returns-clause-prints : goal.returns-clause-prints
 returns-clause-prints g c =
     looked_all _ _ _ _ _ _ _ _ _ _ _ c.loop-turn.invariant.rest
-      (omega (arith, c.loop-turn-test.false, c.cpus-turn-end.ensures.count))
+    (omega (arith, c.loop-turn-test.false, c.cpus-turn-end.ensures.count))

@@ -6,14 +6,14 @@ use Rattle.tm_driver.proofs.interrupts.looks.Goals as goal
 pub returns-then-not-looks_after-clause-prints : goal.returns-then-not-looks_after-clause-prints
 returns-then-not-looks_after-clause-prints g c =
     looks_stop _ _ _ _ _ _ _ _ _ c.loop-level.invariant.rest
-      (omega (arith, c.loop-level-test.true, c.levels-level-end.ensures)) (search (rules, c.looks_after.ensures, c.if-not-looks_after.true))
+    (omega (arith, c.loop-level-test.true, c.levels-level-end.ensures)) (search (rules, c.looks_after.ensures, c.if-not-looks_after.true))
 
 pub loop-level-preserved : goal.loop-level-preserved
 loop-level-preserved g c =
     let done = c.in_ok-look.ensures in
     record {
       rest = looks_more _ _ _ _ _ _ _ _ _ _ _ _ c.loop-level.invariant.rest
-        (omega (arith, c.loop-level-test.true, c.levels-level-end.ensures)) (search (rules, c.looks_after.ensures, c.if-not-looks_after.false)) refl done.prints;
+          (omega (arith, c.loop-level-test.true, c.levels-level-end.ensures)) (search (rules, c.looks_after.ensures, c.if-not-looks_after.false)) refl done.prints;
       same = search rules;
       gains = gains_then _ _ _ c.loop-level.invariant.gains done.gains;
     }
@@ -21,4 +21,4 @@ loop-level-preserved g c =
 pub returns-clause-prints : goal.returns-clause-prints
 returns-clause-prints g c =
     looks_all _ _ _ _ _ _ _ _ _ c.loop-level.invariant.rest
-      (omega (arith, c.loop-level-test.false, c.levels-level-end.ensures))
+    (omega (arith, c.loop-level-test.false, c.levels-level-end.ensures))

@@ -20,8 +20,8 @@ pub returns-then-work-limit-clause-fault : goal.returns-then-work-limit-clause-f
 returns-then-work-limit-clause-fault g c =
     let done = c.in_ok-turn.ensures in
     rw (sym c.work_limit-limit.ensures)
-      (breaks_off _ _ _ _ _ _ _ _ _ _ _ c.loop-now.invariant.far _ _ done.prints c.loop-now-test.true c.work-then-work-limit.result
-        (omega (arith, c.if-work-limit.true, c.work.ensures, c.work-then-work-limit.ensures)) c.work-then-work-limit.ensures c.work-then-work-limit.type_inv)
+    (breaks_off _ _ _ _ _ _ _ _ _ _ _ c.loop-now.invariant.far _ _ done.prints c.loop-now-test.true c.work-then-work-limit.result
+    (omega (arith, c.if-work-limit.true, c.work.ensures, c.work-then-work-limit.ensures)) c.work-then-work-limit.ensures c.work-then-work-limit.type_inv)
 
 pub loop-now-preserved : goal.loop-now-preserved
 loop-now-preserved g c =
@@ -32,7 +32,7 @@ loop-now-preserved g c =
     let from = from_said _ _ _ rises (omega (arith, c.loop-now-test.true)) in
     rw (c.next_moment-now.ensures, c.still_to_come-left.ensures) (record {
       far = one_more _ _ _ _ _ _ _ _ _ _ _ so_far.far _ _ done.prints c.loop-now-test.true
-        (omega (arith, c.if-work-limit.false, c.work.ensures)) c.work_limit-limit.type_inv (omega (arith, done.clock));
+          (omega (arith, c.if-work-limit.false, c.work.ensures)) c.work_limit-limit.type_inv (omega (arith, done.clock));
       not_back = omega (arith, done.clock);
       by_end = omega (arith, done.clock, said, c.loop-now-test.true);
       rise = rise_from _ _ _ _ rises (omega (arith, done.clock, from));
@@ -45,4 +45,4 @@ pub returns-clause-whole : goal.returns-clause-whole
 returns-clause-whole g c =
     let done = c.in_ok-turn-2.ensures in
     rw (sym c.work_limit-limit.ensures)
-      (all_done _ _ _ _ _ _ _ _ _ _ _ c.loop-now.invariant.far _ _ done.prints (omega (arith, c.loop-now.invariant.by_end, c.loop-now-test.false)))
+    (all_done _ _ _ _ _ _ _ _ _ _ _ c.loop-now.invariant.far _ _ done.prints (omega (arith, c.loop-now.invariant.by_end, c.loop-now-test.false)))

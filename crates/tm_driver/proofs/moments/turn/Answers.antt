@@ -5,4 +5,4 @@ use Rattle.tm_driver.proofs.moments.turn.Goals as goal
 pub moment-requires : goal.moment-requires
 moment-requires g c =
     rw (c.set_clock.ensures.cpus, c.set_clock.ensures.timers)
-      (due_in_range _ _ _ _ c.moment_due.ensures c.requires.in_range)
+    (due_in_range _ _ _ _ c.moment_due.ensures c.requires.in_range)

@@ -11,13 +11,13 @@ loop-cpu-preserved g c =
           let told = w.in_ok-tell.ensures in
           record {
             rest = rw w.telling-is (covers_more _ _ _ _ _ _ _ _ _ _ c.loop-cpu.invariant.rest
-              (omega (arith, c.loop-cpu-test.true, c.cpus-cpu-end.ensures.count)) (sym w.in-Some.ensures) c.clock-now.ensures.clock told.text told.tally told.work);
+                (omega (arith, c.loop-cpu-test.true, c.cpus-cpu-end.ensures.count)) (sym w.in-Some.ensures) c.clock-now.ensures.clock told.text told.tally told.work);
             gains = rw w.telling-is (gains_then _ _ _ c.loop-cpu.invariant.gains (_, told.text));
           }
       | in_default w ↦
           record {
             rest = rw w.telling-is (covers_less _ _ _ _ _ _ _ c.loop-cpu.invariant.rest
-              (omega (arith, c.loop-cpu-test.true, c.cpus-cpu-end.ensures.count)) (sym w.in_default.ensures));
+                (omega (arith, c.loop-cpu-test.true, c.cpus-cpu-end.ensures.count)) (sym w.in_default.ensures));
             gains = rw w.telling-is c.loop-cpu.invariant.gains;
           }
     ]
@@ -25,4 +25,4 @@ loop-cpu-preserved g c =
 pub returns-clause-prints : goal.returns-clause-prints
 returns-clause-prints g c =
     covers_all _ _ _ _ _ _ _ c.loop-cpu.invariant.rest
-      (omega (arith, c.loop-cpu-test.false, c.cpus-cpu-end.ensures.count))
+    (omega (arith, c.loop-cpu-test.false, c.cpus-cpu-end.ensures.count))
