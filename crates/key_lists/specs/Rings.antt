@@ -1,4 +1,4 @@
--- how rings of links keep lists of keys
+-- how rings of links keep lists of keys: cited by the crate's own invariant and by no public clause
 use Rattle.std.specs.Prelude.{◌≡◌, ℕ, zero, suc, ◌+◌, ◌-◌, ◌<◌, ◌≤◌, ◌^◌, List, [], ◌∷◌, length}
 use Rattle.std.specs.Prelude.{◌==◌, if◌then◌else◌, slice_index_or}
 use Rattle.key_lists.specs.declared.link.Link.{Link}

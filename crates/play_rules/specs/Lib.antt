@@ -1,6 +1,13 @@
+pub mod Rules
+pub mod Tallies
+pub mod Parts
+pub mod Interrupts
+pub mod Operations
+pub mod Moments
+pub mod Jobs
 pub mod State
-pub mod Group
+pub mod Hierarchy
 pub mod Timers
+pub mod Covers
 pub mod Play
-pub mod Prints
-pub mod Settled
+pub mod Machines

@@ -1,33 +1,46 @@
--- the machine as a play sees it: plain data, with no walks. All CPUs stand in one group, and one CPU alone in none
-use Rattle.std.specs.Prelude.{ℕ, List, Bool, true, Option, Some, None, if◌then◌else◌, nat_lt, replicate, slice_index_or, slice_set, unwrap_or}
+-- the machine as Play sees it: plain data, with no walks
+use Rattle.std.specs.Prelude.{ℕ, ◌&&◌, List, Bool, true, false, not, Option, Some, None, length, replicate, slice_index_or, slice_set}
+use Rattle.std.specs.List.{range_with_len}
 use Rattle.tm_base.specs.declared.names.TheConstants.{NEVER}
-use Rattle.wheel_core.specs.PlainBase.{PlainBase, empty_base, least}
+use Rattle.tree_plan.specs.Shape.{Shape}
+use Rattle.tree_plan.specs.Paths.{cpu_count_of, group_count_of, has_group_in}
+use Rattle.cpu_bases.specs.CpuBases.{CpuBases, empty_bases}
 
--- one CPU: whether it is active, the wakeup that it programmed, what its leaf last heard of it (its first event as it
--- went idle or last told), and the base of its global timers. Times that don't come are `NEVER`.
+-- one CPU: its flags, the wakeup that it programmed, what its leaf last heard of it, and its bases with their journal.
+-- Times that don't come are `NEVER`; the wakeup and what was told of an active or offline CPU are
 pub record Cpu : Type 0 where
-  pub active : Bool
+  pub online : Bool
+  pub idle : Bool
   pub wakeup : ℕ
   pub told : ℕ
-  pub global : PlainBase
+  pub bases : CpuBases
 
--- the clock in jiffies, how many timers there are, the CPUs in ascending order, and the migrator of their group
+-- the clock in jiffies, how many timers there are, the tree, the CPUs, and each group's migrator by its child number
 pub record State : Type 0 where
   pub clock : ℕ
   pub timers : ℕ
+  pub tree : Shape
   pub cpus : List Cpu
-  pub migrator : Option ℕ
+  pub migrators : List (Option ℕ)
 
 abbrev pub new_cpu : Cpu
-new_cpu = record { active = true; wakeup = NEVER; told = NEVER; global = empty_base }
+new_cpu = record { online = true; idle = false; wakeup = NEVER; told = NEVER; bases = empty_bases }
 
--- the migrator at the start is child 0; one CPU alone has no group
-abbrev pub first_migrator : (cpus : ℕ) → Option ℕ
-first_migrator cpus = if nat_lt 1 cpus then Some 0 else None
+-- the start at jiffy 0: every CPU is online and active, nothing is queued, and each group's migrator is its child 0
+abbrev pub start : Shape → (timers : ℕ) → State
+start tree timers = record {
+  clock = 0;
+  timers = timers;
+  tree = tree;
+  cpus = replicate (cpu_count_of tree) new_cpu;
+  migrators = replicate (group_count_of tree) (Some 0);
+}
 
--- the start at jiffy 0: every CPU is active, and nothing is queued
-abbrev pub start : (cpus timers : ℕ) → State
-start cpus timers = record { clock = 0; timers = timers; cpus = replicate cpus new_cpu; migrator = first_migrator cpus }
+abbrev pub cpu_count : State → ℕ
+cpu_count s = length s.cpus
+
+abbrev pub all_cpus : State → List ℕ
+all_cpus s = range_with_len 0 (cpu_count s)
 
 -- the CPU of a number
 abbrev pub cpu_at : State → ℕ → Cpu
@@ -36,12 +49,16 @@ cpu_at s c = slice_index_or s.cpus c new_cpu
 abbrev pub with_cpu : State → ℕ → Cpu → State
 with_cpu s c cpu = record s { cpus = slice_set s.cpus c cpu }
 
-abbrev pub with_global : State → ℕ → PlainBase → State
-with_global s c base = with_cpu s c (record (cpu_at s c) { global = base })
+abbrev pub with_bases : State → ℕ → CpuBases → State
+with_bases s c bases = with_cpu s c (record (cpu_at s c) { bases = bases })
 
-abbrev pub at_clock : ℕ → State → State
-at_clock now s = record s { clock = now }
+abbrev pub is_active : State → ℕ → Bool
+is_active s c = (cpu_at s c).online && not (cpu_at s c).idle
 
--- a CPU's first event: the least wheel expiry of its global timers
-abbrev pub next_of : Cpu → ℕ
-next_of cpu = unwrap_or (least cpu.global.items) NEVER
+-- a CPU has a group where it is placed, and isn't the only one that is
+abbrev pub has_group : State → ℕ → Bool
+has_group s c = has_group_in s.tree c
+
+-- the migrator of a group
+abbrev pub migrator_at : State → ℕ → Option ℕ
+migrator_at s g = slice_index_or s.migrators g None

@@ -1,6 +1,14 @@
-//! What a play of a script is: the state of the machine, its moments, the lines and the text, all as definitions over
-//! plain data in `specs/`. The crates above cite them; no function stands here.
+//! What a play of a script is, as definitions over plain data in `specs/`, and what a machine that plays has to do.
 //!
-//! `State` has the machine, `Timers` arming and hand-out, `Play` the moments and the lines, and `Prints` says that a part
-//! of a play was printed.
+//! `Rules` is what a play asks of a machine; `Interrupts`, `Operations` and `Moments` say over any rules what a moment
+//! and a play are, with their lines and their count of work. `State`, `Hierarchy`, `Timers` and `Covers` are the plain
+//! machine, and `Play` the shape under its rules. A `Machine` makes each rule a call.
 #![tactic(auto)]
+
+mod asks;
+mod machine;
+mod tally;
+
+pub use asks::{Answerer, Arming, Cancelling, Mover, Queued, UnknownJob};
+pub use machine::Machine;
+pub use tally::Tally;

@@ -4,11 +4,11 @@ use Rattle.std.specs.declared.alloc.Global.{Global}
 use Rattle.std.specs.Io.KnownBytes.{Consumes, IsAtEnd}
 use Rattle.tm_io.specs.Seen.{SourceSeen, SourceFailed, SourceUnbroken}
 use Rattle.tm_io.specs.Sources.{TakesCount, TakesUpTo}
-use Rattle.tm_script.specs.declared.syntax.Script.{Script}
-use Rattle.tm_script.specs.Texts.{script_text}
-use Rattle.tm_script.specs.Form.{IsOfForm}
-use Rattle.play_rules.specs.Play.{AfterEachMoment, play_text}
-use Rattle.play_rules.specs.Settled.{IsSettled}
+use Rattle.first_script.specs.declared.syntax.Script.{Script}
+use Rattle.first_script.specs.Texts.{script_text}
+use Rattle.first_script.specs.Form.{IsOfForm}
+use Rattle.first_rules.specs.Play.{AfterEachMoment, play_text}
+use Rattle.first_rules.specs.Settled.{IsSettled}
 use Rattle.script_main.specs.declared.replies.TheConstants.{MOST_BYTES}
 use Rattle.script_main.specs.declared.replies.Reply.{Reply}
 use Rattle.script_main.specs.declared.replies.Reply.TheVariants.{Usage, ReadFault, Refused, Played}

@@ -8,12 +8,12 @@ ghost use Rattle.script_main.specs.Replies.{status_broken, status_written};
 
 use crate::words::is_play;
 use crate::{PLAYED, READ_FAULT, SCRIPT_REFUSED, USAGE, WRITE_FAULT};
+use first_driver::play;
+use first_script::{ReadScript, read_script};
 use std::alloc::Global;
 use tm_base::NoMemory;
-use tm_driver::play;
 use tm_io::{ReadFault, Source, read_all};
 use tm_report::Report;
-use tm_script::{ReadScript, read_script};
 
 /// The most bytes that a script has.
 const MOST_BYTES: usize = 65_536;

@@ -1,14 +1,30 @@
--- what holds between the parts of a moment
-use Rattle.std.specs.Prelude.{◌≡◌, ℕ, ◌<◌, length}
-use Rattle.wheel_core.specs.PlainBase.{NoneBehind}
-use Rattle.play_rules.specs.State.{State, cpu_at}
+-- what a driver needs of a script: its numbers are in range, and its moments rise
+use Rattle.std.specs.Prelude.{◌≡◌, ℕ, ◌+◌, ◌<◌, ◌≤◌, All, List, [], ◌∷◌}
+use Rattle.tm_base.specs.declared.limits.TheConstants.{SCRIPT_TIME_LIMIT}
+use Rattle.tm_script.specs.declared.syntax.Moment.{Moment}
+use Rattle.tm_script.specs.declared.syntax.Op.{Op}
+use Rattle.tm_script.specs.declared.syntax.What.{What}
+use Rattle.tm_script.specs.declared.syntax.What.TheVariants as whats
+use Rattle.tm_script.specs.declared.syntax.Script.{Script}
 
--- the clock and the numbers of timers and CPUs are as before
-pub record SameMachine (old new : State) : Type 0 where
-  pub clock : new.clock ≡ old.clock
-  pub timers : new.timers ≡ old.timers
-  pub count : length new.cpus ≡ length old.cpus
+abbrev pub IsTimerInRange : (timers : ℕ) → What → Type 0
+IsTimerInRange timers (whats.Arm timer class delay job arg) = timer.0 < timers
+IsTimerInRange timers (whats.Cancel timer) = timer.0 < timers
+IsTimerInRange timers what = Unit {0}
 
--- in the base of no CPU a queued wheel expiry is below the base's clock
-abbrev pub AllInFront : State → Type 0
-AllInFront s = (c : ℕ) → c < length s.cpus → NoneBehind (cpu_at s c).global
+pub record IsOpInRange (cpus timers : ℕ) (o : Op) : Type 0 where
+  pub cpu : o.cpu.0 < cpus
+  pub timer : IsTimerInRange timers o.what
+
+abbrev pub IsMomentInRange : (cpus timers : ℕ) → Moment → Type 0
+IsMomentInRange cpus timers m = All (IsOpInRange cpus timers) m.ops
+
+-- the times of the moments rise, from a time on, and none is past the end
+abbrev pub Rise : (from end : ℕ) → List Moment → Type 0
+Rise from end [] = Unit {0}
+Rise from end (m ∷ ms) = (from ≤ m.at) × ((m.at ≤ end) × Rise (m.at + 1) end ms)
+
+pub record IsPlayable (cpus timers : ℕ) (script : Script) : Type 0 where
+  pub in_range : All (IsMomentInRange cpus timers) script.moments
+  pub rise : Rise 0 script.end script.moments
+  pub in_time : script.end < SCRIPT_TIME_LIMIT

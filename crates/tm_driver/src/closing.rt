@@ -1,49 +1,48 @@
 //! The end of a play.
 
-ghost use Rattle.std.specs.Prelude.{◌≡◌, ℕ, ◌++◌, ◌∷◌, [], OnOk};
-ghost use Rattle.tm_report.specs.Lines.{report_text};
-ghost use Rattle.tm_report.specs.declared.lines.Line.TheVariants as lines;
-ghost use Rattle.play_rules.specs.Timers.{queued_on};
-ghost use Rattle.play_rules.specs.Play.{left, left_or};
+ghost use Rattle.std.specs.Prelude.{◌≡◌, ◌<◌, OnOk};
+ghost use Rattle.play_rules.specs.Moments.{closing, left};
+ghost use Rattle.play_rules.specs.Parts.{Gains, Prints, lines_told};
 
-use step_core::Quiet;
-use tm_base::{Class, Jiffy, NoMemory, TimerId};
-use tm_report::{Line, Report};
-
-/// A line for a timer, where it is still queued.
-fn leave(quiet: &Quiet, timer: TimerId, report: &mut Report) -> Result<(), NoMemory>
-    ensures { OnOk result (report.new ≡ report.old ++ report_text (left_or timer.0 (queued_on quiet.now timer.0) [])) }
-{
-    let Some((cpu, wheel)) = quiet.queued_on(timer) else {
-        return Ok(());
-    };
-    report.push(&Line::Left {
-        timer,
-        cpu,
-        class: Class::Global,
-        wheel,
-    })
-}
+use crate::telling::Telling;
+use play_rules::Machine;
+use tm_base::{Jiffy, NoMemory, TimerId};
+use tm_report::Line;
 
 /// A line for each timer that is still queued, by ascending timer.
-fn left_over(quiet: &Quiet, timers: u16, report: &mut Report) -> Result<(), NoMemory>
-    ensures { OnOk result (report.new ≡ report.old ++ report_text (left timers 0 quiet.now)) }
+fn left_over<M: Machine>(machine: &M, telling: &mut Telling) -> Result<(), NoMemory>
+    ensures prints { OnOk result
+        (Prints
+        (lines_told (left M.rules (M.rules.timers (M.world machine.now)) 0 (M.world machine.now))
+        (M.world machine.now))
+        telling.old telling.new (M.world machine.now)) }
+    ensures gains { Gains telling.old.text telling.new.text }
 {
-    for timer in 0..timers {
-        leave(quiet, TimerId(timer), report)?;
+    for number in 0..machine.timers() {
+        let timer = TimerId(number);
+        if let Some(held) = machine.queued(timer) {
+            telling.tell(&Line::Left {
+                timer,
+                cpu: held.cpu,
+                class: held.class,
+                wheel: held.wheel,
+            })?;
+        }
     }
     Ok(())
 }
 
 /// The last lines of a play: the timers that are still queued, and the end.
-pub(crate) fn close(
-    quiet: &Quiet,
-    timers: u16,
+pub(crate) fn close<M: Machine>(
+    machine: &M,
     end: Jiffy,
-    report: &mut Report,
+    telling: &mut Telling,
 ) -> Result<(), NoMemory>
-    ensures { OnOk result (report.new ≡ report.old ++ report_text (left timers 0 quiet.now ++ lines.End end ∷ [])) }
+    ensures prints { OnOk result
+        (Prints (lines_told (closing M.rules end (M.world machine.now)) (M.world machine.now))
+        telling.old telling.new (M.world machine.now)) }
+    ensures gains { Gains telling.old.text telling.new.text }
 {
-    left_over(quiet, timers, report)?;
-    report.push(&Line::End { now: end })
+    left_over(machine, telling)?;
+    telling.tell(&Line::End { now: end })
 }

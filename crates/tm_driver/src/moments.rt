@@ -1,185 +1,70 @@
 //! The moments of a play.
 
-ghost use Rattle.std.specs.Prelude.{◌≡◌, ◌+◌, ◌<◌, ◌≤◌, OnOk, length};
+ghost use Rattle.std.specs.Prelude.{◌≡◌, ◌<◌, ◌≤◌, All, IfErr, OnOk};
 ghost use Rattle.std.specs.Option.{ForSome, option_copied};
-ghost use Rattle.tm_script.specs.Form.{IsMomentOfForm, IsOfForm};
-ghost use Rattle.play_rules.specs.State.{cpu_at, start};
-ghost use Rattle.play_rules.specs.Group.{has_interrupt};
-ghost use Rattle.play_rules.specs.Play.{AfterEach, interrupt, interrupt_if, interrupts, look, moment, moment_at, moments, moments_after, run_all_due, scripted};
-ghost use Rattle.play_rules.specs.Prints.{Prints};
-ghost use Rattle.play_rules.specs.Settled.{IsSettled};
-ghost use Rattle.tm_driver.specs.Conditions.{AllInFront, SameMachine};
+ghost use Rattle.play_rules.specs.Machines.{Same, SameBuild};
+ghost use Rattle.play_rules.specs.Moments.{moment, moment_at, moment_now, moments_after, next_moment, next_said, scripted, turn, turns};
+ghost use Rattle.play_rules.specs.Parts.{Gains, Prints};
+ghost use Rattle.tm_base.specs.declared.limits.TheConstants.{SCRIPT_TIME_LIMIT};
+ghost use Rattle.tm_driver.specs.Outcomes.{EndsEarly, PlaysOut, script_turns, work_limit};
+ghost use Rattle.tm_driver.specs.Conditions.{IsMomentInRange, IsPlayable};
 
-use crate::operations::{covers, operations};
-use step_core::{Quiet, law_settled};
-use tm_base::{CpuId, Jiffy, NoMemory};
-use tm_report::{Line, Report, ShownReply};
+use crate::interrupts::{having_interrupt, interrupts};
+use crate::moving::{clear_after, covers};
+use crate::operations::operations;
+use crate::outcomes::DriveFault;
+use crate::telling::Telling;
+use job_table::Jobs;
+use play_rules::Machine;
+use tm_base::{CpuSet, Jiffy, NoMemory, WORK_LIMIT_V1, WORK_LIMIT_V2};
 use tm_script::{Moment, Script};
 
-/// What is due on one CPU is handed out and run on another one, each timer with its line.
-fn hand_out(
-    quiet: &mut Quiet,
-    now: Jiffy,
-    home: CpuId,
-    runner: CpuId,
-    report: &mut Report,
-) -> Result<(), NoMemory>
-    requires in_range { home.0 < length quiet.old.cpus }
-    requires now { now ≡ quiet.old.clock }
-    requires in_front { AllInFront quiet.old }
-    ensures prints { OnOk result (Prints (run_all_due home.0 runner.0 quiet.old) report.old report.new quiet.new) }
-    ensures same { OnOk result (SameMachine quiet.old quiet.new) }
-    ensures active { OnOk result ((cpu_at quiet.new home.0).active ≡ (cpu_at quiet.old home.0).active) }
-    ensures in_front { OnOk result (AllInFront quiet.new) }
-{
-    while let Some((timer, wheel)) = quiet.take_next(home) {
-        report.push(&Line::Run {
-            now,
-            runner,
-            timer,
-            home,
-            wheel,
-            reply: ShownReply::Done,
-        })?;
-    }
-    Ok(())
-}
-
-/// A CPU looks after its group: it runs the due timers of idle CPUs, each of which then tells its first event again.
-fn look(
-    quiet: &mut Quiet,
-    now: Jiffy,
-    cpus: u8,
-    runner: CpuId,
-    report: &mut Report,
-) -> Result<(), NoMemory>
-    requires all { cpus ≡ length quiet.old.cpus }
-    requires now { now ≡ quiet.old.clock }
-    requires in_front { AllInFront quiet.old }
-    ensures prints { OnOk result (Prints (look cpus runner.0 quiet.old) report.old report.new quiet.new) }
-    ensures same { OnOk result (SameMachine quiet.old quiet.new) }
-    ensures in_front { OnOk result (AllInFront quiet.new) }
-{
-    for _turn in 0..cpus {
-        let Some(sleeper) = quiet.due_sleeper(runner) else {
-            return Ok(());
-        };
-        hand_out(quiet, now, sleeper, runner, report)?;
-        quiet.tell(sleeper);
-    }
-    Ok(())
-}
-
-/// The interrupt of a CPU: its own due timers, the look after its group, and where it is idle its re-evaluation.
-fn interrupt(
-    quiet: &mut Quiet,
-    now: Jiffy,
-    cpus: u8,
-    cpu: CpuId,
-    report: &mut Report,
-) -> Result<(), NoMemory>
-    requires all { cpus ≡ length quiet.old.cpus }
-    requires in_range { cpu.0 < cpus }
-    requires now { now ≡ quiet.old.clock }
-    requires in_front { AllInFront quiet.old }
-    ensures prints { OnOk result (Prints (interrupt cpu.0 quiet.old) report.old report.new quiet.new) }
-    ensures same { OnOk result (SameMachine quiet.old quiet.new) }
-    ensures in_front { OnOk result (AllInFront quiet.new) }
-{
-    hand_out(quiet, now, cpu, cpu, report)?;
-    look(quiet, now, cpus, cpu, report)?;
-    if quiet.is_idle(cpu) {
-        quiet.reevaluate(cpu);
-    }
-    Ok(())
-}
-
-/// The interrupts of all CPUs that have one, by ascending number.
-fn interrupts(quiet: &mut Quiet, now: Jiffy, cpus: u8, report: &mut Report) -> Result<(), NoMemory>
-    requires all { cpus ≡ length quiet.old.cpus }
-    requires now { now ≡ quiet.old.clock }
-    requires in_front { AllInFront quiet.old }
-    ensures prints { OnOk result (Prints (interrupts cpus 0 quiet.old) report.old report.new quiet.new) }
-    ensures same { OnOk result (SameMachine quiet.old quiet.new) }
-    ensures in_front { OnOk result (AllInFront quiet.new) }
-{
-    for cpu in 0..cpus {
-        interrupt_if_due(quiet, now, cpus, CpuId(u16::from(cpu)), report)?;
-    }
-    Ok(())
-}
-
-/// The interrupt of a CPU, where it has one.
-fn interrupt_if_due(
-    quiet: &mut Quiet,
-    now: Jiffy,
-    cpus: u8,
-    cpu: CpuId,
-    report: &mut Report,
-) -> Result<(), NoMemory>
-    requires all { cpus ≡ length quiet.old.cpus }
-    requires in_range { cpu.0 < cpus }
-    requires now { now ≡ quiet.old.clock }
-    requires in_front { AllInFront quiet.old }
-    ensures prints { OnOk result (Prints (interrupt_if (has_interrupt quiet.old cpu.0) cpu.0 quiet.old) report.old report.new quiet.new) }
-    ensures same { OnOk result (SameMachine quiet.old quiet.new) }
-    ensures in_front { OnOk result (AllInFront quiet.new) }
-{
-    if quiet.has_interrupt(cpu) {
-        return interrupt(quiet, now, cpus, cpu, report);
-    }
-    Ok(())
-}
-
-/// What the script has for a jiffy: its operations, and then the covers.
-fn scripted(
-    quiet: &mut Quiet,
-    now: Jiffy,
-    cpus: u8,
+/// What the script has for a moment: its operations, the timers of a CPU that went offline, and the covers.
+fn scripted<M: Machine>(
+    machine: &mut M,
     due: Option<&Moment>,
-    report: &mut Report,
+    telling: &mut Telling,
 ) -> Result<(), NoMemory>
-    requires of_form { ForSome (option_copied due) (IsMomentOfForm (length quiet.old.cpus) quiet.old.timers) }
-    requires all { cpus ≡ length quiet.old.cpus }
-    requires now { now ≡ quiet.old.clock }
-    requires early { now ≤ 10000 }
-    requires in_front { AllInFront quiet.old }
-    ensures prints { OnOk result (Prints (scripted (option_copied due.entry) quiet.old) report.old report.new quiet.new) }
-    ensures same { OnOk result (SameMachine quiet.old quiet.new) }
-    ensures in_front { OnOk result (AllInFront quiet.new) }
+    requires { ForSome (option_copied due)
+        (IsMomentInRange (M.rules.cpus (M.world machine.old)) (M.rules.timers (M.world machine.old))) }
+    ensures prints { OnOk result
+        (Prints (scripted M.rules (option_copied due.entry) (M.world machine.old))
+        telling.old telling.new (M.world machine.new)) }
+    ensures same { OnOk result (Same M.rules (M.world machine.old) (M.world machine.new)) }
+    ensures gains { Gains telling.old.text telling.new.text }
 {
     let Some(due) = due else {
         return Ok(());
     };
-    operations(quiet, now, due.ops.as_slice(), report)?;
-    covers(quiet, now, cpus, report)
+    operations(machine, due.ops.as_slice(), telling)?;
+    clear_after(machine, due.ops.as_slice(), telling)?;
+    covers(machine, telling)
 }
 
-/// The interrupts of a moment, and then what the script has for it.
-fn moment(
-    quiet: &mut Quiet,
-    now: Jiffy,
-    cpus: u8,
+/// One moment, of which the CPUs that have an interrupt are known: it may be handed others than those of the clock.
+fn moment<M: Machine, J: Jobs>(
+    machine: &mut M,
+    jobs: &J,
+    interrupted: &CpuSet,
     due: Option<&Moment>,
-    report: &mut Report,
+    telling: &mut Telling,
 ) -> Result<(), NoMemory>
-    requires of_form { ForSome (option_copied due) (IsMomentOfForm (length quiet.old.cpus) quiet.old.timers) }
-    requires all { cpus ≡ length quiet.old.cpus }
-    requires now { now ≡ quiet.old.clock }
-    requires early { now ≤ 10000 }
-    requires in_front { AllInFront quiet.old }
-    ensures prints { OnOk result (Prints (moment (option_copied due.entry) quiet.old) report.old report.new quiet.new) }
-    ensures same { OnOk result (SameMachine quiet.old quiet.new) }
-    ensures in_front { OnOk result (AllInFront quiet.new) }
-    ensures settled { OnOk result (IsSettled quiet.new) }
+    requires { ForSome (option_copied due)
+        (IsMomentInRange (M.rules.cpus (M.world machine.old)) (M.rules.timers (M.world machine.old))) }
+    ensures prints { OnOk result
+        (Prints
+        (moment (J.replies jobs.now) M.rules interrupted.now (option_copied due.entry)
+        (M.world machine.old))
+        telling.old telling.new (M.world machine.new)) }
+    ensures same { OnOk result (Same M.rules (M.world machine.old) (M.world machine.new)) }
+    ensures gains { Gains telling.old.text telling.new.text }
 {
-    interrupts(quiet, now, cpus, report)?;
-    scripted(quiet, now, cpus, due, report)?;
-    law_settled(quiet);
-    Ok(())
+    telling.count();
+    interrupts(machine, jobs, interrupted, telling)?;
+    scripted(machine, due, telling)
 }
 
-/// The script's moment of a jiffy, where these are still to come.
+/// The script's moment of a time, where these are still to come.
 fn moment_due(left: &[Moment], now: Jiffy) -> Option<&Moment>
     ensures { option_copied result ≡ moment_at now left.now }
 {
@@ -189,7 +74,7 @@ fn moment_due(left: &[Moment], now: Jiffy) -> Option<&Moment>
     }
 }
 
-/// The moments that are still to come after a jiffy.
+/// The moments that are still to come after a time.
 fn still_to_come(left: &[Moment], now: Jiffy) -> &[Moment]
     ensures { result.now ≡ moments_after now left.now }
 {
@@ -199,23 +84,87 @@ fn still_to_come(left: &[Moment], now: Jiffy) -> &[Moment]
     }
 }
 
-/// All moments of a script: every jiffy from 0 to its end.
-pub(crate) fn moments(
-    quiet: &mut Quiet,
-    script: &Script,
-    report: &mut Report,
+/// The moment of a time, which the clock comes to.
+fn turn<M: Machine, J: Jobs>(
+    machine: &mut M,
+    jobs: &J,
+    left: &[Moment],
+    now: Jiffy,
+    telling: &mut Telling,
 ) -> Result<(), NoMemory>
-    requires of_form { IsOfForm script.now }
-    requires start { quiet.old ≡ start script.now.cpus script.now.timers }
-    ensures prints { OnOk result (Prints (moments (script.now.end + 1) 0 script.now.moments quiet.old) report.old report.new quiet.new) }
-    ensures same { OnOk result (quiet.new.timers ≡ script.now.timers) }
-    ensures settled { OnOk result (AfterEach IsSettled (script.now.end + 1) 0 script.now.moments quiet.old) }
+    requires not_back { M.rules.clock (M.world machine.old) ≤ now }
+    requires in_time { now < SCRIPT_TIME_LIMIT }
+    requires in_range { All
+        (IsMomentInRange (M.rules.cpus (M.world machine.old)) (M.rules.timers (M.world machine.old))) left.now }
+    ensures prints { OnOk result
+        (Prints (turn (J.replies jobs.now) M.rules left.now now (M.world machine.old)).played
+        telling.old telling.new (M.world machine.new)) }
+    ensures clock { OnOk result (M.rules.clock (M.world machine.new) ≡ now) }
+    ensures same { OnOk result (SameBuild M.rules (M.world machine.old) (M.world machine.new)) }
+    ensures gains { Gains telling.old.text telling.new.text }
 {
+    machine.set_clock(now);
+    let interrupted = having_interrupt(machine);
+    moment(machine, jobs, &interrupted, moment_due(left, now), telling)
+}
+
+/// When the next moment comes, in jiffies: the next interrupt, the script's next moment or the end.
+pub fn next_moment<M: Machine>(machine: &M, left: &[Moment], end: Jiffy) -> Jiffy
+    requires { M.rules.clock (M.world machine.now) < SCRIPT_TIME_LIMIT }
+    ensures { result ≡ next_moment M.rules end left.now (M.world machine.now) }
+{
+    let said = match left {
+        [next, ..] => next.at,
+        [] => end,
+    };
+    machine.next_interrupt().min(said).max(machine.clock() + 1)
+}
+
+/// The moments of a script from jiffy 0 to its end. Where the work has reached the limit after a moment that isn't the
+/// last, the play is broken off there with that count.
+pub(crate) fn moments<M: Machine, J: Jobs>(
+    machine: &mut M,
+    jobs: &J,
+    script: &Script,
+    telling: &mut Telling,
+) -> Result<(), DriveFault>
+    requires start { M.rules.clock (M.world machine.old) ≡ 0 }
+    requires playable { IsPlayable (M.rules.cpus (M.world machine.old)) (M.rules.timers (M.world machine.old)) script.now }
+    requires no_work { telling.old.work ≡ 0 }
+    ensures whole { OnOk result
+        (PlaysOut (work_limit script.now.version)
+        (script_turns (J.replies jobs.now) M.rules script.now (M.world machine.old)) (M.world machine.old)
+        telling.old telling.new (M.world machine.new)) }
+    ensures fault { IfErr result (λ fault.
+        EndsEarly (work_limit script.now.version)
+        (script_turns (J.replies jobs.now) M.rules script.now (M.world machine.old)) fault
+        telling.old.text telling.new.text) }
+    ensures gains { Gains telling.old.text telling.new.text }
+{
+    let limit = work_limit(script.version);
     let mut left = script.moments.as_slice();
-    for now in 0..script.end + 1 {
-        quiet.set_clock(now);
-        moment(quiet, now, script.cpus, moment_due(left, now), report)?;
+    let mut now = 0;
+    while now < script.end {
+        turn(machine, jobs, left, now, telling)?;
+        if telling.work() >= limit {
+            return Err(DriveFault::WorkSpent {
+                count: telling.work(),
+            });
+        }
         left = still_to_come(left, now);
+        now = next_moment(machine, left, script.end);
     }
+    turn(machine, jobs, left, now, telling)?;
     Ok(())
+}
+
+/// How much work a play may have before its last moment, by the version of its script.
+fn work_limit(version: u8) -> u32
+    ensures { result ≡ work_limit version }
+{
+    if version == 1 {
+        WORK_LIMIT_V1
+    } else {
+        WORK_LIMIT_V2
+    }
 }

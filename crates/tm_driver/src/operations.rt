@@ -1,190 +1,323 @@
-//! The operations of a moment, and the covers behind them.
+//! The operations of a moment, and what comes behind them: the timers of a CPU that went offline, and the covers.
 
-ghost use Rattle.std.specs.Prelude.{◌≡◌, ℕ, ◌<◌, ◌≤◌, ◌++◌, All, OnOk, [], length};
-ghost use Rattle.tm_script.specs.Form.{IsOpOfForm};
-ghost use Rattle.tm_report.specs.Lines.{report_text};
-ghost use Rattle.play_rules.specs.State.{cpu_at};
-ghost use Rattle.play_rules.specs.Group.{cover_of};
-ghost use Rattle.play_rules.specs.Play.{arm_if, cover_lines, cover_or, idle_if, operation, operations, wake_if};
-ghost use Rattle.play_rules.specs.Prints.{Prints};
-ghost use Rattle.tm_driver.specs.Conditions.{AllInFront, SameMachine};
+ghost use Rattle.std.specs.Prelude.{◌≡◌, ◌≢◌, ◌<◌, None, All, OnOk, false};
+ghost use Rattle.std.specs.Option.{option_copied};
+ghost use Rattle.play_rules.specs.Machines.{Same};
+ghost use Rattle.play_rules.specs.Operations.{arm, cancel, clear, clear_after, covers, done, done_unless, hand_on, idle, last_online, leaver, moves, not_active, not_idle, offline, online, operation, operations, refusal, refused_line, wake};
+ghost use Rattle.play_rules.specs.Parts.{Gains, Prints};
+ghost use Rattle.tm_driver.specs.Conditions.{IsOpInRange};
 
-use step_core::{Cover, Quiet};
-use tm_base::{Class, CpuId, Jiffy, NoMemory, OpFault, TimerId};
-use tm_report::{Line, Report, ShownCover};
+use crate::telling::Telling;
+use play_rules::{Arming, Cancelling, Machine};
+use tm_base::{CpuId, Jiffy, NoMemory, OpFault};
+use tm_report::Line;
 use tm_script::{Op, What};
 
-/// A CPU arms a timer.
-fn arm(
-    quiet: &mut Quiet,
-    now: Jiffy,
-    op: &Op,
-    timer: TimerId,
-    delay: u32,
-    report: &mut Report,
-) -> Result<(), NoMemory>
-    requires cpu_in_range { op.now.cpu.0 < length quiet.old.cpus }
-    requires timer_in_range { timer.0 < quiet.old.timers }
-    requires near { delay ≤ 62 }
-    requires now { now ≡ quiet.old.clock }
-    requires early { now ≤ 10000 }
-    requires in_front { AllInFront quiet.old }
-    ensures prints { OnOk result (Prints (arm_if (cpu_at quiet.old op.now.cpu.0).active op.now.line op.now.cpu timer delay quiet.old)
-        report.old report.new quiet.new) }
-    ensures same { OnOk result (SameMachine quiet.old quiet.new) }
-    ensures in_front { OnOk result (AllInFront quiet.new) }
+/// Why a CPU may not do what an active CPU does.
+fn not_active<M: Machine>(machine: &M, cpu: CpuId) -> Option<OpFault>
+    requires { cpu.0 < M.rules.cpus (M.world machine.now) }
+    ensures { result ≡ not_active M.rules (M.world machine.now) cpu.0 }
+{
+    if !machine.is_online(cpu) {
+        Some(OpFault::Offline)
+    } else if machine.is_idle(cpu) {
+        Some(OpFault::NotActive)
+    } else {
+        None
+    }
+}
+
+/// Why a CPU may not wake.
+fn not_idle<M: Machine>(machine: &M, cpu: CpuId) -> Option<OpFault>
+    requires { cpu.0 < M.rules.cpus (M.world machine.now) }
+    ensures { result ≡ not_idle M.rules (M.world machine.now) cpu.0 }
+{
+    if !machine.is_online(cpu) {
+        Some(OpFault::Offline)
+    } else if machine.is_idle(cpu) {
+        None
+    } else {
+        Some(OpFault::NotIdle)
+    }
+}
+
+/// Why a CPU may not go offline, where it is active: it is the last placed one that is online.
+fn last_online<M: Machine>(machine: &M, cpu: CpuId) -> Option<OpFault>
+    requires { cpu.0 < M.rules.cpus (M.world machine.now) }
+    ensures { result ≡ last_online M.rules (M.world machine.now) cpu.0 }
+{
+    if machine.is_placed(cpu) && machine.successor(cpu).is_none() {
+        Some(OpFault::LastOnline)
+    } else {
+        None
+    }
+}
+
+/// The first refusal that applies to an operation.
+fn refusal<M: Machine>(machine: &M, op: &Op) -> Option<OpFault>
+    requires { IsOpInRange (M.rules.cpus (M.world machine.now)) (M.rules.timers (M.world machine.now)) op.now }
+    ensures { result ≡ refusal M.rules op.now.what op.now.cpu.0 (M.world machine.now) }
 {
     let cpu = op.cpu;
-    let line = match quiet.arm(cpu, timer, delay) {
-        Ok(wheel) => Line::Arm {
-            now,
-            cpu,
-            timer,
-            class: Class::Global,
-            wheel,
+    match op.what {
+        What::Arm { timer, .. } => match not_active(machine, cpu) {
+            Some(fault) => Some(fault),
+            None => match machine.holder(timer) {
+                Some(holder) => Some(OpFault::Queued { cpu: holder }),
+                None => None,
+            },
         },
-        Err(OpFault::Queued { cpu: holder }) => Line::RefusedQueued {
+        What::Cancel { .. } | What::Idle => not_active(machine, cpu),
+        What::Wake => not_idle(machine, cpu),
+        What::Offline => match not_active(machine, cpu) {
+            Some(fault) => Some(fault),
+            None => last_online(machine, cpu),
+        },
+        What::Online => {
+            if machine.is_online(cpu) {
+                Some(OpFault::AlreadyOnline)
+            } else {
+                None
+            }
+        }
+    }
+}
+
+/// The line of a refusal.
+fn refused_line(fault: OpFault, now: Jiffy, line: u32, cpu: CpuId) -> Line
+    ensures { result ≡ refused_line fault now line cpu }
+{
+    let number = fault.number().unwrap_or(0);
+    match fault {
+        OpFault::Queued { cpu: holder } => Line::RefusedQueued {
             now,
             cpu,
-            line: op.line,
-            number: 6,
+            line,
+            number,
             holder,
         },
-        Err(OpFault::NotActive) => Line::Refused {
+        _ => Line::Refused {
             now,
             cpu,
-            line: op.line,
-            number: 1,
+            line,
+            number,
         },
-        Err(_) => unreachable!(),
-    };
-    report.push(&line)
-}
-
-/// A CPU tries to go idle.
-fn idle(quiet: &mut Quiet, now: Jiffy, op: &Op, report: &mut Report) -> Result<(), NoMemory>
-    requires cpu_in_range { op.now.cpu.0 < length quiet.old.cpus }
-    requires now { now ≡ quiet.old.clock }
-    requires in_front { AllInFront quiet.old }
-    ensures prints { OnOk result (Prints (idle_if (cpu_at quiet.old op.now.cpu.0).active op.now.line op.now.cpu quiet.old)
-        report.old report.new quiet.new) }
-    ensures same { OnOk result (SameMachine quiet.old quiet.new) }
-    ensures in_front { OnOk result (AllInFront quiet.new) }
-{
-    let cpu = op.cpu;
-    let line = match quiet.idle(cpu) {
-        Ok((true, until)) => Line::Idle { now, cpu, until },
-        Ok((false, first)) => Line::Stay { now, cpu, first },
-        Err(_) => Line::Refused {
-            now,
-            cpu,
-            line: op.line,
-            number: 1,
-        },
-    };
-    report.push(&line)
-}
-
-/// A CPU wakes.
-fn wake(quiet: &mut Quiet, now: Jiffy, op: &Op, report: &mut Report) -> Result<(), NoMemory>
-    requires cpu_in_range { op.now.cpu.0 < length quiet.old.cpus }
-    requires now { now ≡ quiet.old.clock }
-    requires in_front { AllInFront quiet.old }
-    ensures prints { OnOk result (Prints (wake_if (cpu_at quiet.old op.now.cpu.0).active op.now.line op.now.cpu quiet.old)
-        report.old report.new quiet.new) }
-    ensures same { OnOk result (SameMachine quiet.old quiet.new) }
-    ensures in_front { OnOk result (AllInFront quiet.new) }
-{
-    let cpu = op.cpu;
-    let line = match quiet.wake(cpu) {
-        Ok(()) => Line::Wake { now, cpu },
-        Err(_) => Line::Refused {
-            now,
-            cpu,
-            line: op.line,
-            number: 2,
-        },
-    };
-    report.push(&line)
-}
-
-/// One operation of a script.
-fn operation(quiet: &mut Quiet, now: Jiffy, op: &Op, report: &mut Report) -> Result<(), NoMemory>
-    requires of_form { IsOpOfForm (length quiet.old.cpus) quiet.old.timers op.now }
-    requires now { now ≡ quiet.old.clock }
-    requires early { now ≤ 10000 }
-    requires in_front { AllInFront quiet.old }
-    ensures prints { OnOk result (Prints (operation op.now quiet.old) report.old report.new quiet.new) }
-    ensures same { OnOk result (SameMachine quiet.old quiet.new) }
-    ensures in_front { OnOk result (AllInFront quiet.new) }
-{
-    match op.what {
-        What::Arm { timer, delay, .. } => arm(quiet, now, op, timer, delay, report),
-        What::Idle => idle(quiet, now, op, report),
-        What::Wake => wake(quiet, now, op, report),
-        _ => unreachable!(),
     }
 }
 
-/// Operations, in line order.
-pub(crate) fn operations(
-    quiet: &mut Quiet,
-    now: Jiffy,
-    ops: &[Op],
-    report: &mut Report,
+/// A CPU arms a timer that is queued nowhere.
+fn arm<M: Machine>(
+    machine: &mut M,
+    cpu: CpuId,
+    arming: Arming,
+    telling: &mut Telling,
 ) -> Result<(), NoMemory>
-    requires of_form { All (IsOpOfForm (length quiet.old.cpus) quiet.old.timers) ops.now }
-    requires now { now ≡ quiet.old.clock }
-    requires early { now ≤ 10000 }
-    requires in_front { AllInFront quiet.old }
-    ensures prints { OnOk result (Prints (operations ops.now quiet.old) report.old report.new quiet.new) }
-    ensures same { OnOk result (SameMachine quiet.old quiet.new) }
-    ensures in_front { OnOk result (AllInFront quiet.new) }
+    requires cpu { cpu.0 < M.rules.cpus (M.world machine.old) }
+    requires timer { arming.timer.0 < M.rules.timers (M.world machine.old) }
+    requires not_queued { M.rules.queued (M.world machine.old) arming.timer.0 ≡ None }
+    ensures prints { OnOk result
+        (Prints (arm M.rules cpu arming (M.world machine.old)) telling.old telling.new (M.world machine.new)) }
+    ensures same { OnOk result (Same M.rules (M.world machine.old) (M.world machine.new)) }
+    ensures gains { Gains telling.old.text telling.new.text }
 {
-    for op in ops {
-        operation(quiet, now, op, report)?;
-    }
-    Ok(())
-}
-
-/// Who answers for a CPU's first timer, where it is idle and has one.
-fn cover(quiet: &Quiet, now: Jiffy, cpu: CpuId, report: &mut Report) -> Result<(), NoMemory>
-    requires cpu_in_range { cpu.0 < length quiet.now.cpus }
-    requires now { now ≡ quiet.now.clock }
-    ensures { OnOk result (report.new ≡ report.old ++ report_text (cover_or (cover_of quiet.now cpu.0) cpu.0 quiet.now [])) }
-{
-    let Some(found) = quiet.cover_of(cpu) else {
-        return Ok(());
-    };
-    let cover = match found {
-        Cover::Migrator { cpu, .. } => ShownCover::Migrator {
-            level: 0,
-            place: 0,
-            cpu,
-        },
-        Cover::Wake { cpu, at } => ShownCover::Wake { cpu, at },
-    };
-    report.push(&Line::Cover {
+    let now = machine.clock();
+    let Arming { timer, class, .. } = arming;
+    let wheel = machine.arm(cpu, arming)?;
+    telling.tell(&Line::Arm {
         now,
         cpu,
-        wheel: quiet.first_event(cpu),
-        cover,
+        timer,
+        class,
+        wheel,
     })
 }
 
-/// Who answers for the first timer of each idle CPU that has one, by ascending CPU.
-pub(crate) fn covers(
-    quiet: &Quiet,
-    now: Jiffy,
-    cpus: u8,
-    report: &mut Report,
+/// A CPU cancels a timer, wherever it is queued.
+fn cancel<M: Machine>(
+    machine: &mut M,
+    cancelling: Cancelling,
+    telling: &mut Telling,
 ) -> Result<(), NoMemory>
-    requires all { cpus ≡ length quiet.now.cpus }
-    requires now { now ≡ quiet.now.clock }
-    ensures { OnOk result (report.new ≡ report.old ++ report_text (cover_lines cpus 0 quiet.now)) }
+    requires cpu { cancelling.by.0 < M.rules.cpus (M.world machine.old) }
+    requires timer { cancelling.timer.0 < M.rules.timers (M.world machine.old) }
+    ensures prints { OnOk result
+        (Prints
+        (cancel M.rules cancelling (M.world machine.old))
+        telling.old telling.new (M.world machine.new)) }
+    ensures same { OnOk result (Same M.rules (M.world machine.old) (M.world machine.new)) }
+    ensures gains { Gains telling.old.text telling.new.text }
 {
-    for cpu in 0..cpus {
-        cover(quiet, now, CpuId(u16::from(cpu)), report)?;
+    let now = machine.clock();
+    let Cancelling { timer, by: cpu, .. } = cancelling;
+    let Some(home) = machine.holder(timer) else {
+        return telling.tell(&Line::NotQueued { now, cpu, timer });
+    };
+    machine.cancel(home, cancelling)?;
+    telling.tell(&Line::Cancel {
+        now,
+        cpu,
+        timer,
+        home,
+    })
+}
+
+/// A CPU tries to go idle.
+fn idle<M: Machine>(machine: &mut M, cpu: CpuId, telling: &mut Telling) -> Result<(), NoMemory>
+    requires cpu { cpu.0 < M.rules.cpus (M.world machine.old) }
+    requires allowed { not_active M.rules (M.world machine.old) cpu.0 ≡ None }
+    ensures prints { OnOk result
+        (Prints (idle M.rules cpu (M.world machine.old)) telling.old telling.new (M.world machine.new)) }
+    ensures same { OnOk result (Same M.rules (M.world machine.old) (M.world machine.new)) }
+    ensures gains { Gains telling.old.text telling.new.text }
+{
+    let now = machine.clock();
+    let first = machine.first_event(cpu);
+    if first <= now + 1 {
+        return telling.tell(&Line::Stay { now, cpu, first });
+    }
+    machine.idle(cpu);
+    let until = machine.wakeup(cpu);
+    telling.tell(&Line::Idle { now, cpu, until })
+}
+
+/// An idle CPU wakes.
+fn wake<M: Machine>(machine: &mut M, cpu: CpuId, telling: &mut Telling) -> Result<(), NoMemory>
+    requires cpu { cpu.0 < M.rules.cpus (M.world machine.old) }
+    requires allowed { not_idle M.rules (M.world machine.old) cpu.0 ≡ None }
+    ensures prints { OnOk result
+        (Prints (wake M.rules cpu (M.world machine.old)) telling.old telling.new (M.world machine.new)) }
+    ensures same { OnOk result (Same M.rules (M.world machine.old) (M.world machine.new)) }
+    ensures gains { Gains telling.old.text telling.new.text }
+{
+    let now = machine.clock();
+    machine.wake(cpu);
+    telling.tell(&Line::Wake { now, cpu })
+}
+
+/// An offline CPU comes online.
+fn online<M: Machine>(machine: &mut M, cpu: CpuId, telling: &mut Telling) -> Result<(), NoMemory>
+    requires cpu { cpu.0 < M.rules.cpus (M.world machine.old) }
+    requires offline { M.rules.is_online (M.world machine.old) cpu.0 ≡ false }
+    ensures prints { OnOk result
+        (Prints (online M.rules cpu (M.world machine.old)) telling.old telling.new (M.world machine.new)) }
+    ensures same { OnOk result (Same M.rules (M.world machine.old) (M.world machine.new)) }
+    ensures gains { Gains telling.old.text telling.new.text }
+{
+    let now = machine.clock();
+    machine.come_online(cpu);
+    telling.tell(&Line::Online { now, cpu })
+}
+
+/// A CPU that went offline hands on its duty, where it has one.
+fn hand_on<M: Machine>(machine: &mut M, cpu: CpuId, telling: &mut Telling) -> Result<(), NoMemory>
+    requires cpu { cpu.0 < M.rules.cpus (M.world machine.old) }
+    ensures prints { OnOk result
+        (Prints (hand_on M.rules cpu (M.world machine.old)) telling.old telling.new (M.world machine.new)) }
+    ensures same { OnOk result (Same M.rules (M.world machine.old) (M.world machine.new)) }
+    ensures gains { Gains telling.old.text telling.new.text }
+{
+    if !machine.hands_on(cpu) {
+        return Ok(());
+    }
+    let Some(to) = machine.successor(cpu) else {
+        return Ok(());
+    };
+    let now = machine.clock();
+    machine.hand_on(cpu, to);
+    telling.tell(&Line::Handed { now, cpu, to })
+}
+
+/// A CPU goes offline.
+fn offline<M: Machine>(machine: &mut M, cpu: CpuId, telling: &mut Telling) -> Result<(), NoMemory>
+    requires cpu { cpu.0 < M.rules.cpus (M.world machine.old) }
+    requires allowed { not_active M.rules (M.world machine.old) cpu.0 ≡ None }
+    ensures prints { OnOk result
+        (Prints (offline M.rules cpu (M.world machine.old)) telling.old telling.new (M.world machine.new)) }
+    ensures same { OnOk result (Same M.rules (M.world machine.old) (M.world machine.new)) }
+    ensures gains { Gains telling.old.text telling.new.text }
+{
+    let now = machine.clock();
+    machine.go_offline(cpu);
+    telling.tell(&Line::Offline { now, cpu })?;
+    hand_on(machine, cpu, telling)
+}
+
+/// An operation that isn't refused.
+fn done<M: Machine>(machine: &mut M, op: &Op, telling: &mut Telling) -> Result<(), NoMemory>
+    requires in_range { IsOpInRange (M.rules.cpus (M.world machine.old)) (M.rules.timers (M.world machine.old)) op.now }
+    requires allowed { refusal M.rules op.now.what op.now.cpu.0 (M.world machine.old) ≡ None }
+    ensures prints { OnOk result
+        (Prints (done M.rules op.now.what op.now.line op.now.cpu (M.world machine.old))
+        telling.old telling.new (M.world machine.new)) }
+    ensures same { OnOk result (Same M.rules (M.world machine.old) (M.world machine.new)) }
+    ensures gains { Gains telling.old.text telling.new.text }
+{
+    let cpu = op.cpu;
+    let line = op.line;
+    match op.what {
+        What::Arm {
+            timer,
+            class,
+            delay,
+            job,
+            arg,
+        } => arm(
+            machine,
+            cpu,
+            Arming {
+                timer,
+                class,
+                delay,
+                job,
+                arg,
+                line,
+            },
+            telling,
+        ),
+        What::Cancel { timer } => cancel(
+            machine,
+            Cancelling {
+                timer,
+                by: cpu,
+                line,
+            },
+            telling,
+        ),
+        What::Idle => idle(machine, cpu, telling),
+        What::Wake => wake(machine, cpu, telling),
+        What::Offline => offline(machine, cpu, telling),
+        What::Online => online(machine, cpu, telling),
+    }
+}
+
+/// One operation of a script: it is done, or refused.
+fn operation<M: Machine>(machine: &mut M, op: &Op, telling: &mut Telling) -> Result<(), NoMemory>
+    requires { IsOpInRange (M.rules.cpus (M.world machine.old)) (M.rules.timers (M.world machine.old)) op.now }
+    ensures prints { OnOk result
+        (Prints (operation M.rules op.now (M.world machine.old)) telling.old telling.new (M.world machine.new)) }
+    ensures same { OnOk result (Same M.rules (M.world machine.old) (M.world machine.new)) }
+    ensures gains { Gains telling.old.text telling.new.text }
+{
+    if let Some(fault) = refusal(machine, op) {
+        return telling.tell(&refused_line(fault, machine.clock(), op.line, op.cpu));
+    }
+    done(machine, op, telling)
+}
+
+/// The operations of a moment, in line order.
+pub(crate) fn operations<M: Machine>(
+    machine: &mut M,
+    ops: &[Op],
+    telling: &mut Telling,
+) -> Result<(), NoMemory>
+    requires { All (IsOpInRange (M.rules.cpus (M.world machine.old)) (M.rules.timers (M.world machine.old))) ops.now }
+    ensures prints { OnOk result
+        (Prints (operations M.rules ops.now (M.world machine.old)) telling.old telling.new (M.world machine.new)) }
+    ensures same { OnOk result (Same M.rules (M.world machine.old) (M.world machine.new)) }
+    ensures gains { Gains telling.old.text telling.new.text }
+{
+    for op in ops {
+        operation(machine, op, telling)?;
     }
     Ok(())
 }

@@ -1,33 +1,115 @@
-//! A whole play.
+//! Playing a script from its start to its end.
 
-ghost use Rattle.std.specs.Prelude.{◌≡◌, ◌++◌, IfOk, OnOk};
-ghost use Rattle.tm_script.specs.Form.{IsOfForm};
-ghost use Rattle.play_rules.specs.Play.{AfterEachMoment, play_of, play_text};
-ghost use Rattle.play_rules.specs.Settled.{IsSettled};
+ghost use Rattle.std.specs.Prelude.{◌≡◌, IfErr, IfOk, OnOk};
+ghost use Rattle.play_rules.specs.Jobs.{first_unknown_job, unknown_in_ops, unknown_job_of};
+ghost use Rattle.play_rules.specs.Parts.{Gains};
+ghost use Rattle.tm_driver.specs.Conditions.{IsPlayable};
+ghost use Rattle.tm_driver.specs.Outcomes.{EndsEarly, PlaysWhole, SaysFault, TellsAll, script_turns, work_limit};
 
 use crate::closing::close;
 use crate::moments::moments;
+use crate::outcomes::DriveFault;
+use crate::telling::Telling;
+use job_table::Jobs;
+use play_rules::{Machine, Tally, UnknownJob};
 use std::alloc::Global;
-use step_core::Quiet;
-use tm_base::NoMemory;
+use std::mem;
 use tm_report::Report;
-use tm_script::Script;
+use tm_script::{Moment, Op, Script, What};
 
-/// Plays a script from jiffy 0 to its end, and adds the lines of the play to the report, in their order. It answers the
-/// machine as it stands at the end. Want of memory may leave some of the lines in the report.
-///
-/// Every jiffy is a moment: the interrupts of the CPUs, by ascending number, and then, where the script has a moment at
-/// that jiffy, its operations in line order and a cover for each idle CPU that has a timer. At the end come a line for
-/// each timer that is still queued, and a last one.
-pub fn play(alloc: Global, script: &Script, report: &mut Report) -> Result<Quiet, NoMemory>
-    requires { IsOfForm script.now }
-    ensures text { OnOk result (report.new ≡ report.old ++ play_text script.now) }
-    // After each moment each global timer that is queued on an idle CPU is held or woken for.
-    ensures settled { OnOk result (AfterEachMoment IsSettled script.now) }
-    ensures state { IfOk result (λ quiet. quiet ≡ (play_of script.now).state) }
+/// The job of an operation, where the table hasn't it.
+fn unknown_job<J: Jobs>(op: &Op, jobs: &J) -> Option<UnknownJob>
+    ensures { result ≡ unknown_job_of (J.count jobs.now) op.now }
 {
-    let mut quiet = Quiet::new(alloc, script.cpus, script.timers)?;
-    moments(&mut quiet, script, report)?;
-    close(&quiet, script.timers, script.end, report)?;
-    Ok(quiet)
+    match op.what {
+        What::Arm { job, .. } if usize::from(job) >= jobs.len() => Some(UnknownJob {
+            line: op.line,
+            job,
+        }),
+        _ => None,
+    }
+}
+
+/// The first operation of a moment that names a job which the table hasn't.
+fn unknown_in_moment<J: Jobs>(moment: &Moment, jobs: &J) -> Option<UnknownJob>
+    ensures { result ≡ unknown_in_ops (J.count jobs.now) moment.now.ops }
+{
+    for op in moment.ops.as_slice() {
+        if let Some(unknown) = unknown_job(op, jobs) {
+            return Some(unknown);
+        }
+    }
+    None
+}
+
+/// The first operation of a script that names a job which the table hasn't.
+fn first_unknown_job<J: Jobs>(script: &Script, jobs: &J) -> Option<UnknownJob>
+    ensures { result ≡ first_unknown_job (J.count jobs.now) script.now.moments }
+{
+    for moment in script.moments.as_slice() {
+        if let Some(unknown) = unknown_in_moment(moment, jobs) {
+            return Some(unknown);
+        }
+    }
+    None
+}
+
+/// The moments of a script, and what is left at its end.
+fn play_known<M: Machine, J: Jobs>(
+    machine: &mut M,
+    script: &Script,
+    jobs: &J,
+    telling: &mut Telling,
+) -> Result<(), DriveFault>
+    requires start { M.rules.clock (M.world machine.old) ≡ 0 }
+    requires playable { IsPlayable (M.rules.cpus (M.world machine.old)) (M.rules.timers (M.world machine.old)) script.now }
+    requires no_work { telling.old.work ≡ 0 }
+    ensures whole { OnOk result
+        (TellsAll M.rules (J.replies jobs.now) script.now (M.world machine.old)
+        telling.old telling.new (M.world machine.new)) }
+    ensures fault { IfErr result (λ fault.
+        EndsEarly (work_limit script.now.version)
+        (script_turns (J.replies jobs.now) M.rules script.now (M.world machine.old)) fault
+        telling.old.text telling.new.text) }
+    ensures gains { Gains telling.old.text telling.new.text }
+{
+    moments(machine, jobs, script, telling)?;
+    close(machine, script.end, telling)?;
+    Ok(())
+}
+
+/// Plays a script on a machine that stands at its start, into a report, and answers the tally of the lines told. After
+/// `BadJob` and want of memory the report is as it was; after `WorkSpent` it has gained the lines of the finished moments.
+pub fn play_on<M: Machine, J: Jobs>(
+    alloc: Global,
+    machine: &mut M,
+    script: &Script,
+    jobs: &J,
+    report: &mut Report,
+) -> Result<Tally, DriveFault>
+    requires start { M.rules.clock (M.world machine.old) ≡ 0 }
+    requires playable { IsPlayable (M.rules.cpus (M.world machine.old)) (M.rules.timers (M.world machine.old)) script.now }
+    ensures whole { IfOk result (λ tally.
+        PlaysWhole M.rules (J.replies jobs.now) (J.count jobs.now) script.now (M.world machine.old)
+        report.old report.new tally (M.world machine.new)) }
+    ensures fault { IfErr result (λ fault.
+        SaysFault M.rules (J.replies jobs.now) (J.count jobs.now) script.now (M.world machine.old) fault
+        report.old report.new) }
+{
+    if let Some(UnknownJob { line, job }) = first_unknown_job(script, jobs) {
+        return Err(DriveFault::BadJob { line, job });
+    }
+    let begin = report.text().len();
+    let mut telling = Telling::new(mem::replace(report, Report::new(alloc)));
+    let played = play_known(machine, script, jobs, &mut telling);
+    let tally = telling.tally();
+    *report = telling.into_report();
+    match played {
+        Ok(()) => Ok(tally),
+        Err(DriveFault::NoMemory) => {
+            report.truncate(begin);
+            Err(DriveFault::NoMemory)
+        }
+        Err(fault) => Err(fault),
+    }
 }

@@ -1,28 +1,46 @@
--- the lines from the fifth on: those that are read are spelled so
-use Rattle.std.proofs.Common.{◌≡◌, ℕ, suc, ◌+◌, ◌≤◌, true, ltb, ◌&&◌, List, [], ◌∷◌, ◌++◌, length, map, Option, Some, None, is_some, refl, sym, ap, subst, ◌∙◌, append_assoc, arith}
+-- the lines of moments and of the end: those that are read are spelled so
+use Rattle.std.proofs.Common.{◌≡◌, ℕ, zero, suc, ◌+◌, ◌*◌, ◌^◌, ◌<◌, ◌≤◌, Bool, true, false, List, [], ◌∷◌, ◌++◌, length, map, Option, Some, None, is_some, Result, Ok, Err, refl, sym, ap, subst, ◌∙◌, append_assoc, arith}
 use Rattle.std.specs.Prelude.{codes}
 use Rattle.std.specs.List.{flat_map, AllByRecursion}
-use Rattle.std.proofs.lemmas.Bool.{and_parts, ltb-true}
 use Rattle.std.proofs.lemmas.List.{append-nil, length_push}
 use Rattle.std.proofs.lemmas.List.Elements.{All-from_recursion}
-use Rattle.std.proofs.lemmas.Option.{cond_some, option_and_then_some}
 use Rattle.tm_base.specs.declared.names.CpuId.{CpuId}
+use Rattle.tm_base.specs.declared.limits.TheConstants.{MOST_OPS, MOST_LINES, SCRIPT_TIME_LIMIT}
 use Rattle.tm_script.specs.declared.syntax.Script.{Script}
 use Rattle.tm_script.specs.declared.syntax.Moment.{Moment}
 use Rattle.tm_script.specs.declared.syntax.Op.{Op}
 use Rattle.tm_script.specs.declared.syntax.What.{What}
-use Rattle.tm_script.specs.declared.lines.Machine.{Machine}
-use Rattle.tm_script.specs.declared.lines.Said.{Said}
-use Rattle.tm_script.specs.declared.lines.Said.TheVariants.{At, Operation, End}
+use Rattle.tm_script.specs.declared.known.Place.TheVariants.{Body}
+use Rattle.tm_script.specs.declared.known.Known.{Known}
+use Rattle.tm_script.specs.declared.known.Said.{Said}
+use Rattle.tm_script.specs.declared.known.Said.TheVariants.{Version, NodeCount, CpuCount, TimerCount, IsolatedCpus, Opening, Operation, Ending}
 use Rattle.tm_script.specs.declared.draft.Draft.{Draft}
-use Rattle.tm_script.specs.Texts.{number_line, what_line, op_line, moment_lines}
-use Rattle.tm_script.specs.Form.{IsOpOfForm, IsMomentOfForm, AreOpsNumbered, AreMomentsNumbered}
-use Rattle.tm_script.specs.Lines.{said_of}
-use Rattle.tm_script.specs.Reading.{closed, is_after, is_reached, with_moment, with_op, finished, nothing_left, place, read_from}
-use Rattle.tm_script.proofs.LineLaws.{said_line, IsSaidOfForm, said_found}
+use Rattle.tm_script.specs.Texts.{cpu_count, number_line, what_line, op_line, moment_lines}
+use Rattle.tm_script.specs.Grammar.{is_hotplug, IsOp, IsWhat, IsMoment, IsHotplugLast, AreOpsNumbered, AreMomentsNumbered}
+use Rattle.tm_script.specs.Judge.{is_after, is_reached}
+use Rattle.tm_script.specs.Reading.{closed_with, draft_after, read_from}
+use Rattle.tm_script.proofs.LineLaws.{IsSmall, Fits, said_line}
+use Rattle.tm_script.proofs.ReadLaws.{Step, step_found, over_found}
+
+-- a draft among the moments of a script, where n operations stand in the open moment
+abbrev pub body_known : Script → ℕ → Option ℕ → ℕ → Bool → Known
+body_known h line last n closed = record {
+  line = line;
+  place = Body;
+  version = h.version;
+  nodes = h.nodes;
+  cpus = h.cpus;
+  timers = h.timers;
+  last = last;
+  ops = n;
+  closed = closed;
+}
+
+abbrev pub body_draft : Script → ℕ → List Moment → Option ℕ → ℕ → List Op → Bool → Draft
+body_draft h line moments last n ops closed = record { known = body_known h line last n closed; isolated = h.isolated; moments = moments; ops = ops; end = 0 }
 
 -- what is still to be read: operations of the open moment, further moments, and the end
-pub record Body : Type 0 where
+pub record ToRead : Type 0 where
   pub ops : List Op
   pub moments : List Moment
   pub end : ℕ
@@ -30,46 +48,57 @@ pub record Body : Type 0 where
 abbrev pub end_lines : ℕ → List (List ℕ)
 end_lines end = number_line (codes "end") end ∷ [] ∷ []
 
-abbrev pub body_lines : Body → List (List ℕ)
+abbrev pub body_lines : ToRead → List (List ℕ)
 body_lines b = map op_line b.ops ++ (flat_map moment_lines b.moments ++ end_lines b.end)
 
 -- the moments of a draft and what is still to be read
-abbrev pub joined : List Moment → Option ℕ → List Op → Body → List Moment
+abbrev pub joined : List Moment → Option ℕ → List Op → ToRead → List Moment
 joined moments None ops b = moments ++ b.moments
 joined moments (Some at) ops b = moments ++ record { at = at; ops = ops ++ b.ops } ∷ b.moments
 
-abbrev pub whole : Machine → List Moment → ℕ → Script
-whole m moments end = record { nodes = m.nodes; cpus = m.cpus; timers = m.timers; moments = moments; end = end }
+abbrev pub whole : Script → List Moment → ℕ → Script
+whole h moments end = record h { moments = moments; end = end }
 
 -- times ascend up to the end
 abbrev pub InOrder : Option ℕ → List Moment → ℕ → Type 0
 InOrder last [] end = is_reached last end ≡ true
 InOrder last (m ∷ ms) end = (is_after last m.at ≡ true) × InOrder (Some m.at) ms end
 
--- what may follow on this line, after this time and so many operations
-pub record Follows (m : Machine) (line : ℕ) (last : Option ℕ) (count : ℕ) (b : Body) : Type 0 where
+-- what may follow on this line, after this time and n operations, the last of them perhaps one that closes its moment
+pub record Follows (h : Script) (line : ℕ) (last : Option ℕ) (n : ℕ) (closed : Bool) (b : ToRead) : Type 0 where
   pub placed : last ≡ None → b.ops ≡ []
-  pub few : count + length b.ops ≤ 4096
-  pub ops : AllByRecursion (IsOpOfForm m.cpus m.timers) b.ops
+  pub few : n + length b.ops ≤ MOST_OPS
+  pub unclosed : closed ≡ true → b.ops ≡ []
+  pub ops : AllByRecursion (IsOp h.version (cpu_count h) h.timers) b.ops
+  pub hotplug : IsHotplugLast b.ops
   pub ops_numbered : AreOpsNumbered line b.ops
-  pub moments : AllByRecursion (IsMomentOfForm m.cpus m.timers) b.moments
+  pub moments : AllByRecursion (IsMoment h.version (cpu_count h) h.timers) b.moments
   pub numbered : AreMomentsNumbered (line + length b.ops) b.moments
   pub order : InOrder last b.moments b.end
-  pub early : b.end ≤ 10000
+  pub early : b.end < SCRIPT_TIME_LIMIT
+  pub room : line + length (map op_line b.ops ++ flat_map moment_lines b.moments) ≤ MOST_LINES
 
-pub record Found (m : Machine) (parts : List (List ℕ)) (line : ℕ) (moments : List Moment) (last : Option ℕ) (ops : List Op) (s : Script) : Type 0 where
-  pub body : Body
-  pub follows : Follows m line last (length ops) body
+pub record Found (h : Script) (parts : List (List ℕ)) (line : ℕ) (moments : List Moment) (last : Option ℕ) (n : ℕ) (ops : List Op) (closed : Bool) (s : Script) : Type 0 where
+  pub body : ToRead
+  pub follows : Follows h line last n closed body
   pub spelled : parts ≡ body_lines body
-  pub script : s ≡ whole m (joined moments last ops body) body.end
+  pub script : s ≡ whole h (joined moments last ops body) body.end
 
-module _ (m : Machine) (l : List ℕ) (ls : List (List ℕ)) (line : ℕ) (moments : List Moment) (last : Option ℕ) (ops : List Op) (s : Script) where
-  joined_moment : (at : ℕ) (b : Body) (last : Option ℕ) → joined (closed moments last ops) (Some at) [] b ≡ joined moments last ops (record { ops = []; moments = record { at = at; ops = b.ops } ∷ b.moments; end = b.end })
+hotplug_cons : (o : Op) (os : List Op) → (is_hotplug o.what ≡ true → os ≡ []) → IsHotplugLast os → IsHotplugLast (o ∷ os)
+hotplug_cons o [] closes h = tt
+hotplug_cons o (p ∷ os) closes h = (by_test (is_hotplug o.what) refl, h)
+  where
+    by_test : (t : Bool) → is_hotplug o.what ≡ t → t ≡ false
+    by_test true e = let none = closes e in absurd cc
+    by_test false e = refl
+
+module _ (h : Script) (l : List ℕ) (ls : List (List ℕ)) (line : ℕ) (moments : List Moment) (last : Option ℕ) (n : ℕ) (ops : List Op) (closed : Bool) (s : Script) where
+  joined_moment : (at : ℕ) (b : ToRead) (last : Option ℕ) → joined (closed_with moments last ops) (Some at) [] b ≡ joined moments last ops (record { ops = []; moments = record { at = at; ops = b.ops } ∷ b.moments; end = b.end })
   joined_moment at b None = refl
   joined_moment at b (Some before) =
       append_assoc moments _ _ ∙ ap (λ (os : List Op). moments ++ (record { at = before; ops = os } ∷ record { at = at; ops = b.ops } ∷ b.moments)) (sym (append-nil ops))
 
-  found_moment : (at : ℕ) → length ops ≤ 4096 → is_after last at ≡ true → l ≡ number_line (codes "at") at → Found m ls (line + 1) (closed moments last ops) (Some at) [] s → Found m (l ∷ ls) line moments last ops s
+  found_moment : (at : ℕ) → n ≤ MOST_OPS → is_after last at ≡ true → l ≡ number_line (codes "at") at → Found h ls (line + 1) (closed_with moments last ops) (Some at) 0 [] false s → Found h (l ∷ ls) line moments last n ops closed s
   found_moment at few after is f =
       let b = f.body in
       let same : line ≡ line + 0 = omega arith in
@@ -78,18 +107,21 @@ module _ (m : Machine) (l : List ℕ) (ls : List (List ℕ)) (line : ℕ) (momen
         follows = record {
           placed = λ _. refl;
           few = omega arith;
+          unclosed = λ _. refl;
           ops = tt;
+          hotplug = tt;
           ops_numbered = tt;
-          moments = (record { few_ops = omega (arith, f.follows.few); ops = All-from_recursion (IsOpOfForm m.cpus m.timers) b.ops f.follows.ops }, f.follows.moments);
+          moments = (record { few_ops = omega (arith, f.follows.few); ops = All-from_recursion (IsOp h.version (cpu_count h) h.timers) b.ops f.follows.ops; hotplug_last = f.follows.hotplug }, f.follows.moments);
           numbered = subst (λ (n : ℕ). AreOpsNumbered (n + 1) b.ops × AreMomentsNumbered (n + 1 + length b.ops) b.moments) same (f.follows.ops_numbered, f.follows.numbered);
           order = (after, f.follows.order);
           early = f.follows.early;
+          room = omega (arith, f.follows.room);
         };
         spelled = λ i. is i ∷ (f.spelled ∙ sym (append_assoc (map op_line b.ops) (flat_map moment_lines b.moments) (end_lines b.end))) i;
-        script = f.script ∙ ap (λ (ms : List Moment). whole m ms b.end) (joined_moment at b last);
+        script = f.script ∙ ap (λ (ms : List Moment). whole h ms b.end) (joined_moment at b last);
       }
 
-  joined_op : (op : Op) (b : Body) (last : Option ℕ) → joined moments last (ops ++ op ∷ []) b ≡ joined moments last ops (record { ops = op ∷ b.ops; moments = b.moments; end = b.end })
+  joined_op : (op : Op) (b : ToRead) (last : Option ℕ) → joined moments last (ops ++ op ∷ []) b ≡ joined moments last ops (record { ops = op ∷ b.ops; moments = b.moments; end = b.end })
   joined_op op b None = refl
   joined_op op b (Some at) = ap (λ (os : List Op). moments ++ record { at = at; ops = os } ∷ b.moments) (append_assoc ops (op ∷ []) b.ops)
 
@@ -97,9 +129,9 @@ module _ (m : Machine) (l : List ℕ) (ls : List (List ℕ)) (line : ℕ) (momen
   some_none None t e = absurd cc
   some_none (Some x) t e = absurd cc
 
-  found_op : (cpu : CpuId) (what : What) → is_some last ≡ true → IsOpOfForm m.cpus m.timers (record { line = line; cpu = cpu; what = what }) → l ≡ what_line cpu.0 what
-      → Found m ls (line + 1) moments last (ops ++ record { line = line; cpu = cpu; what = what } ∷ []) s → Found m (l ∷ ls) line moments last ops s
-  found_op cpu what inside form is f =
+  found_op : (cpu : CpuId) (what : What) → is_some last ≡ true → IsOp h.version (cpu_count h) h.timers (record { line = line; cpu = cpu; what = what }) → closed ≡ false → l ≡ what_line cpu.0 what
+      → Found h ls (line + 1) moments last (n + 1) (ops ++ record { line = line; cpu = cpu; what = what } ∷ []) (is_hotplug what) s → Found h (l ∷ ls) line moments last n ops closed s
+  found_op cpu what inside form still is f =
       let b = f.body in
       let op : Op = record { line = line; cpu = cpu; what = what } in
       let same : line + 1 + length b.ops ≡ line + suc (length b.ops) = omega arith in
@@ -107,62 +139,75 @@ module _ (m : Machine) (l : List ℕ) (ls : List (List ℕ)) (line : ℕ) (momen
         body = record { ops = op ∷ b.ops; moments = b.moments; end = b.end };
         follows = record {
           placed = λ e. absurd (some_none last inside e);
-          few = omega (arith, f.follows.few, length_push ops op);
+          few = omega (arith, f.follows.few);
+          unclosed = λ e. let both = sym still ∙ e in absurd cc;
           ops = (form, f.follows.ops);
+          hotplug = hotplug_cons op b.ops f.follows.unclosed f.follows.hotplug;
           ops_numbered = (refl, f.follows.ops_numbered);
           moments = f.follows.moments;
           numbered = subst (λ (n : ℕ). AreMomentsNumbered n b.moments) same f.follows.numbered;
           order = f.follows.order;
           early = f.follows.early;
+          room = omega (arith, f.follows.room);
         };
         spelled = λ i. is i ∷ f.spelled i;
-        script = f.script ∙ ap (λ (ms : List Moment). whole m ms b.end) (joined_op op b last);
+        script = f.script ∙ ap (λ (ms : List Moment). whole h ms b.end) (joined_op op b last);
       }
 
-  joined_end : (end : ℕ) (last : Option ℕ) → closed moments last ops ≡ joined moments last ops (record { ops = []; moments = []; end = end })
+  joined_end : (end : ℕ) (last : Option ℕ) → closed_with moments last ops ≡ joined moments last ops (record { ops = []; moments = []; end = end })
   joined_end end None = sym (append-nil moments)
   joined_end end (Some at) = ap (λ (os : List Op). moments ++ record { at = at; ops = os } ∷ []) (sym (append-nil ops))
 
-  nothing_is : (ls : List (List ℕ)) → nothing_left ls ≡ true → ls ≡ [] ∷ []
-  nothing_is [] e = absurd cc
-  nothing_is ([] ∷ []) e = refl
-  nothing_is ((x ∷ xs) ∷ qs) e = absurd cc
-  nothing_is ([] ∷ q ∷ qs) e = absurd cc
-
-  found_end : (end : ℕ) → length ops ≤ 4096 → is_reached last end ≡ true → nothing_left ls ≡ true → end ≤ 10000 → l ≡ number_line (codes "end") end → s ≡ whole m (closed moments last ops) end → Found m (l ∷ ls) line moments last ops s
-  found_end end few reached last_line early is same =
+  found_end : (end : ℕ) → n ≤ MOST_OPS → line ≤ MOST_LINES → is_reached last end ≡ true → ls ≡ [] ∷ [] → end < SCRIPT_TIME_LIMIT → l ≡ number_line (codes "end") end → s ≡ whole h (closed_with moments last ops) end → Found h (l ∷ ls) line moments last n ops closed s
+  found_end end few room reached last_line early is same =
       record {
         body = record { ops = []; moments = []; end = end };
-        follows = record { placed = λ _. refl; few = omega arith; ops = tt; ops_numbered = tt; moments = tt; numbered = tt; order = reached; early = early };
-        spelled = λ i. is i ∷ nothing_is ls last_line i;
-        script = same ∙ ap (λ (ms : List Moment). whole m ms end) (joined_end end last);
+        follows = record {
+          placed = λ _. refl;
+          few = omega arith;
+          unclosed = λ _. refl;
+          ops = tt;
+          hotplug = tt;
+          ops_numbered = tt;
+          moments = tt;
+          numbered = tt;
+          order = reached;
+          early = early;
+          room = omega arith;
+        };
+        spelled = λ i. is i ∷ last_line i;
+        script = same ∙ ap (λ (ms : List Moment). whole h ms end) (joined_end end last);
       }
 
-place_found : (m : Machine) (l : List ℕ) (ls : List (List ℕ)) (d : Draft) (s : Script) (said : Said) → length d.ops ≤ 4096 → (l ≡ said_line said) × IsSaidOfForm m said → place (read_from m ls) m ls d said ≡ Some s
-    → ((e : Draft) → length e.ops ≤ 4096 → read_from m ls e ≡ Some s → Found m ls e.line e.moments e.at e.ops s) → Found m (l ∷ ls) d.line d.moments d.at d.ops s
-unfolding with_moment with_op finished
-place_found m l ls d s (At at) few spelled e rest =
-    option_and_then_some _ (with_moment d at) s e (λ next opened e1.
-    let new : Draft = record { line = d.line + 1; moments = closed d.moments d.at d.ops; at = Some at; ops = [] } in
-    let test = cond_some (is_after d.at at) new next opened in
-    found_moment m l ls d.line d.moments d.at d.ops s at few test.0 spelled.0 (rest new (omega arith) (subst (λ (x : Draft). read_from m ls x ≡ Some s) (sym test.1) e1)))
-place_found m l ls d s (Operation cpu what) few spelled e rest =
-    let op : Op = record { line = d.line; cpu = cpu; what = what } in
-    option_and_then_some _ (with_op d cpu what) s e (λ next added e1.
-    let new : Draft = record { line = d.line + 1; moments = d.moments; at = d.at; ops = d.ops ++ op ∷ [] } in
-    let test = cond_some (is_some d.at && ltb (length d.ops) 4096) new next added in
-    let both = and_parts _ _ test.0 in
-    let room : length (d.ops ++ op ∷ []) ≤ 4096 = omega (arith, ltb-true _ _ both.1, length_push d.ops op) in
-    found_op m l ls d.line d.moments d.at d.ops s cpu what both.0 (record { cpu_in_range = spelled.1.0; what = spelled.1.1 }) spelled.0 (rest new room (subst (λ (x : Draft). read_from m ls x ≡ Some s) (sym test.1) e1)))
-place_found m l ls d s (End end) few spelled e rest =
-    option_and_then_some _ (finished m d end) s e (λ made done e1.
-    let test = cond_some (is_reached d.at end) _ made done in
-    let last = cond_some (nothing_left ls) made s e1 in
-    found_end m l ls d.line d.moments d.at d.ops s end few test.0 last.0 spelled.1 spelled.0 (sym last.1 ∙ sym test.1))
+module _ (h : Script) (few_cpus : cpu_count h < 10 ^ 13) (few_timers : h.timers < 10 ^ 13) where
+  step_body : (parts : List (List ℕ)) (line : ℕ) (moments : List Moment) (last : Option ℕ) (n : ℕ) (ops : List Op) (closed : Bool) (s : Script) (l : List ℕ) (ls : List (List ℕ)) (said : Said)
+      → parts ≡ l ∷ ls → l ≡ said_line (body_known h line last n closed) said → line ≤ MOST_LINES → Fits (body_known h line last n closed) said
+      → read_from ls (draft_after (body_draft h line moments last n ops closed) said) ≡ Ok s → n ≤ MOST_OPS
+      → ((line : ℕ) (moments : List Moment) (last : Option ℕ) (n : ℕ) (ops : List Op) (closed : Bool) → n ≤ MOST_OPS → read_from ls (body_draft h line moments last n ops closed) ≡ Ok s → Found h ls line moments last n ops closed s)
+      → Found h parts line moments last n ops closed s
+  step_body parts line moments last n ops closed s l ls (Version v) cut is room fits later few rec = let e = fits.0 in absurd cc
+  step_body parts line moments last n ops closed s l ls (NodeCount v) cut is room fits later few rec = let e = fits.0 in absurd cc
+  step_body parts line moments last n ops closed s l ls (CpuCount v) cut is room fits later few rec = let e = fits.0 in absurd cc
+  step_body parts line moments last n ops closed s l ls (TimerCount v) cut is room fits later few rec = let e = fits.0 in absurd cc
+  step_body parts line moments last n ops closed s l ls (IsolatedCpus v) cut is room fits later few rec = let e = fits.0 in absurd cc
+  step_body parts line moments last n ops closed s l ls (Opening at) cut is room fits later few rec =
+      let f = rec (line + 1) (closed_with moments last ops) (Some at) 0 [] false (omega arith) later in
+      subst (λ (ps : List (List ℕ)). Found h ps line moments last n ops closed s) (sym cut) (found_moment h l ls line moments last n ops closed s at few fits.2 is f)
+  step_body parts line moments last n ops closed s l ls (Operation cpu done) cut is room fits later few rec =
+      let f = rec (line + 1) moments last (n + 1) (ops ++ record { line = line; cpu = cpu; what = done } ∷ []) (is_hotplug done) (omega (arith, fits.5)) later in
+      subst (λ (ps : List (List ℕ)). Found h ps line moments last n ops closed s) (sym cut) (found_op h l ls line moments last n ops closed s cpu done fits.1 (record { cpu_in_range = fits.2; what = fits.3 }) fits.4 is f)
+  step_body parts line moments last n ops closed s l ls (Ending end) cut is room fits later few rec =
+      let small : IsSmall (body_known h line last n closed) = record { few_cpus = few_cpus; few_timers = few_timers } in
+      let over = over_found ls (draft_after (body_draft h line moments last n ops closed) (Ending end)) s (record { few_cpus = few_cpus; few_timers = few_timers }) refl later in
+      subst (λ (ps : List (List ℕ)). Found h ps line moments last n ops closed s) (sym cut) (found_end h l ls line moments last n ops closed s end few room fits.2 over.0 fits.1 is over.1)
 
--- what is read after a draft is spelled so
-pub body_found : (m : Machine) (parts : List (List ℕ)) (d : Draft) (s : Script) → length d.ops ≤ 4096 → read_from m parts d ≡ Some s → Found m parts d.line d.moments d.at d.ops s
-unfolding read_from
-body_found m [] d s few e = absurd cc
-body_found m (l ∷ ls) d s few e =
-    option_and_then_some _ (said_of m l) s e (λ said told e1. place_found m l ls d s said few (said_found m l said told) e1 (λ next room e2. body_found m ls next s room e2))
+  -- what is read after a draft is spelled so
+  pub body_found : (fuel : ℕ) (parts : List (List ℕ)) → length parts ≤ fuel → (line : ℕ) (moments : List Moment) (last : Option ℕ) (n : ℕ) (ops : List Op) (closed : Bool) (s : Script) → n ≤ MOST_OPS
+      → read_from parts (body_draft h line moments last n ops closed) ≡ Ok s → Found h parts line moments last n ops closed s
+  body_found zero parts short line moments last n ops closed s few e =
+      let st = step_found parts (body_draft h line moments last n ops closed) s (record { few_cpus = few_cpus; few_timers = few_timers }) refl e in
+      absurd (omega (arith, ap length st.cut))
+  body_found (suc fuel) parts short line moments last n ops closed s few e =
+      let st = step_found parts (body_draft h line moments last n ops closed) s (record { few_cpus = few_cpus; few_timers = few_timers }) refl e in
+      step_body parts line moments last n ops closed s st.line st.rest st.said st.cut st.spelled st.room st.fits st.later few
+      (λ line moments last n ops closed few e. body_found fuel st.rest (omega (arith, ap length st.cut)) line moments last n ops closed s few e)

@@ -1,247 +1,691 @@
--- a line that is read is spelled so, and a line that is spelled so is read
-use Rattle.std.proofs.Common.{◌≡◌, ℕ, ltb, ◌^◌, ◌<◌, ◌≤◌, Bool, true, false, cond, List, [], ◌∷◌, ◌++◌, Option, Some, None, refl, sym, ap, subst, ◌∙◌, arith}
-use Rattle.std.specs.Prelude.{codes}
+-- a line without fault is spelled as what it says, and what may be said is read from its line
+use Rattle.std.proofs.Common.{◌≡◌, ℕ, suc, ◌+◌, ◌*◌, ◌^◌, ◌<◌, ◌≤◌, Bool, true, false, cond, not, ◌&&◌, ◌||◌, eqb, ltb, leb, List, [], ◌∷◌, ◌++◌, map, Option, Some, None, is_some, Result, Ok, Err, refl, sym, ap, subst, ◌∙◌, arith, inl, inr}
+use Rattle.std.specs.Prelude.{codes, find, nat_lt}
 use Rattle.std.specs.Fmt.{decimal}
-use Rattle.std.specs.Option.{option_map}
+use Rattle.std.specs.List.{list_any, list_all, range_with_len}
 use Rattle.std.specs.Str.{bytes_eq}
-use Rattle.std.proofs.lemmas.Bool.{and_parts, and_from, ltb-true, leb-true, lt-ltb, le-leb, eqb-true, eq-eqb, cond-true}
-use Rattle.std.proofs.lemmas.Option.{cond_some, option_and_then_some, same_Some}
+use Rattle.std.specs.FinSet.{contains, from_list, contains-from_list_nat}
+use Rattle.std.specs.Ordering.{nat_cmp}
+use Rattle.std.proofs.lemmas.Bool.{and_parts, and_from, or_cases, ltb-true, leb-true, lt-ltb, le-leb, lt-leb, leb-false, not-true, not-false, not_from_false, cond-true, cases_Bool, cases_eq, eqb-true, eqb-false, ne_eqb, false≢true, true≢false}
+use Rattle.std.proofs.lemmas.Fmt.{decimal_digit}
 use Rattle.std.proofs.lemmas.Slice.Eq.{bytes_eq-Decides}
+use Rattle.text_words.specs.Numbers.{is_number, value_of}
+use Rattle.text_words.specs.Words.{words_of, spaced}
+use Rattle.text_words.proofs.Cuts.{is_clear, AreClear, words_again}
+use Rattle.text_words.proofs.Digits.{word_found, word_again, clear_decimal}
+use Rattle.tm_base.specs.CpuSet.{Cpus as CpuNumbers, Contains}
+use Rattle.tm_base.specs.Classes.{class_text}
 use Rattle.tm_base.specs.declared.names.CpuId.{CpuId}
 use Rattle.tm_base.specs.declared.names.Class.{Class}
 use Rattle.tm_base.specs.declared.names.Class.TheVariants.{Pinned, Global, Deferrable}
+use Rattle.tm_base.specs.declared.limits.TheConstants.{MOST_NODES, MOST_NODE_CPUS, MOST_CPUS_V1, MOST_CPUS_V2, MOST_TIMERS, MOST_OPS, MOST_LINES, SCRIPT_TIME_LIMIT}
+use Rattle.tm_script.specs.declared.faults.Kind.{Kind}
+use Rattle.tm_script.specs.declared.faults.Kind.TheVariants.{BadLine, BadNumber, OutOfRange, OutOfOrder, TooManyLines}
 use Rattle.tm_script.specs.declared.syntax.What.{What}
-use Rattle.tm_script.specs.declared.syntax.What.TheVariants.{Arm, Cancel, Idle, Wake, Offline, Online}
-use Rattle.tm_script.specs.declared.lines.Machine.{Machine}
-use Rattle.tm_script.specs.declared.lines.Said.{Said}
-use Rattle.tm_script.specs.declared.lines.Said.TheVariants.{At, Operation, End}
-use Rattle.tm_base.specs.Classes.{class_text}
-use Rattle.tm_script.specs.Texts.{spaced, number_line, what_line}
-use Rattle.tm_script.specs.Form.{IsArmOfForm, IsWhatOfForm}
-use Rattle.tm_script.specs.Numbers.{number_of}
-use Rattle.tm_script.specs.Lines.{cut_at, field_of, ArmParts, arm_parts, class_of, arm_of, cpu_of, time_of, said_of}
-use Rattle.tm_script.proofs.Cuts.{cut_found, cut_again, is_clear}
-use Rattle.tm_script.proofs.Digits.{number_found, number_again, clear_decimal}
+use Rattle.tm_script.specs.declared.syntax.What.TheVariants as what
+use Rattle.tm_script.specs.declared.known.Place.{Place}
+use Rattle.tm_script.specs.declared.known.Place.TheVariants.{VersionLine, NodesLine, CpusLine, TimersLine, IsolatedLine, Body, Over}
+use Rattle.tm_script.specs.declared.known.Command.{Command}
+use Rattle.tm_script.specs.declared.known.Command.TheVariants.{Tmig, Nodes, Cpus, Timers, Isolated, At, End, Arm, Cancel, Idle, Wake, Offline, Online}
+use Rattle.tm_script.specs.declared.known.Known.{Known}
+use Rattle.tm_script.specs.declared.known.Said.{Said}
+use Rattle.tm_script.specs.declared.known.Said.TheVariants.{Version, NodeCount, CpuCount, TimerCount, IsolatedCpus, Opening, Operation, Ending}
+use Rattle.tm_script.specs.Texts.{number_line, what_line, isolated_line, members}
+use Rattle.tm_script.specs.Grammar.{most_cpus, IsClassOf, IsArm, IsWhat}
+use Rattle.tm_script.specs.Judge.{word_of, may_stand, slots, class_words, all_pass, is_choice, is_spelled, is_within, rise, leaves_some, is_machine, is_operation, is_in_order, is_in_room, is_after, is_reached, kind_behind}
+use Rattle.tm_script.specs.Faults.{all_commands, command_of, class_named, said_behind, said_or, heard_behind, heard}
+use Rattle.tm_script.specs.Reading.{count_in}
+use Rattle.tm_script.proofs.Bridge.{in_a_row, tested, settled, choices_pass, numbers_pass, cpus_pass}
+use Rattle.tm_script.proofs.Ranges.{any_range, range_some}
+use Rattle.tm_script.proofs.Members.{is_among, among_below, members_found, members_rise, members_below, members_again, members_set}
 
--- two words that test as equal are
-same_word : (x y : List ℕ) → bytes_eq x y ≡ true → x ≡ y
-same_word x y e = (bytes_eq-Decides x y).0 e
+-- ---- what may be said, and its line
 
-itself : (x : List ℕ) → bytes_eq x x ≡ true
-itself x = (bytes_eq-Decides x x).1 refl
+abbrev pub said_line : Known → Said → List ℕ
+said_line k (Version n) = number_line (codes "tmig") n
+said_line k (NodeCount n) = number_line (codes "nodes") n
+said_line k (CpuCount n) = number_line (codes "cpus") n
+said_line k (TimerCount n) = number_line (codes "timers") n
+said_line k (IsolatedCpus cpus) = isolated_line (count_in k) cpus
+said_line k (Opening at) = number_line (codes "at") at
+said_line k (Operation cpu done) = what_line cpu.0 done
+said_line k (Ending end) = number_line (codes "end") end
 
--- ---- a word and a number
+abbrev pub Fits : Known → Said → Type 0
+Fits k (Version n) = (k.place ≡ VersionLine) × (1 ≤ n) × (n ≤ 2)
+Fits k (NodeCount n) = (k.place ≡ NodesLine) × (1 ≤ n) × (n ≤ MOST_NODES)
+Fits k (CpuCount n) = (k.place ≡ CpusLine) × (1 ≤ n) × (n ≤ MOST_NODE_CPUS) × (k.nodes * n ≤ most_cpus k.version)
+Fits k (TimerCount n) = (k.place ≡ TimersLine) × (1 ≤ n) × (n ≤ MOST_TIMERS)
+Fits k (IsolatedCpus cpus) =
+    (k.place ≡ IsolatedLine) × ((c : ℕ) → Contains cpus c → c < count_in k) × ((c : ℕ) × (c < count_in k) × (contains cpus c ≡ false))
+    × (count_in k < 10 ^ 13)
+Fits k (Opening at) = (k.place ≡ Body) × (at < SCRIPT_TIME_LIMIT) × (is_after k.last at ≡ true)
+Fits k (Operation cpu done) =
+    (k.place ≡ Body) × (is_some k.last ≡ true) × (cpu.0 < count_in k) × IsWhat k.version k.timers done × (k.closed ≡ false) × (k.ops < MOST_OPS)
+    × (count_in k < 10 ^ 13) × (k.timers < 10 ^ 13)
+Fits k (Ending end) = (k.place ≡ Body) × (end < SCRIPT_TIME_LIMIT) × (is_reached k.last end ≡ true)
 
-abbrev IsField : List ℕ → ℕ → ℕ → List ℕ → ℕ → Type 0
-IsField name least most line n = (line ≡ number_line name n) × (least ≤ n) × (n ≤ most)
+-- few enough CPUs and timers for their numbers to be written
+pub record IsSmall (k : Known) : Type 0 where
+  pub few_cpus : count_in k < 10 ^ 13
+  pub few_timers : k.timers < 10 ^ 13
 
-pub field_found : (name : List ℕ) (least most : ℕ) (line : List ℕ) (n : ℕ) → field_of name least most line ≡ Some n → IsField name least most line n
-unfolding field_of
-field_found name least most line n e =
-    option_and_then_some _ (cut_at 32 line) n e (λ words cut e1. option_and_then_some _ (number_of words.1) n e1 (λ k read e2.
-    let test = cond_some _ k n e2 in
-    let bounds = and_parts _ _ test.0 in
-    let first = and_parts _ _ bounds.0 in
-    let word : words.0 ≡ name = same_word words.0 name first.0 in
-    let number : words.1 ≡ decimal k = sym (number_found words.1 k read).0 in
-    let spelled : line ≡ number_line name k = cut_found 32 line words cut ∙ (λ i. word i ++ 32 ∷ number i) in
-    subst (IsField name least most line) test.1 (spelled, leb-true _ _ first.1, leb-true _ _ bounds.1)))
+-- ---- no fault
 
-pub field_again : (name : List ℕ) (least most n : ℕ) → is_clear 32 name ≡ true → least ≤ n → n ≤ most → n < 10 ^ 13 → field_of name least most (number_line name n) ≡ Some n
-unfolding field_of
-field_again name least most n clear low high wide =
-    rw (cut_again 32 name (decimal n) clear, number_again n wide)
-    (cond-true _ (Some n) None (and_from _ _ (and_from _ _ (itself name) (le-leb _ _ low)) (le-leb _ _ high)))
+pub record Passes (k : Known) (c : Command) (ws : List (List ℕ)) : Type 0 where
+  pub stands : may_stand k.place (is_some k.last) c ≡ true
+  pub choice : all_pass is_choice (slots k c ws) ws ≡ true
+  pub spelled : all_pass is_spelled (slots k c ws) ws ≡ true
+  pub inside : all_pass is_within (slots k c ws) ws ≡ true
+  pub machine : is_machine k c (map value_of ws) ≡ true
+  pub order : is_in_order k c (map value_of ws) ≡ true
+  pub room : is_in_room k c ≡ true
 
--- ---- a time
+passes_row : (a b c d e : Bool) (s x : Said) → tested a b c (settled d e s) ≡ Ok x → (a ≡ true) × (b ≡ true) × (c ≡ true) × (d ≡ true) × (e ≡ true) × (s ≡ x)
+passes_row false b c d e s x h = absurd cc
+passes_row true false c d e s x h = absurd cc
+passes_row true true false d e s x h = absurd cc
+passes_row true true true false e s x h = absurd cc
+passes_row true true true true false s x h = absurd cc
+passes_row true true true true true s x h = (refl, refl, refl, refl, refl, cc)
 
-time_found : (word : List ℕ) (n : ℕ) → time_of word ≡ Some n → (word ≡ decimal n) × (n ≤ 10000)
-unfolding time_of
-time_found word n e =
-    option_and_then_some _ (number_of word) n e (λ k read e1.
-    let test = cond_some _ k n e1 in
-    subst (λ (j : ℕ). (word ≡ decimal j) × (j ≤ 10000)) test.1 (sym (number_found word k read).0, leb-true _ _ test.0))
+row_passes : (a b c d e : Bool) (s : Said) → a ≡ true → b ≡ true → c ≡ true → d ≡ true → e ≡ true → tested a b c (settled d e s) ≡ Ok s
+row_passes a b c d e s pa pb pc pd pe = λ i. tested (pa i) (pb i) (pc i) (settled (pd i) (pe i) s)
 
-time_again : (n : ℕ) → n ≤ 10000 → time_of (decimal n) ≡ Some n
-unfolding time_of
-time_again n high = rw (number_again n (omega arith)) (cond-true _ (Some n) None (le-leb _ _ high))
+passes_found : (k : Known) (c : Command) (ws : List (List ℕ)) (said : Said) → heard_behind k (Some c) ws ≡ Ok said → Passes k c ws × (said_behind c ws ≡ said)
+unfolding kind_behind
+passes_found k c ws said e =
+    let row = passes_row (may_stand k.place (is_some k.last) c && all_pass is_choice (slots k c ws) ws) _ _ _ _ (said_behind c ws) said
+    (sym (in_a_row (may_stand k.place (is_some k.last) c && all_pass is_choice (slots k c ws) ws) (all_pass is_spelled (slots k c ws) ws) (all_pass is_within (slots k c ws) ws && is_machine k c (map value_of ws)) (is_in_order k c (map value_of ws)) (is_in_room k c) (said_behind c ws)) ∙ e) in
+    let first = and_parts _ _ row.0 in
+    let third = and_parts _ _ row.2 in
+    (record { stands = first.0; choice = first.1; spelled = row.1; inside = third.0; machine = third.1; order = row.3; room = row.4 }, row.5)
 
--- ---- a CPU
+passes_again : (k : Known) (c : Command) (ws : List (List ℕ)) → Passes k c ws → heard_behind k (Some c) ws ≡ Ok (said_behind c ws)
+unfolding kind_behind
+passes_again k c ws p =
+    in_a_row (may_stand k.place (is_some k.last) c && all_pass is_choice (slots k c ws) ws) (all_pass is_spelled (slots k c ws) ws) (all_pass is_within (slots k c ws) ws && is_machine k c (map value_of ws)) (is_in_order k c (map value_of ws)) (is_in_room k c) (said_behind c ws)
+    ∙ row_passes _ _ _ _ _ (said_behind c ws) (and_from _ _ p.stands p.choice) p.spelled (and_from _ _ p.inside p.machine) p.order p.room
 
-abbrev IsCpu : Machine → List ℕ → CpuId → Type 0
-IsCpu m word cpu = (word ≡ decimal cpu.0) × (cpu.0 < m.cpus)
+-- ---- first words and places
 
-cpu_found : (m : Machine) (word : List ℕ) (cpu : CpuId) → cpu_of m word ≡ Some cpu → IsCpu m word cpu
-unfolding cpu_of
-cpu_found m word cpu e =
-    option_and_then_some _ (number_of word) cpu e (λ k read e1.
-    let made : CpuId = record { 0 = k } in
-    let test = cond_some (ltb k m.cpus) made cpu e1 in
-    subst (IsCpu m word) test.1 (sym (number_found word k read).0, ltb-true _ _ test.0))
+find_passes : {X : Type 0} (p : X → Bool) (xs : List X) (x : X) → find p xs ≡ Some x → p x ≡ true
+find_passes p [] x e = absurd cc
+find_passes p (y ∷ ys) x e =
+    elim (cases_Bool (p y)) [
+      | inl here ↦ let same : y ≡ x = let found = ap (λ (t : Bool). cond t (Some y) (find p ys)) (sym here) ∙ e in cc in ap p (sym same) ∙ here
+      | inr out ↦ find_passes p ys x (ap (λ (t : Bool). cond t (Some y) (find p ys)) (sym out) ∙ e)
+    ]
 
-cpu_again : (m : Machine) (cpu : CpuId) → cpu.0 < m.cpus → m.cpus ≤ 8 → cpu_of m (decimal cpu.0) ≡ Some cpu
-unfolding cpu_of
-cpu_again m cpu in_range few = rw (number_again cpu.0 (omega arith)) (cond-true _ (Some cpu) None (lt-ltb cpu.0 m.cpus in_range))
+command_found : (word : List ℕ) (c : Command) → command_of word ≡ Some c → word ≡ word_of c
+unfolding command_of
+command_found word c e = (bytes_eq-Decides word (word_of c)).0 (find_passes (λ command. bytes_eq word (word_of command)) all_commands c e)
 
--- ---- an arming
+command_again : (c : Command) → command_of (word_of c) ≡ Some c
+unfolding command_of
+command_again Tmig = refl
+command_again Nodes = refl
+command_again Cpus = refl
+command_again Timers = refl
+command_again Isolated = refl
+command_again At = refl
+command_again End = refl
+command_again Arm = refl
+command_again Cancel = refl
+command_again Idle = refl
+command_again Wake = refl
+command_again Offline = refl
+command_again Online = refl
 
-abbrev arm_text : ArmParts → List ℕ
-arm_text p = spaced (p.cpu ∷ p.timer ∷ p.class ∷ p.delay ∷ p.job ∷ p.arg ∷ [])
+abbrev place_of : Command → Place
+place_of Tmig = VersionLine
+place_of Nodes = NodesLine
+place_of Cpus = CpusLine
+place_of Timers = TimersLine
+place_of Isolated = IsolatedLine
+place_of _ = Body
 
-parts_found : (words : List ℕ) (p : ArmParts) → arm_parts words ≡ Some p → words ≡ arm_text p
-unfolding arm_parts
-parts_found words p e =
-    option_and_then_some _ (cut_at 32 words) p e (λ c cut1 e1. option_and_then_some _ (cut_at 32 c.1) p e1 (λ t cut2 e2. option_and_then_some _ (cut_at 32 t.1) p e2 (λ k cut3 e3.
-    option_and_then_some _ (cut_at 32 k.1) p e3 (λ d cut4 e4. option_and_then_some _ (cut_at 32 d.1) p e4 (λ j cut5 e5.
-    let r5 = cut_found 32 d.1 j cut5 in
-    let r4 = cut_found 32 k.1 d cut4 ∙ ap (λ (r : List ℕ). d.0 ++ 32 ∷ r) r5 in
-    let r3 = cut_found 32 t.1 k cut3 ∙ ap (λ (r : List ℕ). k.0 ++ 32 ∷ r) r4 in
-    let r2 = cut_found 32 c.1 t cut2 ∙ ap (λ (r : List ℕ). t.0 ++ 32 ∷ r) r3 in
-    let r1 = cut_found 32 words c cut1 ∙ ap (λ (r : List ℕ). c.0 ++ 32 ∷ r) r2 in
-    r1 ∙ ap arm_text (same_Some _ p e5))))))
+stands_at : (p : Place) (i : Bool) (c : Command) → may_stand p i c ≡ true → p ≡ place_of c
+stands_at VersionLine i Tmig e = refl
+stands_at NodesLine i Nodes e = refl
+stands_at CpusLine i Cpus e = refl
+stands_at TimersLine i Timers e = refl
+stands_at IsolatedLine i Isolated e = refl
+stands_at Body i At e = refl
+stands_at Body i End e = refl
+stands_at Body i Arm e = refl
+stands_at Body i Cancel e = refl
+stands_at Body i Idle e = refl
+stands_at Body i Wake e = refl
+stands_at Body i Offline e = refl
+stands_at Body i Online e = refl
+stands_at p i c e = absurd (false≢true e)
 
-parts_again : (p : ArmParts) → is_clear 32 p.cpu ≡ true → is_clear 32 p.timer ≡ true → is_clear 32 p.class ≡ true → is_clear 32 p.delay ≡ true → is_clear 32 p.job ≡ true → arm_parts (arm_text p) ≡ Some p
-unfolding arm_parts
-parts_again p h1 h2 h3 h4 h5 =
-    let r5 = p.job ++ 32 ∷ p.arg in
-    let r4 = p.delay ++ 32 ∷ r5 in
-    let r3 = p.class ++ 32 ∷ r4 in
-    let r2 = p.timer ++ 32 ∷ r3 in
-    rw (cut_again 32 p.cpu r2 h1, cut_again 32 p.timer r3 h2, cut_again 32 p.class r4 h3, cut_again 32 p.delay r5 h4, cut_again 32 p.job p.arg h5) refl
+body_of : (c : Command) → is_operation c ≡ true → place_of c ≡ Body
+body_of Arm t = refl
+body_of Cancel t = refl
+body_of Idle t = refl
+body_of Wake t = refl
+body_of Offline t = refl
+body_of Online t = refl
+body_of c t = absurd (false≢true t)
 
-class_found : (word : List ℕ) (class : Class) → class_of word ≡ Some class → (class ≡ Global) × (word ≡ class_text class)
-unfolding class_of
-class_found word class e =
-    let test = cond_some _ Global class e in
-    subst (λ (k : Class). (k ≡ Global) × (word ≡ class_text k)) test.1 (refl, same_word word (codes "global") test.0)
+inside_body : (i : Bool) (c : Command) → is_operation c ≡ true → may_stand Body i c ≡ true → i ≡ true
+inside_body i Arm t e = e
+inside_body i Cancel t e = e
+inside_body i Idle t e = e
+inside_body i Wake t e = e
+inside_body i Offline t e = e
+inside_body i Online t e = e
+inside_body i c t e = absurd (false≢true t)
 
--- the line of what is said, and what may be said
-abbrev pub said_line : Said → List ℕ
-said_line (At at) = number_line (codes "at") at
-said_line (Operation cpu what) = what_line cpu.0 what
-said_line (End end) = number_line (codes "end") end
+stands_inside : (p : Place) (i : Bool) (c : Command) → is_operation c ≡ true → may_stand p i c ≡ true → i ≡ true
+stands_inside p i c t e = inside_body i c t (ap (λ (q : Place). may_stand q i c) (sym (stands_at p i c e ∙ body_of c t)) ∙ e)
 
-abbrev pub IsSaidOfForm : Machine → Said → Type 0
-IsSaidOfForm m (At at) = at ≤ 10000
-IsSaidOfForm m (Operation cpu what) = (cpu.0 < m.cpus) × IsWhatOfForm m.timers what
-IsSaidOfForm m (End end) = end ≤ 10000
+-- ---- numbers
 
-abbrev IsSaid : Machine → List ℕ → Said → Type 0
-IsSaid m line said = (line ≡ said_line said) × IsSaidOfForm m said
+record IsNumber (least bound : ℕ) (w : List ℕ) : Type 0 where
+  spelled : decimal (value_of w) ≡ w
+  low : least ≤ value_of w
+  high : value_of w < bound
 
-arm_found : (m : Machine) (words : List ℕ) (said : Said) → arm_of m words ≡ Some said → IsSaid m (codes "arm" ++ 32 ∷ words) said
-unfolding arm_of
-arm_found m words said e =
-    option_and_then_some _ (arm_parts words) said e (λ p parts e1. option_and_then_some _ (class_of p.class) said e1 (λ class named e2.
-    option_and_then_some _ (number_of p.cpu) said e2 (λ cpu r1 e3. option_and_then_some _ (number_of p.timer) said e3 (λ timer r2 e4.
-    option_and_then_some _ (number_of p.delay) said e4 (λ delay r3 e5. option_and_then_some _ (number_of p.job) said e5 (λ job r4 e6.
-    option_and_then_some _ (number_of p.arg) said e6 (λ arg r5 e7.
-    let what : What = Arm (record { 0 = timer }) class delay job arg in
-    let test = cond_some _ (Operation (record { 0 = cpu }) what) said e7 in
-    let t1 = and_parts _ _ test.0 in
-    let t2 = and_parts _ _ t1.0 in
-    let t3 = and_parts _ _ t2.0 in
-    let t4 = and_parts _ _ t3.0 in
-    let global = class_found p.class class named in
-    let w1 = sym (number_found p.cpu cpu r1).0 in
-    let w2 = sym (number_found p.timer timer r2).0 in
-    let w3 = sym (number_found p.delay delay r3).0 in
-    let w4 = sym (number_found p.job job r4).0 in
-    let w5 = sym (number_found p.arg arg r5).0 in
-    let spelled : words ≡ spaced (decimal cpu ∷ decimal timer ∷ class_text class ∷ decimal delay ∷ decimal job ∷ decimal arg ∷ []) =
-    parts_found words p parts ∙ (λ i. spaced (w1 i ∷ w2 i ∷ global.1 i ∷ w3 i ∷ w4 i ∷ w5 i ∷ [])) in
-    let form : IsArmOfForm m.timers timer class delay job arg =
-    record { timer_in_range = ltb-true _ _ t4.1; global = global.0; short = leb-true _ _ t3.1; first_job = eqb-true _ _ t2.1; arg_in_range = ltb-true _ _ t1.1 } in
-    subst (IsSaid m (codes "arm" ++ 32 ∷ words)) test.1 (ap (λ (r : List ℕ). codes "arm" ++ 32 ∷ r) spelled, (ltb-true _ _ t4.0, form)))))))))
+number_facts : (least bound : ℕ) (w : List ℕ) → is_number w ≡ true → (leb least (value_of w) && ltb (value_of w) bound) ≡ true → IsNumber least bound w
+number_facts least bound w spelled limits =
+    let both = and_parts _ _ limits in
+    record { spelled = (word_found w spelled).0; low = leb-true _ _ both.0; high = ltb-true _ _ both.1 }
 
-class_again : (class : Class) → class ≡ Global → class_of (class_text class) ≡ Some class
-unfolding class_of
-class_again Pinned e = absurd cc
-class_again Global e = refl
-class_again Deferrable e = absurd cc
+number_inside : (least bound n : ℕ) → n < 10 ^ 13 → least ≤ n → n < bound → (leb least (value_of (decimal n)) && ltb (value_of (decimal n)) bound) ≡ true
+number_inside least bound n wide low high =
+    let value = (word_again n wide).1 in
+    and_from _ _ (ap (leb least) value ∙ le-leb least n low) (ap (λ (v : ℕ). ltb v bound) value ∙ lt-ltb n bound high)
+
+clear_number : (n : ℕ) → n < 10 ^ 13 → is_clear 32 (decimal n) ≡ true
+clear_number n wide = clear_decimal 32 n refl (omega arith)
+
+-- ---- classes
+
+last_class : (version : ℕ) (word : List ℕ) (one : Bool) → eqb version 1 ≡ one → list_any (bytes_eq word) (cond one [] (codes "deferrable" ∷ [])) ≡ true → (word ≡ codes "deferrable") × IsClassOf version Deferrable
+last_class version word true e h = absurd (false≢true h)
+last_class version word false e h =
+    elim (or_cases _ _ h) [
+      | inl here ↦ ((bytes_eq-Decides word (codes "deferrable")).0 here, eqb-false version 1 e)
+      | inr none ↦ absurd (false≢true none)
+    ]
+
+class_row : (version : ℕ) (word : List ℕ) (p g : Bool) → bytes_eq word (codes "pinned") ≡ p → bytes_eq word (codes "global") ≡ g
+    → (p || (g || list_any (bytes_eq word) (cond (eqb version 1) [] (codes "deferrable" ∷ [])))) ≡ true
+    → (word ≡ class_text (cond p Pinned (cond g Global Deferrable))) × IsClassOf version (cond p Pinned (cond g Global Deferrable))
+class_row version word true g ep eg h = ((bytes_eq-Decides word (codes "pinned")).0 ep, tt)
+class_row version word false true ep eg h = ((bytes_eq-Decides word (codes "global")).0 eg, tt)
+class_row version word false false ep eg h = last_class version word (eqb version 1) refl h
+
+class_found : (version : ℕ) (word : List ℕ) → list_any (bytes_eq word) (class_words version) ≡ true → (word ≡ class_text (class_named word)) × IsClassOf version (class_named word)
+unfolding class_named
+class_found version word e = class_row version word (bytes_eq word (codes "pinned")) (bytes_eq word (codes "global")) refl refl e
+
+class_again : (class : Class) → class_named (class_text class) ≡ class
+unfolding class_named
+class_again Pinned = refl
+class_again Global = refl
+class_again Deferrable = refl
+
+class_choice : (version : ℕ) (class : Class) → IsClassOf version class → list_any (bytes_eq (class_text class)) (class_words version) ≡ true
+class_choice version Pinned h = refl
+class_choice version Global h = refl
+class_choice version Deferrable h = ap (λ (t : Bool). list_any (bytes_eq (codes "deferrable")) (cond t [] (codes "deferrable" ∷ []))) (ne_eqb version 1 h)
 
 class_clear : (class : Class) → is_clear 32 (class_text class) ≡ true
 class_clear Pinned = refl
 class_clear Global = refl
 class_clear Deferrable = refl
 
-word_clear : (n : ℕ) → n < 10 ^ 13 → is_clear 32 (decimal n) ≡ true
-word_clear n wide = clear_decimal 32 n refl (omega arith)
+-- ---- found
 
--- few CPUs and timers
-pub record IsSmall (m : Machine) : Type 0 where
-  pub few_cpus : m.cpus ≤ 8
-  pub few_timers : m.timers ≤ 4096
+abbrev IsSaid : Known → List (List ℕ) → Said → Type 0
+IsSaid k words said = (spaced words ≡ said_line k said) × (k.line ≤ MOST_LINES) × Fits k said
 
-arm_again : (m : Machine) (cpu timer : ℕ) (class : Class) (delay job arg : ℕ) → IsSmall m → cpu < m.cpus → IsArmOfForm m.timers timer class delay job arg
-    → arm_of m (spaced (decimal cpu ∷ decimal timer ∷ class_text class ∷ decimal delay ∷ decimal job ∷ decimal arg ∷ [])) ≡ Some (Operation (record { 0 = cpu }) (Arm (record { 0 = timer }) class delay job arg))
-unfolding arm_of
-arm_again m cpu timer class delay job arg small in_range form =
-    let b1 : cpu < 10 ^ 13 = omega (arith, small.few_cpus) in
-    let b2 : timer < 10 ^ 13 = omega (arith, small.few_timers, form.timer_in_range) in
-    let b3 : delay < 10 ^ 13 = omega (arith, form.short) in
-    let b4 : job < 10 ^ 13 = omega (arith, form.first_job) in
-    let b5 : arg < 10 ^ 13 = omega (arith, form.arg_in_range) in
-    let p : ArmParts = record { cpu = decimal cpu; timer = decimal timer; class = class_text class; delay = decimal delay; job = decimal job; arg = decimal arg } in
-    let parts = parts_again p (word_clear cpu b1) (word_clear timer b2) (class_clear class) (word_clear delay b3) (word_clear job b4) in
-    let a1 = and_from _ _ (lt-ltb cpu m.cpus in_range) (lt-ltb timer m.timers form.timer_in_range) in
-    let a2 = and_from _ _ a1 (le-leb delay 62 form.short) in
-    let a3 = and_from _ _ a2 (eq-eqb job 0 form.first_job) in
-    let a4 = and_from _ _ a3 (lt-ltb arg (2 ^ 32) form.arg_in_range) in
-    rw (parts, class_again class form.global, number_again cpu b1, number_again timer b2, number_again delay b3, number_again job b4, number_again arg b5)
-    (cond-true _ _ None a4)
+one_facts : (least bound : ℕ) (w : List ℕ) → (is_number w && true) ≡ true → ((leb least (value_of w) && ltb (value_of w) bound) && true) ≡ true → IsNumber least bound w
+one_facts least bound w spelled limits = number_facts least bound w (and_parts _ _ spelled).0 (and_parts _ _ limits).0
 
--- ---- what a line says
+number_spelled : (name w : List ℕ) (n : ℕ) → decimal n ≡ w → spaced (name ∷ w ∷ []) ≡ number_line name n
+number_spelled name w n e = ap (λ (x : List ℕ). spaced (name ∷ x ∷ [])) (sym e)
 
-pub chosen : {X P : Type 0} (b : Bool) (x y z : X) → cond b x y ≡ z → (b ≡ true → x ≡ z → P) → (b ≡ false → y ≡ z → P) → P
-chosen true x y z e first second = first refl e
-chosen false x y z e first second = second refl e
+module _ (k : Known) (small : IsSmall k) where
+  line_room : (c : Command) → is_in_room k c ≡ true → k.line ≤ MOST_LINES
+  line_room c e = leb-true _ _ (and_parts _ _ e).0
 
-mapped : {A B P : Type 0} (f : A → B) (o : Option A) (y : B) → option_map f o ≡ Some y → ((x : A) → o ≡ Some x → f x ≡ y → P) → P
-mapped f None y e k = absurd cc
-mapped f (Some x) y e k = k x refl (same_Some (f x) y e)
+  found_operation : (c : Command) (first : List ℕ) (ws : List (List ℕ)) (done : What) → Passes k c (first ∷ ws) → is_operation c ≡ true → place_of c ≡ Body
+      → is_in_order k c (map value_of (first ∷ ws)) ≡ not k.closed → is_in_room k c ≡ (leb k.line MOST_LINES && not (leb MOST_OPS k.ops))
+      → IsNumber 0 (count_in k) first → IsWhat k.version k.timers done → spaced (word_of c ∷ first ∷ ws) ≡ what_line (value_of first) done
+      → IsSaid k (word_of c ∷ first ∷ ws) (Operation (record { 0 = value_of first }) done)
+  found_operation c first ws done p op body order room cpu form line = (
+    line,
+    line_room c p.room,
+    (
+      stands_at k.place (is_some k.last) c p.stands ∙ body,
+      stands_inside k.place (is_some k.last) c op p.stands,
+      cpu.high,
+      form,
+      not-true _ (sym order ∙ p.order),
+      lt_from_room (and_parts _ _ (sym room ∙ p.room)).1,
+      small.few_cpus,
+      small.few_timers,
+    ),
+  )
+    where
+      lt_from_room : {a b : ℕ} → not (leb a b) ≡ true → b < a
+      lt_from_room {a} {b} e = leb-false a b (not-true _ e)
 
-at_said : (m : Machine) (line words : List ℕ) (said : Said) → line ≡ codes "at" ++ 32 ∷ words → option_map At (time_of words) ≡ Some said → IsSaid m line said
-at_said m line words said is e =
-    mapped At (time_of words) said e (λ n read same.
-    let time = time_found words n read in
-    subst (IsSaid m line) same (is ∙ ap (λ (w : List ℕ). codes "at" ++ 32 ∷ w) time.0, time.1))
+  found_cpu : (c : Command) (w : List ℕ) (done : What) → Passes k c (w ∷ []) → is_operation c ≡ true → place_of c ≡ Body
+      → is_in_order k c (map value_of (w ∷ [])) ≡ not k.closed → is_in_room k c ≡ (leb k.line MOST_LINES && not (leb MOST_OPS k.ops))
+      → all_pass is_spelled (slots k c (w ∷ [])) (w ∷ []) ≡ (is_number w && true) → all_pass is_within (slots k c (w ∷ [])) (w ∷ []) ≡ ((leb 0 (value_of w) && ltb (value_of w) (count_in k)) && true)
+      → IsWhat k.version k.timers done → ((n : ℕ) → number_line (word_of c) n ≡ what_line n done)
+      → IsSaid k (word_of c ∷ w ∷ []) (Operation (record { 0 = value_of w }) done)
+  found_cpu c w done p op body order room spelled inside form line =
+      let number = one_facts 0 (count_in k) w (sym spelled ∙ p.spelled) (sym inside ∙ p.inside) in
+      found_operation c w [] done p op body order room number form (number_spelled (word_of c) w (value_of w) number.spelled ∙ line (value_of w))
 
-end_said : (m : Machine) (line words : List ℕ) (said : Said) → line ≡ codes "end" ++ 32 ∷ words → option_map End (time_of words) ≡ Some said → IsSaid m line said
-end_said m line words said is e =
-    mapped End (time_of words) said e (λ n read same.
-    let time = time_found words n read in
-    subst (IsSaid m line) same (is ∙ ap (λ (w : List ℕ). codes "end" ++ 32 ∷ w) time.0, time.1))
+  found_isolated : (ws : List (List ℕ)) → Passes k Isolated ws → IsSaid k (codes "isolated" ∷ ws) (IsolatedCpus (from_list {R = nat_cmp} (map value_of ws)))
+  found_isolated ws p =
+      let numbers = map value_of ws in
+      let below = sym (cpus_pass k ws) ∙ p.inside in
+      let spelled = all_spelled ws (sym (numbers_pass k ws) ∙ p.spelled) in
+      let members_are = members_found (count_in k) numbers p.order below in
+      let placed = range_some (λ c. not (list_any (λ n. eqb n c) numbers)) 0 (count_in k) p.machine in (
+        ap (λ (xs : List (List ℕ)). spaced (codes "isolated" ∷ xs)) (sym (ap (map decimal) members_are ∙ spelled)),
+        line_room Isolated p.room,
+        (
+          stands_at k.place (is_some k.last) Isolated p.stands,
+          λ c here. among_below (count_in k) c numbers below (sym (contains-from_list_nat numbers c) ∙ here),
+          (placed.0, omega (arith, placed.1), contains-from_list_nat numbers placed.0 ∙ not-true _ placed.2),
+          small.few_cpus,
+        ),
+      )
+    where
+      all_spelled : (ws : List (List ℕ)) → list_all is_number ws ≡ true → map decimal (map value_of ws) ≡ ws
+      all_spelled [] e = refl
+      all_spelled (w ∷ ws) e =
+          let both = and_parts _ _ e in
+          λ i. (word_found w both.0).0 i ∷ all_spelled ws both.1 i
 
--- an operation that has no other word than its CPU
-cpu_said : (m : Machine) (line words : List ℕ) (said : Said) (name : List ℕ) (what : What) → ((cpu : ℕ) → name ++ 32 ∷ decimal cpu ≡ what_line cpu what) → IsWhatOfForm m.timers what
-    → line ≡ name ++ 32 ∷ words → option_map (λ (cpu : CpuId). Operation cpu what) (cpu_of m words) ≡ Some said → IsSaid m line said
-cpu_said m line words said name what spells form is e =
-    mapped (λ (cpu : CpuId). Operation cpu what) (cpu_of m words) said e (λ cpu read same.
-    let named = cpu_found m words cpu read in
-    subst (IsSaid m line) same (is ∙ ap (λ (w : List ℕ). name ++ 32 ∷ w) named.0 ∙ spells cpu.0, (named.1, form)))
+  found_arm : (c t class d j a : List ℕ) → Passes k Arm (c ∷ t ∷ class ∷ d ∷ j ∷ a ∷ []) → IsSaid k (word_of Arm ∷ c ∷ t ∷ class ∷ d ∷ j ∷ a ∷ [])
+      (Operation (record { 0 = value_of c }) (what.Arm (record { 0 = value_of t }) (class_named class) (value_of d) (value_of j) (value_of a)))
+  found_arm c t class d j a p =
+      let s1 = and_parts _ _ p.spelled in
+      let s2 = and_parts _ _ s1.1 in
+      let s3 = and_parts _ _ s2.1 in
+      let s4 = and_parts _ _ s3.1 in
+      let s5 = and_parts _ _ s4.1 in
+      let i1 = and_parts _ _ p.inside in
+      let i2 = and_parts _ _ i1.1 in
+      let i3 = and_parts _ _ i2.1 in
+      let i4 = and_parts _ _ i3.1 in
+      let i5 = and_parts _ _ i4.1 in
+      let cpu = number_facts 0 (count_in k) c s1.0 i1.0 in
+      let timer = number_facts 0 k.timers t s2.0 i2.0 in
+      let delay = number_facts 0 (2 ^ 32) d s3.0 i3.0 in
+      let job = number_facts 0 256 j s4.0 i4.0 in
+      let arg = number_facts 0 (2 ^ 32) a s5.0 i5.0 in
+      let named = class_found k.version class (and_parts _ _ p.choice).0 in
+      let form : IsArm k.version k.timers (value_of t) (class_named class) (value_of d) (value_of j) (value_of a) = record {
+        timer_in_range = timer.high;
+        class_of_version = named.1;
+        delay_in_range = delay.high;
+        job_in_range = job.high;
+        arg_in_range = arg.high;
+      } in
+      found_operation Arm c (t ∷ class ∷ d ∷ j ∷ a ∷ []) (what.Arm (record { 0 = value_of t }) (class_named class) (value_of d) (value_of j) (value_of a)) p refl refl refl refl cpu form
+      (λ i. spaced (codes "arm" ∷ sym cpu.spelled i ∷ sym timer.spelled i ∷ named.0 i ∷ sym delay.spelled i ∷ sym job.spelled i ∷ sym arg.spelled i ∷ []))
 
-pub said_found : (m : Machine) (line : List ℕ) (said : Said) → said_of m line ≡ Some said → (line ≡ said_line said) × IsSaidOfForm m said
-unfolding said_of
-said_found m line said e =
-    option_and_then_some _ (cut_at 32 line) said e (λ words cut e1.
-    let is : (name : List ℕ) → bytes_eq words.0 name ≡ true → line ≡ name ++ 32 ∷ words.1 = λ name t. cut_found 32 line words cut ∙ ap (λ (w : List ℕ). w ++ 32 ∷ words.1) (same_word words.0 name t) in
-    chosen (bytes_eq words.0 (codes "at")) _ _ (Some said) e1 (λ t r. at_said m line words.1 said (is (codes "at") t) r) (λ _ e2.
-    chosen (bytes_eq words.0 (codes "end")) _ _ (Some said) e2 (λ t r. end_said m line words.1 said (is (codes "end") t) r) (λ _ e3.
-    chosen (bytes_eq words.0 (codes "arm")) _ _ (Some said) e3 (λ t r. let arm = arm_found m words.1 said r in (is (codes "arm") t ∙ arm.0, arm.1)) (λ _ e4.
-    chosen (bytes_eq words.0 (codes "idle")) _ _ (Some said) e4 (λ t r. cpu_said m line words.1 said (codes "idle") Idle (λ _. refl) tt (is (codes "idle") t) r) (λ _ e5.
-    chosen (bytes_eq words.0 (codes "wake")) _ _ (Some said) e5 (λ t r. cpu_said m line words.1 said (codes "wake") Wake (λ _. refl) tt (is (codes "wake") t) r) (λ _ e6.
-    absurd cc))))))
+  found_cancel : (c t : List ℕ) → Passes k Cancel (c ∷ t ∷ []) → IsSaid k (word_of Cancel ∷ c ∷ t ∷ []) (Operation (record { 0 = value_of c }) (what.Cancel (record { 0 = value_of t })))
+  found_cancel c t p =
+      let s1 = and_parts _ _ p.spelled in
+      let s2 = and_parts _ _ s1.1 in
+      let i1 = and_parts _ _ p.inside in
+      let i2 = and_parts _ _ i1.1 in
+      let cpu = number_facts 0 (count_in k) c s1.0 i1.0 in
+      let timer = number_facts 0 k.timers t s2.0 i2.0 in
+      found_operation Cancel c (t ∷ []) (what.Cancel (record { 0 = value_of t })) p refl refl refl refl cpu timer.high
+      (λ i. spaced (codes "cancel" ∷ sym cpu.spelled i ∷ sym timer.spelled i ∷ []))
 
-pub said_again : (m : Machine) (said : Said) → IsSmall m → IsSaidOfForm m said → said_of m (said_line said) ≡ Some said
-unfolding said_of
-said_again m (At at) small h = rw (cut_again 32 (codes "at") (decimal at) refl, time_again at h) refl
-said_again m (End end) small h = rw (cut_again 32 (codes "end") (decimal end) refl, time_again end h) refl
-said_again m (Operation cpu (Arm timer class delay job arg)) small h =
-    let words = spaced (decimal cpu.0 ∷ decimal timer.0 ∷ class_text class ∷ decimal delay ∷ decimal job ∷ decimal arg ∷ []) in
-    rw (cut_again 32 (codes "arm") words refl) (arm_again m cpu.0 timer.0 class delay job arg small h.0 h.1)
-said_again m (Operation cpu (Cancel timer)) small h = absurd h.1
-said_again m (Operation cpu Idle) small h = rw (cut_again 32 (codes "idle") (decimal cpu.0) refl, cpu_again m cpu h.0 small.few_cpus) refl
-said_again m (Operation cpu Wake) small h = rw (cut_again 32 (codes "wake") (decimal cpu.0) refl, cpu_again m cpu h.0 small.few_cpus) refl
-said_again m (Operation cpu Offline) small h = absurd h.1
-said_again m (Operation cpu Online) small h = absurd h.1
+  version_found : (w : List ℕ) → Passes k Tmig (w ∷ []) → IsSaid k (codes "tmig" ∷ w ∷ []) (Version (value_of w))
+  unfolding value_of
+  version_found w p =
+      let place = stands_at k.place (is_some k.last) Tmig p.stands in
+      let room = line_room Tmig p.room in
+      elim (or_cases _ _ (and_parts _ _ p.choice).0) [
+        | inl one ↦
+            let is : w ≡ codes "1" = (bytes_eq-Decides w (codes "1")).0 one in
+            subst (λ (x : List ℕ). IsSaid k (codes "tmig" ∷ x ∷ []) (Version (value_of x))) (sym is) (ap (λ (d : List ℕ). spaced (codes "tmig" ∷ d ∷ [])) (sym one_digit), room, (place, omega arith, omega arith))
+        | inr other ↦ elim (or_cases _ _ other) [
+          | inl two ↦
+              let is : w ≡ codes "2" = (bytes_eq-Decides w (codes "2")).0 two in
+              subst (λ (x : List ℕ). IsSaid k (codes "tmig" ∷ x ∷ []) (Version (value_of x))) (sym is) (ap (λ (d : List ℕ). spaced (codes "tmig" ∷ d ∷ [])) (sym two_digit), room, (place, omega arith, omega arith))
+          | inr none ↦ absurd (false≢true none)
+        ]
+      ]
+    where
+      one_digit : decimal 1 ≡ codes "1"
+      one_digit = decimal_digit 1 (omega arith)
+
+      two_digit : decimal 2 ≡ codes "2"
+      two_digit = decimal_digit 2 (omega arith)
+
+  pub found : (c : Command) (ws : List (List ℕ)) → Passes k c ws → (spaced (word_of c ∷ ws) ≡ said_line k (said_behind c ws)) × (k.line ≤ MOST_LINES) × Fits k (said_behind c ws)
+  unfolding said_behind
+  found Tmig [] p = absurd (false≢true p.choice)
+  found Tmig (w ∷ []) p = version_found w p
+  found Tmig (v ∷ w ∷ ws) p = absurd (false≢true (and_parts _ _ p.choice).1)
+  found Nodes [] p = absurd (false≢true p.choice)
+  found Nodes (w ∷ []) p =
+      let n = one_facts 1 (MOST_NODES + 1) w p.spelled p.inside in
+      (number_spelled (codes "nodes") w (value_of w) n.spelled, line_room Nodes p.room, (stands_at k.place (is_some k.last) Nodes p.stands, n.low, omega (arith, n.high)))
+  found Nodes (v ∷ w ∷ ws) p = absurd (false≢true p.choice)
+  found Cpus [] p = absurd (false≢true p.choice)
+  found Cpus (w ∷ []) p =
+      let n = one_facts 1 (MOST_NODE_CPUS + 1) w p.spelled p.inside in
+      (number_spelled (codes "cpus") w (value_of w) n.spelled, line_room Cpus p.room, (stands_at k.place (is_some k.last) Cpus p.stands, n.low, omega (arith, n.high), leb-true _ _ p.machine))
+  found Cpus (v ∷ w ∷ ws) p = absurd (false≢true p.choice)
+  found Timers [] p = absurd (false≢true p.choice)
+  found Timers (w ∷ []) p =
+      let n = one_facts 1 (MOST_TIMERS + 1) w p.spelled p.inside in
+      (number_spelled (codes "timers") w (value_of w) n.spelled, line_room Timers p.room, (stands_at k.place (is_some k.last) Timers p.stands, n.low, omega (arith, n.high)))
+  found Timers (v ∷ w ∷ ws) p = absurd (false≢true p.choice)
+  found Isolated ws p = found_isolated ws p
+  found At [] p = absurd (false≢true p.choice)
+  found At (w ∷ []) p =
+      let n = one_facts 0 SCRIPT_TIME_LIMIT w p.spelled p.inside in
+      (number_spelled (codes "at") w (value_of w) n.spelled, line_room At p.room, (stands_at k.place (is_some k.last) At p.stands, n.high, p.order))
+  found At (v ∷ w ∷ ws) p = absurd (false≢true p.choice)
+  found End [] p = absurd (false≢true p.choice)
+  found End (w ∷ []) p =
+      let n = one_facts 0 SCRIPT_TIME_LIMIT w p.spelled p.inside in
+      (number_spelled (codes "end") w (value_of w) n.spelled, line_room End p.room, (stands_at k.place (is_some k.last) End p.stands, n.high, p.order))
+  found End (v ∷ w ∷ ws) p = absurd (false≢true p.choice)
+  found Arm [] p = absurd (false≢true p.choice)
+  found Arm (c ∷ []) p = absurd (false≢true p.choice)
+  found Arm (c ∷ t ∷ []) p = absurd (false≢true p.choice)
+  found Arm (c ∷ t ∷ class ∷ []) p = absurd (false≢true (and_parts _ _ p.choice).1)
+  found Arm (c ∷ t ∷ class ∷ d ∷ []) p = absurd (false≢true (and_parts _ _ p.choice).1)
+  found Arm (c ∷ t ∷ class ∷ d ∷ j ∷ []) p = absurd (false≢true (and_parts _ _ p.choice).1)
+  found Arm (c ∷ t ∷ class ∷ d ∷ j ∷ a ∷ []) p = found_arm c t class d j a p
+  found Arm (c ∷ t ∷ class ∷ d ∷ j ∷ a ∷ b ∷ ws) p = absurd (false≢true (and_parts _ _ p.choice).1)
+  found Cancel [] p = absurd (false≢true p.choice)
+  found Cancel (v ∷ []) p = absurd (false≢true p.choice)
+  found Cancel (v ∷ w ∷ []) p = found_cancel v w p
+  found Cancel (u ∷ v ∷ w ∷ ws) p = absurd (false≢true p.choice)
+  found Idle [] p = absurd (false≢true p.choice)
+  found Idle (w ∷ []) p = found_cpu Idle w what.Idle p refl refl refl refl refl refl tt (λ n. refl)
+  found Idle (v ∷ w ∷ ws) p = absurd (false≢true p.choice)
+  found Wake [] p = absurd (false≢true p.choice)
+  found Wake (w ∷ []) p = found_cpu Wake w what.Wake p refl refl refl refl refl refl tt (λ n. refl)
+  found Wake (v ∷ w ∷ ws) p = absurd (false≢true p.choice)
+  found Offline [] p = absurd (false≢true p.choice)
+  found Offline (w ∷ []) p = found_cpu Offline w what.Offline p refl refl refl refl refl refl tt (λ n. refl)
+  found Offline (v ∷ w ∷ ws) p = absurd (false≢true p.choice)
+  found Online [] p = absurd (false≢true p.choice)
+  found Online (w ∷ []) p = found_cpu Online w what.Online p refl refl refl refl refl refl tt (λ n. refl)
+  found Online (v ∷ w ∷ ws) p = absurd (false≢true p.choice)
+
+-- a line without fault is spelled as what it says, and that may be said
+pub heard_found : (k : Known) (ws : List (List ℕ)) (said : Said) → IsSmall k → heard k ws ≡ Ok said → (spaced ws ≡ said_line k said) × (k.line ≤ MOST_LINES) × Fits k said
+unfolding heard
+heard_found k [] said small e = absurd cc
+heard_found k (first ∷ behind) said small e = by_command (command_of first) refl e
+  where
+    by_command : (o : Option Command) → command_of first ≡ o → heard_behind k o behind ≡ Ok said → IsSaid k (first ∷ behind) said
+    by_command None named e = absurd cc
+    by_command (Some c) named e =
+        let p = passes_found k c behind said e in
+        subst (λ (w : List ℕ). IsSaid k (w ∷ behind) said) (sym (command_found first c named)) (subst (λ (s : Said). IsSaid k (word_of c ∷ behind) s) p.1 (found k small c behind p.0))
+
+-- ---- again
+
+module _ (k : Known) (room : k.line ≤ MOST_LINES) where
+  by_passes : (c : Command) (ws : List (List ℕ)) (said : Said) → AreClear 32 (word_of c ∷ ws) → Passes k c ws → said_behind c ws ≡ said → heard k (words_of (spaced (word_of c ∷ ws))) ≡ Ok said
+  unfolding heard
+  by_passes c ws said clear p is =
+      ap (heard k) (words_again (word_of c) ws clear)
+      ∙ ap (λ (o : Option Command). heard_behind k o ws) (command_again c)
+      ∙ passes_again k c ws p ∙ ap (λ (s : Said). Ok s) is
+
+  line_fits : (leb k.line MOST_LINES && true) ≡ true
+  line_fits = and_from _ _ (le-leb _ _ room) refl
+
+  op_fits : k.ops < MOST_OPS → (leb k.line MOST_LINES && not (leb MOST_OPS k.ops)) ≡ true
+  op_fits few = and_from _ _ (le-leb _ _ room) (not_from_false _ (lt-leb _ _ few))
+
+  one_clear : (name : List ℕ) (n : ℕ) → is_clear 32 name ≡ true → n < 10 ^ 13 → AreClear 32 (name ∷ decimal n ∷ [])
+  one_clear name n clear wide = (clear, (clear_number n wide, tt))
+
+  one_spelled : (n : ℕ) → n < 10 ^ 13 → (is_number (decimal n) && true) ≡ true
+  one_spelled n wide = and_from _ _ (word_again n wide).0 refl
+
+  one_inside : (least bound n : ℕ) → n < 10 ^ 13 → least ≤ n → n < bound → ((leb least (value_of (decimal n)) && ltb (value_of (decimal n)) bound) && true) ≡ true
+  one_inside least bound n wide low high = and_from _ _ (number_inside least bound n wide low high) refl
+
+  version_choice : (n : ℕ) → 1 ≤ n → n ≤ 2 → list_any (bytes_eq (decimal n)) (codes "1" ∷ codes "2" ∷ []) ≡ true
+  version_choice n low high =
+      elim (cases_eq n 1) [
+        | inl one ↦ ap (λ (d : List ℕ). list_any (bytes_eq d) (codes "1" ∷ codes "2" ∷ [])) (ap decimal one ∙ decimal_digit 1 (omega arith))
+        | inr other ↦
+            let two : n ≡ 2 = omega (arith, other) in
+            ap (λ (d : List ℕ). list_any (bytes_eq d) (codes "1" ∷ codes "2" ∷ [])) (ap decimal two ∙ decimal_digit 2 (omega arith))
+      ]
+
+  all_again : (bound : ℕ) (ns : List ℕ) → bound ≤ 10 ^ 13 → list_all (λ n. nat_lt n bound) ns ≡ true → (list_all is_number (map decimal ns) ≡ true) × (map value_of (map decimal ns) ≡ ns) × AreClear 32 (map decimal ns)
+  all_again bound [] few e = (refl, refl, tt)
+  all_again bound (n ∷ ns) few e =
+      let both = and_parts _ _ e in
+      let wide : n < 10 ^ 13 = omega (arith, ltb-true n bound both.0) in
+      let rest = all_again bound ns few both.1 in
+      (and_from _ _ (word_again n wide).0 rest.0, (λ i. (word_again n wide).1 i ∷ rest.1 i), (clear_number n wide, rest.2))
+
+  isolated_again : (cpus : CpuNumbers) → Fits k (IsolatedCpus cpus) → heard k (words_of (said_line k (IsolatedCpus cpus))) ≡ Ok (IsolatedCpus cpus)
+  unfolding said_behind
+  isolated_again cpus h =
+      let count = count_in k in
+      let ns = members count cpus in
+      let below = members_below count cpus in
+      let all = all_again count ns (omega (arith, h.3)) below in
+      let among = members_again count cpus h.1 in
+      let numbers = all.1 in
+      by_passes Isolated (map decimal ns) (IsolatedCpus cpus) (refl, all.2)
+      (record {
+        stands = ap (λ (p : Place). may_stand p (is_some k.last) Isolated) h.0;
+        choice = choices_pass k (map decimal ns);
+        spelled = numbers_pass k (map decimal ns) ∙ all.0;
+        inside = cpus_pass k (map decimal ns) ∙ ap (list_all (λ n. nat_lt n count)) numbers ∙ below;
+        machine = ap (leaves_some count) numbers ∙ any_range (λ c. not (list_any (λ n. eqb n c) ns)) 0 count h.2.0 (omega arith) (omega (arith, h.2.1)) (not_from_false _ (among h.2.0 ∙ h.2.2));
+        order = ap (rise None) numbers ∙ members_rise count cpus;
+        room = line_fits;
+      })
+      (ap (λ (xs : List ℕ). IsolatedCpus (from_list {R = nat_cmp} xs)) numbers ∙ ap (λ (x : CpuNumbers). IsolatedCpus x) (members_set count cpus h.1))
+
+  arm_again : (cpu timer : ℕ) (class : Class) (delay job arg : ℕ) → Fits k (Operation (record { 0 = cpu }) (what.Arm (record { 0 = timer }) class delay job arg))
+      → heard k (words_of (what_line cpu (what.Arm (record { 0 = timer }) class delay job arg))) ≡ Ok (Operation (record { 0 = cpu }) (what.Arm (record { 0 = timer }) class delay job arg))
+  unfolding said_behind
+  arm_again cpu timer class delay job arg h =
+      let form = h.3 in
+      let b1 : cpu < 10 ^ 13 = omega (arith, h.2, h.6) in
+      let b2 : timer < 10 ^ 13 = omega (arith, form.timer_in_range, h.7) in
+      let b3 : delay < 10 ^ 13 = omega (arith, form.delay_in_range) in
+      let b4 : job < 10 ^ 13 = omega (arith, form.job_in_range) in
+      let b5 : arg < 10 ^ 13 = omega (arith, form.arg_in_range) in
+      let zero_least : (n : ℕ) → 0 ≤ n = λ n. omega arith in
+      by_passes Arm (decimal cpu ∷ decimal timer ∷ class_text class ∷ decimal delay ∷ decimal job ∷ decimal arg ∷ []) (Operation (record { 0 = cpu }) (what.Arm (record { 0 = timer }) class delay job arg))
+      (refl, (clear_number cpu b1, (clear_number timer b2, (class_clear class, (clear_number delay b3, (clear_number job b4, (clear_number arg b5, tt)))))))
+      (record {
+        stands = ap (λ (p : Place). may_stand p (is_some k.last) Arm) h.0 ∙ h.1;
+        choice = and_from _ _ (class_choice k.version class form.class_of_version) refl;
+        spelled = and_from _ _ (word_again cpu b1).0 (and_from _ _ (word_again timer b2).0 (and_from _ _ (word_again delay b3).0 (and_from _ _ (word_again job b4).0 (one_spelled arg b5))));
+        inside = and_from _ _ (number_inside 0 (count_in k) cpu b1 (zero_least cpu) h.2) (and_from _ _ (number_inside 0 k.timers timer b2 (zero_least timer) form.timer_in_range)
+            (and_from _ _ (number_inside 0 (2 ^ 32) delay b3 (zero_least delay) form.delay_in_range) (and_from _ _ (number_inside 0 256 job b4 (zero_least job) form.job_in_range)
+            (one_inside 0 (2 ^ 32) arg b5 (zero_least arg) form.arg_in_range))));
+        machine = refl;
+        order = not_from_false _ h.4;
+        room = op_fits h.5;
+      })
+      (λ i. Operation (record { 0 = (word_again cpu b1).1 i }) (what.Arm (record { 0 = (word_again timer b2).1 i }) (class_again class i) ((word_again delay b3).1 i) ((word_again job b4).1 i) ((word_again arg b5).1 i)))
+
+  cancel_again : (cpu timer : ℕ) → Fits k (Operation (record { 0 = cpu }) (what.Cancel (record { 0 = timer })))
+      → heard k (words_of (what_line cpu (what.Cancel (record { 0 = timer })))) ≡ Ok (Operation (record { 0 = cpu }) (what.Cancel (record { 0 = timer })))
+  unfolding said_behind
+  cancel_again cpu timer h =
+      let b1 : cpu < 10 ^ 13 = omega (arith, h.2, h.6) in
+      let b2 : timer < 10 ^ 13 = omega (arith, h.3, h.7) in
+      let zero_least : (n : ℕ) → 0 ≤ n = λ n. omega arith in
+      by_passes Cancel (decimal cpu ∷ decimal timer ∷ []) (Operation (record { 0 = cpu }) (what.Cancel (record { 0 = timer })))
+      (refl, (clear_number cpu b1, (clear_number timer b2, tt)))
+      (record {
+        stands = ap (λ (p : Place). may_stand p (is_some k.last) Cancel) h.0 ∙ h.1;
+        choice = refl;
+        spelled = and_from _ _ (word_again cpu b1).0 (one_spelled timer b2);
+        inside = and_from _ _ (number_inside 0 (count_in k) cpu b1 (zero_least cpu) h.2) (one_inside 0 k.timers timer b2 (zero_least timer) h.3);
+        machine = refl;
+        order = not_from_false _ h.4;
+        room = op_fits h.5;
+      })
+      (λ i. Operation (record { 0 = (word_again cpu b1).1 i }) (what.Cancel (record { 0 = (word_again timer b2).1 i })))
+
+  -- what may be said is read from its line
+  pub heard_again : (said : Said) → Fits k said → heard k (words_of (said_line k said)) ≡ Ok said
+  unfolding said_behind
+  heard_again (Version n) h =
+      let wide : n < 10 ^ 13 = omega (arith, h.2) in
+      by_passes Tmig (decimal n ∷ []) (Version n) (one_clear (codes "tmig") n refl wide)
+      (record {
+        stands = ap (λ (p : Place). may_stand p (is_some k.last) Tmig) h.0;
+        choice = and_from _ _ (version_choice n h.1 h.2) refl;
+        spelled = refl;
+        inside = refl;
+        machine = refl;
+        order = refl;
+        room = line_fits;
+      })
+      (λ i. Version ((word_again n wide).1 i))
+  heard_again (IsolatedCpus cpus) h = isolated_again cpus h
+  heard_again (Operation cpu (what.Arm timer class delay job arg)) h = arm_again cpu.0 timer.0 class delay job arg h
+  heard_again (Operation cpu (what.Cancel timer)) h = cancel_again cpu.0 timer.0 h
+  heard_again (NodeCount n) h =
+      let wide : n < 10 ^ 13 = omega (arith, h.2) in
+      let below : n < (MOST_NODES + 1) = omega (arith, h.2) in
+      by_passes Nodes (decimal n ∷ []) (NodeCount n) (one_clear (word_of Nodes) n refl wide)
+      (record {
+        stands = ap (λ (p : Place). may_stand p (is_some k.last) Nodes) h.0;
+        choice = refl;
+        spelled = one_spelled n wide;
+        inside = one_inside 1 (MOST_NODES + 1) n wide h.1 below;
+        machine = refl;
+        order = refl;
+        room = line_fits;
+      })
+      (λ i. NodeCount ((word_again n wide).1 i))
+  heard_again (CpuCount n) h =
+      let wide : n < 10 ^ 13 = omega (arith, h.2) in
+      let below : n < (MOST_NODE_CPUS + 1) = omega (arith, h.2) in
+      by_passes Cpus (decimal n ∷ []) (CpuCount n) (one_clear (word_of Cpus) n refl wide)
+      (record {
+        stands = ap (λ (p : Place). may_stand p (is_some k.last) Cpus) h.0;
+        choice = refl;
+        spelled = one_spelled n wide;
+        inside = one_inside 1 (MOST_NODE_CPUS + 1) n wide h.1 below;
+        machine = ap (λ (v : ℕ). leb (k.nodes * v) (most_cpus k.version)) (word_again n wide).1 ∙ le-leb _ _ h.3;
+        order = refl;
+        room = line_fits;
+      })
+      (λ i. CpuCount ((word_again n wide).1 i))
+  heard_again (TimerCount n) h =
+      let wide : n < 10 ^ 13 = omega (arith, h.2) in
+      let below : n < (MOST_TIMERS + 1) = omega (arith, h.2) in
+      by_passes Timers (decimal n ∷ []) (TimerCount n) (one_clear (word_of Timers) n refl wide)
+      (record {
+        stands = ap (λ (p : Place). may_stand p (is_some k.last) Timers) h.0;
+        choice = refl;
+        spelled = one_spelled n wide;
+        inside = one_inside 1 (MOST_TIMERS + 1) n wide h.1 below;
+        machine = refl;
+        order = refl;
+        room = line_fits;
+      })
+      (λ i. TimerCount ((word_again n wide).1 i))
+  heard_again (Opening n) h =
+      let wide : n < 10 ^ 13 = omega (arith, h.1) in
+      let below : n < SCRIPT_TIME_LIMIT = omega (arith, h.1) in
+      by_passes At (decimal n ∷ []) (Opening n) (one_clear (word_of At) n refl wide)
+      (record {
+        stands = ap (λ (p : Place). may_stand p (is_some k.last) At) h.0;
+        choice = refl;
+        spelled = one_spelled n wide;
+        inside = one_inside 0 SCRIPT_TIME_LIMIT n wide (omega arith) below;
+        machine = refl;
+        order = ap (is_after k.last) (word_again n wide).1 ∙ h.2;
+        room = line_fits;
+      })
+      (λ i. Opening ((word_again n wide).1 i))
+  heard_again (Ending n) h =
+      let wide : n < 10 ^ 13 = omega (arith, h.1) in
+      let below : n < SCRIPT_TIME_LIMIT = omega (arith, h.1) in
+      by_passes End (decimal n ∷ []) (Ending n) (one_clear (word_of End) n refl wide)
+      (record {
+        stands = ap (λ (p : Place). may_stand p (is_some k.last) End) h.0;
+        choice = refl;
+        spelled = one_spelled n wide;
+        inside = one_inside 0 SCRIPT_TIME_LIMIT n wide (omega arith) below;
+        machine = refl;
+        order = ap (is_reached k.last) (word_again n wide).1 ∙ h.2;
+        room = line_fits;
+      })
+      (λ i. Ending ((word_again n wide).1 i))
+  heard_again (Operation cpu what.Idle) h =
+      let wide : cpu.0 < 10 ^ 13 = omega (arith, h.2, h.6) in
+      by_passes Idle (decimal cpu.0 ∷ []) (Operation cpu what.Idle) (one_clear (word_of Idle) cpu.0 refl wide)
+      (record {
+        stands = ap (λ (p : Place). may_stand p (is_some k.last) Idle) h.0 ∙ h.1;
+        choice = refl;
+        spelled = one_spelled cpu.0 wide;
+        inside = one_inside 0 (count_in k) cpu.0 wide (omega arith) h.2;
+        machine = refl;
+        order = not_from_false _ h.4;
+        room = op_fits h.5;
+      })
+      (λ i. Operation (record { 0 = (word_again cpu.0 wide).1 i }) what.Idle)
+  heard_again (Operation cpu what.Wake) h =
+      let wide : cpu.0 < 10 ^ 13 = omega (arith, h.2, h.6) in
+      by_passes Wake (decimal cpu.0 ∷ []) (Operation cpu what.Wake) (one_clear (word_of Wake) cpu.0 refl wide)
+      (record {
+        stands = ap (λ (p : Place). may_stand p (is_some k.last) Wake) h.0 ∙ h.1;
+        choice = refl;
+        spelled = one_spelled cpu.0 wide;
+        inside = one_inside 0 (count_in k) cpu.0 wide (omega arith) h.2;
+        machine = refl;
+        order = not_from_false _ h.4;
+        room = op_fits h.5;
+      })
+      (λ i. Operation (record { 0 = (word_again cpu.0 wide).1 i }) what.Wake)
+  heard_again (Operation cpu what.Offline) h =
+      let wide : cpu.0 < 10 ^ 13 = omega (arith, h.2, h.6) in
+      by_passes Offline (decimal cpu.0 ∷ []) (Operation cpu what.Offline) (one_clear (word_of Offline) cpu.0 refl wide)
+      (record {
+        stands = ap (λ (p : Place). may_stand p (is_some k.last) Offline) h.0 ∙ h.1;
+        choice = refl;
+        spelled = one_spelled cpu.0 wide;
+        inside = one_inside 0 (count_in k) cpu.0 wide (omega arith) h.2;
+        machine = refl;
+        order = not_from_false _ h.4;
+        room = op_fits h.5;
+      })
+      (λ i. Operation (record { 0 = (word_again cpu.0 wide).1 i }) what.Offline)
+  heard_again (Operation cpu what.Online) h =
+      let wide : cpu.0 < 10 ^ 13 = omega (arith, h.2, h.6) in
+      by_passes Online (decimal cpu.0 ∷ []) (Operation cpu what.Online) (one_clear (word_of Online) cpu.0 refl wide)
+      (record {
+        stands = ap (λ (p : Place). may_stand p (is_some k.last) Online) h.0 ∙ h.1;
+        choice = refl;
+        spelled = one_spelled cpu.0 wide;
+        inside = one_inside 0 (count_in k) cpu.0 wide (omega arith) h.2;
+        machine = refl;
+        order = not_from_false _ h.4;
+        room = op_fits h.5;
+      })
+      (λ i. Operation (record { 0 = (word_again cpu.0 wide).1 i }) what.Online)

@@ -1,27 +1,36 @@
--- a script that is read is of the form and spelled so, and a script of the form that is spelled so is read
-use Rattle.std.proofs.Common.{◌≡◌, ℕ, zero, suc, ◌+◌, ◌<◌, ◌≤◌, ltb, List, [], ◌∷◌, ◌++◌, length, map, Option, Some, None, Result, Ok, Err, refl, sym, ap, subst, ◌∙◌, append_assoc, arith}
-use Rattle.std.specs.Prelude.{codes, IfOk, IfErr}
+-- a script that is read is of the grammar and spelled so, and a script of the grammar that is spelled so is read
+use Rattle.std.proofs.Common.{◌≡◌, ℕ, zero, suc, ◌+◌, ◌*◌, ◌^◌, ◌<◌, ◌≤◌, ltb, cond, eqb, Bool, true, false, List, [], ◌∷◌, ◌++◌, length, map, Option, Some, None, Result, Ok, Err, refl, sym, ap, subst, ◌∙◌, append_assoc, length-append, arith}
+use Rattle.std.specs.Prelude.{◌↔◌, codes, IfOk, IfErr}
 use Rattle.std.specs.List.{flat_map, AllByRecursion}
 use Rattle.std.specs.List.Sorted.{IsStrictlyIncreasing}
-use Rattle.std.proofs.lemmas.Bool.{ltb-true, ltb-false, lt-ltb, le-leb, le-ltb, cond-false}
+use Rattle.std.proofs.lemmas.Bool.{ltb-true, lt-ltb, le-leb}
 use Rattle.std.proofs.lemmas.List.Elements.{All-from_recursion, recursion_from_All}
-use Rattle.std.proofs.lemmas.Option.{option_and_then_some, same_Some}
+use Rattle.text_words.specs.Words.{lines_of, words_of, ended}
+use Rattle.text_words.proofs.Cuts.{lines_found, lines_again, split_some}
+use Rattle.tm_base.specs.declared.limits.TheConstants.{MOST_LINES}
+use Rattle.tm_script.specs.declared.faults.Kind.{Kind}
+use Rattle.tm_script.specs.declared.faults.ScriptFault.{ScriptFault}
 use Rattle.tm_script.specs.declared.faults.ReadScript.{ReadScript}
 use Rattle.tm_script.specs.declared.faults.ReadScript.TheVariants.{Refused, NoMemory}
 use Rattle.tm_script.specs.declared.syntax.Script.{Script}
 use Rattle.tm_script.specs.declared.syntax.Moment.{Moment}
-use Rattle.tm_script.specs.declared.lines.Machine.{Machine}
-use Rattle.tm_script.specs.Texts.{number_line, moment_lines, ended, script_text}
-use Rattle.tm_script.specs.Form.{IsMomentOfForm, AreMomentsNumbered, IsOfForm}
+use Rattle.tm_script.specs.declared.syntax.Op.{Op}
+use Rattle.tm_script.specs.declared.known.Known.{Known}
+use Rattle.tm_script.specs.declared.known.Said.{Said}
+use Rattle.tm_script.specs.declared.known.Said.TheVariants.{Version, NodeCount, CpuCount, TimerCount, IsolatedCpus, Opening, Operation, Ending}
+use Rattle.tm_script.specs.declared.draft.Draft.{Draft}
+use Rattle.tm_script.specs.Texts.{cpu_count, number_line, op_line, moment_lines, head_lines, script_lines, script_text}
+use Rattle.tm_script.specs.Grammar.{IsMoment, AreMomentsNumbered, IsScript, Spells}
+use Rattle.tm_script.specs.Faults.{known_after, is_over, heard, fault_or, fault_at, fault_at_end, fault_from, fault_of, FaultsTell}
 use Rattle.tm_script.specs.Reader.{IsOnlyScriptOf, IsRefusalOf}
-use Rattle.tm_script.specs.Lines.{machine_of}
-use Rattle.tm_script.specs.Reading.{Gives, read_from, parts_of, start, script_of}
-use Rattle.tm_script.proofs.LineLaws.{IsSmall, chosen}
-use Rattle.tm_script.proofs.BodyLaws.{body_lines, end_lines, whole, InOrder, Found, body_found}
+use Rattle.tm_script.specs.Reading.{Gives, start, draft_after, script_of, finished, go_on, read_from}
+use Rattle.tm_script.proofs.BodyLaws.{ToRead, body_lines, end_lines, whole, InOrder, Found, body_found}
 use Rattle.tm_script.proofs.BodyAgain.{reached_end, body_again}
-use Rattle.tm_script.proofs.TextLaws.{lines_found, lines_again, clear_body, IsMachine, after_machine, machine_found, machine_again}
+use Rattle.tm_script.proofs.HeadLaws.{IsHead, HeadFound, few_of_most, head_found, head_again}
+use Rattle.tm_script.proofs.ReadLaws.{has_first}
+use Rattle.tm_script.proofs.ClearLaws.{script_clear}
 
--- ---- times in order, moment by moment and as the form says it
+-- ---- times in order, moment by moment and as the grammar says it
 
 abbrev times : List Moment → List ℕ
 times ms = map (λ (m : Moment). m.at) ms
@@ -53,97 +62,154 @@ order_from : (ms : List Moment) (end : ℕ) → IsStrictlyIncreasing (times ms) 
 order_from [] end h g = refl
 order_from (m ∷ ms) end h g = (refl, order_after m.at ms end g.0 h g.1)
 
--- ---- the whole text
-
-abbrev machine : Script → Machine
-machine s = record { nodes = s.nodes; cpus = s.cpus; timers = s.timers }
-
--- the lines from the fifth on
-abbrev later_lines : Script → List (List ℕ)
-later_lines s = flat_map moment_lines s.moments ++ number_line (codes "end") s.end ∷ []
-
-text_is : (s : Script) → script_text s ≡ after_machine (machine s) (flat_map ended (later_lines s))
-text_is s =
-    let rest = flat_map ended (later_lines s) in
-    let timers = append_assoc (number_line (codes "timers") s.timers) (10 ∷ []) rest in
-    let cpus = append_assoc (number_line (codes "cpus") s.cpus) (10 ∷ []) (ended (number_line (codes "timers") s.timers) ++ rest) in
-    let nodes = append_assoc (number_line (codes "nodes") s.nodes) (10 ∷ []) (ended (number_line (codes "cpus") s.cpus) ++ (ended (number_line (codes "timers") s.timers) ++ rest)) in
-    let r2 = cpus ∙ ap (λ (r : List ℕ). number_line (codes "cpus") s.cpus ++ 10 ∷ r) timers in
-    let r1 = nodes ∙ ap (λ (r : List ℕ). number_line (codes "nodes") s.nodes ++ 10 ∷ r) r2 in
-    ap (λ (r : List ℕ). codes "tmig 1" ++ 10 ∷ r) r1
-
-later_parts : (s : Script) → later_lines s ++ [] ∷ [] ≡ flat_map moment_lines s.moments ++ end_lines s.end
-later_parts s = append_assoc (flat_map moment_lines s.moments) (number_line (codes "end") s.end ∷ []) ([] ∷ [])
+pub order_of : (s : Script) → IsScript s → InOrder None s.moments s.end
+order_of s is = order_from s.moments s.end is.ascending (recursion_from_All (λ (m : Moment). m.at ≤ s.end) s.moments is.by_the_end)
 
 -- ---- found
 
-found_form : (m : Machine) (rest bytes : List ℕ) (s : Script) → length bytes ≤ 65536 → IsMachine m → bytes ≡ after_machine m rest → Found m (parts_of rest) 5 [] None [] s → IsOfForm s × (script_text s ≡ bytes)
-found_form m rest bytes s short limits head f =
-    let b = f.body in
-    let none : b.ops ≡ [] = f.follows.placed refl in
-    let made = whole m b.moments b.end in
-    let parts : parts_of rest ≡ later_lines made ++ [] ∷ [] = f.spelled ∙ ap (λ (os : _). body_lines (record { ops = os; moments = b.moments; end = b.end })) none ∙ sym (later_parts made) in
-    let text : script_text made ≡ bytes = text_is made ∙ ap (after_machine m) (sym (lines_found rest (later_lines made) parts)) ∙ sym head in
-    let form : IsOfForm made = record {
-      one_node = limits.one_node;
-      some_cpus = limits.some_cpus;
-      few_cpus = limits.few_cpus;
-      some_timers = limits.some_timers;
-      few_timers = limits.few_timers;
-      moments = All-from_recursion (IsMomentOfForm m.cpus m.timers) b.moments f.follows.moments;
-      ascending = ascending_from None b.moments b.end f.follows.order;
-      by_the_end = All-from_recursion (λ (x : Moment). x.at ≤ b.end) b.moments (by_the_end_from None b.moments b.end f.follows.order);
-      early_end = f.follows.early;
-      numbered = subst (λ (os : _). AreMomentsNumbered (5 + length os) b.moments) none f.follows.numbered;
-      short_text = subst (λ (t : List ℕ). length t ≤ 65536) (sym text) short;
-    } in
-    subst (λ (t : Script). IsOfForm t × (script_text t ≡ bytes)) (sym f.script) (form, text)
+parts_of_script : (s : Script) → script_lines s ++ [] ∷ [] ≡ head_lines s ++ (flat_map moment_lines s.moments ++ end_lines s.end)
+parts_of_script s =
+    append_assoc (head_lines s) (flat_map moment_lines s.moments ++ number_line (codes "end") s.end ∷ []) ([] ∷ [])
+    ∙ ap (λ (r : List (List ℕ)). head_lines s ++ r) (append_assoc (flat_map moment_lines s.moments) (number_line (codes "end") s.end ∷ []) ([] ∷ []))
 
--- what is read is of the form, and has the bytes as its text
-script_found : (bytes : List ℕ) (s : Script) → script_of bytes ≡ Some s → IsOfForm s × (script_text s ≡ bytes)
-unfolding script_of
+found_script : (bytes : List ℕ) (s : Script) (f : HeadFound (lines_of bytes) s) → Found f.h f.rest (length (head_lines f.h) + 1) [] None 0 [] false s → Spells bytes s
+found_script bytes s f g =
+    let h = f.h in
+    let b = g.body in
+    let none : b.ops ≡ [] = g.follows.placed refl in
+    let made = whole h b.moments b.end in
+    let first = length (head_lines h) + 1 in
+    let body : f.rest ≡ flat_map moment_lines b.moments ++ end_lines b.end = g.spelled ∙ ap (λ (os : List Op). body_lines (record { ops = os; moments = b.moments; end = b.end })) none in
+    let parts : lines_of bytes ≡ script_lines made ++ [] ∷ [] = f.cut ∙ ap (λ (r : List (List ℕ)). head_lines h ++ r) body ∙ sym (parts_of_script made) in
+    let room = subst (λ (os : List Op). first + length (map op_line os ++ flat_map moment_lines b.moments) ≤ MOST_LINES) none g.follows.room in
+    let count = length-append (head_lines h) (flat_map moment_lines b.moments ++ number_line (codes "end") b.end ∷ []) in
+    let more = length-append (flat_map moment_lines b.moments) (number_line (codes "end") b.end ∷ []) in
+    let same : first + 0 ≡ first = omega arith in
+    let is : IsScript made = record {
+      some_version = f.is.some_version;
+      few_versions = f.is.few_versions;
+      some_nodes = f.is.some_nodes;
+      few_nodes = f.is.few_nodes;
+      some_cpus = f.is.some_cpus;
+      few_node_cpus = f.is.few_node_cpus;
+      few_cpus = f.is.few_cpus;
+      some_timers = f.is.some_timers;
+      few_timers = f.is.few_timers;
+      none_isolated = f.is.none_isolated;
+      isolated_in_range = f.is.isolated_in_range;
+      some_placed = f.is.some_placed;
+      moments = All-from_recursion (IsMoment h.version (cpu_count h) h.timers) b.moments g.follows.moments;
+      ascending = ascending_from None b.moments b.end g.follows.order;
+      by_the_end = All-from_recursion (λ (x : Moment). x.at ≤ b.end) b.moments (by_the_end_from None b.moments b.end g.follows.order);
+      early_end = g.follows.early;
+      numbered = subst (λ (n : ℕ). AreMomentsNumbered n b.moments) same (subst (λ (os : List Op). AreMomentsNumbered (first + length os) b.moments) none g.follows.numbered);
+      few_lines = omega (arith, room, count, more);
+    } in
+    subst (Spells bytes) (sym g.script) (is, sym (lines_found bytes (script_lines made) parts))
+
+-- what is read is of the grammar, and has the bytes as its text
+pub script_found : (bytes : List ℕ) (s : Script) → read_from (lines_of bytes) start ≡ Ok s → Spells bytes s
 script_found bytes s e =
-    chosen (ltb 65536 (length bytes)) None _ (Some s) e
-    (λ _ none. absurd cc)
-    (λ short e1. option_and_then_some _ (machine_of bytes) s e1 (λ x head e2.
-    let first = machine_found bytes x head in
-    let room : 0 ≤ 4096 = omega arith in
-    found_form x.0 x.1 bytes s (ltb-false _ _ short) first.1 first.0 (body_found x.0 (parts_of x.1) start s room e2)))
+    let f = head_found s (lines_of bytes) e in
+    let few_cpus : cpu_count f.h < 10 ^ 13 = omega (arith, few_of_most f.h.version (cpu_count f.h) f.is.few_cpus) in
+    let few_timers : f.h.timers < 10 ^ 13 = omega (arith, f.is.few_timers) in
+    found_script bytes s f (body_found f.h few_cpus few_timers (length f.rest) f.rest (omega arith) (length (head_lines f.h) + 1) [] None 0 [] false s (omega arith) f.later)
 
 -- ---- again
 
--- what is of the form is read from its text
-script_again : (s : Script) → IsOfForm s → script_of (script_text s) ≡ Some s
-unfolding script_of
-script_again s form =
-    let m = machine s in
-    let rest = flat_map ended (later_lines s) in
-    let limits : IsMachine m = record { one_node = form.one_node; some_cpus = form.some_cpus; few_cpus = form.few_cpus; some_timers = form.some_timers; few_timers = form.few_timers } in
-    let small : IsSmall m = record { few_cpus = form.few_cpus; few_timers = form.few_timers } in
-    let moments = recursion_from_All (IsMomentOfForm s.cpus s.timers) s.moments form.moments in
-    let by_the_end = recursion_from_All (λ (x : Moment). x.at ≤ s.end) s.moments form.by_the_end in
-    let order = order_from s.moments s.end form.ascending by_the_end in
-    let parts : parts_of rest ≡ flat_map moment_lines s.moments ++ end_lines s.end = lines_again (later_lines s) (clear_body m small s.moments s.end moments by_the_end form.early_end) ∙ later_parts s in
-    let head : machine_of (script_text s) ≡ Some (m, rest) = ap machine_of (text_is s) ∙ machine_again m rest limits in
-    let body : read_from m (parts_of rest) start ≡ Some s = ap (λ (ps : List (List ℕ)). read_from m ps start) parts ∙ body_again m small s.moments s.end 5 [] None [] moments form.numbered order form.early_end in
-    cond-false (ltb 65536 (length (script_text s))) None _ (le-ltb _ _ form.short_text) ∙ rw head body
+-- what is of the grammar is read from its text
+pub script_again : (bytes : List ℕ) (s : Script) → Spells bytes s → read_from (lines_of bytes) start ≡ Ok s
+script_again bytes s h =
+    let is = h.0 in
+    let head : IsHead s = record {
+      some_version = is.some_version;
+      few_versions = is.few_versions;
+      some_nodes = is.some_nodes;
+      few_nodes = is.few_nodes;
+      some_cpus = is.some_cpus;
+      few_node_cpus = is.few_node_cpus;
+      few_cpus = is.few_cpus;
+      some_timers = is.some_timers;
+      few_timers = is.few_timers;
+      none_isolated = is.none_isolated;
+      isolated_in_range = is.isolated_in_range;
+      some_placed = is.some_placed;
+    } in
+    let few_cpus : cpu_count s < 10 ^ 13 = omega (arith, few_of_most s.version (cpu_count s) is.few_cpus) in
+    let few_timers : s.timers < 10 ^ 13 = omega (arith, is.few_timers) in
+    let body = flat_map moment_lines s.moments ++ end_lines s.end in
+    let count = length-append (head_lines s) (flat_map moment_lines s.moments ++ number_line (codes "end") s.end ∷ []) in
+    let more = length-append (flat_map moment_lines s.moments) (number_line (codes "end") s.end ∷ []) in
+    ap (λ (bs : List ℕ). read_from (lines_of bs) start) (sym h.1)
+    ∙ ap (λ (ps : List (List ℕ)). read_from ps start) (lines_again (script_lines s) (script_clear s is) ∙ parts_of_script s)
+    ∙ head_again s head body (has_first (flat_map moment_lines s.moments) (end_lines s.end) (number_line (codes "end") s.end, [] ∷ [], refl))
+    ∙ body_again s few_cpus few_timers s.moments s.end (length (head_lines s) + 1) [] None 0 [] false (recursion_from_All (IsMoment s.version (cpu_count s) s.timers) s.moments is.moments) is.numbered (order_of s is) is.early_end (omega (arith, is.few_lines, count, more))
 
--- ---- the clauses
+-- ---- the first fault
 
-pub answer_found : (bytes : List ℕ) (r : Result Script ReadScript) → Gives (λ s. s) r (script_of bytes) → IfOk r (λ s. IsOfForm s × (script_text s ≡ bytes))
+abbrev fault_told : Result Script ScriptFault → Option ScriptFault
+fault_told (Ok s) = None
+fault_told (Err fault) = Some fault
+
+pub known_of : (d : Draft) (said : Said) → (draft_after d said).known ≡ known_after d.known said
+known_of d (Version n) = refl
+known_of d (NodeCount n) = refl
+known_of d (CpuCount n) = refl
+known_of d (TimerCount n) = refl
+known_of d (IsolatedCpus cpus) = refl
+known_of d (Opening at) = refl
+known_of d (Operation cpu done) = refl
+known_of d (Ending end) = refl
+
+told_cond : (t : Bool) (s : Script) (fault : ScriptFault) → cond t None (Some fault) ≡ fault_told (cond t (Ok s) (Err fault))
+told_cond true s fault = refl
+told_cond false s fault = refl
+
+fault_read : (l : List ℕ) (ls : List (List ℕ)) (d : Draft) → fault_from (l ∷ ls) d.known ≡ fault_told (read_from (l ∷ ls) d)
+unfolding fault_from read_from finished
+fault_read [] [] d = told_cond (is_over d.known.place) (script_of d) _
+fault_read (b ∷ bs) [] d = refl
+fault_read l (m ∷ ls) d = by_line (heard d.known (words_of l)) d (λ e. fault_read m ls e)
+  where
+    by_line : (r : Result Said Kind) (d : Draft) → ((e : Draft) → fault_from (m ∷ ls) e.known ≡ fault_told (read_from (m ∷ ls) e)) → fault_or d.known r (fault_from (m ∷ ls)) ≡ fault_told (go_on d r (read_from (m ∷ ls)))
+    by_line (Err kind) d rec = refl
+    by_line (Ok said) d rec = ap (fault_from (m ∷ ls)) (sym (known_of d said)) ∙ rec (draft_after d said)
+
+pub fault_of-read : (bytes : List ℕ) → fault_of bytes ≡ fault_told (read_from (lines_of bytes) start)
+fault_of-read bytes =
+    let some = split_some 10 bytes in
+    ap (λ (ps : List (List ℕ)). fault_from ps start.known) some.2 ∙ fault_read some.0 some.1 start ∙ ap (λ (ps : List (List ℕ)). fault_told (read_from ps start)) (sym some.2)
+
+no_fault : (bytes : List ℕ) (r : Result Script ScriptFault) → read_from (lines_of bytes) start ≡ r → fault_told r ≡ None → (s : Script) × Spells bytes s
+no_fault bytes (Ok s) e h = (s, script_found bytes s e)
+no_fault bytes (Err fault) e h = absurd cc
+
+pub faults_tell : FaultsTell
+faults_tell bytes = (
+  λ e. no_fault bytes (read_from (lines_of bytes) start) refl (sym (fault_of-read bytes) ∙ e),
+  λ h. fault_of-read bytes ∙ ap fault_told (script_again bytes h.0 h.1),
+)
+
+-- ---- the clauses of the reader
+
+same_ok : (s t : Script) (r : Result Script ScriptFault) → r ≡ Ok t → r ≡ Ok s → t ≡ s
+same_ok s t r e f = let both = sym e ∙ f in cc
+
+never : (s : Script) (fault : ScriptFault) (r : Result Script ScriptFault) → r ≡ Err fault → r ≡ Ok s → ⊥
+never s fault r e f = let both = sym e ∙ f in absurd cc
+
+pub answer_found : (bytes : List ℕ) (r : Result Script ReadScript) → Gives r (read_from (lines_of bytes) start) → IfOk r (Spells bytes)
 answer_found bytes (Ok s) h = script_found bytes s h
 answer_found bytes (Err e) h = tt
 
-pub answer_only : (bytes : List ℕ) (r : Result Script ReadScript) → Gives (λ s. s) r (script_of bytes) → IfOk r (IsOnlyScriptOf bytes)
-answer_only bytes (Ok s) h = λ t form text. same_Some t s (sym (script_again t form) ∙ ap script_of text ∙ h)
+pub answer_only : (bytes : List ℕ) (r : Result Script ReadScript) → Gives r (read_from (lines_of bytes) start) → IfOk r (IsOnlyScriptOf bytes)
+answer_only bytes (Ok s) h = λ t spells. same_ok s t (read_from (lines_of bytes) start) (script_again bytes t spells) h
 answer_only bytes (Err e) h = tt
 
-none_some : (s : Script) (o : Option Script) → o ≡ None → o ≡ Some s → ⊥
-none_some s o e f = absurd cc
-
-pub answer_refused : (bytes : List ℕ) (r : Result Script ReadScript) → Gives (λ s. s) r (script_of bytes) → IfErr r (IsRefusalOf bytes)
+pub answer_refused : (bytes : List ℕ) (r : Result Script ReadScript) → Gives r (read_from (lines_of bytes) start) → IfErr r (IsRefusalOf bytes)
 answer_refused bytes (Ok s) h = tt
-answer_refused bytes (Err (Refused fault)) h = (h.0, λ t form text. none_some t (script_of bytes) h.1 (ap script_of (sym text) ∙ script_again t form))
+answer_refused bytes (Err (Refused fault)) h =
+    (fault_of-read bytes ∙ ap fault_told h, λ s spells. never s fault (read_from (lines_of bytes) start) h (script_again bytes s spells))
 answer_refused bytes (Err NoMemory) h = tt
 
 pub ruleset answers = (answer_found, answer_only, answer_refused)

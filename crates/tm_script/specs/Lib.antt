@@ -1,6 +1,7 @@
 pub mod Texts
-pub mod Form
+pub mod Grammar
+pub mod Judge
+pub mod Faults
 pub mod Reader
-pub mod Numbers
-pub mod Lines
+pub mod Facts
 pub mod Reading

@@ -1,22 +1,18 @@
 -- what the reader answers
-use Rattle.std.specs.Prelude.{◌≡◌, ℕ, List}
-use Rattle.tm_script.specs.declared.faults.ScriptFault.{ScriptFault}
-use Rattle.tm_script.specs.declared.faults.Kind.TheVariants.{BadLine}
+use Rattle.std.specs.Prelude.{◌≡◌, ℕ, List, Some}
 use Rattle.tm_script.specs.declared.faults.ReadScript.{ReadScript}
 use Rattle.tm_script.specs.declared.faults.ReadScript.TheVariants.{Refused, NoMemory}
 use Rattle.tm_script.specs.declared.syntax.Script.{Script}
-use Rattle.tm_script.specs.Texts.{script_text}
-use Rattle.tm_script.specs.Form.{IsOfForm}
+use Rattle.tm_script.specs.Grammar.{Spells}
+use Rattle.tm_script.specs.Faults.{fault_of}
 
--- no other script of the form has this text
+-- these bytes spell no other script
 abbrev pub IsOnlyScriptOf : List ℕ → Script → Type 0
-IsOnlyScriptOf text s = (t : Script) → IsOfForm t → script_text t ≡ text → t ≡ s
+IsOnlyScriptOf bytes s = (t : Script) → Spells bytes t → t ≡ s
 
--- the fault that tells no place
-abbrev pub no_place : ScriptFault
-no_place = record { line = 0; kind = BadLine }
-
--- A refusal tells no place, and no script of the form has this text. Want of memory says nothing of the text.
+-- A refusal tells the first fault, and the bytes spell no script. Want of memory says nothing of
+-- them.
 abbrev pub IsRefusalOf : List ℕ → ReadScript → Type 0
-IsRefusalOf text (Refused fault) = (fault ≡ no_place) × ((s : Script) → IsOfForm s → script_text s ≡ text → ⊥)
-IsRefusalOf text NoMemory = Unit {0}
+IsRefusalOf bytes (Refused fault) =
+    (fault_of bytes ≡ Some fault) × ((s : Script) → Spells bytes s → ⊥)
+IsRefusalOf bytes NoMemory = Unit {0}

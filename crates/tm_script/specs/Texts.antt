@@ -1,21 +1,22 @@
 -- the text of a script, line by line
-use Rattle.std.specs.Prelude.{ℕ, List, [], ◌∷◌, ◌++◌, map, codes}
+use Rattle.std.specs.Prelude.{ℕ, ◌*◌, List, [], ◌∷◌, ◌++◌, map, codes, filter, ◌==◌, if◌then◌else◌}
 use Rattle.std.specs.Fmt.{decimal}
-use Rattle.std.specs.List.{flat_map, join_with_byte}
+use Rattle.std.specs.List.{flat_map, range_with_len}
+use Rattle.std.specs.FinSet.{contains}
+use Rattle.text_words.specs.Words.{spaced, ended}
 use Rattle.tm_base.specs.Classes.{class_text}
+use Rattle.tm_base.specs.CpuSet.{Cpus}
 use Rattle.tm_script.specs.declared.syntax.Script.{Script}
 use Rattle.tm_script.specs.declared.syntax.Moment.{Moment}
 use Rattle.tm_script.specs.declared.syntax.Op.{Op}
 use Rattle.tm_script.specs.declared.syntax.What.{What}
 use Rattle.tm_script.specs.declared.syntax.What.TheVariants.{Arm, Cancel, Idle, Wake, Offline, Online}
 
--- a line of these words, parted by one space each
-abbrev pub spaced : List (List ℕ) → List ℕ
-spaced words = join_with_byte 32 words
-
 -- the line of what a CPU does
 abbrev pub what_line : ℕ → What → List ℕ
-what_line cpu (Arm timer class delay job arg) = spaced (codes "arm" ∷ decimal cpu ∷ decimal timer.0 ∷ class_text class ∷ decimal delay ∷ decimal job ∷ decimal arg ∷ [])
+what_line cpu (Arm timer class delay job arg) =
+    spaced (codes "arm" ∷ decimal cpu ∷ decimal timer.0 ∷ class_text class
+    ∷ decimal delay ∷ decimal job ∷ decimal arg ∷ [])
 what_line cpu (Cancel timer) = spaced (codes "cancel" ∷ decimal cpu ∷ decimal timer.0 ∷ [])
 what_line cpu Idle = spaced (codes "idle" ∷ decimal cpu ∷ [])
 what_line cpu Wake = spaced (codes "wake" ∷ decimal cpu ∷ [])
@@ -33,14 +34,28 @@ number_line word n = spaced (word ∷ decimal n ∷ [])
 abbrev pub moment_lines : Moment → List (List ℕ)
 moment_lines m = number_line (codes "at") m.at ∷ map op_line m.ops
 
+-- how many CPUs the machine has
+abbrev pub cpu_count : Script → ℕ
+cpu_count s = s.nodes * s.cpus
+
+-- the CPUs of a set, of which there are n, in ascending order
+unfoldable pub members : ℕ → Cpus → List ℕ
+members n cpus = filter (contains cpus) (range_with_len 0 n)
+
+-- the line of the isolated CPUs
+abbrev pub isolated_line : ℕ → Cpus → List ℕ
+isolated_line n cpus = spaced (codes "isolated" ∷ map decimal (members n cpus))
+
+-- the lines before the moments: four in version 1, and in version 2 one more
+abbrev pub head_lines : Script → List (List ℕ)
+head_lines s =
+    number_line (codes "tmig") s.version ∷ number_line (codes "nodes") s.nodes
+    ∷ number_line (codes "cpus") s.cpus ∷ number_line (codes "timers") s.timers
+    ∷ (if s.version == 1 then [] else (isolated_line (cpu_count s) s.isolated ∷ []))
+
 abbrev pub script_lines : Script → List (List ℕ)
 script_lines s =
-    codes "tmig 1" ∷ number_line (codes "nodes") s.nodes ∷ number_line (codes "cpus") s.cpus ∷ number_line (codes "timers") s.timers
-    ∷ (flat_map moment_lines s.moments ++ number_line (codes "end") s.end ∷ [])
-
--- a line feed ends each line
-abbrev pub ended : List ℕ → List ℕ
-ended line = line ++ 10 ∷ []
+    head_lines s ++ (flat_map moment_lines s.moments ++ number_line (codes "end") s.end ∷ [])
 
 abbrev pub script_text : Script → List ℕ
 script_text s = flat_map ended (script_lines s)

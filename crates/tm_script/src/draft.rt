@@ -1,119 +1,163 @@
 //! A script as far as it was read.
 
-ghost use Rattle.std.specs.Prelude.{◌≡◌, ◌+◌, ◌-◌, ◌^◌, ◌<◌, OnOk};
-ghost use Rattle.tm_script.specs.Reading.{Gives, with_moment, with_op, finished, settled, start};
+ghost use Rattle.std.specs.Prelude.{◌≡◌, ◌+◌, ◌-◌, ◌<◌, ◌^◌, [], OnOk};
+ghost use Rattle.tm_script.specs.Faults.{known_after, beginning};
+ghost use Rattle.tm_script.specs.Reading.{start, closed_with, draft_after, script_of};
 
-use crate::faults::{ReadScript, refused};
-use crate::lines::Machine;
+use crate::known::{Known, Place, Said};
 use crate::lists::{Moments, Ops};
 use crate::syntax::{Moment, Op, Script, What};
 use std::alloc::Global;
 use std::mem;
-use tm_base::{CpuId, Jiffy, NoMemory};
+use tm_base::{CpuSet, Jiffy, NoMemory};
 
-/// The moments that were read, the last of them open for further operations.
+/// What was read, the last moment open for further operations.
 #[derive(Drop)]
 pub struct Draft {
-    /// The number of the next line.
-    pub line: u32,
+    /// What the lines so far said.
+    pub known: Known,
+    /// The isolated CPUs.
+    pub isolated: CpuSet,
     /// The closed moments.
     pub moments: Moments,
-    /// The time of the open moment, where there is one.
-    pub at: Option<Jiffy>,
     /// The operations of the open moment.
     pub ops: Ops,
+    /// The end, where that was read.
+    pub end: Jiffy,
+}
+
+impl Known {
+    /// What is known before the first line.
+    fn new() -> Known
+        ensures { result ≡ beginning }
+    {
+        Known {
+            line: 1,
+            place: Place::VersionLine,
+            version: 0,
+            nodes: 0,
+            cpus: 0,
+            timers: 0,
+            last: None,
+            ops: 0,
+            closed: false,
+        }
+    }
+
+    /// What is known behind a line that says this.
+    fn after(self, said: &Said) -> Known
+        requires lines { self.line < 2 ^ 32 - 1 }
+        requires ops { self.ops < 2 ^ 32 - 1 }
+        ensures { result ≡ known_after self said.now }
+    {
+        let mut known = self;
+        known.line += 1;
+        match said {
+            Said::Version(version) => {
+                known.version = *version;
+                known.place = Place::NodesLine;
+            }
+            Said::NodeCount(nodes) => {
+                known.nodes = *nodes;
+                known.place = Place::CpusLine;
+            }
+            Said::CpuCount(cpus) => {
+                known.cpus = *cpus;
+                known.place = Place::TimersLine;
+            }
+            Said::TimerCount(timers) => {
+                known.timers = *timers;
+                known.place = if known.version == 1 {
+                    Place::Body
+                } else {
+                    Place::IsolatedLine
+                };
+            }
+            Said::IsolatedCpus(_) => known.place = Place::Body,
+            Said::Opening(at) => {
+                known.last = Some(*at);
+                known.ops = 0;
+                known.closed = false;
+            }
+            Said::Operation(_, what) => {
+                known.ops += 1;
+                known.closed = matches!(what, What::Offline | What::Online);
+            }
+            Said::Ending(_) => known.place = Place::Over,
+        }
+        known
+    }
 }
 
 impl Draft {
-    /// Nothing so far; the next line is the fifth.
+    /// Nothing so far.
     pub fn new(alloc: Global) -> Draft
         ensures { result ≡ start }
     {
         Draft {
-            line: 5,
+            known: Known::new(),
+            isolated: CpuSet::new(),
             moments: Moments::new(alloc),
-            at: None,
             ops: Ops::new(alloc),
+            end: 0,
         }
     }
 
     /// Puts the open moment, where there is one, behind the closed ones.
     fn close(&mut self, alloc: Global) -> Result<(), NoMemory>
-        ensures { OnOk result (self.new ≡ settled self.old) }
+        ensures { OnOk result (self.new ≡ record self.old {
+          moments = closed_with self.old.moments self.old.known.last self.old.ops;
+          ops = [];
+        }) }
     {
         let ops = mem::replace(&mut self.ops, Ops::new(alloc));
-        if let Some(at) = self.at {
+        if let Some(at) = self.known.last {
             self.moments.push(Moment { at, ops })?;
-            self.at = None;
         }
         Ok(())
     }
 
-    /// A line that opens a moment, after the last one.
-    #[tactic(auto, unfolding(crate::specs::Reading::with_moment))]
-    pub fn add_moment(&mut self, alloc: Global, at: Jiffy) -> Result<(), ReadScript>
-        requires { self.old.line < 2 ^ 32 - 1 }
-        ensures gives { Gives (λ _. self.new) result (with_moment self.old at) }
-        ensures next { OnOk result (self.new.line ≡ self.old.line + 1) }
+    /// Takes in what a line says.
+    pub fn take(&mut self, alloc: Global, said: Said) -> Result<(), NoMemory>
+        requires lines { self.old.known.line < 2 ^ 32 - 1 }
+        requires ops { self.old.known.ops < 2 ^ 32 - 1 }
+        ensures { OnOk result (self.new ≡ draft_after self.old said) }
     {
-        if let Some(last) = self.at
-            && at <= last
-        {
-            return Err(refused());
+        let line = self.known.line;
+        let after = self.known.after(&said);
+        match said {
+            Said::IsolatedCpus(cpus) => self.isolated = cpus,
+            Said::Opening(_) => self.close(alloc)?,
+            Said::Operation(cpu, what) => self.ops.push(Op { line, cpu, what })?,
+            Said::Ending(end) => {
+                self.close(alloc)?;
+                self.end = end;
+            }
+            _ => {}
         }
-        self.close(alloc)?;
-        self.at = Some(at);
-        self.line += 1;
+        self.known = after;
         Ok(())
     }
 
-    /// A line of an operation, which belongs to the open moment.
-    #[tactic(auto, unfolding(crate::specs::Reading::with_op))]
-    pub fn add_op(&mut self, cpu: CpuId, what: What) -> Result<(), ReadScript>
-        requires { self.old.line < 2 ^ 32 - 1 }
-        ensures gives { Gives (λ _. self.new) result (with_op self.old cpu what) }
-        ensures next { OnOk result (self.new.line ≡ self.old.line + 1) }
+    /// The script.
+    pub fn script(self) -> Script
+        ensures { result ≡ script_of self }
     {
-        if self.at.is_none() {
-            return Err(refused());
-        }
-        if self.ops.len() >= 4096 {
-            return Err(refused());
-        }
-        let line = self.line;
-        self.ops.push(Op { line, cpu, what })?;
-        self.line += 1;
-        Ok(())
-    }
-
-    /// The script of a draft and a line `end`, which isn't before the last moment.
-    #[tactic(auto, unfolding(crate::specs::Reading::finished))]
-    pub fn finish(
-        mut self,
-        alloc: Global,
-        machine: Machine,
-        end: Jiffy,
-    ) -> Result<Script, ReadScript>
-        ensures { Gives (λ s. s) result (finished machine self end) }
-    {
-        if let Some(last) = self.at
-            && end < last
-        {
-            return Err(refused());
-        }
-        self.close(alloc)?;
         let Draft {
-            line: _,
+            known,
+            isolated,
             moments,
-            at: _,
             ops: _,
+            end,
         } = self;
-        Ok(Script {
-            nodes: machine.nodes,
-            cpus: machine.cpus,
-            timers: machine.timers,
+        Script {
+            version: known.version,
+            nodes: known.nodes,
+            cpus: known.cpus,
+            timers: known.timers,
+            isolated,
             moments,
             end,
-        })
+        }
     }
 }

@@ -2,7 +2,6 @@
 
 ghost use Rattle.std.specs.Prelude.{◌≡◌};
 ghost use Rattle.tm_script.specs.declared.faults.ReadScript.TheVariants as answers;
-ghost use Rattle.tm_script.specs.Reader.{no_place};
 
 use tm_base::NoMemory;
 
@@ -48,14 +47,4 @@ impl From<NoMemory> for ReadScript {
         let answer = ReadScript::NoMemory;
         answer
     }
-}
-
-/// The one refusal so far, which tells no place.
-pub fn refused() -> ReadScript
-    ensures { result ≡ answers.Refused no_place }
-{
-    ReadScript::Refused(ScriptFault {
-        line: 0,
-        kind: Kind::BadLine,
-    })
 }

@@ -1,213 +1,263 @@
+ghost use Rattle.std.specs.Prelude.{IfOk};
+ghost use Rattle.tm_script.specs.Grammar.{IsScript};
+
 use super::*;
 use std::alloc::Global;
 use std::test::Fail;
 use tm_base::{Class, CpuId, TimerId};
 
-const REFUSED: ReadScript = ReadScript::Refused(ScriptFault {
-    line: 0,
-    kind: Kind::BadLine,
-});
+/// The first four lines with one CPU and one timer.
+const ONE: &[u8] = b"tmig 1\nnodes 1\ncpus 1\ntimers 1\n";
 
-const PLAIN: &[u8] = b"tmig 1\nnodes 1\ncpus 1\ntimers 1\nat 10\narm 0 0 global 50 0 0\nend 100\n";
+/// A script of each line and class, with the largest numbers, as the grammar spells it.
+const EVERYTHING: &[u8] = b"tmig 2\nnodes 8\ncpus 64\ntimers 4096\nisolated 0 7 511\nat 0\n\
+arm 511 4095 deferrable 4294967295 255 4294967295\narm 0 0 pinned 0 0 0\n\
+arm 1 1 global 62 3 7\ncancel 2 0\nidle 3\nwake 4\noffline 5\nat 1099511627774\nonline 5\nend 1099511627775\n";
 
-const TWO_CPUS: &[u8] =
-    b"tmig 1\nnodes 1\ncpus 2\ntimers 2\nat 10\narm 1 0 global 5 0 0\narm 0 0 global 5 0 0\narm 0 1 global 62 0 0\nend 20\n";
+/// The bytes of several pieces, one behind the other.
+fn joined(alloc: Global, pieces: &[&[u8]]) -> Result<Vec<u8>, Fail> {
+    let mut bytes = Vec::new(alloc);
+    for piece in pieces {
+        bytes.extend_from_slice(piece)?;
+    }
+    Ok(bytes)
+}
 
-const WAKE_REFUSED: &[u8] =
-    b"tmig 1\nnodes 1\ncpus 2\ntimers 1\nat 10\narm 1 0 global 50 0 0\nidle 1\nat 20\nwake 1\nwake 1\nend 100\n";
+/// The script of these bytes.
+fn script_read(alloc: Global, bytes: &[u8]) -> Result<Script, Fail>
+    ensures { IfOk result IsScript }
+{
+    match read_script(alloc, bytes) {
+        Ok(script) => Ok(script),
+        Err(_) => Err(Fail::from("refused")),
+    }
+}
 
-/// The largest numbers that may stand anywhere, a moment at 0 with no operations, and the end at the last moment.
-const LARGEST: &[u8] =
-    b"tmig 1\nnodes 1\ncpus 8\ntimers 4096\nat 0\nat 10000\narm 7 4095 global 62 0 4294967295\nend 10000\n";
+fn fault(line: u32, kind: Kind) -> Option<ScriptFault> {
+    Some(ScriptFault { line, kind })
+}
 
-fn arm(line: u32, cpu: u16, timer: u16, delay: u32, arg: u32) -> Op {
-    let what = What::Arm {
-        timer: TimerId(timer),
-        class: Class::Global,
-        delay,
-        job: 0,
-        arg,
+/// The fault that is told of these bytes; None for a script.
+fn fault_told(alloc: Global, bytes: &[u8]) -> Result<Option<ScriptFault>, Fail> {
+    match read_script(alloc, bytes) {
+        Ok(_) => Ok(None),
+        Err(ReadScript::Refused(fault)) => Ok(Some(fault)),
+        Err(ReadScript::NoMemory) => Err(Fail::from("no memory")),
+    }
+}
+
+/// The worked rows of refused scripts, of hostile scripts and of version 2's limits, with line and
+/// kind as the specification has them.
+#[test]
+fn each_worked_row_is_refused_at_its_line(rt: HostRuntime) -> Result<(), Fail> {
+    let rows: [(&[u8], Option<ScriptFault>); 30] = [
+        (b"", fault(1, Kind::NoEnd)),
+        (
+            b"tmig 2\nnodes 1\ncpus 1\ntimers 1\nend 1\n",
+            fault(5, Kind::BadLine),
+        ),
+        (
+            b"tmig 3\nnodes 1\ncpus 1\ntimers 1\nend 1\n",
+            fault(1, Kind::BadLine),
+        ),
+        (
+            b"tmig 1\nnodes 01\ncpus 1\ntimers 1\nend 1\n",
+            fault(2, Kind::BadNumber),
+        ),
+        (
+            b"tmig 1\nnodes 8\ncpus 9\ntimers 1\nend 1\n",
+            fault(3, Kind::OutOfRange),
+        ),
+        (
+            b"tmig 1\nnodes 1\ncpus 1\ntimers 1\nat 20\nat 10\nend 30\n",
+            fault(6, Kind::OutOfOrder),
+        ),
+        (
+            b"tmig 1\nnodes 1\ncpus 1\ntimers 1\nat 20\nend 5\n",
+            fault(6, Kind::OutOfOrder),
+        ),
+        (
+            b"tmig 1\nnodes 1\ncpus 1\ntimers 1\nend 1099511627776\n",
+            fault(5, Kind::OutOfRange),
+        ),
+        (
+            b"tmig 1\nnodes 1\ncpus 1\ntimers 1\nat 20\n",
+            fault(6, Kind::NoEnd),
+        ),
+        (
+            b"tmig 1\nnodes 1\ncpus 1\ntimers 1\nat 10\narm 0 0 global 50 0 0\nend 100",
+            fault(7, Kind::BadLine),
+        ),
+        (
+            b"tmig 1\r\nnodes 1\ncpus 1\ntimers 1\nend 1\n",
+            fault(1, Kind::BadLine),
+        ),
+        (
+            b"tmig 1\nnodes 1\ncpus 1\ntimers 1\n \nend 1\n",
+            fault(5, Kind::BadLine),
+        ),
+        (
+            b"tmig 1\nnodes 1\ncpus 1\ntimers 1\nat 1\xff\nend 1\n",
+            fault(5, Kind::BadNumber),
+        ),
+        (
+            b"tmig 1\nnodes 1\ncpus 1\ntimers 1\nat 99999999999999\nend 1\n",
+            fault(5, Kind::BadNumber),
+        ),
+        (
+            b"tmig 1\nnodes 1\ncpus 1\ntimers 1\nat 10\narm 0 0 Global 50 0 0\nend 100\n",
+            fault(6, Kind::BadLine),
+        ),
+        (
+            b"tmig 1\nnodes 1\ncpus 1\ntimers 1\nat 10\narm 0 0 global 50 0\nend 100\n",
+            fault(6, Kind::BadLine),
+        ),
+        (
+            b"tmig 1\nnodes 1\ncpus 1\ntimers 1\nat 10\narm 0 0 global 4294967296 0 0\nend 100\n",
+            fault(6, Kind::OutOfRange),
+        ),
+        (
+            b"tmig 1\nnodes 1\ncpus 1\ntimers 1\nat 10\narm 0 1 global 50 0 0\nend 100\n",
+            fault(6, Kind::OutOfRange),
+        ),
+        (
+            b"tmig 1\nnodes 1\ncpus 1\ntimers 1\nat 10\noffline 0\nwake 0\nend 100\n",
+            fault(7, Kind::OutOfOrder),
+        ),
+        (
+            b"tmig 1\nnodes 1\ncpus 1\ntimers 1\nend 20\nat 30\n",
+            fault(6, Kind::BadLine),
+        ),
+        (
+            b"tmig 1\nnodes 1\ncpus 1\ntimers 1\nat 10\narm 0 0 global 50 0 0\nend 100\n",
+            None,
+        ),
+        (
+            b"tmig 2\nnodes 8\ncpus 64\ntimers 1\nisolated\nend 0\n",
+            None,
+        ),
+        (
+            b"tmig 2\nnodes 1\ncpus 9\ntimers 1\nisolated 0\nend 0\n",
+            None,
+        ),
+        (
+            b"tmig 2\nnodes 1\ncpus 2\ntimers 1\nisolated 0 1\nend 0\n",
+            fault(5, Kind::OutOfRange),
+        ),
+        (
+            b"tmig 2\nnodes 1\ncpus 3\ntimers 1\nisolated 1 0\nend 0\n",
+            fault(5, Kind::OutOfOrder),
+        ),
+        (
+            b"tmig 2\nnodes 1\ncpus 2\ntimers 1\nisolated 1 0\nend 0\n",
+            fault(5, Kind::OutOfRange),
+        ),
+        (
+            b"tmig 2\nnodes 1\ncpus 1\ntimers 1\nisolated 0 0\nend 0\n",
+            fault(5, Kind::OutOfRange),
+        ),
+        (
+            b"tmig 2\nnodes 1\ncpus 2\ntimers 1\nisolated 0 0\nend 0\n",
+            fault(5, Kind::OutOfOrder),
+        ),
+        (
+            b"tmig 1\nnodes 1\ncpus 1\ntimers 1\nat \nend 1\n",
+            fault(5, Kind::BadNumber),
+        ),
+        (
+            b"tmig 1\nnodes 1\ncpus 1\ntimers 1\nat  5\nend 9\n",
+            fault(5, Kind::BadLine),
+        ),
+    ];
+    for (text, expected) in rows {
+        assert_eq!(rt; fault_told(rt.alloc(), text)?, expected);
+    }
+    Ok(())
+}
+
+/// Rows hostile-scripts, with 4,097 operations and with 65,537 lines; and the same with one fewer.
+#[test]
+fn too_many_operations_and_lines_are_refused(rt: HostRuntime) -> Result<(), Fail> {
+    let mut wakes = joined(rt.alloc(), &[ONE, b"at 1\n"])?;
+    for _ in 0..4096 {
+        wakes.extend_from_slice(b"wake 0\n")?;
+    }
+    let most = joined(rt.alloc(), &[wakes.as_slice(), b"end 2\n"])?;
+    assert_eq!(rt; fault_told(rt.alloc(), most.as_slice())?, None);
+    let more = joined(rt.alloc(), &[wakes.as_slice(), b"wake 0\nend 2\n"])?;
+    assert_eq!(rt;
+        fault_told(rt.alloc(), more.as_slice())?,
+        fault(4102, Kind::TooManyLines)
+    );
+
+    let mut lines = ONE.to_vec(rt.alloc())?;
+    for at in 5u32..65_536 {
+        let line = format!(in rt.alloc(); "at {at}\n")?;
+        lines.extend_from_slice(line.as_bytes())?;
+    }
+    let most = joined(rt.alloc(), &[lines.as_slice(), b"end 65536\n"])?;
+    assert_eq!(rt; fault_told(rt.alloc(), most.as_slice())?, None);
+    let more = joined(rt.alloc(), &[lines.as_slice(), b"at 65536\nend 65537\n"])?;
+    assert_eq!(rt;
+        fault_told(rt.alloc(), more.as_slice())?,
+        fault(65_537, Kind::TooManyLines)
+    );
+    let none = joined(rt.alloc(), &[lines.as_slice(), b"at 65536\n"])?;
+    assert_eq!(rt;
+        fault_told(rt.alloc(), none.as_slice())?,
+        fault(65_537, Kind::NoEnd)
+    );
+    Ok(())
+}
+
+/// What is read of a script is printed as that script again, byte by byte.
+#[test]
+fn a_script_is_read_and_printed(rt: HostRuntime) -> Result<(), Fail> {
+    let script = script_read(rt.alloc(), EVERYTHING)?;
+    assert_eq!(rt;
+        (script.version, script.nodes, script.cpus, script.timers),
+        (2, 8, 64, 4096)
+    );
+    assert_eq!(rt;
+        (script.isolated.has(CpuId(7)), script.isolated.has(CpuId(8))),
+        (true, false)
+    );
+    assert_eq!(rt; (script.moments.len(), script.end), (2, 1_099_511_627_775));
+    let moment = script.moments.get(0).ok_or("no moment")?;
+    assert_eq!(rt; moment.at, 0);
+    let largest = Op {
+        line: 7,
+        cpu: CpuId(511),
+        what: What::Arm {
+            timer: TimerId(4095),
+            class: Class::Deferrable,
+            delay: u32::MAX,
+            job: 255,
+            arg: u32::MAX,
+        },
     };
-    Op {
-        line,
-        cpu: CpuId(cpu),
-        what,
-    }
-}
-
-fn bare(line: u32, cpu: u16, what: What) -> Op {
-    Op {
-        line,
-        cpu: CpuId(cpu),
-        what,
-    }
-}
-
-#[test]
-fn worked_rows(rt: HostRuntime) -> Result<(), Fail> {
-    let plain = [arm(6, 0, 0, 50, 0)];
-    let two_cpus = [arm(6, 1, 0, 5, 0), arm(7, 0, 0, 5, 0), arm(8, 0, 1, 62, 0)];
-    let largest = [arm(7, 7, 4095, 62, u32::MAX)];
-    let wake_refused = [bare(9, 1, What::Wake), bare(10, 1, What::Wake)];
-    let rows = [
-        (PLAIN, (1, 1, 1), 10, plain.as_slice(), 100),
-        (TWO_CPUS, (2, 2, 1), 10, two_cpus.as_slice(), 20),
-        (WAKE_REFUSED, (2, 1, 2), 20, wake_refused.as_slice(), 100),
-        (LARGEST, (8, 4096, 2), 10_000, largest.as_slice(), 10_000),
-    ];
-    for (text, (cpus, timers, moments), at, ops, end) in rows {
-        let script = read_script(rt.alloc(), text)?;
-        assert_eq!(rt;
-            (script.nodes, script.cpus, script.timers),
-            (1, cpus, timers)
-        );
-        assert_eq!(rt; script.end, end);
-        assert!(rt; !script.moments.is_empty());
-        assert_eq!(rt; script.moments.len(), moments);
-        assert!(rt; script.moments.get(moments).is_none());
-        let last = script.moments.as_slice().last().ok_or("a moment")?;
-        assert_eq!(rt; last.at, at);
-        assert_eq!(rt; last.ops.as_slice(), ops);
-    }
+    assert_eq!(rt; moment.ops.get(0).copied(), Some(largest));
+    assert_eq!(rt; moment.ops.len(), 7);
+    let text = print_script(rt.alloc(), &script).ok().ok_or("no memory")?;
+    assert_eq!(rt; text.as_slice(), EVERYTHING);
     Ok(())
 }
 
+/// No class `deferrable` and no isolated line in version 1; both in version 2 alone.
 #[test]
-fn lists_grow(rt: HostRuntime) -> Result<(), Fail> {
-    let mut ops = Ops::new(rt.alloc());
-    assert!(rt; ops.is_empty());
-    ops.push(arm(6, 0, 0, 1, 0))?;
-    ops.push(arm(7, 1, 2, 3, 4))?;
-    assert_eq!(rt; ops.len(), 2);
-    assert_eq!(rt; ops.get(1).copied(), Some(arm(7, 1, 2, 3, 4)));
-    assert_eq!(rt; ops.get(2).copied(), None);
-    let mut moments = Moments::new(rt.alloc());
-    moments.push(Moment { at: 5, ops })?;
-    assert_eq!(rt; moments.get(0).map_or(0, |moment| moment.at), 5);
-    Ok(())
-}
-
-fn read_fault(alloc: Global, text: &[u8]) -> Option<ReadScript> {
-    read_script(alloc, text).err()
-}
-
-#[test]
-fn heads_that_are_refused(rt: HostRuntime) {
-    let texts: [&[u8]; 20] = [
-        b"",
-        b"tmig 1\n",
-        b"tmig 1\nnodes 1\ncpus 1\ntimers 1\n",
-        b"tmig 1\nnodes 1\ncpus 1\ntimers 1",
-        b"tmig 2\nnodes 1\ncpus 1\ntimers 1\nend 1\n",
-        b"tmig 01\nnodes 1\ncpus 1\ntimers 1\nend 1\n",
-        b"tmig 1\r\nnodes 1\ncpus 1\ntimers 1\nend 1\n",
-        b"\ntmig 1\nnodes 1\ncpus 1\ntimers 1\nend 1\n",
-        b"tmig 1\nnodes 0\ncpus 1\ntimers 1\nend 1\n",
-        b"tmig 1\nnodes 2\ncpus 1\ntimers 1\nend 1\n",
-        b"tmig 1\nnodes 01\ncpus 1\ntimers 1\nend 1\n",
-        b"tmig 1\nnodes 1 1\ncpus 1\ntimers 1\nend 1\n",
-        b"tmig 1\nnodes\ncpus 1\ntimers 1\nend 1\n",
-        b"tmig 1\nnodes 1\ncpus 0\ntimers 1\nend 1\n",
-        b"tmig 1\nnodes 1\ncpus 9\ntimers 1\nend 1\n",
-        b"tmig 1\nnodes 8\ncpus 9\ntimers 1\nend 1\n",
-        b"tmig 1\nnodes 1\ncpus 1\ntimers 0\nend 1\n",
-        b"tmig 1\nnodes 1\ncpus 1\ntimers 4097\nend 1\n",
-        b"tmig 1\nnodes 1\ntimers 1\ncpus 1\nend 1\n",
-        b"tmig 1\nnodes 1\ncpus 1\ntimers 9999999999999999999999999\nend 1\n",
-    ];
-    for (i, text) in texts.iter().enumerate() {
-        assert_eq!(rt; read_fault(rt.alloc(), text), Some(REFUSED), "at {i}");
-    }
-}
-
-/// Texts behind the four lines of one node, one CPU and one timer.
-#[test]
-fn bodies_that_are_refused(rt: HostRuntime) -> Result<(), Fail> {
-    let bodies: [&[u8]; 57] = [
-        // lines
-        b"\nend 1\n",
-        b" \nend 1\n",
-        b"end 1",
-        b"at 20\n",
-        b"end 1\n\n",
-        b"end 1\nend 1\n",
-        b"end 20\nat 30\n",
-        b"END 1\n",
-        b"at 10\narm 0 0 global 50 0 0\nend 100",
-        b"at 10\r\nend 100\n",
-        // words
-        b"at \nend 1\n",
-        b"at  5\nend 9\n",
-        b" at 5\nend 9\n",
-        b"at 5 \nend 9\n",
-        b"at\nend 9\n",
-        b"at 5 6\nend 9\n",
-        b"at 1\xff\nend 1\n",
-        b"at 10\narm 0 0 Global 50 0 0\nend 100\n",
-        b"at 10\narm 0 0 glob 50 0 0\nend 100\n",
-        b"at 10\narm 0 0 globals 50 0 0\nend 100\n",
-        b"at 10\narm 0 0 pinned 50 0 0\nend 100\n",
-        b"at 10\narm 0 0 global 50 0\nend 100\n",
-        b"at 10\narm 0 0 global 50 0 0 0\nend 100\n",
-        b"at 10\narm 0 0 global 50 0 0 \nend 100\n",
-        b"at 10\narm  0 0 global 50 0 0\nend 100\n",
-        b"at 10\narms 0 0 global 50 0 0\nend 100\n",
-        b"at 10\ncancel 0 0\nend 100\n",
-        b"at 10\nidle\nend 100\n",
-        b"at 10\nidle 0 0\nend 100\n",
-        b"at 10\nwoke 0\nend 100\n",
-        b"idle 0\nend 100\n",
-        b"at 10\noffline 0\nwake 0\nend 100\n",
-        b"at 10\nonline 0\nend 100\n",
-        b"arm 0 0 global 50 0 0\nend 100\n",
-        // numbers
-        b"at 010\nend 100\n",
-        b"at 00\nend 100\n",
-        b"at +1\nend 100\n",
-        b"at -1\nend 100\n",
-        b"at 0x1\nend 100\n",
-        b"at 99999999999999\nend 1\n",
-        b"at 18446744073709551617\nend 10\n",
-        b"end 00\n",
-        // limits
-        b"end 10001\n",
-        b"end 1099511627776\n",
-        b"at 10001\nend 10001\n",
-        b"at 10\narm 1 0 global 50 0 0\nend 100\n",
-        b"at 10\nidle 1\nend 100\n",
-        b"at 10\nwake 1\nend 100\n",
-        b"at 10\narm 0 1 global 50 0 0\nend 100\n",
-        b"at 10\narm 0 0 global 63 0 0\nend 100\n",
-        b"at 10\narm 0 0 global 4294967296 0 0\nend 100\n",
-        b"at 10\narm 0 0 global 50 1 0\nend 100\n",
-        b"at 10\narm 0 0 global 50 0 4294967296\nend 100\n",
-        // order
-        b"at 20\nat 10\nend 30\n",
-        b"at 20\nat 20\nend 30\n",
-        b"at 20\nend 5\n",
-        b"at 20\nend 19\n",
-    ];
-    for (i, body) in bodies.iter().enumerate() {
-        let mut text = Vec::from_slice(rt.alloc(), b"tmig 1\nnodes 1\ncpus 1\ntimers 1\n")?;
-        text.extend_from_slice(body)?;
-        assert_eq!(rt; read_fault(rt.alloc(), &text), Some(REFUSED), "at {i}");
-    }
-    Ok(())
-}
-
-#[test]
-fn operations_of_a_moment(rt: HostRuntime) -> Result<(), Fail> {
-    for (count, refused) in [(4096, false), (4097, true)] {
-        let mut text = Vec::from_slice(rt.alloc(), b"tmig 1\nnodes 1\ncpus 1\ntimers 1\nat 1\n")?;
-        for _ in 0..count {
-            text.extend_from_slice(b"wake 0\n")?;
-        }
-        text.extend_from_slice(b"end 2\n")?;
-        assert_eq!(rt;
-            read_fault(rt.alloc(), &text) == Some(REFUSED),
-            refused,
-            "with {count}"
-        );
-    }
+fn version_1_has_no_deferrable_timers(rt: HostRuntime) -> Result<(), Fail> {
+    let text = joined(
+        rt.alloc(),
+        &[ONE, b"at 1\narm 0 0 deferrable 1 0 0\nend 9\n"],
+    )?;
+    assert_eq!(rt;
+        fault_told(rt.alloc(), text.as_slice())?,
+        fault(6, Kind::BadLine)
+    );
+    let text = joined(rt.alloc(), &[ONE, b"isolated\nend 9\n"])?;
+    assert_eq!(rt;
+        fault_told(rt.alloc(), text.as_slice())?,
+        fault(5, Kind::BadLine)
+    );
     Ok(())
 }

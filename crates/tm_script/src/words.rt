@@ -1,74 +1,155 @@
-//! Cutting bytes into lines and lines into words, and reading the numbers among them.
+//! The words of a line, and what single words say.
 
-ghost use Rattle.std.specs.Prelude.{◌≡◌, ◌+◌, ◌<◌, ◌^◌, ◌==◌, length, IsTrue, IfSome};
-ghost use Rattle.std.specs.Char.{is_ascii_digit};
-ghost use Rattle.std.specs.List.{list_all, position};
-ghost use Rattle.std.specs.Option.{option_map};
-ghost use Rattle.tm_script.specs.Numbers.{value_from, are_digits, is_plain, number_of};
-ghost use Rattle.tm_script.specs.Lines.{cut_at};
+ghost use Rattle.std.specs.Prelude.{◌≡◌, ◌+◌, ◌<◌, ◌^◌, ◌∷◌, length, Ok, Err, IfOk, IfSome, MatchResult};
+ghost use Rattle.std.specs.Option.{option_copied};
+ghost use Rattle.text_words.specs.Words.{words_of};
+ghost use Rattle.tm_script.specs.Reading.{words_behind, only, front, number_in, version_in, class_in, within, operation_of};
+ghost use Rattle.tm_script.specs.Faults.{command_of};
 
-/// What stands before the first `separator`, and what stands behind it; None where there is none.
-pub fn cut(bytes: &[u8], separator: u8) -> Option<(&[u8], &[u8])>
-    ensures parts { option_map (λ x. (x.0.now, x.1.now)) result ≡ cut_at separator bytes.now }
-    ensures shorter { IfSome result (λ x. length x.0.now + 1 + length x.1.now ≡ length bytes.now) }
+use crate::faults::Kind;
+use crate::known::Command;
+use text_words::{cut, read_number};
+use tm_base::Class;
+
+/// The first word of a line, and what stands behind its space, where there is one.
+pub fn first_word(line: &[u8]) -> (&[u8], Option<&[u8]>)
+    ensures words { words_of line.now ≡ result.0.now ∷ words_behind (option_copied result.1) }
+    ensures shorter { IfSome result.1 (λ rest. length rest.now < length line.now) }
 {
-    let at = find(bytes, separator)?;
-    Some((&bytes[..at], &bytes[at + 1..]))
+    match cut(line, b' ') {
+        Some((word, rest)) => (word, Some(rest)),
+        None => (line, None),
+    }
 }
 
-fn find(bytes: &[u8], separator: u8) -> Option<usize>
-    ensures value { result ≡ position (λ b. b == separator) bytes.now }
-    ensures within { IfSome result (λ at. at < length bytes.now) }
+/// The one word that there is.
+pub fn only_word<'a>(words: Option<&'a [u8]>) -> Result<&'a [u8], Kind>
+    ensures { MatchResult result
+        (λ word. only (words_behind (option_copied words.entry)) ≡ Ok word.now)
+        (λ kind. only (words_behind (option_copied words.entry)) ≡ Err kind) }
 {
-    bytes.iter().position(|b| *b == separator)
+    let Some(words) = words else {
+        return Err(Kind::BadLine);
+    };
+    match cut(words, b' ') {
+        Some(_) => Err(Kind::BadLine),
+        None => Ok(words),
+    }
 }
 
-/// The number that a word spells: one to thirteen digits, and no zero in front of another digit.
-#[tactic(auto, unfolding(crate::specs::Numbers::number_of))]
-pub fn read_number(word: &[u8]) -> Option<u64>
-    ensures value { result ≡ number_of word.now }
-    ensures bound { IfSome result (λ n. n < 10 ^ 13) }
+/// A word behind which further ones stand, and these.
+pub fn front_word<'a>(words: Option<&'a [u8]>) -> Result<(&'a [u8], Option<&'a [u8]>), Kind>
+    ensures { MatchResult result
+        (λ x. front (words_behind (option_copied words.entry))
+        ≡ Ok (x.0.now, words_behind (option_copied x.1)))
+        (λ kind. front (words_behind (option_copied words.entry)) ≡ Err kind) }
 {
-    if are_digits(word) && is_plain(word) {
-        Some(value(word))
+    let Some(words) = words else {
+        return Err(Kind::BadLine);
+    };
+    match cut(words, b' ') {
+        Some((word, rest)) => Ok((word, Some(rest))),
+        None => Err(Kind::BadLine),
+    }
+}
+
+/// The number that a word spells.
+#[tactic(auto, unfolding(crate::specs::Reading::number_in, text_words::specs::Numbers::number_of))]
+pub fn number(word: &[u8]) -> Result<u64, Kind>
+    ensures value { result ≡ number_in word.now }
+    ensures bound { IfOk result (λ n. n < 10 ^ 13) }
+{
+    match read_number(word) {
+        Some(n) => Ok(n),
+        None => Err(Kind::BadNumber),
+    }
+}
+
+/// The version that a word names.
+#[tactic(auto, unfolding(crate::specs::Reading::version_in))]
+pub fn version_named(word: &[u8]) -> Result<u8, Kind>
+    ensures { result ≡ version_in word.now }
+{
+    if word == b"1".as_slice() {
+        Ok(1)
+    } else if word == b"2".as_slice() {
+        Ok(2)
+    } else {
+        Err(Kind::BadLine)
+    }
+}
+
+/// The class that a word names in a version.
+#[tactic(auto, unfolding(crate::specs::Reading::class_in))]
+pub fn class_named(version: u8, word: &[u8]) -> Result<Class, Kind>
+    ensures { result ≡ class_in version word.now }
+{
+    if word == b"pinned".as_slice() {
+        Ok(Class::Pinned)
+    } else if word == b"global".as_slice() {
+        Ok(Class::Global)
+    } else if version != 1 && word == b"deferrable".as_slice() {
+        Ok(Class::Deferrable)
+    } else {
+        Err(Kind::BadLine)
+    }
+}
+
+/// A number that has to be at least `least` and below `bound`.
+#[tactic(auto, unfolding(crate::specs::Reading::within))]
+pub fn within(n: u64, least: u64, bound: u64) -> Result<u64, Kind>
+    ensures value { result ≡ within least bound n }
+    ensures bound { IfOk result (λ m. m < bound) }
+{
+    if least <= n && n < bound {
+        Ok(n)
+    } else {
+        Err(Kind::OutOfRange)
+    }
+}
+
+/// The command that a first word names.
+#[tactic(auto, unfolding(crate::specs::Faults::command_of, crate::specs::Reading::operation_of))]
+pub fn command_named(word: &[u8]) -> Option<Command>
+    ensures { result ≡ command_of word.now }
+{
+    if word == b"tmig".as_slice() {
+        Some(Command::Tmig)
+    } else if word == b"nodes".as_slice() {
+        Some(Command::Nodes)
+    } else if word == b"cpus".as_slice() {
+        Some(Command::Cpus)
+    } else if word == b"timers".as_slice() {
+        Some(Command::Timers)
+    } else if word == b"isolated".as_slice() {
+        Some(Command::Isolated)
+    } else if word == b"at".as_slice() {
+        Some(Command::At)
+    } else if word == b"end".as_slice() {
+        Some(Command::End)
+    } else {
+        operation_named(word)
+    }
+}
+
+/// The operation that a first word names.
+#[tactic(auto, unfolding(crate::specs::Reading::operation_of))]
+fn operation_named(word: &[u8]) -> Option<Command>
+    ensures { result ≡ operation_of word.now }
+{
+    if word == b"arm".as_slice() {
+        Some(Command::Arm)
+    } else if word == b"cancel".as_slice() {
+        Some(Command::Cancel)
+    } else if word == b"idle".as_slice() {
+        Some(Command::Idle)
+    } else if word == b"wake".as_slice() {
+        Some(Command::Wake)
+    } else if word == b"offline".as_slice() {
+        Some(Command::Offline)
+    } else if word == b"online".as_slice() {
+        Some(Command::Online)
     } else {
         None
     }
-}
-
-/// Whether a word is one to thirteen digits.
-fn are_digits(word: &[u8]) -> bool
-    ensures { result ≡ are_digits word.now }
-{
-    if word.is_empty() || word.len() > 13 {
-        return false;
-    }
-    all_digits(word)
-}
-
-fn all_digits(word: &[u8]) -> bool
-    ensures { result ≡ list_all is_ascii_digit word.now }
-{
-    word.iter().all(|b| b.is_ascii_digit())
-}
-
-/// Whether no zero stands in front of another digit.
-fn is_plain(word: &[u8]) -> bool
-    requires { 0 < length word.now }
-    ensures { result ≡ is_plain word.now }
-{
-    !(word[0] == b'0' && word.len() > 1)
-}
-
-/// The number of at most thirteen digits.
-fn value(word: &[u8]) -> u64
-    requires { IsTrue (are_digits word.now) }
-    ensures value { result ≡ value_from 0 word.now }
-    ensures bound { result < 10 ^ 13 }
-{
-    let mut number = 0;
-    for digit in word {
-        number = number * 10 + u64::from(*digit - b'0');
-    }
-    number
 }

@@ -7,7 +7,7 @@ use Rattle.std.proofs.lemmas.Option.{none-some, same_Some}
 use Rattle.wheel_core.specs.declared.item.Item.{Item}
 use Rattle.wheel_core.specs.WheelExpiry.{granularity}
 use Rattle.wheel_core.specs.PlainBase.{first_out, highest, last_armed, least, out_at, sooner}
-use Rattle.wheel_base.specs.Files.{Entry, IsStored, bucket_of, in_bucket, items_of, last_entry, place_at}
+use Rattle.wheel_base.specs.Files.{Entry, IsStored, bucket_of, in_bucket, item_under, items_of, last_entry, place_at}
 use Rattle.wheel_base.specs.Marks.{Among, AreNear}
 use Rattle.wheel_base.specs.Outs.{IsNextOut, IsOutOf, NoneAt, at_level}
 use Rattle.wheel_base.proofs.Granules.{one_expiry, by_shifts}
@@ -235,3 +235,10 @@ next_out_of now wheel filed (Some e) first due out = record {
   stored = out.stored;
   first = first ∙ ap Some (sym out.wheel_is);
 }
+
+-- the item that was taken is the one that goes out
+pub taken_out : (now key : ℕ) (next item : Item) (filed : List Entry) → IsNextOut now filed (key, next) → Some item ≡ item_under key filed
+    → IsNextOut now filed (key, item)
+taken_out now key next item filed out taken =
+    let same = same_Some item next (taken ∙ out.stored.under) in
+    subst (λ (x : Item). IsNextOut now filed (key, x)) (sym same) out

@@ -1,4 +1,4 @@
--- items by their keys, as the wheel keeps them
+-- items by their keys, as the wheel keeps them: cited by no public clause
 use Rattle.std.specs.Prelude.{◌≡◌, ◌⊎◌, ℕ, ◌+◌, ◌*◌, ◌/◌, ◌%◌, ◌<◌, ◌≤◌, List, [], ◌∷◌, Option}
 use Rattle.std.specs.Prelude.{Some, None, ◌==◌, if◌then◌else◌, unwrap_or, slice_index_or, map}
 use Rattle.std.specs.Prelude.{filter, length, count_by, is_some, bit_and}

@@ -1,4 +1,4 @@
--- wheel expiries as the marks of the levels show them
+-- wheel expiries as the marks of the levels show them: cited by no public clause
 use Rattle.std.specs.Prelude.{◌≡◌, ◌⊎◌, ℕ, ◌+◌, ◌*◌, ◌%◌, ◌<◌, ◌≤◌, List, [], ◌∷◌, Option}
 use Rattle.std.specs.Prelude.{MatchOption}
 use Rattle.std.specs.Int.{bit_at}

@@ -1,4 +1,4 @@
--- what goes out, with its key
+-- what goes out, with its key: cited by no public clause
 use Rattle.std.specs.Prelude.{◌≡◌, ℕ, List, Some, ◌==◌, ◌&&◌, filter}
 use Rattle.wheel_core.specs.PlainBase.{first_out, least, out_at}
 use Rattle.wheel_base.specs.Files.{Entry, IsStored, items_of}

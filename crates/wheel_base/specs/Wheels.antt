@@ -1,4 +1,5 @@
--- what the wheel keeps of its entries, its clock and its least wheel expiry
+-- an empty base, and what the wheel keeps of its entries, its clock and its least wheel expiry
+-- (that is cited by no public clause)
 use Rattle.std.specs.Prelude.{◌≡◌, ℕ, ◌^◌, ◌<◌, ◌≤◌, Option, length}
 use Rattle.wheel_core.specs.PlainBase.{IsSound, RoomyBase, empty_base, least, sooner}
 use Rattle.wheel_base.specs.Files.{Files, items_of}

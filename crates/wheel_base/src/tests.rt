@@ -69,7 +69,8 @@ fn item(id: u32, expires: u64, wheel: u64, level: u8) -> Item {
     }
 }
 
-// Two timers of two levels, and a drain that goes past both (row two-levels-drain).
+// Two timers of two levels, and a drain that goes past both. By the rule their wheel expiries are 80
+// and 73.
 #[test]
 #[tactic(auto, unfolding(wheel_core::specs::WheelExpiry::wheel_expiry_of, wheel_core::specs::WheelExpiry::level_of_delay, wheel_core::specs::WheelExpiry::wheel_level_of, wheel_core::specs::PlainBase::first_out))]
 fn a_drain_goes_on_to_the_next_level(rt: HostRuntime) -> Result<(), Fail> {
@@ -147,7 +148,11 @@ fn arm<B: TimerBase>(base: &mut B, id: u32, expires: u64) -> BaseAnswer {
 fn play<B: TimerBase>(base: &mut B, x: u64, now: u64) -> BaseAnswer {
     let id = (x >> 8 & 63) as u32;
     match x & 15 {
-        0..=5 => arm(base, id, now.saturating_add(x >> 20 & (1 << (x >> 14 & 31)) - 1)),
+        0..=5 => arm(
+            base,
+            id,
+            now.saturating_add(x >> 20 & (1 << (x >> 14 & 31)) - 1),
+        ),
         6 => BaseAnswer::Found(base.remove(id)),
         7 => BaseAnswer::Found(base.get(id)),
         8 => BaseAnswer::Found(base.peek_next(now)),

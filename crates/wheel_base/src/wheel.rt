@@ -76,6 +76,7 @@ impl TimerBase for WheelBase {
         }
     }
 
+    #[inline(always)]
     fn add(&mut self, id: u32, expires: u64, job: u8, arg: u32) -> Item {
         let (wheel, level) = wheel_expiry(expires, self.clock);
         let item = Item {
@@ -91,6 +92,7 @@ impl TimerBase for WheelBase {
         item
     }
 
+    #[inline(always)]
     fn remove(&mut self, id: u32) -> Option<Item> {
         let key = self.store.find(id)?;
         let item = self.store.take(key);
@@ -108,9 +110,10 @@ impl TimerBase for WheelBase {
         Some(item.id)
     }
 
+    #[inline(always)]
     fn take_next(&mut self, now: u64) -> Option<Item> {
-        let (key, item) = next_entry(&self.store, self.first, self.clock, now)?;
-        self.store.take(key);
+        let (key, _next) = next_entry(&self.store, self.first, self.clock, now)?;
+        let item = self.store.take(key);
         self.first = first_left(&self.store, &item, self.first);
         self.clock = self.clock.max(item.wheel + 1);
         Some(item)

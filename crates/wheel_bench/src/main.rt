@@ -174,12 +174,17 @@ fn steady(
     Ok(ran)
 }
 
-/// Cancels a timer and arms it again.
+/// Cancels a timer and arms it again. That there is room for it, and that it isn't queued, follows
+/// from its being cancelled.
 fn put_off(base: &mut WheelBase, id: u32, expires: u64) -> u64 {
+    if is_behind(base) || base.clock() >= 1 << 47 || expires >= 1 << 47 {
+        return 0;
+    }
     if base.remove(id).is_none() {
         return 0;
     }
-    u64::from(arm_again(base, id, expires))
+    base.add(id, expires, 0, 0);
+    1
 }
 
 /// Goes on to a time, and takes out a timer that is due.

@@ -1,39 +1,48 @@
-use Rattle.std.proofs.Common.{◌+◌, ℕ, List, Option, length, ap, sym, subst, ◌∙◌}
-use Rattle.std.specs.Option.{ForSome, option_copied}
-use Rattle.tm_script.specs.declared.syntax.Moment.{Moment}
-use Rattle.tm_script.specs.Form.{IsMomentOfForm}
-use Rattle.play_rules.specs.State.{State}
-use Rattle.tm_driver.proofs.Jiffies.{MomentsSoFar, before_moments, due_of_form, clock_front, after_moment, after_moments, all_settled}
+use Rattle.std.proofs.Common.{rules, sym, refl, arith, ◌∙◌}
+use Rattle.play_rules.proofs.Plays.{gains_then}
+use Rattle.tm_driver.specs.Conditions.{IsMomentInRange}
+use Rattle.tm_driver.proofs.Scripts.{after_in_range, after_rise, from_said, rise_from, said_by_end}
+use Rattle.tm_driver.proofs.Turns.{all_done, breaks_off, nothing_yet, one_more}
 use Rattle.tm_driver.proofs.moments.moments.Goals as goal
 
 pub loop-now-init : goal.loop-now-init
-loop-now-init c =
-    let s = c.args.script.now in
-    let L : List Moment → Type 0 = λ left. MomentsSoFar s.cpus s.timers (s.end + 1) s.moments c.args.quiet.now c.args.report.now 0 left c.args.quiet.now c.args.report.now in
-    subst L (sym c.as_slice-left.ensures) (before_moments s.cpus s.timers (s.end + 1) s.moments c.args.quiet.now c.args.report.now c.requires.of_form.moments c.requires.start)
+loop-now-init g c = rw c.as_slice-left.ensures (record {
+  far = nothing_yet _ _ _ _ _ _ _ _ refl c.requires.no_work;
+  not_back = omega (arith, c.requires.start);
+  by_end = omega arith;
+  rise = c.requires.playable.rise;
+  in_range = c.requires.playable.in_range;
+  same = search rules;
+  gains = search rules;
+})
 
-pub moment-requires-clause-of_form : goal.moment-requires-clause-of_form
-moment-requires-clause-of_form c =
-    let far = c.loop-now.invariant in
-    let there = due_of_form _ _ c.loop-now.now c.loop-now.left.now far.of_form in
-    let count = ap (λ (s : State). length s.cpus) c.set_clock.ensures ∙ far.count in
-    let timers = ap (λ (s : State). s.timers) c.set_clock.ensures ∙ far.timers_are in
-    let A : ℕ → Type 0 = λ k. ForSome (option_copied c.moment_due.result) (IsMomentOfForm k c.args.script.now.timers) in
-    let B : ℕ → Type 0 = λ k. ForSome (option_copied c.moment_due.result) (IsMomentOfForm (length c.set_clock.new.self.cpus) k) in
-    let D : Option Moment → Type 0 = λ o. ForSome o (IsMomentOfForm c.args.script.now.cpus c.args.script.now.timers) in
-    subst B (sym timers) (subst A (sym count) (subst D (sym c.moment_due.ensures) there))
-
-pub moment-requires-clause-in_front : goal.moment-requires-clause-in_front
-moment-requires-clause-in_front c = clock_front c.loop-now.now c.loop-now.quiet c.set_clock.new.self c.set_clock.ensures c.loop-now.invariant.front
+pub returns-then-work-limit-clause-fault : goal.returns-then-work-limit-clause-fault
+returns-then-work-limit-clause-fault g c =
+    let done = c.in_ok-turn.ensures in
+    rw (sym c.work_limit-limit.ensures)
+    (breaks_off _ _ _ _ _ _ _ _ _ _ _ c.loop-now.invariant.far _ _ done.prints c.loop-now-test.true c.work-then-work-limit.result
+    (omega (arith, c.if-work-limit.true, c.work.ensures, c.work-then-work-limit.ensures)) c.work-then-work-limit.ensures c.work-then-work-limit.type_inv)
 
 pub loop-now-preserved : goal.loop-now-preserved
-loop-now-preserved c =
-    let done = c.in_ok-moment.ensures in
-    after_moment _ _ _ _ _ _ _ _ _ _ _ c.set_clock.new.self _ _ _ c.loop-now.invariant c.loop-now-test.true c.set_clock.ensures c.moment_due.ensures
-    c.still_to_come-left.ensures done.prints done.same done.in_front done.settled
+loop-now-preserved g c =
+    let done = c.in_ok-turn.ensures in
+    let so_far = c.loop-now.invariant in
+    let rises = after_rise _ _ _ so_far.rise in
+    let said = said_by_end _ _ _ rises in
+    let from = from_said _ _ _ rises (omega (arith, c.loop-now-test.true)) in
+    rw (c.next_moment-now.ensures, c.still_to_come-left.ensures) (record {
+      far = one_more _ _ _ _ _ _ _ _ _ _ _ so_far.far _ _ done.prints c.loop-now-test.true
+          (omega (arith, c.if-work-limit.false, c.work.ensures)) c.work_limit-limit.type_inv (omega (arith, done.clock));
+      not_back = omega (arith, done.clock);
+      by_end = omega (arith, done.clock, said, c.loop-now-test.true);
+      rise = rise_from _ _ _ _ rises (omega (arith, done.clock, from));
+      in_range = rw (done.same.cpus, done.same.timers) (after_in_range (IsMomentInRange (g.M.Machine.rules.cpus (g.M.Machine.world c.loop-now.machine)) (g.M.Machine.rules.timers (g.M.Machine.world c.loop-now.machine))) _ _ so_far.in_range);
+      same = record { timers = done.same.timers ∙ so_far.same.timers; cpus = done.same.cpus ∙ so_far.same.cpus };
+      gains = gains_then _ _ _ so_far.gains done.gains;
+    })
 
-pub returns-clause-prints : goal.returns-clause-prints
-returns-clause-prints c = after_moments _ _ _ _ _ _ _ _ _ _ c.loop-now.invariant c.loop-now-test.false
-
-pub returns-clause-settled : goal.returns-clause-settled
-returns-clause-settled c = all_settled _ _ _ _ _ _ _ _ _ _ c.loop-now.invariant c.loop-now-test.false
+pub returns-clause-whole : goal.returns-clause-whole
+returns-clause-whole g c =
+    let done = c.in_ok-turn-2.ensures in
+    rw (sym c.work_limit-limit.ensures)
+    (all_done _ _ _ _ _ _ _ _ _ _ _ c.loop-now.invariant.far _ _ done.prints (omega (arith, c.loop-now.invariant.by_end, c.loop-now-test.false)))

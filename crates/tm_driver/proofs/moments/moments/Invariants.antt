@@ -1,6 +1,27 @@
-use Rattle.std.proofs.Common.{◌+◌}
-use Rattle.tm_driver.proofs.Jiffies.{MomentsSoFar}
+use Rattle.std.proofs.Common.{◌≡◌, ℕ, ◌-◌, ◌≤◌}
+use Rattle.std.specs.Prelude.{All}
+use Rattle.play_rules.specs.Machines.{SameBuild}
+use Rattle.play_rules.specs.Parts.{Gains}
+use Rattle.tm_driver.specs.Conditions.{IsMomentInRange, Rise}
+use Rattle.tm_driver.specs.Outcomes.{script_turns}
+use Rattle.tm_driver.proofs.Turns.{SoFar}
 use Rattle.tm_driver.proofs.moments.moments.Given as goal
 
 abbrev pub invariant-loop-now : goal.invariant-loop-now
-invariant-loop-now l = MomentsSoFar l.script.cpus l.script.timers (l.script.end + 1) l.script.moments l.fn.quiet l.fn.report l.now l.left l.quiet l.report
+invariant-loop-now g l =
+    let r = g.M.Machine.rules in
+    let jobs = g.J.Jobs.replies l.jobs in
+    let start = g.M.Machine.world l.fn.machine in
+    let s = g.M.Machine.world l.machine in
+    record {
+      far : SoFar jobs r l.script.end l.limit (script_turns jobs r l.script start) start l.fn.telling l.now l.left s l.telling;
+      not_back : r.clock s ≤ l.now;
+      by_end : l.now ≤ l.script.end;
+      rise : Rise l.now l.script.end l.left;
+      in_range : All (IsMomentInRange (r.cpus s) (r.timers s)) l.left;
+      same : SameBuild r start s;
+      gains : Gains l.fn.telling.text l.telling.text;
+    }
+
+abbrev pub decreases-loop-now : goal.decreases-loop-now
+decreases-loop-now g l = l.script.end - l.now

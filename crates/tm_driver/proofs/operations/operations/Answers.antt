@@ -1,13 +1,16 @@
-use Rattle.tm_driver.proofs.OpsDone.{before_operations, after_operation, after_operations}
+use Rattle.std.proofs.Common.{rules}
+use Rattle.play_rules.proofs.Loops.{operations_all, operations_more}
+use Rattle.play_rules.proofs.Plays.{gains_then}
 use Rattle.tm_driver.proofs.operations.operations.Goals as goal
 
-pub loop-op-init : goal.loop-op-init
-loop-op-init c = before_operations _ _ _ _ c.requires.now c.requires.in_front
-
 pub loop-op-preserved : goal.loop-op-preserved
-loop-op-preserved c =
+loop-op-preserved g c =
     let done = c.in_ok-operation.ensures in
-    after_operation _ _ _ _ _ _ _ _ _ _ c.loop-op.invariant c.loop-op-test.true done.prints done.same done.in_front
+    record {
+      rest = operations_more _ _ _ _ _ _ _ _ _ _ c.loop-op.invariant.rest c.loop-op-test.true done.prints;
+      same = search rules;
+      gains = gains_then _ _ _ c.loop-op.invariant.gains done.gains;
+    }
 
 pub returns-clause-prints : goal.returns-clause-prints
-returns-clause-prints c = after_operations _ _ _ _ _ _ _ c.loop-op.invariant c.loop-op-test.false
+returns-clause-prints g c = operations_all _ _ _ _ _ _ _ c.loop-op.invariant.rest c.loop-op-test.false

@@ -1,5 +1,17 @@
-use Rattle.tm_driver.proofs.OpsDone.{OperationsSoFar}
+use Rattle.std.proofs.Common.{◌≡◌}
+use Rattle.std.specs.Prelude.{drop}
+use Rattle.play_rules.specs.Operations.{operations}
+use Rattle.play_rules.specs.Machines.{Same}
+use Rattle.play_rules.specs.Parts.{Gains}
+use Rattle.play_rules.proofs.Plays.{Continues}
 use Rattle.tm_driver.proofs.operations.operations.Given as goal
 
 abbrev pub invariant-loop-op : goal.invariant-loop-op
-invariant-loop-op l = OperationsSoFar l.fn.ops l.fn.now l.fn.quiet l.fn.report l.op-index l.quiet l.report
+invariant-loop-op g l =
+    let r = g.M.Machine.rules in
+    record {
+      rest : Continues (operations r (drop l.op-index l.ops) (g.M.Machine.world l.machine)) l.telling
+          (operations r l.ops (g.M.Machine.world l.fn.machine)) l.fn.telling;
+      same : Same r (g.M.Machine.world l.fn.machine) (g.M.Machine.world l.machine);
+      gains : Gains l.fn.telling.text l.telling.text;
+    }

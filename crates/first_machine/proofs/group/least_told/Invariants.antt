@@ -1,0 +1,10 @@
+use Rattle.std.proofs.Common.{◌≡◌, ◌≤◌, length, drop}
+use Rattle.first_rules.specs.Group.{least_told}
+use Rattle.first_machine.specs.Quiet.{cpus_of}
+use Rattle.first_machine.proofs.group.least_told.Given as goal
+
+abbrev pub invariant-loop-place : goal.invariant-loop-place
+invariant-loop-place l = (l.place ≤ length l.cpus) × (l.best ≡ least_told (cpus_of (drop l.place l.cpus)))
+
+abbrev pub decreases-loop-place : goal.decreases-loop-place
+decreases-loop-place l = l.place

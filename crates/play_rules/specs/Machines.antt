@@ -1,0 +1,26 @@
+-- what a machine's calls leave as it was
+use Rattle.std.specs.Prelude.{◌≡◌, ℕ, ◌^◌, ◌<◌, Option, Some, None}
+use Rattle.wheel_core.specs.declared.item.Item.{Item}
+use Rattle.play_rules.specs.Rules.{Moved, Rules}
+
+-- the item is of one of so many timers
+pub record IsTimerOf (timers : ℕ) (item : Item) : Type 0 where
+  pub known : item.id < timers
+  pub narrow : item.id < 2 ^ 16
+
+-- the same machine at the same time
+pub record Same {S : Type 0} (r : Rules S) (old new : S) : Type 0 where
+  pub clock : r.clock new ≡ r.clock old
+  pub timers : r.timers new ≡ r.timers old
+  pub cpus : r.cpus new ≡ r.cpus old
+  pub levels : r.levels new ≡ r.levels old
+
+-- the same machine, perhaps at another time
+pub record SameBuild {S : Type 0} (r : Rules S) (old new : S) : Type 0 where
+  pub timers : r.timers new ≡ r.timers old
+  pub cpus : r.cpus new ≡ r.cpus old
+
+-- the state after a timer moved, or none did
+abbrev pub after_move : {S : Type 0} → Option (Moved S) → S → S
+after_move None s = s
+after_move (Some m) s = m.state

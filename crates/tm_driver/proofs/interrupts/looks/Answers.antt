@@ -1,0 +1,24 @@
+use Rattle.std.proofs.Common.{rules, sym, refl, arith, ◌∙◌}
+use Rattle.play_rules.proofs.Loops.{looks_all, looks_more, looks_stop}
+use Rattle.play_rules.proofs.Plays.{gains_then}
+use Rattle.tm_driver.proofs.interrupts.looks.Goals as goal
+
+pub returns-then-not-looks_after-clause-prints : goal.returns-then-not-looks_after-clause-prints
+returns-then-not-looks_after-clause-prints g c =
+    looks_stop _ _ _ _ _ _ _ _ _ c.loop-level.invariant.rest
+    (omega (arith, c.loop-level-test.true, c.levels-level-end.ensures)) (search (rules, c.looks_after.ensures, c.if-not-looks_after.true))
+
+pub loop-level-preserved : goal.loop-level-preserved
+loop-level-preserved g c =
+    let done = c.in_ok-look.ensures in
+    record {
+      rest = looks_more _ _ _ _ _ _ _ _ _ _ _ _ c.loop-level.invariant.rest
+          (omega (arith, c.loop-level-test.true, c.levels-level-end.ensures)) (search (rules, c.looks_after.ensures, c.if-not-looks_after.false)) refl done.prints;
+      same = search rules;
+      gains = gains_then _ _ _ c.loop-level.invariant.gains done.gains;
+    }
+
+pub returns-clause-prints : goal.returns-clause-prints
+returns-clause-prints g c =
+    looks_all _ _ _ _ _ _ _ _ _ c.loop-level.invariant.rest
+    (omega (arith, c.loop-level-test.false, c.levels-level-end.ensures))

@@ -1,0 +1,18 @@
+use Rattle.std.proofs.Common.{◌≡◌, ◌-◌}
+use Rattle.play_rules.specs.Interrupts.{looks}
+use Rattle.play_rules.specs.Machines.{Same}
+use Rattle.play_rules.specs.Parts.{Gains}
+use Rattle.play_rules.proofs.Plays.{Continues}
+use Rattle.tm_driver.proofs.interrupts.looks.Given as goal
+
+abbrev pub invariant-loop-level : goal.invariant-loop-level
+invariant-loop-level g l =
+    let r = g.M.Machine.rules in
+    let jobs = g.J.Jobs.replies l.jobs in
+    let levels = r.levels (g.M.Machine.world l.fn.machine) in
+    record {
+      rest : Continues (looks jobs r (levels - l.level) l.cpu.0 l.level (g.M.Machine.world l.machine)) l.telling
+          (looks jobs r levels l.cpu.0 0 (g.M.Machine.world l.fn.machine)) l.fn.telling;
+      same : Same r (g.M.Machine.world l.fn.machine) (g.M.Machine.world l.machine);
+      gains : Gains l.fn.telling.text l.telling.text;
+    }

@@ -1,0 +1,8 @@
+use Rattle.std.proofs.Common.{sym}
+use Rattle.tm_driver.proofs.Scripts.{due_in_range}
+use Rattle.tm_driver.proofs.moments.turn.Goals as goal
+
+pub moment-requires : goal.moment-requires
+moment-requires g c =
+    rw (c.set_clock.ensures.cpus, c.set_clock.ensures.timers)
+    (due_in_range _ _ _ _ c.moment_due.ensures c.requires.in_range)

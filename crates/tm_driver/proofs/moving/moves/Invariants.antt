@@ -1,0 +1,17 @@
+use Rattle.std.proofs.Common.{◌≡◌, ◌-◌}
+use Rattle.play_rules.specs.Operations.{moves}
+use Rattle.play_rules.specs.Machines.{Same}
+use Rattle.play_rules.specs.Parts.{Gains}
+use Rattle.play_rules.proofs.Plays.{Continues}
+use Rattle.tm_driver.proofs.moving.moves.Given as goal
+
+abbrev pub invariant-loop-turn : goal.invariant-loop-turn
+invariant-loop-turn g l =
+    let r = g.M.Machine.rules in
+    let n = r.queued_on (g.M.Machine.world l.fn.machine) l.from.0 in
+    record {
+      rest : Continues (moves r (n - l._turn) l.from.0 l.to.0 (g.M.Machine.world l.machine)) l.telling
+          (moves r n l.from.0 l.to.0 (g.M.Machine.world l.fn.machine)) l.fn.telling;
+      same : Same r (g.M.Machine.world l.fn.machine) (g.M.Machine.world l.machine);
+      gains : Gains l.fn.telling.text l.telling.text;
+    }

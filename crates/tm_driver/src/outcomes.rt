@@ -1,0 +1,26 @@
+//! How a play ends that doesn't come to its end.
+
+use tm_base::NoMemory;
+
+/// Why a script wasn't played to its end.
+#[derive(Clone, Copy, Debug, PartialEq, Eq)]
+pub enum DriveFault {
+    /// An `arm` line of the script names a job that the table hasn't; it is the first, and nothing was played.
+    BadJob { line: u32, job: u8 },
+    /// Moments finished, interrupts made and timers handed out together were as many as may be, or more, after a moment
+    /// that isn't the last.
+    WorkSpent { count: u32 },
+    /// Want of memory.
+    NoMemory,
+}
+
+impl From<NoMemory> for DriveFault {
+    ghost use Rattle.std.specs.Prelude.{◌≡◌};
+    ghost use Rattle.tm_driver.specs.declared.outcomes.DriveFault.TheVariants as faults;
+
+    ghost from_gives = { λ _ e. e ≡ faults.NoMemory };
+
+    fn from(_e: NoMemory) -> DriveFault {
+        DriveFault::NoMemory
+    }
+}
