@@ -1,0 +1,10 @@
+pub mod Facts
+pub mod Sets
+pub mod Bits
+pub mod Calm
+pub mod Waking
+pub mod Resting
+pub mod Rising
+pub mod Swapping
+pub mod Keeps
+pub mod KeepsBits

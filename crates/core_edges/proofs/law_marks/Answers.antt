@@ -1,0 +1,5 @@
+use Rattle.core_edges.proofs.KeepsBits.{marks_follow}
+use Rattle.core_edges.proofs.law_marks.Goals as goal
+
+pub returns : goal.returns
+returns c = marks_follow

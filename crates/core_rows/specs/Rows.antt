@@ -1,0 +1,97 @@
+-- rows: lists of steps from the start, and what they leave
+use Rattle.std.specs.Prelude.{◌+◌, map, ◌≡◌, ℕ, List, [], ◌∷◌, ◌++◌, Some, None, true, false}
+use Rattle.std.specs.Prelude.{replicate, option_map}
+use Rattle.std.specs.FinSet.{empty}
+use Rattle.std.specs.List.{range_with_len}
+use Rattle.tm_base.specs.Children.{of_cpu}
+use Rattle.tm_base.specs.declared.names.TheConstants.{NEVER}
+use Rattle.tm_base.specs.declared.names.Class.TheVariants.{Global}
+use Rattle.event_queue.specs.EventMap.{event_at}
+use Rattle.tree_plan.specs.Shape.{Shape, levels_for, levels_from, tree_of}
+use Rattle.walk_rules.specs.declared.walk.Walk.{Walk}
+use Rattle.walk_rules.specs.declared.walk.Stage.TheVariants as stages
+use Rattle.core_world.specs.declared.step.Step.{Step}
+use Rattle.core_world.specs.declared.step.Step.TheVariants as steps
+use Rattle.core_world.specs.Enabled.{Enabled}
+use Rattle.core_world.specs.Start.{start_of}
+use Rattle.core_world.specs.Steps.{stepped}
+use Rattle.core_world.specs.World.{World, cpu_of, group_of}
+
+-- the tree of one node of so many CPUs, none of them isolated
+abbrev pub one_node_of : ℕ → Shape
+one_node_of cpus = record {
+  nodes = 1;
+  cpus = cpus;
+  isolated = empty;
+  levels =
+      levels_from (levels_for cpus) (levels_for cpus + levels_for 1) 0 0
+      (map of_cpu (range_with_len 0 cpus) ∷ []);
+}
+
+-- what a list of steps makes of a world
+abbrev pub after_all : World → List Step → World
+after_all w [] = w
+after_all w (step ∷ rest) = after_all (stepped w step) rest
+
+-- each step is enabled where it stands
+abbrev pub EachEnabled : World → List Step → Type 0
+EachEnabled w [] = Unit {0}
+EachEnabled w (step ∷ rest) = Enabled w step × EachEnabled (stepped w step) rest
+
+abbrev pub walks : (n c : ℕ) → List Step
+walks n c = replicate n (steps.Walk (record { 0 = c }))
+
+-- STALE-RUN: CPU 9 idles; CPU 8 idles after it and climbs, up to its exchange at the top; CPU 9
+-- wakes, which makes that reading of the top stale; so CPU 8's exchange fails, and its next one
+-- finds its group active
+abbrev pub stale_steps : List Step
+stale_steps =
+    steps.Idle (record { 0 = 9 }) ∷ walks 8 9 ++ steps.Idle (record { 0 = 8 }) ∷ walks 9 8 ++
+    steps.Wake (record { 0 = 9 }) ∷ walks 4 9 ++ walks 3 8
+
+abbrev pub stale_start : World
+stale_start = start_of (one_node_of 10) 0
+
+abbrev pub stale_end : World
+stale_end = after_all stale_start stale_steps
+
+pub record StaleRun : Type 0 where
+  pub tree : tree_of 1 10 empty ≡ one_node_of 10
+  pub enabled : EachEnabled stale_start stale_steps
+  -- group 0:1 has the active set {1} and the migrator 1, the top has {0, 1} and 0
+  pub leaf : (group_of stale_end 1).active ≡ 2
+  pub leaf_migrator : (group_of stale_end 1).migrator ≡ Some 1
+  pub top : (group_of stale_end 2).active ≡ 3
+  pub top_migrator : (group_of stale_end 2).migrator ≡ Some 0
+  -- CPU 8 is idle, and its walk is about to take the lock of its leaf
+  pub idle : (cpu_of stale_end 8).idle ≡ true
+  pub level : option_map (λ (k : Walk). k.level) (cpu_of stale_end 8).walk ≡ Some 1
+  pub stage : option_map (λ (k : Walk). k.stage) (cpu_of stale_end 8).walk ≡ Some stages.LockChild
+
+-- an active CPU can't be woken
+abbrev pub WakeRefused : Type 0
+WakeRefused = Enabled stale_start (steps.Wake (record { 0 = 0 })) → ⊥
+
+-- SETTLED-COVER: a global timer of CPU 1, which idles and tells it to CPU 0
+abbrev pub cover_steps : List Step
+cover_steps =
+    steps.Clock 10 ∷ steps.Arm (record { 0 = 1 }) (record { 0 = 0 }) Global 60 0 0 0 ∷
+    steps.Idle (record { 0 = 1 }) ∷ walks 8 1
+
+abbrev pub cover_start : World
+cover_start = start_of (one_node_of 2) 1
+
+abbrev pub cover_end : World
+cover_end = after_all cover_start cover_steps
+
+pub record SettledCover : Type 0 where
+  pub tree : tree_of 1 2 empty ≡ one_node_of 2
+  pub enabled : EachEnabled cover_start cover_steps
+  -- no walk is under way
+  pub first_done : (cpu_of cover_end 0).walk ≡ None
+  pub second_done : (cpu_of cover_end 1).walk ≡ None
+  -- the group's migrator is CPU 0, to which the event of CPU 1 at 61 was told
+  pub migrator : (group_of cover_end 0).migrator ≡ Some 0
+  pub told : event_at (group_of cover_end 0).events 1 ≡
+      Some (record { expiry = 61; cpu = record { 0 = 1 }; ignored = false })
+  pub wakeup : (cpu_of cover_end 1).wakeup ≡ NEVER

@@ -1,0 +1,17 @@
+//! Worked rows: lists of steps from the start of a core, each enabled where it stands, and what
+//! they leave. They are run through the definitions themselves, by computation.
+#![tactic(auto)]
+
+ghost use Rattle.core_rows.specs.Rows.{SettledCover, StaleRun, WakeRefused};
+
+/// A CPU wakes beside a deactivation that has read the top's word: the deactivation's exchange
+/// fails.
+pub fn row_stale_run()
+    ensures run { StaleRun }
+    ensures refused { WakeRefused }
+{}
+
+/// A CPU goes idle with a global timer, and tells it to the other CPU of its group.
+pub fn row_settled_cover()
+    ensures { SettledCover }
+{}

@@ -1,0 +1,12 @@
+pub mod World
+pub mod Steps
+pub mod Enabled
+pub mod Frames
+pub mod Start
+pub mod Wakeups
+pub mod IdleTop
+pub mod Marks
+pub mod Timers
+pub mod Origins
+pub mod Covered
+pub mod Lawful

@@ -1,0 +1,38 @@
+-- the start: every CPU is online and active, nothing is queued
+use Rattle.std.specs.Prelude.{ℕ, ◌-◌, ◌^◌, true, false, Some, None, map, replicate}
+use Rattle.std.specs.List.{range_with_len}
+use Rattle.tm_base.specs.declared.names.TheConstants.{NEVER}
+use Rattle.tree_plan.specs.Shape.{Shape}
+use Rattle.tree_plan.specs.Paths.{cpu_count_of, group_count_of, child_count_of}
+use Rattle.walk_rules.specs.Scene.{Group}
+use Rattle.cpu_bases.specs.CpuBases.{empty_bases}
+use Rattle.core_world.specs.World.{CpuRecord, World}
+
+abbrev pub start_cpu : CpuRecord
+start_cpu = record {
+  online = true;
+  idle = false;
+  inside = false;
+  mark = None;
+  wakeup = NEVER;
+  bases = empty_bases;
+  walk = None;
+}
+
+-- a group of so many children, all of them active, the first of them its migrator
+abbrev pub start_group : ℕ → Group
+start_group children = record {
+  active = 2 ^ children - 1;
+  migrator = Some 0;
+  lock = None;
+  events = replicate 8 None;
+}
+
+abbrev pub start_of : Shape → (timers : ℕ) → World
+start_of t timers = record {
+  tree = t;
+  timers = timers;
+  clock = 0;
+  groups = map (λ g. start_group (child_count_of t g)) (range_with_len 0 (group_count_of t));
+  cpus = replicate (cpu_count_of t) start_cpu;
+}

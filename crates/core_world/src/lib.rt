@@ -1,0 +1,10 @@
+//! The core: one world of CPUs with their timers and walks, groups and a clock; the steps by which
+//! it changes, each one load, store or exchange; and what every world keeps. All that is said of
+//! them stands in `specs/`; the type of the steps stands here.
+#![tactic(auto)]
+
+mod laws;
+mod step;
+
+pub use laws::{law_moved, law_quiet, law_sizes};
+pub use step::Step;
