@@ -1,3 +1,4 @@
 mod Scripts
 mod Turns
 mod Unknown
+mod Playable

@@ -1,13 +1,13 @@
 -- the moments of a script that are still to come
-use Rattle.std.proofs.Common.{◌≡◌, ℕ, ◌+◌, ◌≤◌, ◌<◌, List, [], ◌∷◌, Bool, true, false, Option, Some, None, refl, sym, ap, subst, arith, inl, inr, ◌==◌, if◌then◌else◌}
-use Rattle.std.specs.Prelude.{All, max, min}
-use Rattle.std.specs.Option.{ForSome, option_copied}
+use Rattle.std.proofs.Common.{◌≡◌, ℕ, ◌+◌, ◌≤◌, List, [], ◌∷◌, true, false, Option, Some, None, subst, arith, inl, inr, ◌==◌, if◌then◌else◌}
+use Rattle.std.specs.Prelude.{All}
+use Rattle.std.specs.Option.{ForSome}
 use Rattle.std.proofs.lemmas.Bool.{cases_eq, eq-eqb, ne_eqb}
 use Rattle.std.proofs.lemmas.Option.{none-some, same_Some}
 use Rattle.std.proofs.lemmas.List.Elements.{All-head, All-tail}
 use Rattle.tm_script.specs.declared.syntax.Moment.{Moment}
 use Rattle.play_rules.specs.Moments.{moment_at, moments_after, next_said}
-use Rattle.tm_driver.specs.Conditions.{IsMomentInRange, Rise}
+use Rattle.tm_driver.specs.Conditions.{Rise}
 
 -- what holds of a moment that comes, where it holds of all
 at_in_range : (P : Moment → Type 0) (now : ℕ) (ms : List Moment) → All P ms → ForSome (moment_at now ms) P

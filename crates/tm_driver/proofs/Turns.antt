@@ -1,20 +1,19 @@
 -- the moments of a play, one after the other, under any rules
-use Rattle.std.proofs.Common.{◌≡◌, ◌≢◌, ℕ, zero, suc, ◌+◌, ◌-◌, ◌≤◌, ◌<◌, ◌^◌, List, [], ◌∷◌, ◌++◌, Bool, true, false, Option, Some, None, refl, sym, ap, subst, ◌∙◌, arith, append_assoc, append-nil, ◌==◌, min, if◌then◌else◌}
+use Rattle.std.proofs.Common.{◌≡◌, ◌≢◌, ℕ, suc, ◌+◌, ◌-◌, ◌≤◌, ◌<◌, ◌^◌, List, [], ◌∷◌, ◌++◌, true, false, Some, refl, sym, ap, ◌∙◌, arith, append_assoc, append-nil, ◌==◌, min, length, length-append}
 use Rattle.std.specs.Prelude.{nat_le}
 use Rattle.std.specs.Option.{option_map}
 use Rattle.std.proofs.lemmas.Bool.{eq-eqb, le-leb, ne_eqb}
 use Rattle.std.proofs.lemmas.Bool.Decides.{nat_tests}
 use Rattle.std.proofs.lemmas.List.Concat.{flat_map-append}
 use Rattle.std.proofs.lemmas.List.Sums.{fold-append}
-use Rattle.tm_report.specs.declared.lines.Line.{Line}
 use Rattle.tm_report.specs.Lines.{line_text, report_text}
 use Rattle.tm_script.specs.declared.syntax.Moment.{Moment}
 use Rattle.play_rules.specs.Rules.{Rules}
-use Rattle.play_rules.specs.Parts.{Played, Prints, Progress, counted}
+use Rattle.play_rules.specs.Parts.{Prints, Progress, counted}
 use Rattle.play_rules.specs.Tallies.{tallied, tallied_all}
 use Rattle.play_rules.specs.Interrupts.{Replies}
 use Rattle.play_rules.specs.Moments.{Turn, finished, last_state, moments_after, next_moment, spent_at, turn, turn_lines, turn_then, turns}
-use Rattle.tm_driver.specs.Outcomes.{BreaksOff, PlaysOut, Told}
+use Rattle.tm_driver.specs.Outcomes.{BreaksOff, PlaysOut}
 
 module _ {S : Type 0} (jobs : Replies) (r : Rules S) (end : ℕ) where
   -- a moment before the end, and those behind it
@@ -66,13 +65,19 @@ turn_lines_push : {S : Type 0} (ts : List (Turn S)) (t : Turn S) → turn_lines 
 turn_lines_push ts t =
     flat_map-append (λ u. u.played.lines) ts (t ∷ []) ∙ ap (λ ls. turn_lines ts ++ ls) (append-nil t.played.lines)
 
+-- one element more is counted
+one_counted : {A : Type 0} (xs : List A) (x : A) (n : ℕ) → n ≡ counted (length xs)
+    → min (n + 1) (2 ^ 32 - 1) ≡ counted (length (xs ++ x ∷ []))
+one_counted xs x n is = omega (arith, is, length-append xs (x ∷ []))
+
 -- what was told of the finished moments, and what is still to come
 pub record SoFar {S : Type 0} (jobs : Replies) (r : Rules S) (end limit : ℕ) (whole : List (Turn S)) (start : S) (old : Progress)
-    (now : ℕ) (ms : List Moment) (s : S) (told : Progress) : Type 0 where
+    (now : ℕ) (ms : List Moment) (s : S) (told : Progress) (played : ℕ) : Type 0 where
   pub done : List (Turn S)
   pub count : ℕ
   pub work : ℕ
   pub few : count ≤ now
+  pub moments : played ≡ counted (length done)
   pub split : whole ≡ done ++ turns jobs r (end + 1 - count) end now ms s
   pub text : told.text ≡ old.text ++ report_text (turn_lines done)
   pub tally : told.tally ≡ tallied_all old.tally (turn_lines done)
@@ -89,12 +94,13 @@ work_more a b c d first second = omega (arith, first, second)
 
 module _ {S : Type 0} (jobs : Replies) (r : Rules S) (end limit : ℕ) (whole : List (Turn S)) (start : S) (old : Progress) where
   pub nothing_yet : (ms : List Moment) → whole ≡ turns jobs r (end + 1) end 0 ms start → old.work ≡ 0
-      → SoFar jobs r end limit whole start old 0 ms start old
+      → SoFar jobs r end limit whole start old 0 ms start old 0
   nothing_yet ms is none = let all : end + 1 ≡ end + 1 - 0 = omega arith in record {
     done = [];
     count = 0;
     work = 0;
     few = omega arith;
+    moments = refl;
     split = is ∙ ap (λ k. turns jobs r k end 0 ms start) all;
     text = sym (append-nil old.text);
     tally = refl;
@@ -104,7 +110,7 @@ module _ {S : Type 0} (jobs : Replies) (r : Rules S) (end limit : ℕ) (whole : 
     ended = ap (finished limit 0) (is ∙ ap (λ k. turns jobs r k end 0 ms start) all);
   }
 
-  module _ (now : ℕ) (ms : List Moment) (s : S) (told : Progress) (far : SoFar jobs r end limit whole start old now ms s told)
+  module _ (now : ℕ) (ms : List Moment) (s : S) (told : Progress) (played : ℕ) (far : SoFar jobs r end limit whole start old now ms s told played)
       (next : S) (new : Progress) (printed : Prints (turn jobs r ms now s).played told new next) where
     lines_then : new.text ≡ old.text ++ report_text (turn_lines (far.done ++ turn jobs r ms now s ∷ []))
     lines_then =
@@ -136,9 +142,9 @@ module _ {S : Type 0} (jobs : Replies) (r : Rules S) (end limit : ℕ) (whole : 
       here = ap (λ k. turns jobs r k end now ms s) fuel ∙ turns_more jobs r end (suc (end - far.count - 1)) now ms s next low printed.state
 
       -- the work is below its limit: on to the next moment
-      pub one_more : new.work < limit → limit < 2 ^ 32 → now < next_moment r end (moments_after now ms) next
-          → SoFar jobs r end limit whole start old (next_moment r end (moments_after now ms) next) (moments_after now ms) next new
-      one_more less small later =
+      pub one_more : (count : ℕ) → count ≡ min (played + 1) (2 ^ 32 - 1) → new.work < limit → limit < 2 ^ 32 → now < next_moment r end (moments_after now ms) next
+          → SoFar jobs r end limit whole start old (next_moment r end (moments_after now ms) next) (moments_after now ms) next new count
+      one_more count counts less small later =
           let below : nat_le limit (far.work + (turn jobs r ms now s).played.work) ≡ false = below_test _ _ (omega (arith, work_then, less, small)) in
           let some = turns_some jobs r end (end - far.count - 1) (next_moment r end (moments_after now ms) next) (moments_after now ms) next in
           let left : suc (end - far.count - 1) ≡ end + 1 - (far.count + 1) = omega (arith, far.few, low) in
@@ -149,6 +155,7 @@ module _ {S : Type 0} (jobs : Replies) (r : Rules S) (end limit : ℕ) (whole : 
             count = far.count + 1;
             work = far.work + (turn jobs r ms now s).played.work;
             few = omega (arith, far.few, later);
+            moments = counts ∙ one_counted far.done (turn jobs r ms now s) played far.moments;
             split =
                 far.split ∙ ap (λ x. far.done ++ x) (here ∙ ap (λ x. turn jobs r ms now s ∷ x) behind)
                 ∙ sym (append_assoc far.done (turn jobs r ms now s ∷ []) _);
@@ -185,6 +192,14 @@ module _ {S : Type 0} (jobs : Replies) (r : Rules S) (end limit : ℕ) (whole : 
           }
 
     -- the last moment
+    pub all_counted : now ≡ end → (count : ℕ) → count ≡ min (played + 1) (2 ^ 32 - 1) → count ≡ counted (length whole)
+    all_counted last count counts =
+        let fuel : end + 1 - far.count ≡ suc (end - far.count) = omega (arith, far.few, last) in
+        let here : turns jobs r (end + 1 - far.count) end now ms s ≡ turn jobs r ms now s ∷ [] =
+        ap (λ k. turns jobs r k end now ms s) fuel ∙ turns_last jobs r end (end - far.count) now ms s last in
+        let all : whole ≡ far.done ++ turn jobs r ms now s ∷ [] = far.split ∙ ap (λ x. far.done ++ x) here in
+        counts ∙ one_counted far.done (turn jobs r ms now s) played far.moments ∙ ap (λ (x : List (Turn S)). counted (length x)) (sym all)
+
     pub all_done : now ≡ end → PlaysOut limit whole start old new next
     all_done last =
         let fuel : end + 1 - far.count ≡ suc (end - far.count) = omega (arith, far.few, last) in

@@ -1,5 +1,5 @@
 -- what a driver needs of a script: its numbers are in range, and its moments rise
-use Rattle.std.specs.Prelude.{◌≡◌, ℕ, ◌+◌, ◌<◌, ◌≤◌, All, List, [], ◌∷◌}
+use Rattle.std.specs.Prelude.{ℕ, ◌+◌, ◌<◌, ◌≤◌, All, List, [], ◌∷◌}
 use Rattle.tm_base.specs.declared.limits.TheConstants.{SCRIPT_TIME_LIMIT}
 use Rattle.tm_script.specs.declared.syntax.Moment.{Moment}
 use Rattle.tm_script.specs.declared.syntax.Op.{Op}

@@ -1,16 +1,16 @@
 -- how a play ends, over any rules
-use Rattle.std.specs.Prelude.{◌≡◌, ℕ, ◌+◌, ◌==◌, List, [], ◌∷◌, ◌++◌, Option, Some, None, if◌then◌else◌, length, nat_le, option_map}
+use Rattle.std.specs.Prelude.{◌≡◌, ℕ, ◌+◌, ◌==◌, List, ◌++◌, Some, None, if◌then◌else◌, length, option_map}
 use Rattle.tm_base.specs.declared.limits.TheConstants.{WORK_LIMIT_V1, WORK_LIMIT_V2}
 use Rattle.tm_report.specs.declared.lines.Line.{Line}
 use Rattle.tm_report.specs.Lines.{report_text}
 use Rattle.tm_script.specs.declared.syntax.Script.{Script}
 use Rattle.play_rules.specs.Rules.{Rules}
 use Rattle.play_rules.specs.Parts.{Progress, counted}
-use Rattle.play_rules.specs.declared.tally.Tally.{Tally}
 use Rattle.play_rules.specs.Tallies.{no_lines, tallied_all}
 use Rattle.play_rules.specs.Interrupts.{Replies}
 use Rattle.play_rules.specs.Jobs.{first_unknown_job}
 use Rattle.play_rules.specs.Moments.{Turn, finished, last_state, spent_at, turn_lines, turns, whole_lines}
+use Rattle.tm_driver.specs.declared.outcomes.Counts.{Counts}
 use Rattle.tm_driver.specs.declared.outcomes.DriveFault.{DriveFault}
 use Rattle.tm_driver.specs.declared.outcomes.DriveFault.TheVariants.{BadJob, WorkSpent, NoMemory}
 
@@ -50,11 +50,12 @@ pub record TellsAll {S : Type 0} (r : Rules S) (jobs : Replies) (script : Script
   pub told : Told (whole_lines r script.end start (script_turns jobs r script start)) (last_state start (script_turns jobs r script start)) old new after
   pub within : spent_at (work_limit script.version) 0 (script_turns jobs r script start) ≡ None
 
--- the whole play of a script was told, with the tally of its lines: every job of the script is in the table, and the work
+-- the whole play of a script was told, and its moments and lines were counted: every job of the script is in the table, and the work
 -- stayed below its limit
-pub record PlaysWhole {S : Type 0} (r : Rules S) (jobs : Replies) (table : ℕ) (script : Script) (start : S) (old new : List ℕ) (tally : Tally) (after : S) : Type 0 where
+pub record PlaysWhole {S : Type 0} (r : Rules S) (jobs : Replies) (table : ℕ) (script : Script) (start : S) (old new : List ℕ) (counts : Counts) (after : S) : Type 0 where
   pub text : new ≡ old ++ report_text (whole_lines r script.end start (script_turns jobs r script start))
-  pub tallies : tally ≡ tallied_all no_lines (whole_lines r script.end start (script_turns jobs r script start))
+  pub moments : counts.moments ≡ counted (length (script_turns jobs r script start))
+  pub lines : counts.lines ≡ tallied_all no_lines (whole_lines r script.end start (script_turns jobs r script start))
   pub state : after ≡ last_state start (script_turns jobs r script start)
   pub known : first_unknown_job table script.moments ≡ None
   pub within : spent_at (work_limit script.version) 0 (script_turns jobs r script start) ≡ None

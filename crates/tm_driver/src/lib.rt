@@ -9,11 +9,15 @@ mod interrupts;
 mod jobs;
 mod moments;
 mod moving;
+mod numbers;
 mod operations;
 mod outcomes;
 mod playing;
+mod plays;
 mod telling;
 
 pub use moments::next_moment;
-pub use outcomes::DriveFault;
+pub use numbers::Summary;
+pub use outcomes::{Counts, DriveFault};
 pub use playing::play_on;
+pub use plays::{play, summary};

@@ -1,10 +1,10 @@
 //! The moments of a play.
 
-ghost use Rattle.std.specs.Prelude.{◌≡◌, ◌<◌, ◌≤◌, All, IfErr, OnOk};
+ghost use Rattle.std.specs.Prelude.{◌≡◌, ◌<◌, ◌≤◌, All, IfErr, IfOk, OnOk, length};
 ghost use Rattle.std.specs.Option.{ForSome, option_copied};
 ghost use Rattle.play_rules.specs.Machines.{Same, SameBuild};
 ghost use Rattle.play_rules.specs.Moments.{moment, moment_at, moment_now, moments_after, next_moment, next_said, scripted, turn, turns};
-ghost use Rattle.play_rules.specs.Parts.{Gains, Prints};
+ghost use Rattle.play_rules.specs.Parts.{Gains, Prints, counted};
 ghost use Rattle.tm_base.specs.declared.limits.TheConstants.{SCRIPT_TIME_LIMIT};
 ghost use Rattle.tm_driver.specs.Outcomes.{EndsEarly, PlaysOut, script_turns, work_limit};
 ghost use Rattle.tm_driver.specs.Conditions.{IsMomentInRange, IsPlayable};
@@ -120,14 +120,14 @@ pub fn next_moment<M: Machine>(machine: &M, left: &[Moment], end: Jiffy) -> Jiff
     machine.next_interrupt().min(said).max(machine.clock() + 1)
 }
 
-/// The moments of a script from jiffy 0 to its end. Where the work has reached the limit after a moment that isn't the
+/// The moments of a script from jiffy 0 to its end, and how many they are. Where the work has reached the limit after a moment that isn't the
 /// last, the play is broken off there with that count.
 pub(crate) fn moments<M: Machine, J: Jobs>(
     machine: &mut M,
     jobs: &J,
     script: &Script,
     telling: &mut Telling,
-) -> Result<(), DriveFault>
+) -> Result<u32, DriveFault>
     requires start { M.rules.clock (M.world machine.old) ≡ 0 }
     requires playable { IsPlayable (M.rules.cpus (M.world machine.old)) (M.rules.timers (M.world machine.old)) script.now }
     requires no_work { telling.old.work ≡ 0 }
@@ -135,6 +135,8 @@ pub(crate) fn moments<M: Machine, J: Jobs>(
         (PlaysOut (work_limit script.now.version)
         (script_turns (J.replies jobs.now) M.rules script.now (M.world machine.old)) (M.world machine.old)
         telling.old telling.new (M.world machine.new)) }
+    ensures count { IfOk result (λ count. count ≡ counted (length
+        (script_turns (J.replies jobs.now) M.rules script.now (M.world machine.old)))) }
     ensures fault { IfErr result (λ fault.
         EndsEarly (work_limit script.now.version)
         (script_turns (J.replies jobs.now) M.rules script.now (M.world machine.old)) fault
@@ -144,6 +146,7 @@ pub(crate) fn moments<M: Machine, J: Jobs>(
     let limit = work_limit(script.version);
     let mut left = script.moments.as_slice();
     let mut now = 0;
+    let mut count: u32 = 0;
     while now < script.end {
         turn(machine, jobs, left, now, telling)?;
         if telling.work() >= limit {
@@ -151,11 +154,12 @@ pub(crate) fn moments<M: Machine, J: Jobs>(
                 count: telling.work(),
             });
         }
+        count = count.saturating_add(1);
         left = still_to_come(left, now);
         now = next_moment(machine, left, script.end);
     }
     turn(machine, jobs, left, now, telling)?;
-    Ok(())
+    Ok(count.saturating_add(1))
 }
 
 /// How much work a play may have before its last moment, by the version of its script.

@@ -1,6 +1,14 @@
 //! How a play ends that doesn't come to its end.
 
+use play_rules::Tally;
 use tm_base::NoMemory;
+
+/// What was counted in a whole play: its moments, and its lines by kind. Each count stands still at 2^32 - 1.
+#[derive(Clone, Copy)]
+pub struct Counts {
+    pub moments: u32,
+    pub lines: Tally,
+}
 
 /// Why a script wasn't played to its end.
 #[derive(Clone, Copy, Debug, PartialEq, Eq)]

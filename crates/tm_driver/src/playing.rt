@@ -1,17 +1,17 @@
 //! Playing a script from its start to its end.
 
-ghost use Rattle.std.specs.Prelude.{◌≡◌, IfErr, IfOk, OnOk};
+ghost use Rattle.std.specs.Prelude.{◌≡◌, IfErr, IfOk, OnOk, length};
 ghost use Rattle.play_rules.specs.Jobs.{first_unknown_job, unknown_in_ops, unknown_job_of};
-ghost use Rattle.play_rules.specs.Parts.{Gains};
+ghost use Rattle.play_rules.specs.Parts.{Gains, counted};
 ghost use Rattle.tm_driver.specs.Conditions.{IsPlayable};
 ghost use Rattle.tm_driver.specs.Outcomes.{EndsEarly, PlaysWhole, SaysFault, TellsAll, script_turns, work_limit};
 
 use crate::closing::close;
 use crate::moments::moments;
-use crate::outcomes::DriveFault;
+use crate::outcomes::{Counts, DriveFault};
 use crate::telling::Telling;
 use job_table::Jobs;
-use play_rules::{Machine, Tally, UnknownJob};
+use play_rules::{Machine, UnknownJob};
 use std::alloc::Global;
 use std::mem;
 use tm_report::Report;
@@ -54,31 +54,33 @@ fn first_unknown_job<J: Jobs>(script: &Script, jobs: &J) -> Option<UnknownJob>
     None
 }
 
-/// The moments of a script, and what is left at its end.
+/// The moments of a script, of which there are so many, and what is left at its end.
 fn play_known<M: Machine, J: Jobs>(
     machine: &mut M,
     script: &Script,
     jobs: &J,
     telling: &mut Telling,
-) -> Result<(), DriveFault>
+) -> Result<u32, DriveFault>
     requires start { M.rules.clock (M.world machine.old) ≡ 0 }
     requires playable { IsPlayable (M.rules.cpus (M.world machine.old)) (M.rules.timers (M.world machine.old)) script.now }
     requires no_work { telling.old.work ≡ 0 }
     ensures whole { OnOk result
         (TellsAll M.rules (J.replies jobs.now) script.now (M.world machine.old)
         telling.old telling.new (M.world machine.new)) }
+    ensures count { IfOk result (λ count. count ≡ counted (length
+        (script_turns (J.replies jobs.now) M.rules script.now (M.world machine.old)))) }
     ensures fault { IfErr result (λ fault.
         EndsEarly (work_limit script.now.version)
         (script_turns (J.replies jobs.now) M.rules script.now (M.world machine.old)) fault
         telling.old.text telling.new.text) }
     ensures gains { Gains telling.old.text telling.new.text }
 {
-    moments(machine, jobs, script, telling)?;
+    let count = moments(machine, jobs, script, telling)?;
     close(machine, script.end, telling)?;
-    Ok(())
+    Ok(count)
 }
 
-/// Plays a script on a machine that stands at its start, into a report, and answers the tally of the lines told. After
+/// Plays a script on a machine that stands at its start, into a report, and answers how many moments and lines there were. After
 /// `BadJob` and want of memory the report is as it was; after `WorkSpent` it has gained the lines of the finished moments.
 pub fn play_on<M: Machine, J: Jobs>(
     alloc: Global,
@@ -86,12 +88,12 @@ pub fn play_on<M: Machine, J: Jobs>(
     script: &Script,
     jobs: &J,
     report: &mut Report,
-) -> Result<Tally, DriveFault>
+) -> Result<Counts, DriveFault>
     requires start { M.rules.clock (M.world machine.old) ≡ 0 }
     requires playable { IsPlayable (M.rules.cpus (M.world machine.old)) (M.rules.timers (M.world machine.old)) script.now }
-    ensures whole { IfOk result (λ tally.
+    ensures whole { IfOk result (λ counts.
         PlaysWhole M.rules (J.replies jobs.now) (J.count jobs.now) script.now (M.world machine.old)
-        report.old report.new tally (M.world machine.new)) }
+        report.old report.new counts (M.world machine.new)) }
     ensures fault { IfErr result (λ fault.
         SaysFault M.rules (J.replies jobs.now) (J.count jobs.now) script.now (M.world machine.old) fault
         report.old report.new) }
@@ -102,10 +104,10 @@ pub fn play_on<M: Machine, J: Jobs>(
     let begin = report.text().len();
     let mut telling = Telling::new(mem::replace(report, Report::new(alloc)));
     let played = play_known(machine, script, jobs, &mut telling);
-    let tally = telling.tally();
+    let lines = telling.tally();
     *report = telling.into_report();
     match played {
-        Ok(()) => Ok(tally),
+        Ok(moments) => Ok(Counts { moments, lines }),
         Err(DriveFault::NoMemory) => {
             report.truncate(begin);
             Err(DriveFault::NoMemory)

@@ -1,4 +1,4 @@
-use Rattle.std.proofs.Common.{rules, sym, arith, ◌∙◌}
+use Rattle.std.proofs.Common.{sym, arith}
 use Rattle.play_rules.proofs.Loops.{left_all, left_less, left_more}
 use Rattle.play_rules.proofs.Plays.{gains_then}
 use Rattle.tm_driver.proofs.closing.left_over.Goals as goal

@@ -1,4 +1,4 @@
-use Rattle.std.proofs.Common.{rules, sym, ◌∙◌}
+use Rattle.std.proofs.Common.{sym, ◌∙◌}
 use Rattle.play_rules.proofs.Loops.{member_less, member_more}
 use Rattle.tm_driver.proofs.interrupts.having_interrupt.Goals as goal
 use Rattle.tm_driver.proofs.interrupts.having_interrupt.Goals.{then-has_interrupt, else-has_interrupt}

@@ -1,4 +1,4 @@
-use Rattle.std.proofs.Common.{◌≡◌, ◌-◌}
+use Rattle.std.proofs.Common.{◌-◌}
 use Rattle.std.specs.FinSet as set
 use Rattle.play_rules.specs.Interrupts.{look}
 use Rattle.play_rules.specs.Machines.{Same}

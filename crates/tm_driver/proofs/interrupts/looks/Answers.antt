@@ -1,4 +1,4 @@
-use Rattle.std.proofs.Common.{rules, sym, refl, arith, ◌∙◌}
+use Rattle.std.proofs.Common.{rules, refl, arith}
 use Rattle.play_rules.proofs.Loops.{looks_all, looks_more, looks_stop}
 use Rattle.play_rules.proofs.Plays.{gains_then}
 use Rattle.tm_driver.proofs.interrupts.looks.Goals as goal

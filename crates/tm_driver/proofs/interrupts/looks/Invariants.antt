@@ -1,4 +1,4 @@
-use Rattle.std.proofs.Common.{◌≡◌, ◌-◌}
+use Rattle.std.proofs.Common.{◌-◌}
 use Rattle.play_rules.specs.Interrupts.{looks}
 use Rattle.play_rules.specs.Machines.{Same}
 use Rattle.play_rules.specs.Parts.{Gains}

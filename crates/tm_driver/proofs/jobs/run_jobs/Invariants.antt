@@ -1,4 +1,3 @@
-use Rattle.std.proofs.Common.{◌≡◌}
 use Rattle.std.specs.Prelude.{drop}
 use Rattle.play_rules.specs.Interrupts.{run_jobs}
 use Rattle.play_rules.specs.Machines.{Same}

@@ -2,7 +2,7 @@ use Rattle.std.proofs.Common.{rules, sym, refl, arith, ◌∙◌}
 use Rattle.play_rules.proofs.Plays.{gains_then}
 use Rattle.tm_driver.specs.Conditions.{IsMomentInRange}
 use Rattle.tm_driver.proofs.Scripts.{after_in_range, after_rise, from_said, rise_from, said_by_end}
-use Rattle.tm_driver.proofs.Turns.{all_done, breaks_off, nothing_yet, one_more}
+use Rattle.tm_driver.proofs.Turns.{all_counted, all_done, breaks_off, nothing_yet, one_more}
 use Rattle.tm_driver.proofs.moments.moments.Goals as goal
 
 pub loop-now-init : goal.loop-now-init
@@ -20,7 +20,7 @@ pub returns-then-work-limit-clause-fault : goal.returns-then-work-limit-clause-f
 returns-then-work-limit-clause-fault g c =
     let done = c.in_ok-turn.ensures in
     rw (sym c.work_limit-limit.ensures)
-    (breaks_off _ _ _ _ _ _ _ _ _ _ _ c.loop-now.invariant.far _ _ done.prints c.loop-now-test.true c.work-then-work-limit.result
+    (breaks_off _ _ _ _ _ _ _ _ _ _ _ _ c.loop-now.invariant.far _ _ done.prints c.loop-now-test.true c.work-then-work-limit.result
     (omega (arith, c.if-work-limit.true, c.work.ensures, c.work-then-work-limit.ensures)) c.work-then-work-limit.ensures c.work-then-work-limit.type_inv)
 
 pub loop-now-preserved : goal.loop-now-preserved
@@ -31,8 +31,8 @@ loop-now-preserved g c =
     let said = said_by_end _ _ _ rises in
     let from = from_said _ _ _ rises (omega (arith, c.loop-now-test.true)) in
     rw (c.next_moment-now.ensures, c.still_to_come-left.ensures) (record {
-      far = one_more _ _ _ _ _ _ _ _ _ _ _ so_far.far _ _ done.prints c.loop-now-test.true
-          (omega (arith, c.if-work-limit.false, c.work.ensures)) c.work_limit-limit.type_inv (omega (arith, done.clock));
+      far = one_more _ _ _ _ _ _ _ _ _ _ _ _ so_far.far _ _ done.prints c.loop-now-test.true
+          _ c.saturating_add-count.ensures (omega (arith, c.if-work-limit.false, c.work.ensures)) c.work_limit-limit.type_inv (omega (arith, done.clock));
       not_back = omega (arith, done.clock);
       by_end = omega (arith, done.clock, said, c.loop-now-test.true);
       rise = rise_from _ _ _ _ rises (omega (arith, done.clock, from));
@@ -45,4 +45,9 @@ pub returns-clause-whole : goal.returns-clause-whole
 returns-clause-whole g c =
     let done = c.in_ok-turn-2.ensures in
     rw (sym c.work_limit-limit.ensures)
-    (all_done _ _ _ _ _ _ _ _ _ _ _ c.loop-now.invariant.far _ _ done.prints (omega (arith, c.loop-now.invariant.by_end, c.loop-now-test.false)))
+    (all_done _ _ _ _ _ _ _ _ _ _ _ _ c.loop-now.invariant.far _ _ done.prints (omega (arith, c.loop-now.invariant.by_end, c.loop-now-test.false)))
+
+pub returns-clause-count : goal.returns-clause-count
+returns-clause-count g c =
+    all_counted _ _ _ _ _ _ _ _ _ _ _ _ c.loop-now.invariant.far _ _ c.in_ok-turn-2.ensures.prints
+    (omega (arith, c.loop-now.invariant.by_end, c.loop-now-test.false)) _ c.saturating_add.ensures

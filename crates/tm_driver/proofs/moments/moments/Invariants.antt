@@ -1,4 +1,4 @@
-use Rattle.std.proofs.Common.{◌≡◌, ℕ, ◌-◌, ◌≤◌}
+use Rattle.std.proofs.Common.{◌-◌, ◌≤◌}
 use Rattle.std.specs.Prelude.{All}
 use Rattle.play_rules.specs.Machines.{SameBuild}
 use Rattle.play_rules.specs.Parts.{Gains}
@@ -14,7 +14,7 @@ invariant-loop-now g l =
     let start = g.M.Machine.world l.fn.machine in
     let s = g.M.Machine.world l.machine in
     record {
-      far : SoFar jobs r l.script.end l.limit (script_turns jobs r l.script start) start l.fn.telling l.now l.left s l.telling;
+      far : SoFar jobs r l.script.end l.limit (script_turns jobs r l.script start) start l.fn.telling l.now l.left s l.telling l.count;
       not_back : r.clock s ≤ l.now;
       by_end : l.now ≤ l.script.end;
       rise : Rise l.now l.script.end l.left;

@@ -1,4 +1,3 @@
-use Rattle.std.proofs.Common.{sym}
 use Rattle.tm_driver.proofs.Scripts.{due_in_range}
 use Rattle.tm_driver.proofs.moments.turn.Goals as goal
 

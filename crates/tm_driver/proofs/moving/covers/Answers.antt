@@ -1,4 +1,4 @@
-use Rattle.std.proofs.Common.{rules, sym, arith, ◌∙◌}
+use Rattle.std.proofs.Common.{sym, arith}
 use Rattle.play_rules.proofs.Loops.{covers_all, covers_less, covers_more}
 use Rattle.play_rules.proofs.Plays.{gains_then}
 use Rattle.tm_driver.proofs.moving.covers.Goals as goal

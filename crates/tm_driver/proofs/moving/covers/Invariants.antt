@@ -1,4 +1,4 @@
-use Rattle.std.proofs.Common.{◌≡◌, ◌-◌}
+use Rattle.std.proofs.Common.{◌-◌}
 use Rattle.play_rules.specs.Operations.{cover_lines}
 use Rattle.play_rules.specs.Parts.{Gains, lines_told}
 use Rattle.play_rules.proofs.Plays.{Continues}

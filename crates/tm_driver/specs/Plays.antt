@@ -1,0 +1,70 @@
+-- how playing a script on the plain machine ends
+use Rattle.std.specs.Prelude.{◌≡◌, ℕ, List, ◌++◌, Some, None, length, option_map}
+use Rattle.tm_script.specs.declared.syntax.Script.{Script}
+use Rattle.play_rules.specs.State.{State}
+use Rattle.play_rules.specs.Interrupts.{Replies}
+use Rattle.play_rules.specs.Jobs.{first_unknown_job}
+use Rattle.play_rules.specs.Moments.{last_state, whole_lines}
+use Rattle.play_rules.specs.Parts.{counted}
+use Rattle.play_rules.specs.Play.{plain_rules, play_spent, play_start, play_text, play_turns}
+use Rattle.play_rules.specs.Tallies.{no_lines, tallied_all}
+use Rattle.play_rules.specs.declared.tally.Tally.{Tally}
+use Rattle.tm_driver.specs.Outcomes.{SaysFault, work_limit}
+use Rattle.tm_driver.specs.declared.outcomes.DriveFault.{DriveFault}
+use Rattle.tm_driver.specs.declared.outcomes.DriveFault.TheVariants.{BadJob, NoMemory, WorkSpent}
+use Rattle.tm_driver.specs.declared.numbers.Summary.{Summary}
+
+-- every job of a script is in the table, and its work stays below the limit
+pub record CanPlay (jobs : Replies) (table : ℕ) (script : Script) : Type 0 where
+  pub known : first_unknown_job table script.moments ≡ None
+  pub within : play_spent jobs (work_limit script.version) script ≡ None
+
+-- the report has gained the text of the script's play, and this is the state that its last moment
+-- leaves
+pub record Plays (jobs : Replies) (table : ℕ) (script : Script) (old new : List ℕ) (last : State)
+    : Type 0 where
+  pub text : new ≡ old ++ play_text jobs script
+  pub state : last ≡ last_state (play_start script) (play_turns jobs script)
+  pub can_play : CanPlay jobs table script
+
+-- why it isn't played to its end, and what the report has gained then
+abbrev pub BreaksPlay : Replies → (table : ℕ) → Script → DriveFault → (old new : List ℕ) → Type 0
+BreaksPlay jobs table script fault old new =
+    SaysFault plain_rules jobs table script (play_start script) fault old new
+
+-- the numbers of a play that ended there, of so many moments and lines
+abbrev pub summary_with : (end moments : ℕ) → Tally → Summary
+summary_with end moments lines = record {
+  moments = moments;
+  runs = lines.runs;
+  remote = lines.remote;
+  armed = lines.armed;
+  cancels = lines.cancels;
+  idles = lines.idles;
+  stays = lines.stays;
+  wakes = lines.wakes;
+  refused = lines.refused;
+  left = lines.left;
+  end = end;
+}
+
+-- THE NUMBERS of a script's play
+abbrev pub summary_of : Replies → Script → Summary
+summary_of jobs script =
+    summary_with script.end (counted (length (play_turns jobs script)))
+    (tallied_all no_lines
+    (whole_lines plain_rules script.end (play_start script) (play_turns jobs script)))
+
+pub record Summarizes (jobs : Replies) (table : ℕ) (script : Script) (numbers : Summary)
+    : Type 0 where
+  pub numbers_are : numbers ≡ summary_of jobs script
+  pub can_play : CanPlay jobs table script
+
+-- why there are none
+abbrev pub BreaksSummary : Replies → (table : ℕ) → Script → DriveFault → Type 0
+BreaksSummary jobs table script (BadJob line job) =
+    first_unknown_job table script.moments ≡ Some (record { line = line; job = job })
+BreaksSummary jobs table script (WorkSpent count) =
+    (first_unknown_job table script.moments ≡ None)
+    × (option_map counted (play_spent jobs (work_limit script.version) script) ≡ Some count)
+BreaksSummary jobs table script NoMemory = Unit {0}
