@@ -1,0 +1,9 @@
+pub mod Chains
+pub mod Links
+pub mod Leading
+pub mod Climbing
+pub mod Resting
+pub mod Covering
+pub mod Settling
+pub mod Queuing
+pub mod Rests

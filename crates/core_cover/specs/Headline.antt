@@ -1,0 +1,32 @@
+-- the headline: who answers for the timers of an idle CPU, in every lawful world
+use Rattle.std.specs.Prelude.{◌≡◌, ◌⊎◌, ℕ, true, Contains}
+use Rattle.tm_base.specs.declared.names.Class.TheVariants.{Global}
+use Rattle.wheel_core.specs.declared.item.Item.{Item}
+use Rattle.cpu_bases.specs.CpuBases.{base_of, events_of}
+use Rattle.coverage.specs.Coverage.{Held, IsAnsweredFor, Woken}
+use Rattle.core_world.specs.Covered.{Covered, IsSettled, machine_of}
+use Rattle.core_world.specs.Lawful.{IsLawful}
+use Rattle.core_world.specs.World.{World, cpu_of}
+
+-- a global timer that is queued on an online idle CPU
+pub record IsWaiting (w : World) (c : ℕ) (item : Item) : Type 0 where
+  pub online : (cpu_of w c).online ≡ true
+  pub idle : (cpu_of w c).idle ≡ true
+  pub queued : Contains (base_of Global (cpu_of w c).bases).items item
+
+-- THE HEADLINE: it is covered
+abbrev pub EachCovered : Type 0
+EachCovered = (w : World) → IsLawful w → (c : ℕ) (item : Item) → IsWaiting w c item →
+    Covered w c item.wheel
+
+-- and held or woken for where no walk or interrupt is under way
+abbrev pub EachSettled : Type 0
+EachSettled = (w : World) → IsLawful w → IsSettled w → (c : ℕ) (item : Item) →
+    IsWaiting w c item →
+    Held (machine_of w) c item.wheel ⊎ Woken (machine_of w) c item.wheel
+
+-- the same of the first of its global timers, or of the time that never comes where it has none
+abbrev pub FirstSettled : Type 0
+FirstSettled = (w : World) → IsLawful w → IsSettled w → (c : ℕ) → (cpu_of w c).online ≡ true →
+    (cpu_of w c).idle ≡ true →
+    IsAnsweredFor (machine_of w) c (events_of (cpu_of w c).bases).first_global

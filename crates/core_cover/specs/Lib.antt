@@ -1,0 +1,3 @@
+pub mod Headline
+pub mod Once
+pub mod Rest
