@@ -1,12 +1,12 @@
 -- a change of one CPU that leaves its bases keeps what the machine keeps
-use Rattle.std.proofs.Common.{◌≡◌, ℕ, ◌<◌, Bool, true, false, List, Option, length, refl, ap, sym, ◌∙◌, subst, arith, inl, inr, get_or-set_other, get_or-set_same, length-set}
+use Rattle.std.proofs.Common.{◌≡◌, ℕ, ◌<◌, List, Option, length, ap, sym, ◌∙◌, subst, inl, inr, get_or-set_other, get_or-set_same, length-set}
 use Rattle.std.specs.Prelude.{◌==◌, ◌≢◌, slice_index_or, slice_set}
 use Rattle.std.proofs.lemmas.Bool.{cases_Bool, eqb-true, eqb-false}
 use Rattle.tm_base.specs.declared.names.CpuId.{CpuId}
 use Rattle.tree_plan.specs.Shape.{Shape}
 use Rattle.cpu_bases.specs.CpuBases.{CpuBases}
 use Rattle.play_rules.specs.State.{Cpu, new_cpu}
-use Rattle.quiet_machine.specs.Fits.{EachNear, IsKept, holds, is_queued, noted}
+use Rattle.quiet_machine.specs.Fits.{EachNear, IsKept, is_queued}
 
 same_bases : (all : List Cpu) (c : ℕ) (cpu : Cpu) → c < length all
     → cpu.bases ≡ (slice_index_or all c new_cpu).bases → (d : ℕ)

@@ -4,13 +4,12 @@ use Rattle.std.specs.Prelude.{◌==◌, ◌≢◌, nat_le, ◌&&◌, ◌||◌, n
 use Rattle.std.specs.List.{range_with_len}
 use Rattle.std.proofs.lemmas.Bool.{cases_Bool, cond-true, cond-false, eqb-true, eqb-false, eq-eqb, leb-false, leb-true, ne_eqb}
 use Rattle.std.proofs.lemmas.List.{get_or_past}
-use Rattle.std.proofs.lemmas.Option.{none-some, same_Some}
+use Rattle.std.proofs.lemmas.Option.{none-some}
 use Rattle.tm_base.specs.declared.names.CpuId.{CpuId}
 use Rattle.tree_plan.specs.Shape.{Shape}
 use Rattle.cpu_bases.specs.CpuBases.{CpuBases, class_in, found_in}
-use Rattle.play_rules.specs.declared.asks.Queued.{Queued}
 use Rattle.play_rules.specs.State.{Cpu, State, all_cpus, cpu_at, cpu_count, new_cpu}
-use Rattle.play_rules.specs.Timers.{bases_at, holder_of, queued_at, queued_on}
+use Rattle.play_rules.specs.Timers.{bases_at, queued_at, queued_on}
 use Rattle.quiet_machine.specs.Fits.{EachNear, IsHeld, IsKept, holds, is_queued, noted, queued_by_note}
 use Rattle.quiet_machine.proofs.Queues.{and_true, and_false, some_or_none}
 use Rattle.quiet_machine.proofs.Frames.{same_bases_but}

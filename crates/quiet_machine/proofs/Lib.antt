@@ -1,3 +1,4 @@
+mod Dues
 pub mod Clears
 pub mod Drains
 pub mod Frames

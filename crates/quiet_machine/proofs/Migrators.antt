@@ -1,6 +1,6 @@
 -- the migrators of groups, changed one after the other
 use Rattle.std.proofs.Common.{◌≡◌, ℕ, zero, suc, ◌+◌, ◌<◌, ◌≤◌, List, [], ◌∷◌, ◌++◌, length, drop, refl, ap, sym, ◌∙◌, arith, add-one, append-nil, append_assoc, Option, Some, None, Bool, true, false, inl, inr, if◌then◌else◌, ◌&&◌, not}
-use Rattle.std.specs.Prelude.{map, position, slice_get, slice_index_or, slice_set, nat_lt}
+use Rattle.std.specs.Prelude.{map, slice_get, slice_index_or, slice_set, nat_lt}
 use Rattle.std.specs.List.{position_or_len, range_with_len}
 use Rattle.std.proofs.Math.Seq.{drop-cons}
 use Rattle.std.proofs.lemmas.Bool.{cases_Bool, cond-true, cond-false, ltb-true, ltb-false}

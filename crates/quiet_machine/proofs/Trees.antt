@@ -1,5 +1,5 @@
 -- what a planned tree's walks say
-use Rattle.std.proofs.Common.{◌≡◌, ℕ, zero, suc, ◌+◌, ◌-◌, ◌<◌, ◌≤◌, Bool, true, false, Option, Some, None, refl, ap, sym, ◌∙◌, subst, arith, inl, inr}
+use Rattle.std.proofs.Common.{◌≡◌, ℕ, zero, suc, ◌-◌, ◌<◌, true, false, Option, Some, None, ap, sym, ◌∙◌, arith, inl, inr}
 use Rattle.std.specs.Prelude.{◌==◌, IfSome, option_map}
 use Rattle.std.proofs.lemmas.Bool.{cases_Bool, eqb-true, eq-eqb}
 use Rattle.std.proofs.lemmas.Option.{none-some, same_Some}
@@ -7,7 +7,7 @@ use Rattle.tm_base.specs.declared.names.Child.{Child}
 use Rattle.tm_base.specs.declared.names.Child.TheVariants as children
 use Rattle.tm_base.specs.Children.{of_cpu, of_group}
 use Rattle.tree_plan.specs.Shape.{Shape, IsPlanned}
-use Rattle.tree_plan.specs.Paths.{IsBelow, bit_in, bit_of, child_at, child_towards, cpu_count_of, group_at_of, group_count_of, is_below, is_placed_in, level_of, parent_of}
+use Rattle.tree_plan.specs.Paths.{bit_in, bit_of, child_at, child_towards, group_at_of, group_count_of, is_below, is_placed_in, level_of, parent_of}
 use Rattle.tree_plan.proofs.Below.{below_laws, paths, placed_laws}
 use Rattle.tree_plan.proofs.Trees.{edge_laws}
 use Rattle.play_rules.specs.Hierarchy.{is_number}

@@ -422,7 +422,11 @@ impl Quiet {
         ensures first { option_map (λ d. d.0) result ≡ due_sleeper self.now group.0 }
         ensures in_range { IfSome result (λ d. d.0 < cpu_count self.now) }
     {
-        self.first_due(group, self.least_due(group))
+        let least = self.least_due(group);
+        if least > self.time() {
+            return None;
+        }
+        self.first_due(group, least)
     }
 
     /// The CPU that a look at a group of a CPU's path names.

@@ -1,8 +1,8 @@
-use Rattle.std.proofs.Common.{◌≡◌, ◌<◌, ◌^◌, ℕ, Bool, true, false, refl, arith, ap, subst, length}
+use Rattle.std.proofs.Common.{◌≡◌, ◌<◌, ◌^◌, ℕ, true, refl, arith, ap, subst, length}
 use Rattle.std.specs.Prelude.{IfSome, None, slice_set}
 use Rattle.wheel_core.specs.declared.item.Item.{Item}
 use Rattle.play_rules.specs.State.{State, cpu_count}
-use Rattle.quiet_machine.specs.Fits.{but, holds, is_queued, noted}
+use Rattle.quiet_machine.specs.Fits.{but, is_queued}
 use Rattle.quiet_machine.proofs.Clears.{held_where_queued, note_low, nowhere_after}
 use Rattle.quiet_machine.proofs.Notes.{gone_after, noted_this}
 use Rattle.quiet_machine.proofs.quiet.Quiet.take_oldest.Goals as goal
