@@ -1,0 +1,6 @@
+pub mod Counts
+pub mod Leaves
+pub mod Later
+pub mod Owed
+pub mod Walking
+pub mod Keeps

@@ -1,0 +1,5 @@
+use Rattle.core_wakeups.proofs.Counts.{slots_stay}
+use Rattle.core_wakeups.proofs.law_slots.Goals as goal
+
+pub returns : goal.returns
+returns c = slots_stay
