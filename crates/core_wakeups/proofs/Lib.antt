@@ -1,4 +1,4 @@
-pub mod Counts
+pub mod SlotCounts
 pub mod Leaves
 pub mod Later
 pub mod Owed

@@ -17,7 +17,8 @@ pub record WakeupsFit (w : World) : Type 0 where
   pub wakeups : WakeupsHold w
   pub own_event : OwnEvent w
 
--- THE LAW
+-- THE LAW. The slots are there for what Store writes; by part 10 no queued expiry is past NEVER, so
+-- that no event gets sooner as a timer goes out
 abbrev pub WakeupsStayFit : Type 0
 WakeupsStayFit = (w : World) (step : Step) → IsHierarchy w.tree → IsSized w → HasSlots w →
     TimersHold w →

@@ -1,4 +1,4 @@
-use Rattle.core_wakeups.proofs.Counts.{slots_stay}
+use Rattle.core_wakeups.proofs.SlotCounts.{slots_stay}
 use Rattle.core_wakeups.proofs.law_slots.Goals as goal
 
 pub returns : goal.returns
