@@ -17,7 +17,6 @@ use Rattle.tree_plan.specs.Paths.{bit_of, child_count_of, group_count_of, parent
 use Rattle.walk_rules.specs.Scene.{Group, no_group}
 use Rattle.core_world.specs.Start.{start_group, start_of}
 use Rattle.core_world.specs.World.{group_of}
-use Rattle.core_start.specs.Layer.{StartsWithSlots}
 
 none_at : (n k : ℕ) → event_at (replicate n None) k ≡ None
 none_at n k = elim (cases_lt k n) [
@@ -80,7 +79,5 @@ module _ (t : Shape) (timers : ℕ) where
     bit_at_start m g up = subst (λ (z : Group). IsActive z.active (bit_of t m)) (sym (group_there g (edges.parent_within g m up)))
         (bit_at_ones (child_count_of t g) (bit_of t m) (edges.bit_within g m up))
 
-pub slots_at_start : StartsWithSlots
-slots_at_start t timers g within =
-    ap (λ (z : Group). length z.events) (group_there t timers g (let all = length-map-range_with_len (λ h. start_group (child_count_of t h)) 0 (group_count_of t) in omega (arith, within, all)))
-    ∙ length-replicate {A = Option Event} 8 None
+pub slots_at_start : (t : Shape) (timers g : ℕ) → g < group_count_of t → length (group_of (start_of t timers) g).events ≡ 8
+slots_at_start t timers g within = ap (λ (z : Group). length z.events) (group_there t timers g within) ∙ length-replicate {A = Option Event} 8 None

@@ -33,7 +33,7 @@ use Rattle.core_world.specs.Timers.{TimersHold, TimesHold}
 use Rattle.core_world.specs.Wakeups.{IsAtRest, Keeps}
 use Rattle.core_world.specs.World.{CpuRecord, World, cpu_of, group_of, scene_of}
 use Rattle.core_start.proofs.Cpus.{base_empty, consistent_empty, cpu_past, cpu_there, each_cpu, legal_empty}
-use Rattle.core_start.proofs.Groups.{bit_at_start, children_at_start, eight_at_start, group_there, law_at_start, no_event, no_lock}
+use Rattle.core_start.proofs.Groups.{bit_at_start, children_at_start, eight_at_start, group_there, law_at_start, no_event, no_lock, slots_at_start}
 
 first_true : (a b : Bool) → (a && b) ≡ true → a ≡ true
 first_true true b is = refl
@@ -109,6 +109,7 @@ module _ (t : Shape) (timers : ℕ) where
   sized = record {
     groups = length-map-range_with_len (λ g. start_group (child_count_of t g)) 0 (group_count_of t);
     cpus = length-replicate (cpu_count_of t) start_cpu;
+    slots = λ g within. slots_at_start t timers g (let all = length-map-range_with_len (λ h. start_group (child_count_of t h)) 0 (group_count_of t) in omega (arith, within, all));
   }
 
   module _ (planned : IsPlanned t) (h : IsHierarchy t) (edges : EdgeLaws t) (cuts : CutLaws t) where

@@ -1,7 +1,7 @@
 //! A world begins lawful, whatever machine its tree is planned for.
 #![tactic(auto)]
 
-ghost use Rattle.core_start.specs.Layer.{StartsLawful, StartsWithSlots};
+ghost use Rattle.core_start.specs.Layer.{StartsLawful};
 
 use tree_plan::{law_cuts, law_edges};
 use walk_rules::law_hierarchy;
@@ -14,8 +14,3 @@ pub fn law_start()
     law_edges();
     law_cuts();
 }
-
-/// Each group begins with a slot for each child that it may have.
-pub fn law_start_slots()
-    ensures { StartsWithSlots }
-{}

@@ -114,56 +114,56 @@ move_wakes w from to (Some m) hf ht nf nt f = all_wake (moved_with w from to (So
         (λ keeps. absurd (none.none (record { online = keeps.online; idle = keeps.idle; outside = keeps.outside; undisturbed = keeps.undisturbed })))
 
 pub wakeups_stay_fit : WakeupsStayFit
-wakeups_stay_fit w (steps.Clock now) h sized has timers walks edges cpus f e = all_wake (record w { clock = now }) (λ c. wakes_of w f c)
-wakeups_stay_fit w (steps.Enter cpu) h sized has timers walks edges cpus f e =
+wakeups_stay_fit w (steps.Clock now) h sized timers walks edges cpus f e = all_wake (record w { clock = now }) (λ c. wakes_of w f c)
+wakeups_stay_fit w (steps.Enter cpu) h sized timers walks edges cpus f e =
     let y : CpuRecord = record (cpu_of w cpu.0) { inside = true } in
     own_wakes w cpu.0 y e.is_free.in_range f (free_wakes w.tree cpu.0 y (slot_of w cpu.0) e.is_free.free (λ keeps. absurd (true≢false keeps.outside)))
-wakeups_stay_fit w (steps.Leave cpu) h sized has timers walks edges cpus f e =
+wakeups_stay_fit w (steps.Leave cpu) h sized timers walks edges cpus f e =
     let y : CpuRecord = record (cpu_of w cpu.0) { inside = false } in
     own_wakes w cpu.0 y e.is_free.in_range f (free_wakes w.tree cpu.0 y (slot_of w cpu.0) e.is_free.free (λ keeps. absurd (either _ keeps.idle e.busy)))
-wakeups_stay_fit w (steps.Arm cpu timer class expires job arg line) h sized has timers walks edges cpus f e =
+wakeups_stay_fit w (steps.Arm cpu timer class expires job arg line) h sized timers walks edges cpus f e =
     let y : CpuRecord = with_bases (cpu_of w cpu.0) (armed w.clock class timer.0 expires job arg line cpu (cpu_of w cpu.0).bases) in
     own_wakes w cpu.0 y e.is_free.in_range f (free_wakes w.tree cpu.0 y (slot_of w cpu.0) e.is_free.free (λ keeps. elim e.may_run [
       | inl active ↦ absurd (either _ keeps.idle (active_online _ _ active))
       | inr inside ↦ absurd (either _ inside keeps.outside)
     ]))
-wakeups_stay_fit w (steps.Cancel cpu timer by line) h sized has timers walks edges cpus f e =
+wakeups_stay_fit w (steps.Cancel cpu timer by line) h sized timers walks edges cpus f e =
     bases_wake w cpu.0 _ e.0.is_free.in_range e.0.is_free.free (cancelled_later (cpu_of w cpu.0).bases (timers.consistent cpu.0) w.clock timer.0 line by) f
-wakeups_stay_fit w (steps.Hand cpu timer runner) h sized has timers walks edges cpus f e =
+wakeups_stay_fit w (steps.Hand cpu timer runner) h sized timers walks edges cpus f e =
     bases_wake w cpu.0 _ e.is_free.in_range e.is_free.free (handed_later (cpu_of w cpu.0).bases (timers.consistent cpu.0) w.clock (class_in timer.0 (cpu_of w cpu.0).bases) runner) f
-wakeups_stay_fit w (steps.Ticked cpu class runner) h sized has timers walks edges cpus f e =
+wakeups_stay_fit w (steps.Ticked cpu class runner) h sized timers walks edges cpus f e =
     bases_wake w cpu.0 _ e.is_free.in_range e.is_free.free (out_of (cpu_of w cpu.0).bases (timers.consistent cpu.0) w.clock class runner) f
-wakeups_stay_fit w (steps.Move from to timer) h sized has timers walks edges cpus f e =
+wakeups_stay_fit w (steps.Move from to timer) h sized timers walks edges cpus f e =
     move_wakes w from.0 to.0 (first_moved (cpu_of w from.0).bases) e.from_free.in_range e.to_free.in_range
     (record { free = e.from_free.free; none = λ keeps. either _ keeps.online e.from_offline })
     (record { free = e.to_free.free; none = λ keeps. either _ keeps.idle (active_online _ _ e.to_active) }) f
-wakeups_stay_fit w (steps.Idle cpu) h sized has timers walks edges cpus f e =
+wakeups_stay_fit w (steps.Idle cpu) h sized timers walks edges cpus f e =
     let y : CpuRecord = record (cpu_of w cpu.0) { idle = true; walk = (begins_with w cpu.0 kinds.Deactivate stages.Read (events_of (cpu_of w cpu.0).bases).next) } in
     own_wakes w cpu.0 y e.is_free.in_range f (begun_wakes w.tree cpu.0 y (slot_of w cpu.0) kinds.Deactivate stages.Read _ _ refl refl
     (λ keeps. absurd (either _ keeps.undisturbed (disturbed_deactivate _ _ _ _))))
-wakeups_stay_fit w (steps.Wake cpu) h sized has timers walks edges cpus f e =
+wakeups_stay_fit w (steps.Wake cpu) h sized timers walks edges cpus f e =
     let y : CpuRecord = record (cpu_of w cpu.0) { idle = false; wakeup = NEVER; walk = (begins_with w cpu.0 kinds.Activate stages.Own (events_of (cpu_of w cpu.0).bases).next) } in
     own_wakes w cpu.0 y e.is_free.in_range f (begun_wakes w.tree cpu.0 y (slot_of w cpu.0) kinds.Activate stages.Own _ _ refl refl (λ keeps. absurd (true≢false (sym keeps.idle))))
-wakeups_stay_fit w (steps.Offline cpu) h sized has timers walks edges cpus f e =
+wakeups_stay_fit w (steps.Offline cpu) h sized timers walks edges cpus f e =
     let y : CpuRecord = record (cpu_of w cpu.0) { online = false; idle = true; walk = (begins_with w cpu.0 kinds.Offline stages.Read NEVER) } in
     own_wakes w cpu.0 y e.is_free.in_range f (begun_wakes w.tree cpu.0 y (slot_of w cpu.0) kinds.Offline stages.Read _ _ refl refl (λ keeps. absurd (true≢false (sym keeps.online))))
-wakeups_stay_fit w (steps.Online cpu) h sized has timers walks edges cpus f e =
+wakeups_stay_fit w (steps.Online cpu) h sized timers walks edges cpus f e =
     let y : CpuRecord = record (cpu_of w cpu.0) { online = true; idle = false; walk = (begins_with w cpu.0 kinds.Activate stages.Own (events_of (cpu_of w cpu.0).bases).next) } in
     own_wakes w cpu.0 y e.is_free.in_range f (begun_wakes w.tree cpu.0 y (slot_of w cpu.0) kinds.Activate stages.Own _ _ refl refl (λ keeps. absurd (true≢false (sym keeps.idle))))
-wakeups_stay_fit w (steps.Reeval cpu) h sized has timers walks edges cpus f e =
+wakeups_stay_fit w (steps.Reeval cpu) h sized timers walks edges cpus f e =
     let y : CpuRecord = with_walk (cpu_of w cpu.0) (begins_with w cpu.0 kinds.Reeval stages.LockGroup (events_of (cpu_of w cpu.0).bases).next) in
     own_wakes w cpu.0 y e.is_free.in_range f (begun_wakes w.tree cpu.0 y (slot_of w cpu.0) kinds.Reeval stages.LockGroup _ _ refl refl
     (λ keeps. absurd (either _ keeps.undisturbed (disturbed_reeval _ _ _ _))))
-wakeups_stay_fit w (steps.Take cpu by) h sized has timers walks edges cpus f e =
+wakeups_stay_fit w (steps.Take cpu by) h sized timers walks edges cpus f e =
     let y : CpuRecord = record (cpu_of w cpu.0) { mark = Some by.0 } in
     own_wakes w cpu.0 y e.is_free.in_range f (still_wakes w cpu.0 y f e.is_free.free e.is_free.free refl refl refl refl (as_before (cpu_of w cpu.0).bases))
-wakeups_stay_fit w (steps.Carry cpu) h sized has timers walks edges cpus f e =
+wakeups_stay_fit w (steps.Carry cpu) h sized timers walks edges cpus f e =
     let y : CpuRecord = with_walk (cpu_of w cpu.0) (begins_with w cpu.0 (kinds.Remote (marker_of (cpu_of w cpu.0))) stages.LockGroup (events_of (cpu_of w cpu.0).bases).next) in
     own_wakes w cpu.0 y e.is_free.in_range f (begun_wakes w.tree cpu.0 y (slot_of w cpu.0) (kinds.Remote (marker_of (cpu_of w cpu.0))) stages.LockGroup _ _ refl refl
     (λ keeps. (wakes_of w f cpu.0).enough (record { online = keeps.online; idle = keeps.idle; outside = keeps.outside; undisturbed = ap is_undisturbed e.is_free.free })))
-wakeups_stay_fit w (steps.Release cpu) h sized has timers walks edges cpus f e =
+wakeups_stay_fit w (steps.Release cpu) h sized timers walks edges cpus f e =
     let y : CpuRecord = record (cpu_of w cpu.0) { mark = None } in
     own_wakes w cpu.0 y e.is_free.in_range f (still_wakes w cpu.0 y f e.is_free.free e.is_free.free refl refl refl refl (as_before (cpu_of w cpu.0).bases))
-wakeups_stay_fit w (steps.Walk cpu) h sized has timers walks edges cpus f e =
-    subst (λ m. WakeupsFit (walk_made w cpu.0 m)) (sym e.walk) (by_stage w cpu.0 e.made e.in_range h sized has timers walks edges cpus f e.walk e.made.stage refl e.may_go_on)
-wakeups_stay_fit w (steps.HandOn cpu to) h sized has timers walks edges cpus f e = hands_on w cpu.0 e.made e.in_range h sized has timers walks edges cpus f e.walk e.handing
+wakeups_stay_fit w (steps.Walk cpu) h sized timers walks edges cpus f e =
+    subst (λ m. WakeupsFit (walk_made w cpu.0 m)) (sym e.walk) (by_stage w cpu.0 e.made e.in_range h sized timers walks edges cpus f e.walk e.made.stage refl e.may_go_on)
+wakeups_stay_fit w (steps.HandOn cpu to) h sized timers walks edges cpus f e = hands_on w cpu.0 e.made e.in_range h sized timers walks edges cpus f e.walk e.handing

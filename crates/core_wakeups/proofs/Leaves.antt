@@ -15,7 +15,6 @@ use Rattle.core_world.specs.World.{CpuRecord, World, group_of, moved}
 use Rattle.core_world.proofs.Moves.{moved_laws}
 use Rattle.core_world.proofs.Quiet.{moved_group_field}
 use Rattle.core_edges.proofs.Facts.{own_child, own_edge}
-use Rattle.core_wakeups.specs.Slots.{HasSlots}
 
 abbrev pub slot_at : World → (c : ℕ) → (leaf : Option ℕ) → Option Event
 slot_at w c None = None
@@ -69,11 +68,11 @@ module _ (w : World) (g : ℕ) (x : Group) (c : ℕ) (y : CpuRecord) (r : Bool) 
         at_leaf (Some leaf) is = same_slot d leaf (elsewhere d leaf l refl other is)
 
     -- and at the leaf it is what CPU c has there
-    pub slot_written : IsSized w → HasSlots w → l ≡ 0 → slot_of (moved w g x c y r) c ≡ e
-    slot_written sized has low =
+    pub slot_written : IsSized w → l ≡ 0 → slot_of (moved w g x c y r) c ≡ e
+    slot_written sized low =
         let path : group_at_of w.tree c 0 ≡ Some g = subst (λ n. group_at_of w.tree c n ≡ Some g) low here in
         let within : g < length w.groups = (let groups = sized.groups in let low = h.within c 0 g path in omega (arith, groups, low)) in
-        let slot : side w.tree c 0 < length (group_of w g).events = (let at = own_side w.tree c in let eight = h.eight (of_cpu c) in let slots = has g within in omega (arith, at, eight, slots)) in
+        let slot : side w.tree c 0 < length (group_of w g).events = (let at = own_side w.tree c in let eight = h.eight (of_cpu c) in let slots = sized.slots g within in omega (arith, at, eight, slots)) in
         let now : x.events ≡ set (group_of w g).events (side w.tree c 0) e = subst (λ n. x.events ≡ set (group_of w g).events (side w.tree c n) e) low written in
         ap (slot_at (moved w g x c y r) c) path ∙ (ap (λ (z : Group). event_at z.events (side w.tree c 0)) ((moved_laws w g x c y r).group within)
         ∙ (ap (λ events. event_at events (side w.tree c 0)) now ∙ get_or-set_same (group_of w g).events (side w.tree c 0) e None slot))

@@ -1,4 +1,3 @@
-pub mod SlotCounts
 pub mod Leaves
 pub mod Later
 pub mod Owed

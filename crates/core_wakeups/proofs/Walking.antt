@@ -28,7 +28,6 @@ use Rattle.core_walks.proofs.Stands.{leaf_or, stage_fits, stands_in}
 use Rattle.core_edges.specs.Layer.{EdgesFit}
 use Rattle.core_cpus.specs.Layer.{CpusFit}
 use Rattle.core_wakeups.specs.Layer.{WakeupsFit}
-use Rattle.core_wakeups.specs.Slots.{HasSlots}
 use Rattle.core_wakeups.proofs.Leaves.{slot_of, slot_written, slots_else}
 use Rattle.core_wakeups.proofs.Owed.{HasToldLeaf, IsEnough, WakesWell, free_wakes, moved_wakes, own_wakes, same_wakes, told_enough, wakes_of}
 
@@ -108,7 +107,7 @@ offline_wakes : (t : Shape) (c : ℕ) (y : CpuRecord) (slot : Option Event) → 
     → ((k : Walk) → y.walk ≡ Some k → Tells k.kind → HasGroup t c → HasToldLeaf k → slot ≡ leaf_event c k.next) → WakesWell t c y slot
 offline_wakes t c y slot off told = record { enough = λ keeps. absurd (true≢false (sym keeps.online ∙ off)); told = told }
 
-module _ (w : World) (c : ℕ) (k : Walk) (hc : c < length w.cpus) (h : IsHierarchy w.tree) (sized : IsSized w) (has : HasSlots w) (timers : TimersHold w)
+module _ (w : World) (c : ℕ) (k : Walk) (hc : c < length w.cpus) (h : IsHierarchy w.tree) (sized : IsSized w) (timers : TimersHold w)
     (walks : WalksFit w.tree (scene_of w)) (edges : EdgesFit w.tree (scene_of w)) (cpus : CpusFit w) (f : WakeupsFit w) (is : (cpu_of w c).walk ≡ Some k) where
   now : WakesWell w.tree c (cpu_of w c) (slot_of w c)
   now = wakes_of w f c
@@ -195,7 +194,7 @@ module _ (w : World) (c : ℕ) (k : Walk) (hc : c < length w.cpus) (h : IsHierar
   store_at e zero low =
       let path = stands_here stages.Store e (λ z. cc) in
       store_low (slot_of (moved w (here w c k) stored c storing false) c)
-      (slot_written w (here w c k) stored c storing false h k.level path (stored_event k.level c k) refl sized has low ∙ ap (λ l. stored_event l c k) low)
+      (slot_written w (here w c k) stored c storing false h k.level path (stored_event k.level c k) refl sized low ∙ ap (λ l. stored_event l c k) low)
   store_at e (suc l) high =
       let path = stands_here stages.Store e (λ z. cc) in
       let above : 0 < k.level = omega (arith, high) in

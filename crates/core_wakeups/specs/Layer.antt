@@ -11,17 +11,15 @@ use Rattle.core_world.specs.World.{World, scene_of}
 use Rattle.core_walks.specs.Fit.{WalksFit}
 use Rattle.core_edges.specs.Layer.{EdgesFit}
 use Rattle.core_cpus.specs.Layer.{CpusFit}
-use Rattle.core_wakeups.specs.Slots.{HasSlots}
 
 pub record WakeupsFit (w : World) : Type 0 where
   pub wakeups : WakeupsHold w
   pub own_event : OwnEvent w
 
--- THE LAW. The slots are there for what Store writes; by part 10 no queued expiry is past NEVER, so
--- that no event gets sooner as a timer goes out
+-- THE LAW. By part 10 no queued expiry is past NEVER, so that no event gets sooner as a timer goes
+-- out
 abbrev pub WakeupsStayFit : Type 0
-WakeupsStayFit = (w : World) (step : Step) → IsHierarchy w.tree → IsSized w → HasSlots w →
-    TimersHold w →
+WakeupsStayFit = (w : World) (step : Step) → IsHierarchy w.tree → IsSized w → TimersHold w →
     WalksFit w.tree (scene_of w) → EdgesFit w.tree (scene_of w) → CpusFit w → WakeupsFit w →
     Enabled w step →
     WakeupsFit (stepped w step)

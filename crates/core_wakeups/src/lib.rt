@@ -2,12 +2,6 @@
 #![tactic(auto)]
 
 ghost use Rattle.core_wakeups.specs.Layer.{WakeupsStayFit};
-ghost use Rattle.core_wakeups.specs.Slots.{SlotsStay};
-
-/// Each group has a slot for each child that it may have, and every step leaves it those.
-pub fn law_slots()
-    ensures { SlotsStay }
-{}
 
 /// A CPU that keeps its wakeup is woken in time, or has told its leaf; and every step keeps it so.
 pub fn law_wakeups()
