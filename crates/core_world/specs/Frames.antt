@@ -57,15 +57,18 @@ QuietSteps =
     (w : World) (step : Step) → Enabled w step → is_quiet step ≡ true →
     scene_of (stepped w step) ≡ scene_of w
 
--- there are as many groups and CPUs as the tree has
+-- there are as many groups and CPUs as the tree has, and each group has a slot for the event of
+-- each child that it may have
 pub record IsSized (w : World) : Type 0 where
   pub groups : length w.groups ≡ group_count_of w.tree
   pub cpus : length w.cpus ≡ cpu_count_of w.tree
+  pub slots : (g : ℕ) → g < length w.groups → length (group_of w g).events ≡ 8
 
--- no step changes the tree or the numbers of groups and CPUs
+-- no step changes the tree or the numbers of groups, their slots and CPUs
 pub record SameSize (old new : World) : Type 0 where
   pub tree : new.tree ≡ old.tree
   pub groups : length new.groups ≡ length old.groups
+  pub slots : (g : ℕ) → length (group_of new g).events ≡ length (group_of old g).events
   pub cpus : length new.cpus ≡ length old.cpus
   pub timers : new.timers ≡ old.timers
 

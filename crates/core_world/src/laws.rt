@@ -16,7 +16,7 @@ pub fn law_quiet()
     ensures { QuietSteps }
 {}
 
-/// No step changes the tree, or how many groups, CPUs and timers there are.
+/// No step changes the tree, or how many groups with how many slots, CPUs and timers there are.
 pub fn law_sizes()
     ensures { SizesStay }
 {}

@@ -1,0 +1,3 @@
+pub mod Cpus
+pub mod Groups
+pub mod Starts
