@@ -1,0 +1,12 @@
+pub mod Carries
+pub mod Slots
+pub mod Below
+pub mod Walking
+pub mod Told
+pub mod Writes
+pub mod Rises
+pub mod Stores
+pub mod Bests
+pub mod Sights
+pub mod Slotted
+pub mod Keeps
