@@ -1,0 +1,3 @@
+//! Timers, journals and times of the core: what every world is to keep of them. What steps keep is
+//! shown in `proofs/`.
+#![tactic(auto)]
