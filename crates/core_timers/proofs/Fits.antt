@@ -1,5 +1,5 @@
 -- timers of all CPUs, where those of none or of one CPU change
-use Rattle.std.proofs.Common.{arith, ◌≡◌, ◌≢◌, ℕ, ◌-◌, ◌<◌, ◌≤◌, length, set, List, Some}
+use Rattle.std.proofs.Common.{arith, ◌≡◌, ◌≢◌, ℕ, ◌-◌, ◌^◌, ◌<◌, ◌≤◌, length, set, List, Some}
 use Rattle.std.proofs.Common.{None, sym, ap}
 use Rattle.std.proofs.Common.{◌∙◌, subst, inl, inr}
 use Rattle.std.specs.Prelude.{All}
@@ -37,6 +37,7 @@ module _ (w v : World) (f : TimersFit w) (timers : v.timers ≡ w.timers) (later
       };
       times = record {
         clock = in_time;
+        few = subst (λ n. n ≤ 2 ^ 16) (sym timers) f.times.few;
         known = λ c class. subst (λ b. All (λ item. item.id < v.timers) (base_of class b).items)
             (sym (same c)) (subst (λ n. All (λ item. item.id < n)
             (base_of class (cpu_of w c).bases).items) (sym timers) (f.times.known c class));
@@ -105,6 +106,7 @@ module _ (w : World) (c : ℕ) (y : CpuRecord) (hc : c < length w.cpus) (f : Tim
     };
     times = record {
       clock = f.times.clock;
+      few = f.times.few;
       known = all (λ d b. Each (λ id. id < w.timers) b) fits.known f.times.known;
     };
   }
@@ -118,5 +120,5 @@ grouped_fit w gs f = record {
     consistent =
         f.timers.consistent;
   };
-  times = record { clock = f.times.clock; known = f.times.known };
+  times = record { clock = f.times.clock; few = f.times.few; known = f.times.known };
 }

@@ -1,5 +1,5 @@
 -- every step keeps timers, journals and times
-use Rattle.std.proofs.Common.{◌≡◌, ◌≢◌, ◌⊎◌, ℕ, ◌^◌, ◌<◌, ◌≤◌, Bool, true, false, true≢false}
+use Rattle.std.proofs.Common.{◌≡◌, ◌≢◌, ◌⊎◌, ℕ, ◌^◌, ◌<◌, Bool, true, false, true≢false}
 use Rattle.std.proofs.Common.{length, Option, Some, None, refl, sym, ap, ◌∙◌, subst, inl, inr}
 use Rattle.std.proofs.Common.{arith}
 use Rattle.std.specs.Prelude.{◌&&◌, not, option_map}
@@ -23,7 +23,7 @@ use Rattle.core_world.specs.Steps.{first_moved, giver, handed_of, moved_with, st
 use Rattle.core_world.specs.Steps.{with_bases}
 use Rattle.core_world.specs.World.{CpuRecord, World, cpu_of, own}
 use Rattle.core_world.proofs.Sizes.{sizes_stay}
-use Rattle.core_timers.specs.Layer.{TimersFit}
+use Rattle.core_timers.specs.Layer.{TimersFit, TimersStayFit}
 use Rattle.core_timers.proofs.Bases.{changes_timers, same_bases}
 use Rattle.core_timers.proofs.Calls.{alone_here, armed_fits, cancelled_fits, handed_out_fits}
 use Rattle.core_timers.proofs.Calls.{moved_in_fits, moved_out_fits, moved_out_gone, oldest_queued}
@@ -173,31 +173,31 @@ arm w c timer class expires job arg line by small f e =
       none_behind = e.none_behind;
     }) e.known (λ d ne. e.not_queued d))
 
-pub steps_keep : (w : World) (step : Step) → w.timers ≤ 2 ^ 16 → TimersFit w → Enabled w step
-    → TimersFit (stepped w step)
-steps_keep w (steps.Clock now) few f e = same_fit w (record w { clock = now }) f refl e.not_back
+pub timers_stay_fit : TimersStayFit
+timers_stay_fit w (steps.Clock now) sized f e = same_fit w (record w { clock = now }) f refl e.not_back
     e.in_time (λ d. refl)
-steps_keep w (steps.Arm cpu timer class expires job arg line) few f e =
+timers_stay_fit w (steps.Arm cpu timer class expires job arg line) sized f e =
     let known = e.known in
+    let few = f.times.few in
     arm w cpu.0 timer.0 class expires job arg line cpu (omega arith) f e
-steps_keep w (steps.Cancel cpu timer by line) few f e =
+timers_stay_fit w (steps.Cancel cpu timer by line) sized f e =
     own_fit w cpu.0 _ e.0.is_free.in_range f (cancelled_fits w cpu.0 f timer.0 line by)
-steps_keep w (steps.Hand cpu timer runner) few f e =
+timers_stay_fit w (steps.Hand cpu timer runner) sized f e =
     own_fit w cpu.0 _ e.is_free.in_range f (hand w cpu.0 e.class runner f e.may_run
     (class_in timer.0 (cpu_of w cpu.0).bases) e.queued)
-steps_keep w (steps.Ticked cpu class runner) few f e =
+timers_stay_fit w (steps.Ticked cpu class runner) sized f e =
     own_fit w cpu.0 _ e.is_free.in_range f (handed_out_fits w cpu.0 f class runner
     (may_hand w cpu.0 class runner.0 e.may_run))
-steps_keep w (steps.Move from to timer) few f e = moves w from.0 to.0 timer.0 f e
-steps_keep w (steps.Enter cpu) few f e = stays w (steps.Enter cpu) f e refl
-steps_keep w (steps.Leave cpu) few f e = stays w (steps.Leave cpu) f e refl
-steps_keep w (steps.Idle cpu) few f e = stays w (steps.Idle cpu) f e refl
-steps_keep w (steps.Wake cpu) few f e = stays w (steps.Wake cpu) f e refl
-steps_keep w (steps.Offline cpu) few f e = stays w (steps.Offline cpu) f e refl
-steps_keep w (steps.Online cpu) few f e = stays w (steps.Online cpu) f e refl
-steps_keep w (steps.Reeval cpu) few f e = stays w (steps.Reeval cpu) f e refl
-steps_keep w (steps.Take cpu by) few f e = stays w (steps.Take cpu by) f e refl
-steps_keep w (steps.Carry cpu) few f e = stays w (steps.Carry cpu) f e refl
-steps_keep w (steps.Release cpu) few f e = stays w (steps.Release cpu) f e refl
-steps_keep w (steps.Walk cpu) few f e = stays w (steps.Walk cpu) f e refl
-steps_keep w (steps.HandOn cpu to) few f e = stays w (steps.HandOn cpu to) f e refl
+timers_stay_fit w (steps.Move from to timer) sized f e = moves w from.0 to.0 timer.0 f e
+timers_stay_fit w (steps.Enter cpu) sized f e = stays w (steps.Enter cpu) f e refl
+timers_stay_fit w (steps.Leave cpu) sized f e = stays w (steps.Leave cpu) f e refl
+timers_stay_fit w (steps.Idle cpu) sized f e = stays w (steps.Idle cpu) f e refl
+timers_stay_fit w (steps.Wake cpu) sized f e = stays w (steps.Wake cpu) f e refl
+timers_stay_fit w (steps.Offline cpu) sized f e = stays w (steps.Offline cpu) f e refl
+timers_stay_fit w (steps.Online cpu) sized f e = stays w (steps.Online cpu) f e refl
+timers_stay_fit w (steps.Reeval cpu) sized f e = stays w (steps.Reeval cpu) f e refl
+timers_stay_fit w (steps.Take cpu by) sized f e = stays w (steps.Take cpu by) f e refl
+timers_stay_fit w (steps.Carry cpu) sized f e = stays w (steps.Carry cpu) f e refl
+timers_stay_fit w (steps.Release cpu) sized f e = stays w (steps.Release cpu) f e refl
+timers_stay_fit w (steps.Walk cpu) sized f e = stays w (steps.Walk cpu) f e refl
+timers_stay_fit w (steps.HandOn cpu to) sized f e = stays w (steps.HandOn cpu to) f e refl

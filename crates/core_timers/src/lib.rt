@@ -1,3 +1,10 @@
-//! Timers, journals and times of the core: what every world is to keep of them. What steps keep is
-//! shown in `proofs/`.
+//! Every step keeps timers, journals and times: each timer is queued at most once, each journal is
+//! legal, and each base agrees with it.
 #![tactic(auto)]
+
+ghost use Rattle.core_timers.specs.Layer.{TimersStayFit};
+
+/// Every step keeps timers, journals and times.
+pub fn law_timers()
+    ensures { TimersStayFit }
+{}
