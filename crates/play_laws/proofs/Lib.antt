@@ -8,3 +8,6 @@ pub mod Invariant
 pub mod Changes
 pub mod Migrators
 pub mod States
+pub mod Wakes
+pub mod Ends
+pub mod Timers
