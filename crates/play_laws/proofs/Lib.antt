@@ -11,3 +11,4 @@ pub mod States
 pub mod Wakes
 pub mod Ends
 pub mod Timers
+pub mod Covered
