@@ -70,7 +70,7 @@ found_some p a (suc n) d from below is none =
     ]
 
 -- a member of a set of those that pass
-some_kept : (p q : ℕ → Bool) (xs : List ℕ) → list_any q (filter p xs) ≡ true → (x : ℕ) × (p x ≡ true) × (q x ≡ true)
+pub some_kept : (p q : ℕ → Bool) (xs : List ℕ) → list_any q (filter p xs) ≡ true → (x : ℕ) × (p x ≡ true) × (q x ≡ true)
 some_kept p q [] is = absurd (false≢true is)
 some_kept p q (x ∷ xs) is =
     elim (cases_Bool (p x)) [
