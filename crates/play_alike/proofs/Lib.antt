@@ -1,0 +1,4 @@
+pub mod Alike
+pub mod AlikeInterrupts
+pub mod AlikeOperations
+pub mod AlikeTurns
