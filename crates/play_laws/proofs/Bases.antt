@@ -1,22 +1,22 @@
 -- for crates above: what a CPU's bases keep of their items, call by call
-use Rattle.std.proofs.Common.{◌≡◌, ℕ, zero, suc, ◌+◌, ◌-◌, ◌^◌, ◌<◌, ◌≤◌, List, [], ◌∷◌, ◌++◌, Bool, true, false, Option, Some, None, refl, sym, ap, ◌∙◌, subst, arith, inl, inr, max}
-use Rattle.std.specs.Prelude.{All, nat_le, nat_lt, if◌then◌else◌, is_some}
+use Rattle.std.proofs.Common.{◌≡◌, ℕ, zero, suc, ◌+◌, ◌-◌, ◌<◌, ◌≤◌, List, Option, Some, None, refl, arith, inl, inr}
+use Rattle.std.specs.Prelude.{All, nat_le, is_some}
 use Rattle.std.proofs.lemmas.Bool.{cases_Bool, cases_lt, cond_both, leb-true, le-ltb, lt-ltb}
 use Rattle.std.proofs.lemmas.List.Elements.{All-push}
-use Rattle.std.proofs.lemmas.Option.{none-some, same_Some}
+use Rattle.std.proofs.lemmas.Option.{none-some}
 use Rattle.tm_base.specs.declared.names.TheConstants.{NEVER}
 use Rattle.tm_base.specs.declared.limits.TheConstants.{SCRIPT_TIME_LIMIT}
 use Rattle.tm_base.specs.declared.names.Class.{Class}
 use Rattle.tm_base.specs.declared.names.Class.TheVariants.{Pinned, Global, Deferrable}
 use Rattle.tm_base.specs.declared.names.CpuId.{CpuId}
 use Rattle.wheel_core.specs.declared.item.Item.{Item}
-use Rattle.wheel_core.specs.WheelExpiry.{cutoff, granule_end, greatest_timeout, wheel_expiry_of}
+use Rattle.wheel_core.specs.WheelExpiry.{cutoff, greatest_timeout, wheel_expiry_of}
 use Rattle.wheel_core.specs.PlainBase.{PlainBase, added, after_out, first_out, forwarded, least, next_out, out_at, placed, removed, taken}
 use Rattle.wheel_core.proofs.HandOut.{goes_out}
 use Rattle.wheel_core.proofs.Ids.{all_without}
 use Rattle.wheel_core.proofs.Levels.{ends, keeps_time}
 use Rattle.wheel_core.proofs.Plain.{all_after_out, clock-forwarded_le}
-use Rattle.cpu_bases.specs.CpuBases.{CpuBases, NotAhead, after_cancel, after_hand_out, after_move_out, armed, base_of, cancelled, drained, found_in, handed_out, item_queued, moved_in, moved_out, oldest_in}
+use Rattle.cpu_bases.specs.CpuBases.{CpuBases, NotAhead, after_cancel, after_hand_out, after_move_out, armed, base_of, cancelled, drained, found_in, handed_out, moved_in, moved_out, oldest_in}
 use Rattle.cpu_bases.specs.ByClass.{of_class, with_class}
 
 -- A WHEEL EXPIRY comes before NEVER, whatever was asked for

@@ -1,11 +1,8 @@
 -- for crates above: one CPU changes, and what carries the law is kept
-use Rattle.std.proofs.Common.{◌≡◌, ℕ, ◌+◌, ◌<◌, ◌≤◌, List, Bool, true, false, Option, Some, None, refl, sym, ap, ◌∙◌, subst, arith, inl, inr, min, length, get_or}
-use Rattle.std.specs.Prelude.{◌⊎◌, All, if◌then◌else◌, nat_lt, unwrap_or}
+use Rattle.std.proofs.Common.{◌≡◌, ℕ, ◌<◌, ◌≤◌, List, Bool, true, false, Option, Some, None, refl, sym, ap, ◌∙◌, subst, arith, inl, inr, min, get_or}
+use Rattle.std.specs.Prelude.{All, if◌then◌else◌, unwrap_or}
 use Rattle.std.proofs.lemmas.Bool.{both_ways, cases_Bool, cases_lt, le-ltb, lt-ltb}
-use Rattle.std.proofs.lemmas.List.Elements.{All-weaker}
-use Rattle.std.proofs.lemmas.Option.{none-some, same_Some}
 use Rattle.tm_base.specs.declared.names.TheConstants.{NEVER}
-use Rattle.tm_base.specs.declared.names.Class.{Class}
 use Rattle.tm_base.specs.declared.names.Class.TheVariants.{Pinned, Global}
 use Rattle.wheel_core.specs.declared.item.Item.{Item}
 use Rattle.wheel_core.specs.PlainBase.{least}
@@ -16,7 +13,7 @@ use Rattle.tree_plan.specs.Paths.{has_group_in}
 use Rattle.cpu_bases.specs.CpuBases.{CpuBases, base_of, events_of, first_of}
 use Rattle.play_rules.specs.State.{Cpu}
 use Rattle.play_laws.proofs.Bases.{Comes, IsBase}
-use Rattle.play_laws.proofs.Invariant.{Answers, AreAnswered, Fits, InTime, Invariant, Later, Led, SomeWakes, alike_top, apart_top, busy, each_put, put, put_alike, rests}
+use Rattle.play_laws.proofs.Invariant.{Answers, Fits, InTime, Invariant, Later, Led, SomeWakes, alike_top, apart_top, busy, each_put, put, put_alike, rests}
 
 -- THE FIRST of a list of items, or NEVER
 abbrev first_in : List Item → ℕ
@@ -143,7 +140,7 @@ module _ (now : ℕ) (t : Shape) (planned : IsPlanned t) (cpu : ℕ → Cpu) (mi
           led = same_led c y refl inv.led;
           answers = answers;
           others = λ d other free. free;
-          top = λ topped. alike_top t planned cpu (put cpu c y) (put_alike cpu c y busy refl) 
+          top = λ topped. alike_top t planned cpu (put cpu c y) (put_alike cpu c y busy refl)
               (λ d is. put_alike cpu c y rests refl d ∙ is)
               (put_alike cpu c y (λ x. x.wakeup) refl) (put_alike cpu c y (λ x. x.told) refl) (inv.top topped);
         })

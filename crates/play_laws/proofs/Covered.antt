@@ -1,24 +1,20 @@
 -- for crates above: where what carries the law holds, every idle CPU's global timers are answered for
-use Rattle.std.proofs.Common.{◌≡◌, ℕ, zero, suc, ◌+◌, ◌-◌, ◌<◌, ◌≤◌, Bool, true, false, Option, Some, None, refl, sym, ap, ◌∙◌, subst, arith, inl, inr, get_or, zero-add}
-use Rattle.std.specs.Prelude.{◌⊎◌, ◌&&◌, ◌==◌, filter, if◌then◌else◌, nat_lt, not, option_map, unwrap_or}
-use Rattle.std.specs.List.{list_any}
-use Rattle.std.proofs.lemmas.Bool.{and_from, both_ways, cases_Bool, cases_eq, cond-false, cond-true, eqb-true, eqb-false, lt-ltb, ne_eqb, false_from_ne_true}
-use Rattle.std.proofs.lemmas.Option.{none-some, same_Some}
+use Rattle.std.proofs.Common.{◌≡◌, ℕ, zero, suc, ◌+◌, ◌-◌, ◌<◌, ◌≤◌, true, Option, Some, None, refl, sym, ap, ◌∙◌, arith, inl, inr, get_or, zero-add}
+use Rattle.std.specs.Prelude.{◌⊎◌, ◌&&◌, ◌==◌, filter, nat_lt, option_map, unwrap_or}
+use Rattle.std.proofs.lemmas.Bool.{and_from, cases_eq, cond-false, cond-true, eqb-true, lt-ltb, ne_eqb, false_from_ne_true}
+use Rattle.std.proofs.lemmas.Option.{same_Some}
 use Rattle.tm_base.specs.declared.names.TheConstants.{NEVER}
 use Rattle.tm_base.specs.declared.names.Child.{Child}
 use Rattle.tm_base.specs.declared.names.Child.TheVariants as children
-use Rattle.tm_base.specs.Children.{of_cpu, of_group}
-use Rattle.coverage.specs.Coverage.{HasEvent, Held, IsAnsweredFor, Leads, Told, TopWakes, WakesBy, WakesItself, to_cpu, to_group}
-use Rattle.tree_plan.specs.Shape.{Shape, IsPlanned}
-use Rattle.tree_plan.specs.Paths.{bit_of, bit_towards, child_at, child_towards, cpu_count_of, group_at_of, group_count_of, has_group_in, is_below, is_placed_in, is_under, level_count_of, level_of}
+use Rattle.coverage.specs.Coverage.{HasEvent, Held, IsAnsweredFor, Leads, Told, TopWakes, to_cpu, to_group}
+use Rattle.tree_plan.specs.Paths.{bit_of, bit_towards, child_at, group_at_of, group_count_of, has_group_in, is_below, is_placed_in, is_under, level_count_of, level_of}
 use Rattle.tree_plan.proofs.Below.{below_laws, paths, placed_laws}
 use Rattle.tree_plan.proofs.Trees.{edge_laws, level_laws}
 use Rattle.play_rules.specs.State.{State, all_cpus, cpu_at, cpu_count, is_active, migrator_at}
-use Rattle.play_rules.specs.Hierarchy.{is_placed, least_told}
+use Rattle.play_rules.specs.Hierarchy.{least_told}
 use Rattle.play_rules.specs.Covers.{told_below}
 use Rattle.play_laws.specs.Settled.{IsSettled, coming, kept_by, machine_of}
-use Rattle.play_laws.proofs.Invariant.{ActiveChild, InTime, NonePlacedActive, WakesForAll, busy, levels_there, rests, teller_grouped}
-use Rattle.play_laws.proofs.Migrators.{below_low}
+use Rattle.play_laws.proofs.Invariant.{NonePlacedActive, WakesForAll, levels_there, rests, teller_grouped}
 use Rattle.play_laws.proofs.Ranges.{filter_member, in_range, least_above, least_below, member_was, range_low}
 use Rattle.play_laws.proofs.States.{IsKept, Nobody}
 
@@ -37,7 +33,7 @@ module _ (s : State) (kept : IsKept Nobody (Unit {0}) s) where
   leads_by : (n g k : ℕ) (m : Child) (d : ℕ) → level_of s.tree g < suc n → migrator_at s g ≡ Some k
       → child_at s.tree g k ≡ Some m → is_active s d ≡ true → is_under s.tree d m ≡ true
       → ((h : ℕ) → level_of s.tree h < n → h < group_count_of s.tree → is_below s.tree d h ≡ true
-          → (e : ℕ) × Leads (machine_of s) e h)
+      → (e : ℕ) × Leads (machine_of s) e h)
       → (e : ℕ) × Leads (machine_of s) e g
   leads_by n g k (children.Cpu e) d high migrator at on under below =
       let same : d ≡ e.0 = eqb-true d e.0 under in
@@ -169,8 +165,8 @@ module _ (s : State) (kept : IsKept Nobody (Unit {0}) s) where
           least_above (λ d. (cpu_at s d).told) (cpu_at s w).wakeup NEVER (filter (λ d. is_under s.tree d e) (all_cpus s))
           (omega (arith, first, told))
           (λ d is.
-              let there = range_low (cpu_count s) d (member_was (λ f. is_under s.tree f e) (all_cpus s) d is) in
-              wakes.in_time d (omega (arith, there, count)))
+          let there = range_low (cpu_count s) d (member_was (λ f. is_under s.tree f e) (all_cpus s) d is) in
+          wakes.in_time d (omega (arith, there, count)))
 
       woken_at : (level : ℕ) → suc level ≡ level_count_of s.tree → Quiet (suc level) → TopWakes (machine_of s) c wheel
       woken_at level last quiet =

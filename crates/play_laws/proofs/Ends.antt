@@ -1,18 +1,16 @@
 -- for crates above: a CPU comes online, and an interrupt ends, and what carries the law is kept
-use Rattle.std.proofs.Common.{◌≡◌, ℕ, ◌+◌, ◌<◌, Bool, true, false, Option, Some, None, refl, sym, ap, ◌∙◌, subst, arith, inl, inr, length}
+use Rattle.std.proofs.Common.{◌≡◌, ℕ, ◌<◌, Bool, true, false, refl, sym, ap, ◌∙◌, subst, arith, inl, inr}
 use Rattle.std.specs.Prelude.{◌&&◌, not, if◌then◌else◌}
-use Rattle.std.proofs.lemmas.Bool.{and_from, and_left, and_parts, and_right, both_ways, cases_Bool, cases_eq, false≢true, not_from_false}
+use Rattle.std.proofs.lemmas.Bool.{and_from, and_left, and_parts, both_ways, cases_Bool, cases_eq, not_from_false}
 use Rattle.std.proofs.lemmas.List.{length-set}
-use Rattle.tm_base.specs.declared.names.TheConstants.{NEVER}
-use Rattle.tree_plan.specs.Paths.{has_group_in, is_placed_in}
 use Rattle.tree_plan.proofs.Below.{placed_laws}
 use Rattle.play_rules.specs.State.{Cpu, State, cpu_at, cpu_count, has_group, migrator_at, with_cpu}
-use Rattle.play_rules.specs.Hierarchy.{come_online, is_placed, programmed, reevaluated, told_again, woken}
+use Rattle.play_rules.specs.Hierarchy.{come_online, reevaluated, told_again, woken}
 use Rattle.play_rules.specs.Timers.{controlling}
 use Rattle.play_rules.specs.Play.{ended}
-use Rattle.play_laws.proofs.Invariant.{Answers, Fits, Invariant, SomeWakes, active_top, alike_top, busy, put, put_alike, put_other, rests}
-use Rattle.play_laws.proofs.Changes.{Put, put_kept, same_led, told_in}
-use Rattle.play_laws.proofs.States.{IsKept, Nobody, Only, here_is, programs_kept, told_kept, weaker, with_kept, written_alike}
+use Rattle.play_laws.proofs.Invariant.{Answers, SomeWakes, active_top, alike_top, busy, put, put_alike, put_other, rests}
+use Rattle.play_laws.proofs.Changes.{put_kept, same_led, told_in}
+use Rattle.play_laws.proofs.States.{IsKept, Nobody, Only, here_is, programs_kept, told_kept, weaker, with_kept}
 use Rattle.play_laws.proofs.Wakes.{wakes_kept, woken_busy}
 
 -- ONLINE: it comes up idle, and then it wakes
@@ -33,7 +31,7 @@ module _ (s : State) (c : ℕ) (low : c < cpu_count s) (kept : IsKept Nobody (Un
       elim (cases_eq d c) [
         | inl same ↦
             absurd (both_ways (cpu_at s c).online offline
-                (and_parts (cpu_at s c).online (cpu_at s c).idle (ap (λ k. rests (cpu_at s k)) (sym same) ∙ is)).0)
+            (and_parts (cpu_at s c).online (cpu_at s c).idle (ap (λ k. rests (cpu_at s k)) (sym same) ∙ is)).0)
         | inr other ↦ ap rests (put_other (cpu_at s) c up d other) ∙ is
       ]
 
@@ -42,21 +40,21 @@ module _ (s : State) (c : ℕ) (low : c < cpu_count s) (kept : IsKept Nobody (Un
       let old = kept.holds.each c in
       with_kept Nobody (Unit {0}) s kept c low (Only c) (Unit {0}) up
       (put_kept s.clock s.tree kept.planned (cpu_at s) (migrator_at s) Nobody (Only c) (Unit {0}) (Unit {0}) c up (migrator_at s) kept.holds
-          (record {
-            fits = record {
-              away = λ off. absurd (both_ways (rests up) off idle_up);
-              offline = λ off. idle_up;
-              ungrouped = old.ungrouped;
-              pinned = old.pinned;
-              global = old.global;
-            };
-            led = same_led s.clock s.tree kept.planned (cpu_at s) (migrator_at s) c up up_busy kept.holds.led;
-            answers = λ free. absurd (free refl);
-            others = λ d other free owes. owes;
-            top = λ _. alike_top s.tree kept.planned (cpu_at s) (put (cpu_at s) c up) (put_alike (cpu_at s) c up busy up_busy)
-                up_rests (put_alike (cpu_at s) c up (λ x. x.wakeup) refl) (put_alike (cpu_at s) c up (λ x. x.told) refl)
-                (kept.holds.top tt);
-          }))
+      (record {
+        fits = record {
+          away = λ off. absurd (both_ways (rests up) off idle_up);
+          offline = λ off. idle_up;
+          ungrouped = old.ungrouped;
+          pinned = old.pinned;
+          global = old.global;
+        };
+        led = same_led s.clock s.tree kept.planned (cpu_at s) (migrator_at s) c up up_busy kept.holds.led;
+        answers = λ free. absurd (free refl);
+        others = λ d other free owes. owes;
+        top = λ _. alike_top s.tree kept.planned (cpu_at s) (put (cpu_at s) c up) (put_alike (cpu_at s) c up busy up_busy)
+            up_rests (put_alike (cpu_at s) c up (λ x. x.wakeup) refl) (put_alike (cpu_at s) c up (λ x. x.told) refl)
+            (kept.holds.top tt);
+      }))
 
   pub comes_kept : IsKept Nobody (Unit {0}) (come_online s c)
   comes_kept =

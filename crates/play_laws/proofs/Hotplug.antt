@@ -1,24 +1,22 @@
 -- for crates above: a CPU leaves and hands on its duty, and another one takes control, and what carries the law is kept
-use Rattle.std.proofs.Common.{◌≡◌, ℕ, ◌+◌, ◌<◌, Bool, true, false, Option, Some, None, refl, sym, ap, ◌∙◌, subst, arith, inl, inr}
+use Rattle.std.proofs.Common.{◌≡◌, ℕ, ◌<◌, Bool, true, false, Option, Some, None, refl, sym, ap, ◌∙◌, arith, inl, inr}
 use Rattle.std.specs.Prelude.{◌&&◌, ◌==◌, find, if◌then◌else◌, is_none, is_some, nat_lt, not}
 use Rattle.std.specs.List.{range_with_len}
 use Rattle.std.specs.Option.{option_or}
-use Rattle.std.proofs.lemmas.Bool.{and_from, and_parts, and_right, both_ways, cases_Bool, cases_eq, cases_lt, cond-false, cond-true, eq-eqb, eqb-true, false≢true, lt-ltb, not_from_true, not-true}
-use Rattle.std.proofs.lemmas.Option.{none-some, same_Some}
+use Rattle.std.proofs.lemmas.Bool.{and_from, and_parts, both_ways, cases_Bool, cases_eq, cases_lt, cond-false, cond-true, eq-eqb, lt-ltb}
+use Rattle.std.proofs.lemmas.Option.{none-some}
 use Rattle.tm_base.specs.declared.names.TheConstants.{NEVER}
-use Rattle.tm_base.specs.declared.faults.OpFault.{OpFault}
 use Rattle.tm_base.specs.declared.faults.OpFault.TheVariants as faults
-use Rattle.tree_plan.specs.Paths.{cpu_count_of, has_group_in, is_placed_in}
 use Rattle.tree_plan.proofs.Below.{placed_laws}
 use Rattle.play_rules.specs.State.{Cpu, State, all_cpus, cpu_at, cpu_count, has_group, is_active}
 use Rattle.play_rules.specs.Hierarchy.{common_duty, duty, gone_offline, is_placed, least_told, next_of, some_placed_active, woken}
-use Rattle.play_rules.specs.Timers.{controller, controlling}
+use Rattle.play_rules.specs.Timers.{controller}
 use Rattle.play_rules.specs.Operations.{last_online}
 use Rattle.play_rules.specs.Play.{hands_on, plain_rules, successor}
-use Rattle.play_laws.proofs.Invariant.{SomeWakes, busy, put, put_other, teller_grouped}
-use Rattle.play_laws.proofs.Ranges.{any_here, found_there, in_range, least_below, some_there}
+use Rattle.play_laws.proofs.Invariant.{SomeWakes, put_other, teller_grouped}
+use Rattle.play_laws.proofs.Ranges.{found_there, in_range, least_below, some_there}
 use Rattle.play_laws.proofs.States.{IsKept, Nobody, Only, weaker}
-use Rattle.play_laws.proofs.Wakes.{gone_cpus, goes_kept, unplaced, wakes_kept}
+use Rattle.play_laws.proofs.Wakes.{gone_cpus, goes_kept, wakes_kept}
 
 -- WHERE NOTHING IS HANDED ON the top is kept all the same
 module _ (s : State) (c : ℕ) (kept : IsKept Nobody (has_group s c ≡ false) s) where

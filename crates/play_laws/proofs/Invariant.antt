@@ -1,15 +1,13 @@
 -- for crates above: what carries the law that timers are answered for, over CPUs and migrators as functions
-use Rattle.std.proofs.Common.{◌≡◌, ℕ, zero, suc, ◌+◌, ◌<◌, ◌≤◌, Bool, true, false, Option, Some, None, refl, sym, ap, ◌∙◌, subst, arith, inl, inr}
+use Rattle.std.proofs.Common.{◌≡◌, ℕ, ◌<◌, ◌≤◌, Bool, true, false, Option, Some, None, refl, sym, ap, ◌∙◌, subst, arith, inl, inr}
 use Rattle.std.specs.Prelude.{◌⊎◌, ◌==◌, ◌&&◌, not, if◌then◌else◌, is_some}
 use Rattle.std.proofs.lemmas.Bool.{both_ways, cases_Bool, cases_eq, cases_lt, eq-eqb, false≢true, ne_eqb}
-use Rattle.std.proofs.lemmas.List.Elements.{All-weaker}
-use Rattle.std.proofs.lemmas.Option.{none-some}
 use Rattle.tm_base.specs.declared.names.TheConstants.{NEVER}
 use Rattle.tm_base.specs.declared.names.Child.{Child}
 use Rattle.tm_base.specs.declared.names.Class.TheVariants.{Pinned, Global}
 use Rattle.wheel_core.specs.declared.item.Item.{Item}
 use Rattle.tree_plan.specs.Shape.{Shape, IsPlanned}
-use Rattle.tree_plan.specs.Paths.{child_at, cpu_count_of, group_at_of, group_count_of, has_group_in, is_below, is_placed_in, is_under, level_count_of}
+use Rattle.tree_plan.specs.Paths.{child_at, cpu_count_of, group_count_of, has_group_in, is_below, is_placed_in, is_under, level_count_of}
 use Rattle.tree_plan.proofs.Below.{paths, placed_laws}
 use Rattle.cpu_bases.specs.CpuBases.{base_of}
 use Rattle.play_rules.specs.State.{Cpu}
@@ -136,8 +134,7 @@ module _ (t : Shape) (planned : IsPlanned t) (cpu : ℕ → Cpu) where
   alike_top new active rest wakeup told top none e comes =
       let same = told e in
       let before = top (λ d placed. sym (active d) ∙ none d placed) e (omega (arith, comes, same)) in
-      let w = before.0 in
-      (
+      let w = before.0 in (
         w,
         record {
           placed = before.1.placed;
@@ -169,8 +166,7 @@ module _ (t : Shape) (planned : IsPlanned t) (cpu : ℕ → Cpu) where
         let before = top (λ d placed. ap busy (sym (put_other cpu c y d (apart d placed))) ∙ none d placed) e told_before in
         let w = before.0 in
         let w_same : put cpu c y w ≡ cpu w = put_other cpu c y w (apart w before.1.placed) in
-        let wakes : (put cpu c y w).wakeup ≡ (cpu w).wakeup = ap (λ (x : Cpu). x.wakeup) w_same in
-        (
+        let wakes : (put cpu c y w).wakeup ≡ (cpu w).wakeup = ap (λ (x : Cpu). x.wakeup) w_same in (
           w,
           record {
             placed = before.1.placed;

@@ -16,3 +16,4 @@ pub mod Settles
 pub mod Hotplug
 pub mod Scripts
 pub mod Starts
+pub mod Plays

@@ -1,16 +1,16 @@
 -- for crates above: after a CPU woke, and after one came to rest, each migrator is an active child again
-use Rattle.std.proofs.Common.{◌≡◌, ℕ, zero, suc, ◌+◌, ◌<◌, List, [], ◌∷◌, Bool, true, false, Option, Some, None, refl, sym, ap, ◌∙◌, subst, arith, inl, inr, length, get_or}
-use Rattle.std.specs.Prelude.{◌&&◌, ◌==◌, not, if◌then◌else◌, nat_lt, position, slice_get, option_map}
-use Rattle.std.specs.List.{list_any, position_or_len, range_with_len}
-use Rattle.std.proofs.lemmas.Bool.{and_from, and_parts, both_ways, cases_Bool, cases_eq, cond-false, cond-true, eq-eqb, false≢true, lt-ltb, not-true, not_from_false, not_from_true, true_from_ne_false}
+use Rattle.std.proofs.Common.{◌≡◌, ℕ, zero, suc, ◌<◌, List, [], ◌∷◌, Bool, true, false, Option, Some, None, refl, sym, ap, ◌∙◌, subst, arith, inl, inr, length, get_or}
+use Rattle.std.specs.Prelude.{◌&&◌, not, if◌then◌else◌, nat_lt, slice_get, option_map}
+use Rattle.std.specs.List.{position_or_len}
+use Rattle.std.proofs.lemmas.Bool.{and_from, and_parts, both_ways, cases_Bool, cases_eq, cond-true, eq-eqb, false≢true, lt-ltb, not_from_false, true_from_ne_false}
 use Rattle.std.proofs.lemmas.List.Quantifiers.{position-Some}
 use Rattle.std.proofs.lemmas.Option.{none-some, same_Some, slice_get-get_or}
 use Rattle.tm_base.specs.declared.names.Child.{Child}
 use Rattle.tm_base.specs.Children.{of_cpu}
 use Rattle.tree_plan.specs.Shape.{Shape, IsPlanned}
-use Rattle.tree_plan.specs.Paths.{bit_of, child_at, child_towards, children_of, cpu_count_of, group_at_of, group_count_of, is_below, is_placed_in, is_under, level_of}
+use Rattle.tree_plan.specs.Paths.{bit_of, child_at, child_towards, children_of, cpu_count_of, group_count_of, is_below, is_under, level_of}
 use Rattle.tree_plan.proofs.Below.{below_laws, paths, placed_laws}
-use Rattle.play_rules.specs.State.{State, all_cpus, cpu_count, is_active, migrator_at}
+use Rattle.play_rules.specs.State.{State, cpu_count, is_active, migrator_at}
 use Rattle.play_rules.specs.Hierarchy.{child_active, gives_up, group_active, inactive_child, is_number, lowest_active_child, number_towards, rested_migrator, towards, woken_migrator}
 use Rattle.play_laws.proofs.Invariant.{ActiveChild, Led}
 use Rattle.play_laws.proofs.Ranges.{any_here, some_there}

@@ -1,6 +1,6 @@
 -- for crates above: tests, searches and leasts over the CPUs' numbers
-use Rattle.std.proofs.Common.{◌≡◌, ℕ, zero, suc, ◌+◌, ◌<◌, ◌≤◌, List, [], ◌∷◌, Bool, true, false, Option, Some, None, refl, sym, ap, ◌∙◌, subst, arith, inl, inr, min, ⊎_elim}
-use Rattle.std.specs.Prelude.{filter, find, nat_eq, if◌then◌else◌, ◌==◌, ◌||◌}
+use Rattle.std.proofs.Common.{◌≡◌, ℕ, zero, suc, ◌+◌, ◌<◌, ◌≤◌, List, [], ◌∷◌, Bool, true, false, Some, None, refl, sym, ap, ◌∙◌, arith, inl, inr, min, ⊎_elim}
+use Rattle.std.specs.Prelude.{filter, find, nat_eq, ◌==◌, ◌||◌}
 use Rattle.std.specs.List.{fold, list_any, range_with_len}
 use Rattle.std.specs.Ordering.{nat_cmp}
 use Rattle.std.specs.FinSet.{contains, contains-from_list_nat, from_list}

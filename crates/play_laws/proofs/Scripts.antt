@@ -1,5 +1,5 @@
 -- for crates above: what a script of the grammar says of its play: a planned tree, numbers in range, moments that rise
-use Rattle.std.proofs.Common.{◌≡◌, ℕ, zero, suc, ◌+◌, ◌<◌, ◌≤◌, List, [], ◌∷◌, length, map, refl, ap, sym, ◌∙◌, arith}
+use Rattle.std.proofs.Common.{◌≡◌, ℕ, suc, ◌+◌, ◌<◌, ◌≤◌, List, [], ◌∷◌, map, refl, arith}
 use Rattle.std.specs.Prelude.{All}
 use Rattle.std.specs.List.Sorted.{IsStrictlyIncreasing}
 use Rattle.std.proofs.lemmas.List.Elements.{All-head, All-tail, All-weaker}
@@ -58,13 +58,12 @@ rise_after : (from end : ℕ) (m : Moment) (ms : List Moment) → from ≤ m.at 
     → All (λ (n : Moment). n.at ≤ end) (m ∷ ms) → Rise from end (m ∷ ms)
 rise_after from end m [] low ascends by = (low, (All-head (λ (n : Moment). n.at ≤ end) m [] by, tt))
 rise_after from end m (n ∷ ms) low ascends by =
-    let next : m.at < n.at = ascends 0 (omega arith) in
-    (
+    let next : m.at < n.at = ascends 0 (omega arith) in (
       low,
       (
         All-head (λ (k : Moment). k.at ≤ end) m (n ∷ ms) by,
         rise_after (m.at + 1) end n ms (omega (arith, next)) (rest_ascends m.at (times (n ∷ ms)) ascends)
-        (All-tail (λ (k : Moment). k.at ≤ end) m (n ∷ ms) by),
+            (All-tail (λ (k : Moment). k.at ≤ end) m (n ∷ ms) by),
       ),
     )
 

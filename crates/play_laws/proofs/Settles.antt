@@ -1,33 +1,30 @@
 -- for crates above: what carries the law at each stage of a moment
-use Rattle.std.proofs.Common.{◌≡◌, ℕ, ◌+◌, ◌<◌, ◌≤◌, List, [], ◌∷◌, Bool, true, false, Option, Some, None, refl, sym, ap, ◌∙◌, subst, arith, inl, inr}
-use Rattle.std.specs.Prelude.{◌&&◌, ◌||◌, ◌==◌, filter, find, if◌then◌else◌, is_some, nat_le, not, option_and_then}
+use Rattle.std.proofs.Common.{◌≡◌, ℕ, ◌<◌, ◌≤◌, List, [], ◌∷◌, Bool, true, false, Option, Some, None, refl, sym, ap, ◌∙◌, arith, inl, inr}
+use Rattle.std.specs.Prelude.{◌||◌, ◌==◌, find, if◌then◌else◌, is_some, nat_le, not, option_and_then}
 use Rattle.std.specs.List.{list_any, range_with_len}
-use Rattle.std.specs.Option.{option_or}
 use Rattle.std.specs.Ordering.{nat_cmp}
 use Rattle.std.specs.FinSet as set
-use Rattle.std.proofs.lemmas.Bool.{and_parts, both_ways, cases_Bool, cases_lt, cond-true, eq-eqb, eqb-true, false≢true, leb-true, or_left, or_right}
+use Rattle.std.proofs.lemmas.Bool.{and_parts, cases_Bool, cases_lt, eq-eqb, eqb-true, false≢true, leb-true, or_left, or_right}
 use Rattle.std.proofs.lemmas.List.{length-set}
 use Rattle.std.proofs.lemmas.Option.{none-some, same_Some}
-use Rattle.tm_base.specs.declared.names.TheConstants.{NEVER}
 use Rattle.tm_base.specs.declared.limits.TheConstants.{SCRIPT_TIME_LIMIT}
 use Rattle.tm_base.specs.declared.names.Class.TheVariants.{Pinned, Global}
 use Rattle.wheel_core.specs.declared.item.Item.{Item}
 use Rattle.wheel_core.specs.PlainBase.{PlainBase}
 use Rattle.cpu_bases.specs.CpuBases.{base_of}
 use Rattle.tree_plan.specs.Shape.{Shape, IsPlanned}
-use Rattle.tree_plan.specs.Paths.{cpu_count_of, group_at_of, has_group_in, is_placed_in, level_count_of}
+use Rattle.tree_plan.specs.Paths.{cpu_count_of, group_at_of, level_count_of}
 use Rattle.tree_plan.proofs.Below.{paths, placed_laws}
-use Rattle.play_rules.specs.State.{Cpu, State, all_cpus, cpu_at, cpu_count, has_group, migrator_at}
-use Rattle.play_rules.specs.Hierarchy.{due_sleeper, due_sleepers, inactive_child, is_due_sleeper, is_placed, least_told, looks_after, looks_after_where, looks_at, named, programmed, reevaluated, told_again, towards}
-use Rattle.play_rules.specs.Timers.{controller}
+use Rattle.play_rules.specs.State.{Cpu, State, all_cpus, cpu_at, cpu_count, has_group}
+use Rattle.play_rules.specs.Hierarchy.{due_sleeper, due_sleepers, inactive_child, is_due_sleeper, is_placed, least_told, looks_after, looks_after_where, named, reevaluated, told_again, towards}
 use Rattle.play_rules.specs.Play.{at_clock, ended, has_interrupt, plain_rules, successor}
 use Rattle.play_rules.specs.Interrupts.{having_interrupt}
 use Rattle.play_laws.proofs.Bases.{Comes, IsBase}
 use Rattle.play_laws.proofs.Invariant.{Answers, Fits, InTime, Later, busy, rests}
 use Rattle.play_laws.proofs.Changes.{told_in}
-use Rattle.play_laws.proofs.Ranges.{found_there, member_passes, member_was, range_low, some_kept}
+use Rattle.play_laws.proofs.Ranges.{member_passes, member_was, range_low, some_kept}
 use Rattle.play_laws.proofs.Shape.{Stage, begun, between, climbed, leaving, looked, looking, moving, own, running, taking}
-use Rattle.play_laws.proofs.States.{IsKept, Nobody, Only, weaker, written_alike}
+use Rattle.play_laws.proofs.States.{IsKept, Nobody, Only, written_alike}
 
 -- the tree and the time of a state
 pub record IsAt (t : Shape) (now : ℕ) (s : State) : Type 0 where

@@ -1,17 +1,16 @@
 -- for crates above: what carries the law holds at the start of a play
-use Rattle.std.proofs.Common.{◌≡◌, ℕ, zero, suc, ◌+◌, ◌<◌, ◌≤◌, List, [], ◌∷◌, Bool, true, false, Option, Some, None, refl, sym, ap, ◌∙◌, subst, arith, length, replicate}
+use Rattle.std.proofs.Common.{◌≡◌, ℕ, zero, suc, ◌<◌, Some, None, refl, sym, ap, ◌∙◌, subst, arith, replicate}
 use Rattle.std.specs.Prelude.{slice_index_or}
 use Rattle.std.proofs.lemmas.Bool.{false≢true}
 use Rattle.std.proofs.lemmas.List.{get_or-replicate, length-replicate}
 use Rattle.std.proofs.lemmas.List.Elements.{All-nil}
 use Rattle.std.proofs.lemmas.Option.{none-some, same_Some}
-use Rattle.tm_base.specs.declared.names.TheConstants.{NEVER}
 use Rattle.tree_plan.specs.Shape.{Shape, IsPlanned}
-use Rattle.tree_plan.specs.Paths.{child_at, cpu_count_of, group_count_of, is_under}
+use Rattle.tree_plan.specs.Paths.{cpu_count_of, group_count_of}
 use Rattle.tree_plan.proofs.Below.{below_laws}
 use Rattle.tree_plan.proofs.Trees.{cut_laws, edge_laws}
 use Rattle.play_rules.specs.State.{Cpu, State, cpu_at, migrator_at, new_cpu, start}
-use Rattle.play_laws.proofs.Bases.{Comes, IsBase}
+use Rattle.play_laws.proofs.Bases.{Comes}
 use Rattle.play_laws.proofs.Invariant.{ActiveChild, Fits, Led, busy, rests}
 use Rattle.play_laws.proofs.States.{IsKept, Nobody}
 

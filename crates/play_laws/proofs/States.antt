@@ -1,25 +1,22 @@
 -- for crates above: what carries the law, of a state, and what the rules of rest, wake and wakeups make of it
-use Rattle.std.proofs.Common.{◌≡◌, ℕ, ◌+◌, ◌<◌, ◌≤◌, List, Bool, true, false, Option, Some, None, refl, sym, ap, ◌∙◌, subst, arith, inl, inr, length, min}
-use Rattle.std.specs.Prelude.{◌⊎◌, ◌&&◌, ◌==◌, not, if◌then◌else◌, map, slice_index_or, slice_set}
-use Rattle.std.specs.List.{list_any, range_with_len}
-use Rattle.std.proofs.lemmas.Bool.{and_left, and_parts, and_right, both_ways, cases_Bool, cases_eq, cond-false, cond-true, false≢true}
+use Rattle.std.proofs.Common.{◌≡◌, ℕ, ◌<◌, ◌≤◌, true, false, refl, sym, ap, ◌∙◌, subst, arith, inl, inr, length, min}
+use Rattle.std.specs.Prelude.{◌⊎◌, ◌&&◌, slice_set}
+use Rattle.std.proofs.lemmas.Bool.{and_parts, both_ways, cases_Bool, cases_eq, cond-false, cond-true}
 use Rattle.std.proofs.lemmas.List.{get_or-set_other, get_or-set_same, length-set}
-use Rattle.std.proofs.lemmas.List.FromFn.{get_or-map-range_with_len}
 use Rattle.tm_base.specs.declared.names.TheConstants.{NEVER}
 use Rattle.tm_base.specs.declared.limits.TheConstants.{SCRIPT_TIME_LIMIT}
 use Rattle.tm_base.specs.declared.names.Class.{Class}
 use Rattle.tm_base.specs.declared.names.Class.TheVariants.{Pinned, Global}
 use Rattle.wheel_core.specs.declared.item.Item.{Item}
-use Rattle.tree_plan.specs.Shape.{Shape, IsPlanned}
-use Rattle.tree_plan.specs.Paths.{cpu_count_of, group_count_of, has_group_in, is_placed_in}
+use Rattle.tree_plan.specs.Shape.{IsPlanned}
+use Rattle.tree_plan.specs.Paths.{cpu_count_of}
 use Rattle.tree_plan.proofs.Below.{placed_laws}
 use Rattle.cpu_bases.specs.CpuBases.{CpuBases, base_of}
 use Rattle.play_rules.specs.State.{Cpu, State, all_cpus, cpu_at, cpu_count, has_group, is_active, migrator_at, new_cpu, with_bases, with_cpu}
-use Rattle.play_rules.specs.Hierarchy.{common_duty, duty, is_placed, least_told, next_of, pin_of, programmed, rested_migrator, some_placed_active, told_again, with_migrators, woken, woken_migrator}
+use Rattle.play_rules.specs.Hierarchy.{common_duty, duty, is_placed, least_told, next_of, pin_of, programmed, some_placed_active, told_again}
 use Rattle.play_laws.proofs.Bases.{Comes, IsBase}
-use Rattle.play_laws.proofs.Invariant.{Answers, AreAnswered, Fits, Invariant, Led, NonePlacedActive, SomeWakes, WakesForAll, active_top, alike_top, apart_top, busy, put, put_alike, put_other, put_same, rests}
-use Rattle.play_laws.proofs.Changes.{Put, based_kept, next_in, pin_in, programmed_kept, put_kept, retold_kept, told_in}
-use Rattle.play_laws.proofs.Migrators.{rested_led, woken_led}
+use Rattle.play_laws.proofs.Invariant.{Answers, Invariant, NonePlacedActive, SomeWakes, apart_top, busy, put, put_alike, put_other, put_same, rests}
+use Rattle.play_laws.proofs.Changes.{based_kept, programmed_kept, retold_kept, told_in}
 use Rattle.play_laws.proofs.Ranges.{in_range, least_below, some_there}
 
 -- ONE CPU IS WRITTEN
@@ -116,11 +113,11 @@ module _ (Owes : ℕ → Type 0) (Topped : Type 0) (s : State) (kept : IsKept Ow
       let old = kept.holds.each c in
       let x = cpu_at s c in
       bases_kept b (fewer Comes Pinned old.pinned) (fewer Comes Global old.global) (λ free rest. (
-          let was = kept.holds.answered c free rest in
-          record {
-            pinned = fewer (λ item. x.wakeup ≤ item.wheel) Pinned was.pinned;
-            global = fewer (λ item. (x.wakeup ≤ item.wheel) ⊎ (x.told ≤ item.wheel)) Global was.global;
-          }))
+      let was = kept.holds.answered c free rest in
+      record {
+        pinned = fewer (λ item. x.wakeup ≤ item.wheel) Pinned was.pinned;
+        global = fewer (λ item. (x.wakeup ≤ item.wheel) ⊎ (x.told ≤ item.wheel)) Global was.global;
+      }))
 
   -- it tells again
   pub told_kept : rests (cpu_at s c) ≡ true → (Topped → has_group s c ≡ false) → IsKept Owes Topped (told_again s c)
@@ -142,7 +139,7 @@ module _ (s : State) (c : ℕ) (low : c < cpu_count s) (kept : IsKept (Only c) (
             let at = some_there (λ d. is_placed s d && is_active s d) 0 (cpu_count s) on in
             let both = and_parts (is_placed s at.number) (is_active s at.number) at.passes in
             absurd (both_ways (is_active s at.number)
-                (sym (put_alike (cpu_at s) c woken_by busy refl at.number) ∙ none at.number both.0) both.1)
+            (sym (put_alike (cpu_at s) c woken_by busy refl at.number) ∙ none at.number both.0) both.1)
       ]
 
   least_duty : has_group s c ≡ true → NonePlacedActive s.tree (put (cpu_at s) c woken_by)
@@ -155,8 +152,7 @@ module _ (s : State) (c : ℕ) (low : c < cpu_count s) (kept : IsKept (Only c) (
   wakes_top grouped none e comes =
       let is = least_duty grouped none in
       let same : (put (cpu_at s) c woken_by c).wakeup ≡ min (pin_of s c) (duty s c) =
-      ap (λ (x : Cpu). x.wakeup) (put_same (cpu_at s) c woken_by) in
-      (
+      ap (λ (x : Cpu). x.wakeup) (put_same (cpu_at s) c woken_by) in (
         c,
         record {
           placed = (placed_laws s.tree kept.planned).has_group c grouped;
@@ -181,4 +177,4 @@ module _ (s : State) (c : ℕ) (low : c < cpu_count s) (kept : IsKept (Only c) (
   programs_kept =
       with_kept (Only c) (has_group s c ≡ false) s kept c low Nobody (Unit {0}) woken_by
       (programmed_kept s.clock s.tree kept.planned (cpu_at s) (migrator_at s) c (duty s c) (has_group s c ≡ false) sleeps told
-          (λ out. cond-false (has_group s c) (common_duty s) (next_of s c) out) kept.holds programmed_top)
+      (λ out. cond-false (has_group s c) (common_duty s) (next_of s c) out) kept.holds programmed_top)

@@ -1,22 +1,20 @@
 -- for crates above: timers are armed, cancelled, drained and moved, and what carries the law is kept
-use Rattle.std.proofs.Common.{◌≡◌, ℕ, ◌+◌, ◌<◌, Bool, true, false, Option, Some, None, refl, sym, ap, ◌∙◌, subst, arith, inl, inr, length}
-use Rattle.std.specs.Prelude.{◌&&◌, ◌==◌, find, is_some, option_and_then, option_map}
-use Rattle.std.specs.Option.{option_or}
-use Rattle.std.proofs.lemmas.Bool.{both_ways, cases_eq}
+use Rattle.std.proofs.Common.{◌≡◌, ℕ, ◌+◌, ◌<◌, true, Option, Some, None, refl, sym, ap, ◌∙◌, subst, arith, length}
+use Rattle.std.specs.Prelude.{is_some, option_and_then, option_map}
 use Rattle.std.proofs.lemmas.List.{length-set}
 use Rattle.std.proofs.lemmas.Option.{none-some, same_Some}
 use Rattle.tm_base.specs.declared.names.Class.{Class}
 use Rattle.tm_base.specs.declared.names.Class.TheVariants.{Pinned, Global}
 use Rattle.wheel_core.specs.declared.item.Item.{Item}
-use Rattle.cpu_bases.specs.CpuBases.{CpuBases, armed as armed_in, base_of, cancelled as cancelled_in, class_in, drained as drained_in, found_in, moved_in, moved_out}
+use Rattle.cpu_bases.specs.CpuBases.{CpuBases, base_of, cancelled as cancelled_in, class_in, drained as drained_in, found_in, moved_in, moved_out}
 use Rattle.play_rules.specs.declared.asks.Arming.{Arming}
 use Rattle.play_rules.specs.declared.asks.Cancelling.{Cancelling}
 use Rattle.play_rules.specs.declared.asks.Queued.{Queued}
 use Rattle.play_rules.specs.Rules.{Moved}
-use Rattle.play_rules.specs.State.{Cpu, State, all_cpus, cpu_at, cpu_count, with_bases}
+use Rattle.play_rules.specs.State.{Cpu, State, cpu_at, cpu_count, with_bases}
 use Rattle.play_rules.specs.Timers.{armed_bases, armed_on, bases_at, cancelled_on, drained_on, first_to_move, holder_of, moved, moved_into, moved_one, moved_out_of, queued_as, queued_at, queued_on}
-use Rattle.play_laws.proofs.Bases.{Comes, IsBase, armed_kept, cancelled_kept, drained_kept, moved_in_kept, moved_out_kept}
-use Rattle.play_laws.proofs.Invariant.{Answers, busy, rests}
+use Rattle.play_laws.proofs.Bases.{armed_kept, cancelled_kept, drained_kept, moved_in_kept, moved_out_kept}
+use Rattle.play_laws.proofs.Invariant.{rests}
 use Rattle.play_laws.proofs.Ranges.{found_there}
 use Rattle.play_laws.proofs.States.{IsKept, bases_kept, fewer_kept, written_alike}
 
@@ -61,7 +59,7 @@ module _ (Owes : ℕ → Type 0) (Topped : Type 0) (s : State) (kept : IsKept Ow
       fewer_kept Owes Topped s kept home low
       (drained_in (length (base_of class (bases_at s home)).items) s.clock class (record { 0 = runner }) (bases_at s home))
       (λ Q k holds.
-          drained_kept Q s.clock k (record { 0 = runner }) (length (base_of class (bases_at s home)).items) class (bases_at s home) holds)
+      drained_kept Q s.clock k (record { 0 = runner }) (length (base_of class (bases_at s home)).items) class (bases_at s home) holds)
 
   move_out_kept : (from to : ℕ) (class : Class) → from < cpu_count s → IsKept Owes Topped (moved_out_of s from to class)
   move_out_kept from to class low =
@@ -126,3 +124,15 @@ module _ (Owes : ℕ → Type 0) (Topped : Type 0) (s : State) (kept : IsKept Ow
   pub moves_alike : {X : Type 0} (h : Cpu → X) → ((x : Cpu) (b : CpuBases) → h (record x { bases = b }) ≡ h x)
       → (m : Moved State) → moved s from to ≡ Some m → (d : ℕ) → h (cpu_at m.state d) ≡ h (cpu_at s d)
   moves_alike {X} h same m is d = alike_by h same (first_to_move (bases_at s from)) m is d
+
+-- the tree and the time stay
+frame_by : (s : State) (from to : ℕ) (o : Option (Class × Item)) (m : Moved State) → option_map (moved_one s from to) o ≡ Some m
+    → (m.state.tree ≡ s.tree) × (m.state.clock ≡ s.clock)
+frame_by s from to None m none = absurd (none-some m none)
+frame_by s from to (Some (class, item)) m is =
+    let same : moved_one s from to (class, item) ≡ m = same_Some (moved_one s from to (class, item)) m is in
+    (ap (λ (x : Moved State). x.state.tree) (sym same), ap (λ (x : Moved State). x.state.clock) (sym same))
+
+pub moves_frame : (s : State) (from to : ℕ) (m : Moved State) → moved s from to ≡ Some m
+    → (m.state.tree ≡ s.tree) × (m.state.clock ≡ s.clock)
+moves_frame s from to m is = frame_by s from to (first_to_move (bases_at s from)) m is

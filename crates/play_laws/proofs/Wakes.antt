@@ -1,20 +1,19 @@
 -- for crates above: a CPU wakes, comes online, goes idle or offline, and what carries the law is kept
-use Rattle.std.proofs.Common.{◌≡◌, ℕ, ◌+◌, ◌<◌, List, Bool, true, false, Option, Some, None, refl, sym, ap, ◌∙◌, subst, arith, inl, inr, length}
-use Rattle.std.specs.Prelude.{◌&&◌, ◌==◌, not, if◌then◌else◌, map, slice_index_or, slice_set}
-use Rattle.std.specs.List.{range_with_len}
-use Rattle.std.proofs.lemmas.Bool.{and_from, and_left, and_parts, and_right, both_ways, cases_Bool, cases_eq, cond-false, cond-true, false≢true, not_from_false, not_from_true}
-use Rattle.std.proofs.lemmas.List.{get_or-set_same, length-set}
+use Rattle.std.proofs.Common.{◌≡◌, ℕ, ◌+◌, ◌<◌, List, Bool, true, false, Option, None, refl, sym, ap, ◌∙◌, subst, arith, inl, inr, length}
+use Rattle.std.specs.Prelude.{◌&&◌, if◌then◌else◌, slice_set}
+use Rattle.std.proofs.lemmas.Bool.{and_from, and_right, both_ways, cases_Bool, cases_eq, false≢true}
+use Rattle.std.proofs.lemmas.List.{length-set}
 use Rattle.std.proofs.lemmas.List.FromFn.{get_or-map-range_with_len}
 use Rattle.tm_base.specs.declared.names.TheConstants.{NEVER}
 use Rattle.tree_plan.specs.Shape.{Shape, IsPlanned}
 use Rattle.tree_plan.specs.Paths.{group_count_of, has_group_in, is_placed_in}
 use Rattle.tree_plan.proofs.Below.{placed_laws}
-use Rattle.play_rules.specs.State.{Cpu, State, cpu_at, cpu_count, has_group, is_active, migrator_at, new_cpu, with_cpu}
-use Rattle.play_rules.specs.Hierarchy.{come_online, gone_offline, idled, is_placed, next_of, rested, rested_migrator, resting, with_migrators, woken, woken_migrator}
-use Rattle.play_laws.proofs.Invariant.{Answers, Fits, Invariant, Led, SomeWakes, active_top, apart_top, busy, put, put_alike, put_other, put_same, rests}
+use Rattle.play_rules.specs.State.{Cpu, State, cpu_at, cpu_count, has_group, is_active, migrator_at, with_cpu}
+use Rattle.play_rules.specs.Hierarchy.{gone_offline, idled, is_placed, next_of, rested, rested_migrator, with_migrators, woken, woken_migrator}
+use Rattle.play_laws.proofs.Invariant.{Answers, Fits, Invariant, Led, SomeWakes, active_top, apart_top, busy, put, put_other, put_same, rests}
 use Rattle.play_laws.proofs.Changes.{Put, put_kept, told_in}
 use Rattle.play_laws.proofs.Migrators.{rested_led, woken_led}
-use Rattle.play_laws.proofs.States.{IsKept, Nobody, Only, here_is, programs_kept, with_kept, written, written_alike, written_twice}
+use Rattle.play_laws.proofs.States.{IsKept, Nobody, Only, here_is, programs_kept, written, written_twice}
 
 -- MIGRATORS that are made by a rule
 rule_at : (s : State) (rule : ℕ → Option ℕ) (g : ℕ) → g < group_count_of s.tree
@@ -60,7 +59,7 @@ module _ (Topped Keeps : Type 0) (s : State) (c : ℕ) (low : c < cpu_count s) (
   awake_led =
       led_by_rule s (woken_migrator s c) (λ d. busy (put (cpu_at s) c awake d))
       (woken_led s kept.planned kept.cpus (λ d. busy (put (cpu_at s) c awake d)) c put_busy awake_stay
-          (λ d other on. ap busy (sym (put_other (cpu_at s) c awake d other)) ∙ on) kept.holds.led)
+      (λ d other on. ap busy (sym (put_other (cpu_at s) c awake d other)) ∙ on) kept.holds.led)
 
   awake_top : Keeps → SomeWakes s.tree (put (cpu_at s) c awake)
   awake_top keeps =
@@ -124,8 +123,8 @@ module _ (More : ℕ → Type 0) (s : State) (xs : List Cpu) (c : ℕ) (y : Cpu)
   rest_led =
       subst (λ f. Led s.tree (λ d. busy (f d)) (migrator_at (with_migrators after (rested_migrator after c)))) is
       (led_by_rule after (rested_migrator after c) (is_active after)
-          (rested_led after kept.planned (many ∙ kept.cpus) (is_active s) c were_active
-              (λ d other on. put_else d other ∙ on) kept.holds.led))
+      (rested_led after kept.planned (many ∙ kept.cpus) (is_active s) c were_active
+      (λ d other on. put_else d other ∙ on) kept.holds.led))
 
   rest_put : Put s.clock s.tree kept.planned (cpu_at s) (migrator_at s) Nobody More (has_group s c ≡ false) c y
       (migrator_at (with_migrators after (rested_migrator after c)))
@@ -144,7 +143,7 @@ module _ (More : ℕ → Type 0) (s : State) (xs : List Cpu) (c : ℕ) (y : Cpu)
     cpus = many ∙ kept.cpus;
     holds = subst (λ f. Invariant s.clock s.tree More (has_group s c ≡ false) f (migrator_at (with_migrators after (rested_migrator after c)))) (sym is)
         (put_kept s.clock s.tree kept.planned (cpu_at s) (migrator_at s) Nobody More (Unit {0}) (has_group s c ≡ false) c y
-            (migrator_at (with_migrators after (rested_migrator after c))) kept.holds rest_put);
+        (migrator_at (with_migrators after (rested_migrator after c))) kept.holds rest_put);
   }
 
 -- IDLE: rest, and then the wakeup
