@@ -1,5 +1,6 @@
 -- for crates above: what carries the law holds at the start of a play
-use Rattle.std.proofs.Common.{◌≡◌, ℕ, zero, suc, ◌<◌, Some, None, refl, sym, ap, ◌∙◌, subst, arith, replicate}
+use Rattle.std.proofs.Common.{◌≡◌, ℕ, zero, suc, ◌<◌, Some, None, refl, sym, ap, ◌∙◌, subst, arith}
+use Rattle.std.proofs.Common.{replicate}
 use Rattle.std.specs.Prelude.{slice_index_or}
 use Rattle.std.proofs.lemmas.Bool.{false≢true}
 use Rattle.std.proofs.lemmas.List.{get_or-replicate, length-replicate}
@@ -53,7 +54,8 @@ module _ (t : Shape) (timers : ℕ) (planned : IsPlanned t) where
 
   first_led : Led t (λ d. busy (cpu_at first d)) (migrator_at first)
   first_led = record {
-    some = λ g k low is. subst (ActiveChild t (λ d. busy (cpu_at first d)) g) (same_Some 0 k (sym (zero_at g low) ∙ is)) (child_active g low);
+    some = λ g k low is. subst (ActiveChild t (λ d. busy (cpu_at first d)) g)
+        (same_Some 0 k (sym (zero_at g low) ∙ is)) (child_active g low);
     none = λ g d low none on below. none-some 0 (sym none ∙ zero_at g low);
   }
 
@@ -66,6 +68,7 @@ module _ (t : Shape) (timers : ℕ) (planned : IsPlanned t) where
       each = λ d. subst (Fits t 0 d) (sym (is_new d)) (new_fits d);
       led = first_led;
       answered = λ d free rest. absurd (false≢true (sym (ap rests (is_new d)) ∙ rest));
-      top = λ _ none e told. (let never = ap (λ (x : Cpu). x.told) (is_new e) in absurd (omega (arith, told, never)));
+      top = λ _ none e told. (let never = ap (λ (x : Cpu). x.told) (is_new e) in
+          absurd (omega (arith, told, never)));
     };
   }
