@@ -1,24 +1,26 @@
--- for crates above: a CPU leaves and hands on its duty, and another one takes control, and what carries the law is kept
-use Rattle.std.proofs.Common.{◌≡◌, ℕ, ◌+◌, ◌<◌, Bool, true, false, Option, Some, None, refl, sym, ap, ◌∙◌, subst, arith, inl, inr}
+-- for crates above: a CPU leaves and hands on its duty, and another one takes control, and what
+-- carries the law is kept
+use Rattle.std.proofs.Common.{◌≡◌, ℕ, ◌<◌, Bool, true, false, Option, Some, None, refl, sym, ap}
+use Rattle.std.proofs.Common.{◌∙◌, arith, inl, inr}
 use Rattle.std.specs.Prelude.{◌&&◌, ◌==◌, find, if◌then◌else◌, is_none, is_some, nat_lt, not}
 use Rattle.std.specs.List.{range_with_len}
 use Rattle.std.specs.Option.{option_or}
-use Rattle.std.proofs.lemmas.Bool.{and_from, and_parts, and_right, both_ways, cases_Bool, cases_eq, cases_lt, cond-false, cond-true, eq-eqb, eqb-true, false≢true, lt-ltb, not_from_true, not-true}
-use Rattle.std.proofs.lemmas.Option.{none-some, same_Some}
+use Rattle.std.proofs.lemmas.Bool.{and_from, and_parts, both_ways, cases_Bool, cases_eq, cases_lt}
+use Rattle.std.proofs.lemmas.Bool.{cond-false, cond-true, eq-eqb, lt-ltb}
+use Rattle.std.proofs.lemmas.Option.{none-some}
 use Rattle.tm_base.specs.declared.names.TheConstants.{NEVER}
-use Rattle.tm_base.specs.declared.faults.OpFault.{OpFault}
 use Rattle.tm_base.specs.declared.faults.OpFault.TheVariants as faults
-use Rattle.tree_plan.specs.Paths.{cpu_count_of, has_group_in, is_placed_in}
 use Rattle.tree_plan.proofs.Below.{placed_laws}
 use Rattle.play_rules.specs.State.{Cpu, State, all_cpus, cpu_at, cpu_count, has_group, is_active}
-use Rattle.play_rules.specs.Hierarchy.{common_duty, duty, gone_offline, is_placed, least_told, next_of, some_placed_active, woken}
-use Rattle.play_rules.specs.Timers.{controller, controlling}
+use Rattle.play_rules.specs.Hierarchy.{common_duty, duty, gone_offline, is_placed, least_told}
+use Rattle.play_rules.specs.Hierarchy.{next_of, some_placed_active, woken}
+use Rattle.play_rules.specs.Timers.{controller}
 use Rattle.play_rules.specs.Operations.{last_online}
 use Rattle.play_rules.specs.Play.{hands_on, plain_rules, successor}
-use Rattle.play_laws.proofs.Invariant.{SomeWakes, busy, put, put_other, teller_grouped}
-use Rattle.play_laws.proofs.Ranges.{any_here, found_there, in_range, least_below, some_there}
+use Rattle.play_laws.proofs.Invariant.{SomeWakes, put_other, teller_grouped}
+use Rattle.play_laws.proofs.Ranges.{found_there, in_range, least_below, some_there}
 use Rattle.play_laws.proofs.States.{IsKept, Nobody, Only, weaker}
-use Rattle.play_laws.proofs.Wakes.{gone_cpus, goes_kept, unplaced, wakes_kept}
+use Rattle.play_laws.proofs.Wakes.{gone_cpus, goes_kept, wakes_kept}
 
 -- WHERE NOTHING IS HANDED ON the top is kept all the same
 module _ (s : State) (c : ℕ) (kept : IsKept Nobody (has_group s c ≡ false) s) where
@@ -33,18 +35,23 @@ module _ (s : State) (c : ℕ) (kept : IsKept Nobody (has_group s c ≡ false) s
             let is : duty s c ≡ least_told s (all_cpus s) =
             cond-true (has_group s c) (common_duty s) (next_of s c) grouped
             ∙ cond-false (some_placed_active s) NEVER (least_told s (all_cpus s)) off in
-            absurd (both_ways (nat_lt (duty s c) NEVER) none (lt-ltb (duty s c) NEVER (early e is told)))
+            absurd (both_ways (nat_lt (duty s c) NEVER) none
+            (lt-ltb (duty s c) NEVER (early e is told)))
       ]
     where
-      early : (e : ℕ) → duty s c ≡ least_told s (all_cpus s) → (cpu_at s e).told < NEVER → duty s c < NEVER
+      early : (e : ℕ) → duty s c ≡ least_told s (all_cpus s) → (cpu_at s e).told < NEVER
+          → duty s c < NEVER
       early e is told =
           elim (cases_lt e (cpu_count s)) [
             | inl low ↦
-                let least = least_below (λ d. (cpu_at s d).told) NEVER (all_cpus s) e (in_range (cpu_count s) e low) in
+                let least = least_below (λ d. (cpu_at s d).told) NEVER (all_cpus s) e
+                (in_range (cpu_count s) e low) in
                 omega (arith, least, told, is)
             | inr high ↦
-                let grouped_e = teller_grouped s.tree kept.planned (cpu_at s) s.clock e (kept.holds.each e) told in
-                let low = (placed_laws s.tree kept.planned).in_range e ((placed_laws s.tree kept.planned).has_group e grouped_e) in
+                let grouped_e = teller_grouped s.tree kept.planned (cpu_at s) s.clock e
+                (kept.holds.each e) told in
+                let low = (placed_laws s.tree kept.planned).in_range e
+                ((placed_laws s.tree kept.planned).has_group e grouped_e) in
                 let count = kept.cpus in
                 absurd (omega (arith, low, count, high))
           ]
@@ -69,13 +76,15 @@ module _ (s : State) (c : ℕ) (kept : IsKept Nobody (has_group s c ≡ false) s
       second grouped =
           elim (cases_Bool (nat_lt (duty s c) NEVER)) [
             | inr is ↦ is
-            | inl on ↦ absurd (both_ways (hands_on s c) none (and_from (has_group s c) (nat_lt (duty s c) NEVER) grouped on))
+            | inl on ↦ absurd (both_ways (hands_on s c) none
+                (and_from (has_group s c) (nat_lt (duty s c) NEVER) grouped on))
           ]
 
   -- where it is handed on, there is somebody
   pub hands_placed : hands_on s c ≡ true → is_placed s c ≡ true
   hands_placed is =
-      (placed_laws s.tree kept.planned).has_group c (and_parts (has_group s c) (nat_lt (duty s c) NEVER) is).0
+      (placed_laws s.tree kept.planned).has_group c
+      (and_parts (has_group s c) (nat_lt (duty s c) NEVER) is).0
 
 -- THE SUCCESSOR is a placed online CPU
 pub record IsSuccessor (s : State) (d : ℕ) : Type 0 where
@@ -94,12 +103,14 @@ successor_is s c d is =
     let parts = and_parts (is_placed s d) (cpu_at s d).online both in
     record { low = omega (arith, low); placed = parts.0; online = parts.1 }
 
-pub handed_kept : (s : State) (c d : ℕ) → IsKept Nobody (has_group s c ≡ false) s → successor s c ≡ Some d
+pub handed_kept : (s : State) (c d : ℕ) → IsKept Nobody (has_group s c ≡ false) s
+    → successor s c ≡ Some d
     → IsKept Nobody (Unit {0}) (woken s d)
 handed_kept s c d kept is =
     let to = successor_is s c d is in
     wakes_kept (has_group s c ≡ false) (Unit {0}) s d to.low
-    (weaker Nobody (Only d) (has_group s c ≡ false) (has_group s c ≡ false) s (λ e none. absurd none) (λ h. h) kept) to.online
+    (weaker Nobody (Only d) (has_group s c ≡ false) (has_group s c ≡ false) s
+    (λ e none. absurd none) (λ h. h) kept) to.online
     (λ _ out. absurd (both_ways (is_placed s d) out to.placed))
 
 -- it is the same before the CPU goes and after
@@ -111,10 +122,12 @@ module _ (s : State) (c : ℕ) (low : c < cpu_count s) (kept : IsKept Nobody (Un
   same_succeeds d =
       elim (cases_eq d c) [
         | inl same ↦
-            ap (succeeds (gone_offline s c) c) same ∙ not_itself (gone_offline s c) ∙ sym (not_itself s)
+            ap (succeeds (gone_offline s c) c) same ∙ not_itself (gone_offline s c)
+            ∙ sym (not_itself s)
             ∙ ap (succeeds s c) (sym same)
         | inr other ↦
-            let at : cpu_at (gone_offline s c) d ≡ cpu_at s d = ap (λ f. f d) (gone_cpus s c low kept) ∙ put_other (cpu_at s) c _ d other in
+            let at : cpu_at (gone_offline s c) d ≡ cpu_at s d =
+            ap (λ f. f d) (gone_cpus s c low kept) ∙ put_other (cpu_at s) c _ d other in
             ap (λ (x : Cpu). not (d == c) && (is_placed s d && x.online)) at
       ]
 
@@ -124,8 +137,10 @@ module _ (s : State) (c : ℕ) (low : c < cpu_count s) (kept : IsKept Nobody (Un
   same_successor : successor (gone_offline s c) c ≡ successor s c
   same_successor = λ i. find (λ d. same_succeeds d i) (range_with_len 0 (same_count i))
 
-  is_there : (o : Option ℕ) → (is_placed s c && is_none o) ≡ false → is_placed s c ≡ true → is_some o ≡ true
-  is_there None out placed = absurd (both_ways (is_placed s c && true) out (and_from (is_placed s c) true placed refl))
+  is_there : (o : Option ℕ) → (is_placed s c && is_none o) ≡ false → is_placed s c ≡ true
+      → is_some o ≡ true
+  is_there None out placed =
+      absurd (both_ways (is_placed s c && true) out (and_from (is_placed s c) true placed refl))
   is_there (Some d) out placed = refl
 
   not_last : (b : Bool) → (if b then Some faults.LastOnline else None) ≡ None → b ≡ false
@@ -154,12 +169,19 @@ controller_by : (s : State) (o : Option ℕ) (d : ℕ) → find (first_active s)
 controller_by s None d none is =
     let found = found_there (first_online s) 0 (cpu_count s) d is in
     let low = found.below in
-    record { low = omega (arith, low); online = (and_parts (is_placed s d) (cpu_at s d).online found.passes).1 }
+    record {
+      low = omega (arith, low);
+      online = (and_parts (is_placed s d) (cpu_at s d).online found.passes).1;
+    }
 controller_by s (Some e) d at is =
     let found = found_there (first_active s) 0 (cpu_count s) d (at ∙ is) in
     let low = found.below in
-    let both = (and_parts (is_placed s d) ((cpu_at s d).online && not (cpu_at s d).idle) found.passes).1 in
-    record { low = omega (arith, low); online = (and_parts (cpu_at s d).online (not (cpu_at s d).idle) both).0 }
+    let both = (and_parts (is_placed s d) ((cpu_at s d).online && not (cpu_at s d).idle)
+    found.passes).1 in
+    record {
+      low = omega (arith, low);
+      online = (and_parts (cpu_at s d).online (not (cpu_at s d).idle) both).0;
+    }
 
 pub controller_is : (s : State) (d : ℕ) → controller s ≡ Some d → IsController s d
 controller_is s d is = controller_by s (find (first_active s) (all_cpus s)) d refl is

@@ -1,5 +1,6 @@
--- for crates above: what a script of the grammar says of its play: a planned tree, numbers in range, moments that rise
-use Rattle.std.proofs.Common.{◌≡◌, ℕ, zero, suc, ◌+◌, ◌<◌, ◌≤◌, List, [], ◌∷◌, length, map, refl, ap, sym, ◌∙◌, arith}
+-- for crates above: what a script of the grammar says of its play: a planned tree, numbers in
+-- range, moments that rise
+use Rattle.std.proofs.Common.{◌≡◌, ℕ, suc, ◌+◌, ◌<◌, ◌≤◌, List, [], ◌∷◌, map, refl, arith}
 use Rattle.std.specs.Prelude.{All}
 use Rattle.std.specs.List.Sorted.{IsStrictlyIncreasing}
 use Rattle.std.proofs.lemmas.List.Elements.{All-head, All-tail, All-weaker}
@@ -11,8 +12,8 @@ use Rattle.tm_script.specs.declared.syntax.What.TheVariants as whats
 use Rattle.tm_script.specs.Texts.{cpu_count}
 use Rattle.tm_script.specs.Grammar.{IsMoment, IsOp, IsScript, IsWhat}
 use Rattle.tree_plan.specs.Shape.{IsPlanned, Shape, tree_of}
-use Rattle.play_laws.proofs.ShapeOperations.{IsOpIn, IsTimerIn}
-use Rattle.play_laws.proofs.ShapeTurns.{IsMomentIn, Rise}
+use Rattle.play_shape.proofs.ShapeOperations.{IsOpIn, IsTimerIn}
+use Rattle.play_shape.proofs.ShapeTurns.{IsMomentIn, Rise}
 
 abbrev pub tree_for : Script → Shape
 tree_for s = tree_of s.nodes s.cpus s.isolated
@@ -30,7 +31,7 @@ planned_for s is = record {
 }
 
 timer_in : (version timers : ℕ) (what : What) → IsWhat version timers what → IsTimerIn timers what
-timer_in version timers (whats.Arm timer class delay job arg) is = is.timer_in_range
+timer_in version timers (whats.Arm timer class delay job arg) is = (is.timer_in_range, is.delay_in_range)
 timer_in version timers (whats.Cancel timer) is = is
 timer_in version timers whats.Idle is = is
 timer_in version timers whats.Wake is = is
@@ -38,12 +39,14 @@ timer_in version timers whats.Offline is = is
 timer_in version timers whats.Online is = is
 
 op_in : (version cpus timers : ℕ) (o : Op) → IsOp version cpus timers o → IsOpIn cpus timers o
-op_in version cpus timers o is = record { cpu = is.cpu_in_range; timer = timer_in version timers o.what is.what }
+op_in version cpus timers o is =
+    record { cpu = is.cpu_in_range; timer = timer_in version timers o.what is.what }
 
 pub moments_in : (s : Script) → IsScript s → All (IsMomentIn (cpu_count s) s.timers) s.moments
 moments_in s is =
     All-weaker (IsMoment s.version (cpu_count s) s.timers) (IsMomentIn (cpu_count s) s.timers)
-    (λ m known. All-weaker (IsOp s.version (cpu_count s) s.timers) (IsOpIn (cpu_count s) s.timers) (op_in s.version (cpu_count s) s.timers) m.ops known.ops)
+    (λ m known. All-weaker (IsOp s.version (cpu_count s) s.timers) (IsOpIn (cpu_count s) s.timers)
+    (op_in s.version (cpu_count s) s.timers) m.ops known.ops)
     s.moments is.moments
 
 abbrev times : List Moment → List ℕ
@@ -54,21 +57,23 @@ rest_ascends x xs h k lt =
     let more : suc k + 1 ≡ suc (k + 1) = omega arith in
     rw more at (h (suc k) (omega arith))
 
-rise_after : (from end : ℕ) (m : Moment) (ms : List Moment) → from ≤ m.at → IsStrictlyIncreasing (times (m ∷ ms))
+rise_after : (from end : ℕ) (m : Moment) (ms : List Moment) → from ≤ m.at
+    → IsStrictlyIncreasing (times (m ∷ ms))
     → All (λ (n : Moment). n.at ≤ end) (m ∷ ms) → Rise from end (m ∷ ms)
 rise_after from end m [] low ascends by = (low, (All-head (λ (n : Moment). n.at ≤ end) m [] by, tt))
 rise_after from end m (n ∷ ms) low ascends by =
-    let next : m.at < n.at = ascends 0 (omega arith) in
-    (
+    let next : m.at < n.at = ascends 0 (omega arith) in (
       low,
       (
         All-head (λ (k : Moment). k.at ≤ end) m (n ∷ ms) by,
-        rise_after (m.at + 1) end n ms (omega (arith, next)) (rest_ascends m.at (times (n ∷ ms)) ascends)
-        (All-tail (λ (k : Moment). k.at ≤ end) m (n ∷ ms) by),
+        rise_after (m.at + 1) end n ms (omega (arith, next))
+            (rest_ascends m.at (times (n ∷ ms)) ascends)
+            (All-tail (λ (k : Moment). k.at ≤ end) m (n ∷ ms) by),
       ),
     )
 
-rise_from : (end : ℕ) (ms : List Moment) → IsStrictlyIncreasing (times ms) → All (λ (n : Moment). n.at ≤ end) ms → Rise 0 end ms
+rise_from : (end : ℕ) (ms : List Moment) → IsStrictlyIncreasing (times ms)
+    → All (λ (n : Moment). n.at ≤ end) ms → Rise 0 end ms
 rise_from end [] ascends by = tt
 rise_from end (m ∷ ms) ascends by = rise_after 0 end m ms (omega arith) ascends by
 

@@ -1,17 +1,17 @@
 -- for crates above: what carries the law holds at the start of a play
-use Rattle.std.proofs.Common.{◌≡◌, ℕ, zero, suc, ◌+◌, ◌<◌, ◌≤◌, List, [], ◌∷◌, Bool, true, false, Option, Some, None, refl, sym, ap, ◌∙◌, subst, arith, length, replicate}
+use Rattle.std.proofs.Common.{◌≡◌, ℕ, zero, suc, ◌<◌, Some, None, refl, sym, ap, ◌∙◌, subst, arith}
+use Rattle.std.proofs.Common.{replicate}
 use Rattle.std.specs.Prelude.{slice_index_or}
 use Rattle.std.proofs.lemmas.Bool.{false≢true}
 use Rattle.std.proofs.lemmas.List.{get_or-replicate, length-replicate}
 use Rattle.std.proofs.lemmas.List.Elements.{All-nil}
 use Rattle.std.proofs.lemmas.Option.{none-some, same_Some}
-use Rattle.tm_base.specs.declared.names.TheConstants.{NEVER}
 use Rattle.tree_plan.specs.Shape.{Shape, IsPlanned}
-use Rattle.tree_plan.specs.Paths.{child_at, cpu_count_of, group_count_of, is_under}
+use Rattle.tree_plan.specs.Paths.{cpu_count_of, group_count_of}
 use Rattle.tree_plan.proofs.Below.{below_laws}
 use Rattle.tree_plan.proofs.Trees.{cut_laws, edge_laws}
 use Rattle.play_rules.specs.State.{Cpu, State, cpu_at, migrator_at, new_cpu, start}
-use Rattle.play_laws.proofs.Bases.{Comes, IsBase}
+use Rattle.play_laws.proofs.Bases.{Comes}
 use Rattle.play_laws.proofs.Invariant.{ActiveChild, Fits, Led, busy, rests}
 use Rattle.play_laws.proofs.States.{IsKept, Nobody}
 
@@ -54,7 +54,8 @@ module _ (t : Shape) (timers : ℕ) (planned : IsPlanned t) where
 
   first_led : Led t (λ d. busy (cpu_at first d)) (migrator_at first)
   first_led = record {
-    some = λ g k low is. subst (ActiveChild t (λ d. busy (cpu_at first d)) g) (same_Some 0 k (sym (zero_at g low) ∙ is)) (child_active g low);
+    some = λ g k low is. subst (ActiveChild t (λ d. busy (cpu_at first d)) g)
+        (same_Some 0 k (sym (zero_at g low) ∙ is)) (child_active g low);
     none = λ g d low none on below. none-some 0 (sym none ∙ zero_at g low);
   }
 
@@ -67,6 +68,7 @@ module _ (t : Shape) (timers : ℕ) (planned : IsPlanned t) where
       each = λ d. subst (Fits t 0 d) (sym (is_new d)) (new_fits d);
       led = first_led;
       answered = λ d free rest. absurd (false≢true (sym (ap rests (is_new d)) ∙ rest));
-      top = λ _ none e told. (let never = ap (λ (x : Cpu). x.told) (is_new e) in absurd (omega (arith, told, never)));
+      top = λ _ none e told. (let never = ap (λ (x : Cpu). x.told) (is_new e) in
+          absurd (omega (arith, told, never)));
     };
   }

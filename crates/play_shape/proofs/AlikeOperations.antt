@@ -1,5 +1,5 @@
 -- for crates above: operations, moves and covers under rules that are alike
-use Rattle.std.proofs.Common.{◌≡◌, ℕ, zero, suc, ◌+◌, ◌<◌, List, [], ◌∷◌, Bool, true, false, Option, Some, None, refl, sym, ap, ◌∙◌, subst, arith, zero-add}
+use Rattle.std.proofs.Common.{◌≡◌, ℕ, zero, suc, ◌+◌, ◌<◌, List, [], ◌∷◌, Bool, true, false, Option, Some, None, refl, sym, ap, ◌∙◌, arith, zero-add}
 use Rattle.std.specs.Prelude.{All, is_none, nat_le, if◌then◌else◌, ◌&&◌}
 use Rattle.std.specs.Option.{option_or}
 use Rattle.std.proofs.lemmas.List.Elements.{All-head, All-tail}
@@ -15,17 +15,17 @@ use Rattle.play_rules.specs.declared.asks.Answerer.{Answerer}
 use Rattle.play_rules.specs.declared.asks.Arming.{Arming}
 use Rattle.play_rules.specs.declared.asks.Cancelling.{Cancelling}
 use Rattle.play_rules.specs.declared.asks.Queued.{Queued}
-use Rattle.play_rules.specs.Parts.{Played, and_then, lines_told, printing, silent}
-use Rattle.play_rules.specs.Rules.{Moved, Placed, Rules}
+use Rattle.play_rules.specs.Parts.{lines_told, printing, silent}
+use Rattle.play_rules.specs.Rules.{Moved, Rules}
 use Rattle.play_rules.specs.Interrupts.{cpu_id}
-use Rattle.play_rules.specs.Operations.{arm, arm_printed, cancel, cancel_where, clear, clear_after, clear_where, cover_lines, cover_or, covers, done, done_unless, hand_on, hand_on_to, hand_on_where, held_by, idle_where, last_online, move_all, move_printed, moves, moves_to, not_active, not_idle, offline, operation, operations, refusal, refused_line}
-use Rattle.play_laws.proofs.Shape.{Keeps, Stage, between, leaving as left, moving}
-use Rattle.play_laws.proofs.ShapeOperations.{IsActive, IsOpIn, IsTimerIn, is_active, is_idle, first_none, held_none, offline_by, operation_kept, then_none}
-use Rattle.play_alike.proofs.Alike.{Alike, moved_seen, placed_seen, seen, then_seen}
+use Rattle.play_rules.specs.Operations.{arm, arm_printed, cancel_where, clear, clear_after, clear_where, cover_lines, cover_or, covers, done, done_unless, hand_on, hand_on_to, hand_on_where, held_by, idle_where, last_online, move_all, move_printed, moves, moves_to, not_active, not_idle, offline, operation, operations, refusal, refused_line}
+use Rattle.play_shape.proofs.Shape.{Keeps, Stage, between, leaving as left, moving}
+use Rattle.play_shape.proofs.ShapeOperations.{IsActive, IsOpIn, IsTimerIn, is_active, is_idle, first_none, held_none, offline_by, operation_kept, then_none}
+use Rattle.play_shape.proofs.Alike.{Alike, placed_seen, seen, then_seen}
 
 module _ {S T : Type 0} (r : Rules S) (q : Rules T) (f : S → T) (cpus timers levels end : ℕ)
-    (P : (now : ℕ) → Stage → S → Type 0) (keeps : Keeps r cpus timers levels end P)
-    (alike : Alike r q f cpus timers levels end P) (now : ℕ) where
+    (P : (now : ℕ) → Stage → S → Type 0) (Fits : Arming → Type 0) (keeps : Keeps r cpus timers levels end Fits P)
+    (alike : Alike r q f cpus timers levels end Fits P) (now : ℕ) where
   -- WHAT IS PRINTED at the clock of one is printed at the clock of the other
   printed : (line : ℕ → Line) (s : S) (t : S) (t' : T) → f t ≡ t' → seen f (printing (line (r.clock s)) t) ≡ printing (line (q.clock (f s))) t'
   printed line s t t' e =
@@ -117,7 +117,7 @@ module _ {S T : Type 0} (r : Rules S) (q : Rules T) (f : S → T) (cpus timers l
       let free = held_none r s cpu.0 (r.queued s timer.0) (then_none (not_active r s cpu.0) (held_by r (r.queued s timer.0)) none) in
       arm_alike cpu (record { timer = timer; class = class; delay = delay; job = job; arg = arg; line = line }) s
       (alike.armed now cpu.0 s (record { timer = timer; class = class; delay = delay; job = job; arg = arg; line = line })
-      low known active.online active.busy free holds)
+      low known.0 known.1 active.online active.busy free holds)
   done_alike (whats.Cancel timer) line cpu s low known none holds =
       cancel_alike (r.queued s timer.0) cpu.0 (record { timer = timer; by = cpu; line = line }) s low known
       (is_active r s cpu.0 none) refl holds
@@ -158,7 +158,7 @@ module _ {S T : Type 0} (r : Rules S) (q : Rules T) (f : S → T) (cpus timers l
       then_seen f (operation r o s) (operation q o (f s)) (operations r os) (operations q os)
       (operation_alike o s in_range holds)
       (operations_alike os _ (All-tail (IsOpIn cpus timers) o os all)
-      (operation_kept r cpus timers levels end P keeps now o s in_range holds))
+      (operation_kept r cpus timers levels end P Fits keeps now o s in_range holds))
 
   -- MOVING
   module _ (from : ℕ) (low : from < cpus) where

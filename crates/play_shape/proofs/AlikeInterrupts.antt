@@ -2,8 +2,8 @@
 use Rattle.std.proofs.Common.{◌≡◌, ℕ, zero, suc, ◌+◌, ◌<◌, List, [], ◌∷◌, Bool, true, false, Option, Some, None, refl, sym, ap, ◌∙◌, subst, arith, zero-add}
 use Rattle.std.specs.Ordering.{nat_cmp}
 use Rattle.std.specs.FinSet as set
-use Rattle.std.specs.Prelude.{filter}
-use Rattle.std.specs.List.{range_with_len}
+use Rattle.std.specs.Prelude.{All}
+use Rattle.std.proofs.lemmas.List.Elements.{All-head, All-tail}
 use Rattle.tm_base.specs.declared.names.Class.{Class}
 use Rattle.tm_base.specs.declared.names.Class.TheVariants.{Global}
 use Rattle.job_table.specs.declared.jobs.JobReply.{JobReply}
@@ -13,95 +13,87 @@ use Rattle.wheel_core.specs.declared.item.Item.{Item}
 use Rattle.play_rules.specs.declared.asks.Arming.{Arming}
 use Rattle.play_rules.specs.declared.asks.Queued.{Queued}
 use Rattle.play_rules.specs.Parts.{Played, and_then, counting, silent}
-use Rattle.play_rules.specs.Rules.{Drained, Rules}
-use Rattle.play_rules.specs.Interrupts.{Replied, Replies, again, answered, armed_again, arming_again, cpu_id, drain, drains, interrupt, interrupt_where, interrupts, job_call, look, look_at, look_where, looks, ran, reply_to, run_drained, run_job, run_jobs, timer_id, try, try_where}
-use Rattle.play_laws.proofs.Shape.{Keeps, Stage, begun, between, climbed, looked, looking, nth_class, own, running, taking}
-use Rattle.play_laws.proofs.ShapeInterrupts.{jobs_kept, turn_kept}
-use Rattle.play_alike.proofs.Alike.{Alike, and_seen, drained_seen, placed_seen, seen, then_seen}
+use Rattle.play_rules.specs.Rules.{Rules}
+use Rattle.play_rules.specs.Interrupts.{Replied, Replies, again, answered, armed_again, arming_again, cpu_id, drain, drains, interrupt, interrupt_where, interrupts, job_call, look, look_at, look_where, looks, reply_to, run_drained, run_job, run_jobs, timer_id, try, try_where}
+use Rattle.play_shape.proofs.Shape.{Keeps, MayRunAgain, Stage, begun, climbed, looked, looking, nth_class, own, running}
+use Rattle.play_shape.proofs.ShapeInterrupts.{answer_kept, jobs_kept, turn_kept}
+use Rattle.play_shape.proofs.Alike.{Alike, drained_seen, placed_seen, seen, then_seen}
 
 -- JOBS: those of a drain answer alike, and arm alike on the runner
 module _ {S T : Type 0} (jobs : Replies) (r : Rules S) (q : Rules T) (f : S → T) (runner : ℕ) (P : S → Type 0)
     (clock : (s : S) → q.clock (f s) ≡ r.clock s) (queued : (s : S) (timer : ℕ) → q.queued (f s) timer ≡ r.queued s timer)
-    (keeps : (s : S) (a : Arming) → r.queued s a.timer.0 ≡ None → P s → P (r.armed s runner a).state)
-    (alike : (s : S) (a : Arming) → r.queued s a.timer.0 ≡ None → P s → placed_seen f (r.armed s runner a) ≡ q.armed (f s) runner a) where
+    (Fits : Arming → Type 0)
+    (keeps : (s : S) (a : Arming) → Fits a → r.queued s a.timer.0 ≡ None → P s → P (r.armed s runner a).state)
+    (alike : (s : S) (a : Arming) → Fits a → r.queued s a.timer.0 ≡ None → P s → placed_seen f (r.armed s runner a) ≡ q.armed (f s) runner a) where
   abbrev replied_seen : Replied S → Replied T
   replied_seen x = record { reply = x.reply; state = f x.state }
 
-  again_alike : (o : Option Queued) (item : Item) (class : Class) (delay : ℕ) (s : S) → r.queued s item.id ≡ o → P s
+  again_alike : (o : Option Queued) (item : Item) (class : Class) (delay : ℕ) (s : S) → MayRunAgain Fits item → r.queued s item.id ≡ o → P s
       → replied_seen (again r o runner item class delay s) ≡ again q o runner item class delay (f s)
-  again_alike None item class delay s none holds = ap (armed_again class) (alike s (arming_again item class delay) none holds)
-  again_alike (Some held) item class delay s is holds = refl
+  again_alike None item class delay s fits none holds = ap (armed_again class) (alike s (arming_again item class delay) (fits class delay) none holds)
+  again_alike (Some held) item class delay s fits is holds = refl
 
-  answer_alike : (reply : JobReply) (item : Item) (s : S) → P s
+  answer_alike : (reply : JobReply) (item : Item) (s : S) → MayRunAgain Fits item → P s
       → replied_seen (answered r reply runner item s) ≡ answered q reply runner item (f s)
-  answer_alike replies.Done item s holds = refl
-  answer_alike (replies.Mark n) item s holds = refl
-  answer_alike (replies.Again class delay) item s holds =
-      again_alike (r.queued s item.id) item class delay s refl holds
+  answer_alike replies.Done item s fits holds = refl
+  answer_alike (replies.Mark n) item s fits holds = refl
+  answer_alike (replies.Again class delay) item s fits holds =
+      again_alike (r.queued s item.id) item class delay s fits refl holds
       ∙ ap (λ o. again q o runner item class delay (f s)) (sym (queued s item.id))
 
-  again_holds : (o : Option Queued) (item : Item) (class : Class) (delay : ℕ) (s : S) → r.queued s item.id ≡ o → P s
-      → P (again r o runner item class delay s).state
-  again_holds None item class delay s none holds = keeps s (arming_again item class delay) none holds
-  again_holds (Some held) item class delay s is holds = holds
-
-  answer_holds : (reply : JobReply) (item : Item) (s : S) → P s → P (answered r reply runner item s).state
-  answer_holds replies.Done item s holds = holds
-  answer_holds (replies.Mark n) item s holds = holds
-  answer_holds (replies.Again class delay) item s holds = again_holds (r.queued s item.id) item class delay s refl holds
-
-  reply_alike : (item : Item) (s : S) → P s → replied_seen (reply_to jobs r runner item s) ≡ reply_to jobs q runner item (f s)
-  reply_alike item s holds =
-      answer_alike (jobs item.job (job_call r s runner item)) item s holds
+  reply_alike : (item : Item) (s : S) → MayRunAgain Fits item → P s → replied_seen (reply_to jobs r runner item s) ≡ reply_to jobs q runner item (f s)
+  reply_alike item s fits holds =
+      answer_alike (jobs item.job (job_call r s runner item)) item s fits holds
       ∙ ap (λ now. answered q (jobs item.job (record { timer = timer_id item.id; arg = item.arg; now = now; runner = cpu_id runner })) runner item (f s))
       (sym (clock s))
 
-  job_alike : (home : ℕ) (item : Item) (s : S) → P s → seen f (run_job jobs r home runner item s) ≡ run_job jobs q home runner item (f s)
-  job_alike home item s holds =
+  job_alike : (home : ℕ) (item : Item) (s : S) → MayRunAgain Fits item → P s → seen f (run_job jobs r home runner item s) ≡ run_job jobs q home runner item (f s)
+  job_alike home item s fits holds =
       ap (λ (x : Replied T). record {
         lines = lines.Run (r.clock s) (cpu_id runner) (timer_id item.id) (cpu_id home) item.wheel x.reply ∷ [];
         work = 1;
         state = x.state;
-      }) (reply_alike item s holds)
+      }) (reply_alike item s fits holds)
       ∙ ap (λ now. record {
         lines = lines.Run now (cpu_id runner) (timer_id item.id) (cpu_id home) item.wheel (reply_to jobs q runner item (f s)).reply ∷ [];
         work = 1;
         state = (reply_to jobs q runner item (f s)).state;
       }) (sym (clock s))
 
-  pub jobs_alike : (home : ℕ) (items : List Item) (s : S) → P s
+  pub jobs_alike : (home : ℕ) (items : List Item) (s : S) → All (MayRunAgain Fits) items → P s
       → seen f (run_jobs jobs r home runner items s) ≡ run_jobs jobs q home runner items (f s)
   unfolding run_jobs
-  jobs_alike home [] s holds = refl
-  jobs_alike home (item ∷ items) s holds =
+  jobs_alike home [] s fits holds = refl
+  jobs_alike home (item ∷ items) s fits holds =
       then_seen f (run_job jobs r home runner item s) (run_job jobs q home runner item (f s)) (run_jobs jobs r home runner items) (run_jobs jobs q home runner items)
-      (job_alike home item s holds)
-      (jobs_alike home items _ (answer_holds (jobs item.job (job_call r s runner item)) item s holds))
+      (job_alike home item s (All-head (MayRunAgain Fits) item items fits) holds)
+      (jobs_alike home items _ (All-tail (MayRunAgain Fits) item items fits)
+      (answer_kept jobs r runner P Fits keeps (jobs item.job (job_call r s runner item)) item s (All-head (MayRunAgain Fits) item items fits) holds))
 
   -- what was drained, and its jobs
   pub drain_alike : (home : ℕ) (class : Class) (s : S) → drained_seen f (r.drained s home class runner) ≡ q.drained (f s) home class runner
-      → P (r.drained s home class runner).state
+      → All (MayRunAgain Fits) (r.drained s home class runner).items → P (r.drained s home class runner).state
       → seen f (drain jobs r home class runner s) ≡ drain jobs q home class runner (f s)
-  drain_alike home class s is holds =
-      jobs_alike home (r.drained s home class runner).items (r.drained s home class runner).state holds
+  drain_alike home class s is fits holds =
+      jobs_alike home (r.drained s home class runner).items (r.drained s home class runner).state fits holds
       ∙ ap (run_drained jobs q home runner) is
 
 module _ {S T : Type 0} (jobs : Replies) (r : Rules S) (q : Rules T) (f : S → T) (cpus timers levels end : ℕ)
-    (P : (now : ℕ) → Stage → S → Type 0) (keeps : Keeps r cpus timers levels end P)
-    (alike : Alike r q f cpus timers levels end P) (now : ℕ) (due : set.FinSet nat_cmp) (c : ℕ) (low : c < cpus) where
+    (P : (now : ℕ) → Stage → S → Type 0) (Fits : Arming → Type 0) (keeps : Keeps r cpus timers levels end Fits P)
+    (alike : Alike r q f cpus timers levels end Fits P) (now : ℕ) (due : set.FinSet nat_cmp) (c : ℕ) (low : c < cpus) where
   -- its own bases
   own_alike : (k : ℕ) (s : S) → k < 3 → P now (own due c k) s
       → seen f (drain jobs r c (nth_class k) c s) ≡ drain jobs q c (nth_class k) c (f s)
   own_alike k s few holds =
-      drain_alike jobs r q f c (P now (own due c (k + 1))) alike.clock alike.queued
-      (λ t a none at. keeps.ran now due c k t a low few none at) (λ t a none at. alike.ran now due c k t a low few none at)
-      c (nth_class k) s (alike.drained now due c k s low few holds) (keeps.drained now due c k s low few holds)
+      drain_alike jobs r q f c (P now (own due c (k + 1))) alike.clock alike.queued Fits
+      (λ t a fits none at. keeps.ran now due c k t a low few fits none at) (λ t a fits none at. alike.ran now due c k t a low few fits none at)
+      c (nth_class k) s (alike.drained now due c k s low few holds) (keeps.known now due c k s low few holds) (keeps.drained now due c k s low few holds)
 
   own_holds : (k : ℕ) (s : S) → k < 3 → P now (own due c k) s → P now (own due c (k + 1)) (drain jobs r c (nth_class k) c s).state
   own_holds k s few holds =
-      jobs_kept jobs r c (P now (own due c (k + 1))) (λ t a none at. keeps.ran now due c k t a low few none at) c
+      jobs_kept jobs r c (P now (own due c (k + 1))) Fits (λ t a fits none at. keeps.ran now due c k t a low few fits none at) c
       (r.drained s c (nth_class k) c).items (r.drained s c (nth_class k) c).state
-      (keeps.drained now due c k s low few holds)
+      (keeps.known now due c k s low few holds) (keeps.drained now due c k s low few holds)
 
   drains_alike : (s : S) → P now (own due c 0) s → seen f (drains jobs r c s) ≡ drains jobs q c (f s)
   drains_alike s holds =
@@ -128,14 +120,15 @@ module _ {S T : Type 0} (jobs : Replies) (r : Rules S) (q : Rules T) (f : S → 
   try_alike level n tried d s true takes is holds =
       let taken = keeps.taken now due c level n tried d s low is takes holds in
       let had = keeps.drained_for now due c level n tried d _ low taken in
-      let arms : (t : S) (a : Arming) → r.queued t a.timer.0 ≡ None → P now (running due c level n tried d) t → P now (running due c level n tried d) (r.armed t c a).state =
-      λ t a none at. keeps.ran_for now due c level n tried d t a low none at in
+      let arms : (t : S) (a : Arming) → Fits a → r.queued t a.timer.0 ≡ None → P now (running due c level n tried d) t → P now (running due c level n tried d) (r.armed t c a).state =
+      λ t a fits none at. keeps.ran_for now due c level n tried d t a low fits none at in
+      let known = keeps.known_for now due c level n tried d _ low taken in
       let out = r.drained (r.taken s c d) d Global c in
-      let ran = jobs_kept jobs r c (P now (running due c level n tried d)) arms d out.items out.state had in
+      let ran = jobs_kept jobs r c (P now (running due c level n tried d)) Fits arms d out.items out.state known had in
       then_seen f (drain jobs r d Global c (r.taken s c d)) (drain jobs q d Global c (q.taken (f s) c d)) (λ t. silent (r.let_go t c d)) (λ t. silent (q.let_go t c d))
-      (drain_alike jobs r q f c (P now (running due c level n tried d)) alike.clock alike.queued arms
-      (λ t a none at. alike.ran_for now due c level n tried d t a low none at)
-      d Global (r.taken s c d) (alike.drained_for now due c level n tried d _ low taken) had
+      (drain_alike jobs r q f c (P now (running due c level n tried d)) alike.clock alike.queued Fits arms
+      (λ t a fits none at. alike.ran_for now due c level n tried d t a low fits none at)
+      d Global (r.taken s c d) (alike.drained_for now due c level n tried d _ low taken) known had
       ∙ ap (drain jobs q d Global c) (alike.taken now due c level n tried d s low is takes holds))
       (ap silent (alike.let_go now due c level n tried d _ low ran))
 
@@ -145,10 +138,12 @@ module _ {S T : Type 0} (jobs : Replies) (r : Rules S) (q : Rules T) (f : S → 
   try_holds level n tried d s false takes is holds = keeps.left_alone now due c level n tried d s low is takes holds
   try_holds level n tried d s true takes is holds =
       let out = r.drained (r.taken s c d) d Global c in
-      let had = keeps.drained_for now due c level n tried d _ low (keeps.taken now due c level n tried d s low is takes holds) in
+      let taken = keeps.taken now due c level n tried d s low is takes holds in
+      let had = keeps.drained_for now due c level n tried d _ low taken in
       keeps.let_go now due c level n tried d _ low
-      (jobs_kept jobs r c (P now (running due c level n tried d))
-      (λ t a none at. keeps.ran_for now due c level n tried d t a low none at) d out.items out.state had)
+      (jobs_kept jobs r c (P now (running due c level n tried d)) Fits
+      (λ t a fits none at. keeps.ran_for now due c level n tried d t a low fits none at) d out.items out.state
+      (keeps.known_for now due c level n tried d _ low taken) had)
 
   look_at_alike : (o : Option ℕ) (level n : ℕ) (tried : set.FinSet nat_cmp) (s : S) → r.named s c level tried ≡ o
       → P now (looking due c level (suc n) tried) s
@@ -249,8 +244,8 @@ module _ {S T : Type 0} (jobs : Replies) (r : Rules S) (q : Rules T) (f : S → 
 
 -- all interrupts of a moment
 module _ {S T : Type 0} (jobs : Replies) (r : Rules S) (q : Rules T) (f : S → T) (cpus timers levels end : ℕ)
-    (P : (now : ℕ) → Stage → S → Type 0) (keeps : Keeps r cpus timers levels end P)
-    (alike : Alike r q f cpus timers levels end P) (now : ℕ) (due : set.FinSet nat_cmp) where
+    (P : (now : ℕ) → Stage → S → Type 0) (Fits : Arming → Type 0) (keeps : Keeps r cpus timers levels end Fits P)
+    (alike : Alike r q f cpus timers levels end Fits P) (now : ℕ) (due : set.FinSet nat_cmp) where
   from_alike : (n c : ℕ) (s : S) → c + n ≡ cpus → P now (begun due c) s
       → seen f (interrupts jobs r n c due s) ≡ interrupts jobs q n c due (f s)
   unfolding interrupts
@@ -259,9 +254,9 @@ module _ {S T : Type 0} (jobs : Replies) (r : Rules S) (q : Rules T) (f : S → 
       let low : c < cpus = omega (arith, all) in
       then_seen f (interrupt_where jobs r (set.contains due c) c s) (interrupt_where jobs q (set.contains due c) c (f s))
       (interrupts jobs r n (c + 1) due) (interrupts jobs q n (c + 1) due)
-      (turn_alike jobs r q f cpus timers levels end P keeps alike now due c low (set.contains due c) s refl holds)
+      (turn_alike jobs r q f cpus timers levels end P Fits keeps alike now due c low (set.contains due c) s refl holds)
       (from_alike n (c + 1) _ (omega (arith, all))
-      (turn_kept jobs r cpus timers levels end P keeps now due c low (set.contains due c) s refl holds))
+      (turn_kept jobs r cpus timers levels end P Fits keeps now due c low (set.contains due c) s refl holds))
 
   pub interrupts_alike : (s : S) → P now (begun due 0) s
       → seen f (interrupts jobs r (r.cpus s) 0 due s) ≡ interrupts jobs q (q.cpus (f s)) 0 due (f s)

@@ -1,6 +1,6 @@
 -- for crates above: rules under which plays are alike, one seen through a function of the state
-use Rattle.std.proofs.Common.{◌≡◌, ℕ, suc, ◌+◌, ◌<◌, ◌++◌, true, false, Some, None, refl, ap, ◌∙◌}
-use Rattle.std.specs.Prelude.{nat_le}
+use Rattle.std.proofs.Common.{◌≡◌, ℕ, suc, ◌+◌, ◌<◌, ◌++◌, true, false, Some, None, ap, ◌∙◌}
+use Rattle.std.specs.Prelude.{◌^◌, nat_le}
 use Rattle.std.specs.Ordering.{nat_cmp}
 use Rattle.std.specs.FinSet as set
 use Rattle.tm_base.specs.declared.names.Class.TheVariants.{Global}
@@ -10,8 +10,8 @@ use Rattle.play_rules.specs.declared.asks.Queued.{Queued}
 use Rattle.play_rules.specs.Parts.{Played, and_then}
 use Rattle.play_rules.specs.Rules.{Drained, Moved, Placed, Rules}
 use Rattle.play_rules.specs.Operations.{last_online}
-use Rattle.play_laws.proofs.Shape.{Stage, begun, between, climbed, looking, looked, moving, nth_class, own, running, taking}
-use Rattle.play_laws.proofs.Shape.{leaving}
+use Rattle.play_shape.proofs.Shape.{Stage, begun, between, looking, looked, moving, nth_class, own, running, taking}
+use Rattle.play_shape.proofs.Shape.{leaving}
 
 module _ {S T : Type 0} (f : S → T) where
   -- what is seen of a part of a play, of a drain, an arming and a move
@@ -42,7 +42,7 @@ module _ {S T : Type 0} (f : S → T) where
 
 -- EACH RULE of r, where the shape of a play asks it, is the rule of q on what q sees
 pub record Alike {S T : Type 0} (r : Rules S) (q : Rules T) (f : S → T) (cpus timers levels end : ℕ)
-    (P : (now : ℕ) → Stage → S → Type 0) : Type 0 where
+    (Fits : Arming → Type 0) (P : (now : ℕ) → Stage → S → Type 0) : Type 0 where
   -- WHAT IS READ
   pub clock : (s : S) → q.clock (f s) ≡ r.clock s
   pub timers_are : (s : S) → q.timers (f s) ≡ r.timers s
@@ -78,7 +78,7 @@ pub record Alike {S T : Type 0} (r : Rules S) (q : Rules T) (f : S → T) (cpus 
       P now (own due c k) s →
       drained_seen f (r.drained s c (nth_class k) c) ≡ q.drained (f s) c (nth_class k) c
   pub ran : (now : ℕ) (due : set.FinSet nat_cmp) (c k : ℕ) (s : S) (a : Arming) → c < cpus → k < 3 →
-      r.queued s a.timer.0 ≡ None → P now (own due c (k + 1)) s →
+      Fits a → r.queued s a.timer.0 ≡ None → P now (own due c (k + 1)) s →
       placed_seen f (r.armed s c a) ≡ q.armed (f s) c a
   pub taken : (now : ℕ) (due : set.FinSet nat_cmp) (c level n : ℕ) (tried : set.FinSet nat_cmp) (d : ℕ) (s : S) →
       c < cpus → r.named s c level tried ≡ Some d → r.takes s c d ≡ true →
@@ -87,14 +87,14 @@ pub record Alike {S T : Type 0} (r : Rules S) (q : Rules T) (f : S → T) (cpus 
       c < cpus → P now (taking due c level n tried d) s →
       drained_seen f (r.drained s d Global c) ≡ q.drained (f s) d Global c
   pub ran_for : (now : ℕ) (due : set.FinSet nat_cmp) (c level n : ℕ) (tried : set.FinSet nat_cmp) (d : ℕ) (s : S)
-      (a : Arming) → c < cpus → r.queued s a.timer.0 ≡ None →
+      (a : Arming) → c < cpus → Fits a → r.queued s a.timer.0 ≡ None →
       P now (running due c level n tried d) s → placed_seen f (r.armed s c a) ≡ q.armed (f s) c a
   pub let_go : (now : ℕ) (due : set.FinSet nat_cmp) (c level n : ℕ) (tried : set.FinSet nat_cmp) (d : ℕ) (s : S) →
       c < cpus → P now (running due c level n tried d) s → f (r.let_go s c d) ≡ q.let_go (f s) c d
   pub ended : (now : ℕ) (due : set.FinSet nat_cmp) (c : ℕ) (s : S) → c < cpus → set.contains due c ≡ true →
       P now (looked due c) s → f (r.ended s c) ≡ q.ended (f s) c
   -- OPERATIONS
-  pub armed : (now c : ℕ) (s : S) (a : Arming) → c < cpus → a.timer.0 < timers → r.is_online s c ≡ true →
+  pub armed : (now c : ℕ) (s : S) (a : Arming) → c < cpus → a.timer.0 < timers → a.delay < 2 ^ 32 → r.is_online s c ≡ true →
       r.is_idle s c ≡ false → r.queued s a.timer.0 ≡ None → P now between s →
       placed_seen f (r.armed s c a) ≡ q.armed (f s) c a
   pub cancelled : (now c : ℕ) (s : S) (held : Queued) (a : Cancelling) → c < cpus → a.timer.0 < timers →

@@ -1,36 +1,34 @@
 -- for crates above: moments and whole plays under rules that are alike
-use Rattle.std.proofs.Common.{◌≡◌, ℕ, zero, suc, ◌+◌, ◌<◌, ◌≤◌, ◌++◌, List, [], ◌∷◌, Bool, true, false, Option, Some, None, refl, sym, ap, ◌∙◌, subst, arith, map}
+use Rattle.std.proofs.Common.{◌≡◌, ℕ, zero, suc, ◌+◌, ◌≤◌, ◌++◌, List, [], ◌∷◌, Bool, true, false, Option, Some, None, refl, sym, ap, ◌∙◌, arith, map}
 use Rattle.std.specs.Prelude.{All, ◌≢◌, ◌==◌, if◌then◌else◌, filter, max, min, nat_le}
 use Rattle.std.specs.List.{range_with_len}
 use Rattle.std.specs.Option.{ForSome}
-use Rattle.std.specs.Ordering.{nat_cmp}
 use Rattle.std.specs.FinSet as set
 use Rattle.std.proofs.lemmas.Bool.{eqb-false}
 use Rattle.std.proofs.lemmas.List.Elements.{All-cons, All-head, All-nil, All-tail}
-use Rattle.tm_report.specs.declared.lines.Line.{Line}
 use Rattle.tm_report.specs.declared.lines.Line.TheVariants as lines
 use Rattle.tm_script.specs.declared.syntax.Moment.{Moment}
-use Rattle.play_rules.specs.declared.asks.Queued.{Queued}
 use Rattle.play_rules.specs.Parts.{Played, and_then, counting}
+use Rattle.play_rules.specs.declared.asks.Arming.{Arming}
 use Rattle.play_rules.specs.Rules.{Rules}
 use Rattle.play_rules.specs.Interrupts.{Replies, having_interrupt, interrupts}
 use Rattle.play_rules.specs.Operations.{clear_after, covers, leaver, operations}
 use Rattle.play_rules.specs.Moments.{AfterEach, Turn, closing, last_state, left, left_or, moment, moment_at, moment_now, moments_after, next_moment, next_said, scripted, spent_at, turn, turn_lines, turn_then, turns, whole_lines}
-use Rattle.play_laws.proofs.Shape.{Keeps, Stage, begun, between}
-use Rattle.play_laws.proofs.ShapeInterrupts.{interrupts_kept}
-use Rattle.play_laws.proofs.ShapeOperations.{clear_after_kept, leaver_in, operations_kept}
-use Rattle.play_laws.proofs.ShapeTurns.{IsMomentIn, Next, Rise, after_in, after_rise, moment_in, moment_kept, next_is}
-use Rattle.play_alike.proofs.Alike.{Alike, seen, then_seen}
-use Rattle.play_alike.proofs.AlikeInterrupts.{interrupts_alike}
-use Rattle.play_alike.proofs.AlikeOperations.{clear_after_alike, covers_alike, operations_alike}
+use Rattle.play_shape.proofs.Shape.{Keeps, Stage, begun, between}
+use Rattle.play_shape.proofs.ShapeInterrupts.{interrupts_kept}
+use Rattle.play_shape.proofs.ShapeOperations.{clear_after_kept, leaver_in, operations_kept}
+use Rattle.play_shape.proofs.ShapeTurns.{IsMomentIn, Rise, after_in, after_rise, moment_in, moment_kept, next_is}
+use Rattle.play_shape.proofs.Alike.{Alike, seen, then_seen}
+use Rattle.play_shape.proofs.AlikeInterrupts.{interrupts_alike}
+use Rattle.play_shape.proofs.AlikeOperations.{clear_after_alike, covers_alike, operations_alike}
 
 -- what is seen of a moment
 abbrev pub turn_seen : {S T : Type 0} → (S → T) → Turn S → Turn T
 turn_seen f t = record { at = t.at; played = seen f t.played }
 
 module _ {S T : Type 0} (jobs : Replies) (r : Rules S) (q : Rules T) (f : S → T) (cpus timers levels end : ℕ)
-    (P : (now : ℕ) → Stage → S → Type 0) (keeps : Keeps r cpus timers levels end P)
-    (alike : Alike r q f cpus timers levels end P)
+    (P : (now : ℕ) → Stage → S → Type 0) (Fits : Arming → Type 0) (keeps : Keeps r cpus timers levels end Fits P)
+    (alike : Alike r q f cpus timers levels end Fits P)
     (counted : (now : ℕ) (s : S) → P now between s → r.cpus s ≡ cpus) where
   abbrev Due : ℕ → S → Type 0
   Due now s = P now (begun (having_interrupt r s) 0) s
@@ -48,27 +46,27 @@ module _ {S T : Type 0} (jobs : Replies) (r : Rules S) (q : Rules T) (f : S → 
       → seen f (scripted r o s) ≡ scripted q o (f s)
   scripted_alike now None s known holds = refl
   scripted_alike now (Some m) s known holds =
-      let ops = operations_kept r cpus timers levels end P keeps now m.ops s (known m refl) holds in
-      let cleared = clear_after_kept r cpus timers levels end P keeps now (leaver m.ops) _
+      let ops = operations_kept r cpus timers levels end P Fits keeps now m.ops s (known m refl) holds in
+      let cleared = clear_after_kept r cpus timers levels end P Fits keeps now (leaver m.ops) _
       (λ c is. leaver_in cpus timers m.ops c (known m refl) is) ops in
       then_seen f (and_then (operations r m.ops s) (clear_after r (leaver m.ops))) (and_then (operations q m.ops (f s)) (clear_after q (leaver m.ops)))
       (covers r) (covers q)
       (then_seen f (operations r m.ops s) (operations q m.ops (f s)) (clear_after r (leaver m.ops)) (clear_after q (leaver m.ops))
-      (operations_alike r q f cpus timers levels end P keeps alike now m.ops s (known m refl) holds)
-      (clear_after_alike r q f cpus timers levels end P keeps alike now (leaver m.ops) _
+      (operations_alike r q f cpus timers levels end P Fits keeps alike now m.ops s (known m refl) holds)
+      (clear_after_alike r q f cpus timers levels end P Fits keeps alike now (leaver m.ops) _
       (λ c is. leaver_in cpus timers m.ops c (known m refl) is) ops))
-      (covers_alike r q f cpus timers levels end P keeps alike now _ (counted now _ cleared) cleared)
+      (covers_alike r q f cpus timers levels end P Fits keeps alike now _ (counted now _ cleared) cleared)
 
   moment_alike : (now : ℕ) (ms : List Moment) (s : S) → All (IsMomentIn cpus timers) ms → Due now s
       → seen f (moment_now jobs r ms now s) ≡ moment_now jobs q ms now (f s)
   moment_alike now ms s known holds =
       let due = having_interrupt r s in
       let m = moment_at now ms in
-      let after = interrupts_kept jobs r cpus timers levels end P keeps now due s holds in
+      let after = interrupts_kept jobs r cpus timers levels end P Fits keeps now due s holds in
       then_seen f (and_then (counting s) (interrupts jobs r (r.cpus s) 0 due)) (and_then (counting (f s)) (interrupts jobs q (q.cpus (f s)) 0 due))
       (scripted r m) (scripted q m)
       (then_seen f (counting s) (counting (f s)) (interrupts jobs r (r.cpus s) 0 due) (interrupts jobs q (q.cpus (f s)) 0 due) refl
-      (interrupts_alike jobs r q f cpus timers levels end P keeps alike now due s holds))
+      (interrupts_alike jobs r q f cpus timers levels end P Fits keeps alike now due s holds))
       (scripted_alike now m _ (moment_in (IsMomentIn cpus timers) now ms known) after)
       ∙ ap (λ d. moment jobs q d m (f s)) (due_alike s)
 
@@ -96,13 +94,13 @@ module _ {S T : Type 0} (jobs : Replies) (r : Rules S) (q : Rules T) (f : S → 
   turns_from zero now ms s known up low holds = refl
   turns_from (suc n) now ms s known up low holds =
       let here = turn jobs r ms now s in
-      let after = moment_kept jobs r cpus timers levels end P keeps now ms (r.at_clock now s) known holds in
+      let after = moment_kept jobs r cpus timers levels end P Fits keeps now ms (r.at_clock now s) known holds in
       let later = moments_after now ms in
       then_alike (now == end) (λ t. turns jobs r n end (next_moment r end later t) later t) (λ t. turns jobs q n end (next_moment q end later t) later t)
       here (turn jobs q ms now (f s)) (turn_alike now ms s known holds)
       (λ more.
       let apart : now ≢ end = eqb-false now end more in
-      let next = next_is jobs r cpus timers levels end P keeps now later here.played.state (after_rise now end ms up) (omega (arith, low, apart))
+      let next = next_is jobs r cpus timers levels end P Fits keeps now later here.played.state (after_rise now end ms up) (omega (arith, low, apart))
       (keeps.clock now here.played.state after) in
       turns_from n (next_moment r end later here.played.state) later here.played.state
       (after_in (IsMomentIn cpus timers) now ms known) next.rise next.by_the_end
