@@ -5,6 +5,7 @@ use Rattle.tm_base.specs.declared.names.TheConstants.{NEVER}
 use Rattle.tm_base.specs.declared.names.Class.{Class}
 use Rattle.wheel_core.specs.PlainBase.{NoneBehind}
 use Rattle.cpu_bases.specs.CpuBases.{base_of}
+use Rattle.tree_plan.specs.Shape.{IsPlanned}
 use Rattle.play_rules.specs.State.{Cpu, State}
 use Rattle.walk_rules.specs.declared.walk.Walk.{Walk}
 use Rattle.walk_rules.specs.declared.walk.Stage.TheVariants as stages
@@ -63,10 +64,11 @@ abbrev pub WalkFits : Phase → ℕ → Option Walk → Type 0
 WalkFits ph c None = hands_in ph c ≡ false
 WalkFits ph c (Some k) = (hands_in ph c ≡ true) × (k.stage ≡ stages.Handing)
 
--- A CORE IN PLAY: lawful, each group's event exact, nothing told by a CPU that is active or
+-- A CORE IN PLAY: lawful, its tree planned, each group's event exact, nothing told by a CPU that is active or
 -- offline, nothing behind a base's clock, and no walk, interrupt or mark but those of the phase
 pub record InPlay (ph : Phase) (w : World) : Type 0 where
   pub lawful : IsLawful w
+  pub planned : IsPlanned w.tree
   pub exact : Exact w
   pub told : (c : ℕ) → ((cpu_of w c).online && (cpu_of w c).idle) ≡ false → told_by w c ≡ NEVER
   pub whole : (c : ℕ) (class : Class) → NoneBehind (base_of class (cpu_of w c).bases)
