@@ -20,4 +20,4 @@ pub record AtRest (w : World) : Type 0 where
 
 -- a core in play is
 abbrev pub PlayRests : Type 0
-PlayRests = (ph : Phase) (w : World) → InPlay ph w → IsPlanned w.tree → AtRest w
+PlayRests = (ph : Phase) (w : World) → InPlay ph w → AtRest w
