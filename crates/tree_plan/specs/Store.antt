@@ -1,6 +1,6 @@
--- how a tree is kept: its groups in the order of their numbers, and for each child, the placed CPUs
--- first and then the groups, the group that has it and its child number there; the same once more
--- for each CPU by its number
+-- how a tree is kept (no public clause cites it): its groups in the order of their numbers, and for
+-- each child, the placed CPUs first and then the groups, the group that has it and its child number
+-- there; the same once more for each CPU by its number
 use Rattle.std.specs.Prelude.{◌≡◌, ℕ, zero, suc, ◌+◌, ◌-◌, ◌*◌, ◌/◌, ◌==◌, ◌&&◌, min, nat_lt}
 use Rattle.std.specs.Prelude.{if◌then◌else◌, Bool, false, List, [], ◌∷◌, ◌++◌, length, map}
 use Rattle.std.specs.Prelude.{flat_map, sum, Option, Some, None, option_map, slice_get}
