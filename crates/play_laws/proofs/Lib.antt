@@ -1,0 +1,4 @@
+pub mod Shape
+pub mod ShapeInterrupts
+pub mod ShapeOperations
+pub mod ShapeTurns
