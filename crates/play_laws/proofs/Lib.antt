@@ -2,3 +2,9 @@ pub mod Shape
 pub mod ShapeInterrupts
 pub mod ShapeOperations
 pub mod ShapeTurns
+pub mod Ranges
+pub mod Bases
+pub mod Invariant
+pub mod Changes
+pub mod Migrators
+pub mod States
