@@ -125,7 +125,7 @@ module _ (now : ℕ) (t : Shape) (planned : IsPlanned t) (cpu : ℕ → Cpu) (mi
   }
 
   -- where activity stays, so do the migrators
-  same_led : (c : ℕ) (y : Cpu) → busy y ≡ busy (cpu c) → Led t (λ d. busy (cpu d)) migrators
+  pub same_led : (c : ℕ) (y : Cpu) → busy y ≡ busy (cpu c) → Led t (λ d. busy (cpu d)) migrators
       → Led t (λ d. busy (put cpu c y d)) migrators
   same_led c y same led =
       subst (λ active. Led t active migrators) (λ i d. sym (put_alike cpu c y busy same d) i) led

@@ -8,3 +8,7 @@ pub mod Invariant
 pub mod Changes
 pub mod Migrators
 pub mod States
+pub mod Wakes
+pub mod Ends
+pub mod Timers
+pub mod Covered
