@@ -1,0 +1,75 @@
+-- each timer in its jiffy: what holds after each moment of a play
+use Rattle.std.specs.Prelude.{◌≡◌, ℕ, ◌+◌, ◌^◌, ◌<◌, ◌≤◌, All, [], List, Bool, true, false, is_some}
+use Rattle.tm_base.specs.declared.names.Class.{Class}
+use Rattle.tm_base.specs.declared.names.Class.TheVariants.{Pinned, Global, Deferrable}
+use Rattle.job_table.specs.declared.jobs.JobCall.{JobCall}
+use Rattle.job_table.specs.declared.jobs.JobReply.TheVariants as replies
+use Rattle.tm_script.specs.declared.syntax.Script.{Script}
+use Rattle.tm_script.specs.Grammar.{IsScript}
+use Rattle.wheel_core.specs.declared.item.Item.{Item}
+use Rattle.cpu_bases.specs.declared.entry.Act.{Act}
+use Rattle.cpu_bases.specs.declared.entry.Act.TheVariants as acts
+use Rattle.cpu_bases.specs.declared.entry.Entry.{Entry}
+use Rattle.cpu_bases.specs.CpuBases.{CpuBases, IsConsistent, base_of, class_in}
+use Rattle.cpu_bases.specs.Journals.{LegalUpTo}
+use Rattle.play_rules.specs.Interrupts.{Replies}
+use Rattle.play_rules.specs.State.{State, cpu_at, cpu_count}
+use Rattle.play_rules.specs.Timers.{bases_at}
+use Rattle.play_rules.specs.Play.{AfterEachMoment, next_interrupt}
+
+-- the delay for which a job asks is of 32 bits where the number that its timer was armed with is
+abbrev pub AskInRange : Replies → Type 0
+AskInRange jobs =
+    (job : ℕ) (call : JobCall) (class : Class) (delay : ℕ) → call.arg < 2 ^ 32
+    → jobs job call ≡ replies.Again class delay → delay < 2 ^ 32
+
+-- HANDED OUT in its jiffy: a pinned or global timer at its wheel expiry, a deferrable one not before it
+abbrev pub IsOnTime : Class → (at wheel : ℕ) → Type 0
+IsOnTime Pinned at wheel = at ≡ wheel
+IsOnTime Global at wheel = at ≡ wheel
+IsOnTime Deferrable at wheel = wheel ≤ at
+
+abbrev pub HandedOnTime : Act → Entry → Type 0
+HandedOnTime acts.Handed entry = IsOnTime entry.class entry.at entry.wheel
+HandedOnTime acts.Armed entry = Unit {0}
+HandedOnTime acts.Cancelled entry = Unit {0}
+HandedOnTime acts.MovedOut entry = Unit {0}
+HandedOnTime acts.MovedIn entry = Unit {0}
+HandedOnTime acts.Ticked entry = Unit {0}
+
+-- something holds of each timer that wakes its CPU: of the pinned and the global ones
+pub record OfWaking (Q : Item → Type 0) (cpu : CpuBases) : Type 0 where
+  pub pinned : All Q (base_of Pinned cpu).items
+  pub global : All Q (base_of Global cpu).items
+
+-- the journal of CPU c is legal up to now and each timer of it was handed out on time; its bases agree with it
+pub record IsTold (now c : ℕ) (cpu : CpuBases) : Type 0 where
+  pub consistent : IsConsistent cpu
+  pub legal : LegalUpTo c now cpu.journal
+  pub on_time : All (λ entry. HandedOnTime entry.act entry) cpu.journal
+
+-- no timer is queued on two CPUs
+abbrev pub QueuedOnOne : State → Type 0
+QueuedOnOne s = (timer c d : ℕ) → c < cpu_count s → d < cpu_count s
+    → is_some (class_in timer (bases_at s c)) ≡ true → is_some (class_in timer (bases_at s d)) ≡ true → c ≡ d
+
+-- JOURNALS after a moment
+pub record AreToldOnce (s : State) : Type 0 where
+  pub told : (c : ℕ) → c < cpu_count s → IsTold s.clock c (bases_at s c)
+  pub queued_on_one : QueuedOnOne s
+
+-- IN ITS JIFFY: after a moment no pinned or global timer that is queued on an online CPU is due, the next interrupt comes
+-- no later than its wheel expiry, and nothing is queued on an offline CPU
+pub record InItsJiffy (s : State) : Type 0 where
+  pub journals : AreToldOnce s
+  pub none_due : (c : ℕ) → c < cpu_count s → (cpu_at s c).online ≡ true
+      → OfWaking (λ item. s.clock < item.wheel) (bases_at s c)
+  pub none_passed : (c : ℕ) → c < cpu_count s → (cpu_at s c).online ≡ true
+      → OfWaking (λ item. next_interrupt s ≤ item.wheel) (bases_at s c)
+  pub none_offline : (c : ℕ) (class : Class) → c < cpu_count s → (cpu_at s c).online ≡ false
+      → (base_of class (bases_at s c)).items ≡ []
+
+-- and so after each moment of every script's play
+abbrev pub InItsJiffyAfterEach : Type 0
+InItsJiffyAfterEach =
+    (jobs : Replies) (script : Script) → AskInRange jobs → IsScript script → AfterEachMoment InItsJiffy jobs script

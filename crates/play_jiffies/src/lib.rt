@@ -1,0 +1,3 @@
+//! The second law of Play: each timer is handed out in its jiffy. Each of these functions does nothing; its contract is
+//! the law.
+#![tactic(auto)]
