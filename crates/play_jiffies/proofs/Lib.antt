@@ -4,3 +4,8 @@ pub mod CourseOperations
 pub mod CpuKept
 pub mod Waking
 pub mod Machines
+pub mod Inside
+pub mod Sleepers
+pub mod InterruptSteps
+pub mod LookSteps
+pub mod InterruptEnds

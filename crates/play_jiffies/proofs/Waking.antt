@@ -49,7 +49,7 @@ forward_low time clock (Some wheel) later =
       | inr ahead ↦ rw (le-ltb clock time ahead) ahead
     ]
 
-first_later : (time : ℕ) (items : List Item) → All (From time) items → (wheel : ℕ) → least items ≡ Some wheel → time ≤ wheel
+pub first_later : (time : ℕ) (items : List Item) → All (From time) items → (wheel : ℕ) → least items ≡ Some wheel → time ≤ wheel
 first_later time items all wheel is = none_behind (record { items = items; clock = time }) all wheel is
 
 -- a timer that is armed for the time now or later gets a wheel expiry past now
