@@ -38,11 +38,14 @@ pub record Rested (now d : ℕ) (x : Cpu) : Type 0 where
   pub waking : x.online ≡ true → Waking (now + 1) x.bases
   pub away : x.online ≡ false → IsEmpty x.bases
 
-pub record Between (cpus levels now : ℕ) (s : State) : Type 0 where
+pub record Quiet (cpus levels now : ℕ) (F : (now : ℕ) → ℕ → Cpu → Type 0) (s : State) : Type 0 where
   pub at : s.clock ≡ now
   pub levels_are : level_count_of s.tree ≡ levels
   pub some_online : SomeOnline cpus s
-  pub holds : Holds cpus (Rested s.clock) s
+  pub holds : Holds cpus (F s.clock) s
+
+abbrev pub Between : (cpus levels now : ℕ) → State → Type 0
+Between cpus levels now s = Quiet cpus levels now Rested s
 
 -- WHO HAD ITS INTERRUPT, or so many drains of it, and who has looked where
 abbrev pub HadBefore : set.FinSet nat_cmp → (c d : ℕ) → Type 0

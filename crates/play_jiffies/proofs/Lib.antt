@@ -9,3 +9,4 @@ pub mod Sleepers
 pub mod InterruptSteps
 pub mod LookSteps
 pub mod InterruptEnds
+pub mod OperationSteps
