@@ -10,3 +10,4 @@ pub mod InterruptSteps
 pub mod LookSteps
 pub mod InterruptEnds
 pub mod OperationSteps
+pub mod MovingSteps
