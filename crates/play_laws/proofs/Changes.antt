@@ -1,11 +1,9 @@
 -- for crates above: one CPU changes, and what carries the law is kept
-use Rattle.std.proofs.Common.{◌≡◌, ℕ, ◌+◌, ◌<◌, ◌≤◌, List, Bool, true, false, Option, Some, None, refl, sym, ap, ◌∙◌, subst, arith, inl, inr, min, length, get_or}
-use Rattle.std.specs.Prelude.{◌⊎◌, All, if◌then◌else◌, nat_lt, unwrap_or}
+use Rattle.std.proofs.Common.{◌≡◌, ℕ, ◌<◌, ◌≤◌, List, Bool, true, false, Option, Some, None, refl}
+use Rattle.std.proofs.Common.{sym, ap, ◌∙◌, subst, arith, inl, inr, min, get_or}
+use Rattle.std.specs.Prelude.{All, if◌then◌else◌, unwrap_or}
 use Rattle.std.proofs.lemmas.Bool.{both_ways, cases_Bool, cases_lt, le-ltb, lt-ltb}
-use Rattle.std.proofs.lemmas.List.Elements.{All-weaker}
-use Rattle.std.proofs.lemmas.Option.{none-some, same_Some}
 use Rattle.tm_base.specs.declared.names.TheConstants.{NEVER}
-use Rattle.tm_base.specs.declared.names.Class.{Class}
 use Rattle.tm_base.specs.declared.names.Class.TheVariants.{Pinned, Global}
 use Rattle.wheel_core.specs.declared.item.Item.{Item}
 use Rattle.wheel_core.specs.PlainBase.{least}
@@ -16,18 +14,23 @@ use Rattle.tree_plan.specs.Paths.{has_group_in}
 use Rattle.cpu_bases.specs.CpuBases.{CpuBases, base_of, events_of, first_of}
 use Rattle.play_rules.specs.State.{Cpu}
 use Rattle.play_laws.proofs.Bases.{Comes, IsBase}
-use Rattle.play_laws.proofs.Invariant.{Answers, AreAnswered, Fits, InTime, Invariant, Later, Led, SomeWakes, alike_top, apart_top, busy, each_put, put, put_alike, rests}
+use Rattle.play_laws.proofs.Invariant.{Answers, Fits, InTime, Invariant, Later, Led, SomeWakes}
+use Rattle.play_laws.proofs.Invariant.{alike_top, apart_top, busy, each_put, put, put_alike, rests}
 
 -- THE FIRST of a list of items, or NEVER
 abbrev first_in : List Item → ℕ
 first_in items = unwrap_or (least items) NEVER
 
-first_below : (items : List Item) (o : Option ℕ) → least items ≡ o → All (λ item. unwrap_or o NEVER ≤ item.wheel) items
-first_below items None is = subst (All (λ (item : Item). NEVER ≤ item.wheel)) (sym (least_none items is)) (λ k d low. absurd (omega arith))
+first_below : (items : List Item) (o : Option ℕ) → least items ≡ o
+    → All (λ item. unwrap_or o NEVER ≤ item.wheel) items
+first_below items None is =
+    subst (All (λ (item : Item). NEVER ≤ item.wheel)) (sym (least_none items is))
+    (λ k d low. absurd (omega arith))
 first_below items (Some wheel) is = least_below items wheel is
 
 -- what is before each item is before the first, where that comes
-before_first : (time : ℕ) (items : List Item) (o : Option ℕ) → least items ≡ o → All (Later time) items
+before_first : (time : ℕ) (items : List Item) (o : Option ℕ) → least items ≡ o
+    → All (Later time) items
     → unwrap_or o NEVER < NEVER → time ≤ unwrap_or o NEVER
 before_first time items None is all comes = absurd (omega (arith, comes))
 before_first time items (Some wheel) is all comes =
@@ -60,7 +63,8 @@ next_is b = record {
   covered = λ behind. rw (le-ltb (first_of Global b) (first_of Pinned b) behind) refl;
 }
 
-module _ (now : ℕ) (b : CpuBases) (pinned : IsBase Comes now (base_of Pinned b)) (global : IsBase Comes now (base_of Global b)) where
+module _ (now : ℕ) (b : CpuBases) (pinned : IsBase Comes now (base_of Pinned b))
+    (global : IsBase Comes now (base_of Global b)) where
   -- a CPU that has just told and programmed what its first events ask for is answered
   programmed_global : (grouped : Bool) (duty : ℕ) → (grouped ≡ false → duty ≡ next_in b)
       → All (InTime (min (pin_in b) duty) (told_in grouped b)) (base_of Global b).items
@@ -83,7 +87,8 @@ module _ (now : ℕ) (b : CpuBases) (pinned : IsBase Comes now (base_of Pinned b
 
   -- one that tells again is answered as it was
   retold_global : (wakeup told : ℕ) (grouped : Bool) → (grouped ≡ false → told ≡ NEVER)
-      → All (Later wakeup) (base_of Pinned b).items → All (InTime wakeup told) (base_of Global b).items
+      → All (Later wakeup) (base_of Pinned b).items
+      → All (InTime wakeup told) (base_of Global b).items
       → All (InTime wakeup (told_in grouped b)) (base_of Global b).items
   retold_global wakeup told grouped out pins answered k d low =
       let first = global_first b k d low in
@@ -92,9 +97,12 @@ module _ (now : ℕ) (b : CpuBases) (pinned : IsBase Comes now (base_of Pinned b
         | inl is ↦
             let same : told_in grouped b ≡ next_in b = ap (λ g. told_in g b) is in
             elim (cases_lt (first_of Global b) (first_of Pinned b)) [
-              | inl before ↦ let next = (next_is b).first before in inr (omega (arith, first, same, next))
+              | inl before ↦ let next = (next_is b).first before in
+                  inr (omega (arith, first, same, next))
               | inr behind ↦
-                  let pin = before_first wakeup (base_of Pinned b).items (least (base_of Pinned b).items) refl pins (omega (arith, first, behind, comes)) in
+                  let pin = before_first wakeup (base_of Pinned b).items
+                  (least (base_of Pinned b).items) refl pins
+                  (omega (arith, first, behind, comes)) in
                   inl (omega (arith, first, behind, pin))
             ]
         | inr alone ↦
@@ -105,15 +113,18 @@ module _ (now : ℕ) (b : CpuBases) (pinned : IsBase Comes now (base_of Pinned b
       ]
 
 -- ONE CPU CHANGES
-module _ (now : ℕ) (t : Shape) (planned : IsPlanned t) (cpu : ℕ → Cpu) (migrators : ℕ → Option ℕ) where
-  pub record Put (Owes More : ℕ → Type 0) (Topped : Type 0) (c : ℕ) (y : Cpu) (rules : ℕ → Option ℕ) : Type 0 where
+module _ (now : ℕ) (t : Shape) (planned : IsPlanned t) (cpu : ℕ → Cpu)
+    (migrators : ℕ → Option ℕ) where
+  pub record Put (Owes More : ℕ → Type 0) (Topped : Type 0) (c : ℕ) (y : Cpu)
+      (rules : ℕ → Option ℕ) : Type 0 where
     pub fits : Fits t now c y
     pub led : Led t (λ d. busy (put cpu c y d)) rules
     pub answers : (More c → ⊥) → Answers now y
     pub others : (d : ℕ) → (d ≡ c → ⊥) → (More d → ⊥) → Owes d → ⊥
     pub top : Topped → SomeWakes t (put cpu c y)
 
-  pub put_kept : (Owes More : ℕ → Type 0) (Topped Keeps : Type 0) (c : ℕ) (y : Cpu) (rules : ℕ → Option ℕ)
+  pub put_kept : (Owes More : ℕ → Type 0) (Topped Keeps : Type 0) (c : ℕ) (y : Cpu)
+      (rules : ℕ → Option ℕ)
       → Invariant now t Owes Topped cpu migrators → Put Owes More Keeps c y rules
       → Invariant now t More Keeps (put cpu c y) rules
   put_kept Owes More Topped Keeps c y rules inv new = record {
@@ -130,22 +141,31 @@ module _ (now : ℕ) (t : Shape) (planned : IsPlanned t) (cpu : ℕ → Cpu) (mi
   same_led c y same led =
       subst (λ active. Led t active migrators) (λ i d. sym (put_alike cpu c y busy same d) i) led
 
-  module _ (Owes : ℕ → Type 0) (Topped : Type 0) (inv : Invariant now t Owes Topped cpu migrators) (c : ℕ) where
+  module _ (Owes : ℕ → Type 0) (Topped : Type 0) (inv : Invariant now t Owes Topped cpu migrators)
+      (c : ℕ) where
     -- its bases change
-    pub based_kept : (b : CpuBases) → IsBase Comes now (base_of Pinned b) → IsBase Comes now (base_of Global b)
+    pub based_kept : (b : CpuBases) → IsBase Comes now (base_of Pinned b)
+        → IsBase Comes now (base_of Global b)
         → ((Owes c → ⊥) → Answers now (record (cpu c) { bases = b }))
         → Invariant now t Owes Topped (put cpu c (record (cpu c) { bases = b })) migrators
     based_kept b pinned global answers =
         let y = record (cpu c) { bases = b } in
         let old = inv.each c in
         put_kept Owes Owes Topped Topped c y migrators inv (record {
-          fits = record { away = old.away; offline = old.offline; ungrouped = old.ungrouped; pinned = pinned; global = global };
+          fits = record {
+            away = old.away;
+            offline = old.offline;
+            ungrouped = old.ungrouped;
+            pinned = pinned;
+            global = global;
+          };
           led = same_led c y refl inv.led;
           answers = answers;
           others = λ d other free. free;
-          top = λ topped. alike_top t planned cpu (put cpu c y) (put_alike cpu c y busy refl) 
+          top = λ topped. alike_top t planned cpu (put cpu c y) (put_alike cpu c y busy refl)
               (λ d is. put_alike cpu c y rests refl d ∙ is)
-              (put_alike cpu c y (λ x. x.wakeup) refl) (put_alike cpu c y (λ x. x.told) refl) (inv.top topped);
+              (put_alike cpu c y (λ x. x.wakeup) refl) (put_alike cpu c y (λ x. x.told) refl)
+              (inv.top topped);
         })
 
     -- it tells again what its bases say
@@ -157,7 +177,8 @@ module _ (now : ℕ) (t : Shape) (planned : IsPlanned t) (cpu : ℕ → Cpu) (mi
         let m = told_in grouped (cpu c).bases in
         let y = record (cpu c) { told = m } in
         let old = inv.each c in
-        let silent : grouped ≡ false → m ≡ NEVER = λ alone. ap (λ g. told_in g (cpu c).bases) alone in
+        let silent : grouped ≡ false → m ≡ NEVER =
+        λ alone. ap (λ g. told_in g (cpu c).bases) alone in
         put_kept Owes Owes Topped Topped c y migrators inv (record {
           fits = record {
             away = λ off. absurd (both_ways (rests (cpu c)) off sleeps);
@@ -172,12 +193,14 @@ module _ (now : ℕ) (t : Shape) (planned : IsPlanned t) (cpu : ℕ → Cpu) (mi
               record {
                 pinned = was.pinned;
                 global = record {
-                  all = retold_global now (cpu c).bases old.pinned old.global (cpu c).wakeup (cpu c).told grouped old.ungrouped was.pinned.all was.global.all;
+                  all = retold_global now (cpu c).bases old.pinned old.global (cpu c).wakeup
+                      (cpu c).told grouped old.ungrouped was.pinned.all was.global.all;
                   near = old.global.near;
                 };
               });
           others = λ d other free. free;
-          top = λ topped. apart_top t planned cpu now inv.each c y (out topped) (silent (out topped)) (inv.top topped);
+          top = λ topped. apart_top t planned cpu now inv.each c y (out topped)
+              (silent (out topped)) (inv.top topped);
         })
 
   -- it programs its wakeup, and then owes nothing any more
@@ -186,7 +209,8 @@ module _ (now : ℕ) (t : Shape) (planned : IsPlanned t) (cpu : ℕ → Cpu) (mi
       → (has_group_in t c ≡ false → duty ≡ next_in (cpu c).bases)
       → Invariant now t (λ d. d ≡ c) Topped cpu migrators
       → SomeWakes t (put cpu c (record (cpu c) { wakeup = min (pin_in (cpu c).bases) duty }))
-      → Invariant now t (λ d. ⊥) (Unit {0}) (put cpu c (record (cpu c) { wakeup = min (pin_in (cpu c).bases) duty })) migrators
+      → Invariant now t (λ d. ⊥) (Unit {0})
+      (put cpu c (record (cpu c) { wakeup = min (pin_in (cpu c).bases) duty })) migrators
   programmed_kept c duty Topped sleeps told own inv top =
       let y = record (cpu c) { wakeup = min (pin_in (cpu c).bases) duty } in
       let old = inv.each c in
@@ -201,9 +225,13 @@ module _ (now : ℕ) (t : Shape) (planned : IsPlanned t) (cpu : ℕ → Cpu) (mi
         };
         led = same_led c y refl inv.led;
         answers = λ free rest. record {
-          pinned = record { all = programmed_pinned now (cpu c).bases old.pinned old.global duty; near = old.pinned.near };
+          pinned = record {
+            all = programmed_pinned now (cpu c).bases old.pinned old.global duty;
+            near = old.pinned.near;
+          };
           global = record {
-            all = subst (λ m. All (InTime (min (pin_in (cpu c).bases) duty) m) (base_of Global (cpu c).bases).items) (sym told)
+            all = subst (λ m. All (InTime (min (pin_in (cpu c).bases) duty) m)
+                (base_of Global (cpu c).bases).items) (sym told)
                 (programmed_global now (cpu c).bases old.pinned old.global grouped duty own);
             near = old.global.near;
           };

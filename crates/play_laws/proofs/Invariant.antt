@@ -1,15 +1,17 @@
--- for crates above: what carries the law that timers are answered for, over CPUs and migrators as functions
-use Rattle.std.proofs.Common.{◌≡◌, ℕ, zero, suc, ◌+◌, ◌<◌, ◌≤◌, Bool, true, false, Option, Some, None, refl, sym, ap, ◌∙◌, subst, arith, inl, inr}
+-- for crates above: what carries the law that timers are answered for, over CPUs and migrators as
+-- functions
+use Rattle.std.proofs.Common.{◌≡◌, ℕ, ◌<◌, ◌≤◌, Bool, true, false, Option, Some, None, refl, sym}
+use Rattle.std.proofs.Common.{ap, ◌∙◌, subst, arith, inl, inr}
 use Rattle.std.specs.Prelude.{◌⊎◌, ◌==◌, ◌&&◌, not, if◌then◌else◌, is_some}
-use Rattle.std.proofs.lemmas.Bool.{both_ways, cases_Bool, cases_eq, cases_lt, eq-eqb, false≢true, ne_eqb}
-use Rattle.std.proofs.lemmas.List.Elements.{All-weaker}
-use Rattle.std.proofs.lemmas.Option.{none-some}
+use Rattle.std.proofs.lemmas.Bool.{both_ways, cases_Bool, cases_eq, cases_lt, eq-eqb, false≢true}
+use Rattle.std.proofs.lemmas.Bool.{ne_eqb}
 use Rattle.tm_base.specs.declared.names.TheConstants.{NEVER}
 use Rattle.tm_base.specs.declared.names.Child.{Child}
 use Rattle.tm_base.specs.declared.names.Class.TheVariants.{Pinned, Global}
 use Rattle.wheel_core.specs.declared.item.Item.{Item}
 use Rattle.tree_plan.specs.Shape.{Shape, IsPlanned}
-use Rattle.tree_plan.specs.Paths.{child_at, cpu_count_of, group_at_of, group_count_of, has_group_in, is_below, is_placed_in, is_under, level_count_of}
+use Rattle.tree_plan.specs.Paths.{child_at, cpu_count_of, group_count_of, has_group_in, is_below}
+use Rattle.tree_plan.specs.Paths.{is_placed_in, is_under, level_count_of}
 use Rattle.tree_plan.proofs.Below.{paths, placed_laws}
 use Rattle.cpu_bases.specs.CpuBases.{base_of}
 use Rattle.play_rules.specs.State.{Cpu}
@@ -22,7 +24,8 @@ rests x = x.online && x.idle
 abbrev pub busy : Cpu → Bool
 busy x = x.online && not x.idle
 
--- a CPU that doesn't rest has told nothing and keeps no wakeup, nor has one without a group told anything; one that is
+-- a CPU that doesn't rest has told nothing and keeps no wakeup, nor has one without a group told
+-- anything; one that is
 -- offline is idle; its timers come
 pub record Fits (t : Shape) (now d : ℕ) (x : Cpu) : Type 0 where
   pub away : rests x ≡ false → (x.told ≡ NEVER) × (x.wakeup ≡ NEVER)
@@ -56,9 +59,11 @@ pub record ActiveChild (t : Shape) (active : ℕ → Bool) (g k : ℕ) : Type 0 
 
 pub record Led (t : Shape) (active : ℕ → Bool) (migrators : ℕ → Option ℕ) : Type 0 where
   pub some : (g k : ℕ) → g < group_count_of t → migrators g ≡ Some k → ActiveChild t active g k
-  pub none : (g d : ℕ) → g < group_count_of t → migrators g ≡ None → active d ≡ true → is_below t d g ≡ true → ⊥
+  pub none : (g d : ℕ) → g < group_count_of t → migrators g ≡ None → active d ≡ true
+      → is_below t d g ≡ true → ⊥
 
--- THE TOP: where no placed CPU is active and a time was told, some resting placed CPU wakes for all that was told
+-- THE TOP: where no placed CPU is active and a time was told, some resting placed CPU wakes for all
+-- that was told
 abbrev pub NonePlacedActive : Shape → (ℕ → Cpu) → Type 0
 NonePlacedActive t cpu = (d : ℕ) → is_placed_in t d ≡ true → busy (cpu d) ≡ false
 
@@ -90,7 +95,8 @@ module _ (cpu : ℕ → Cpu) (c : ℕ) (y : Cpu) where
   pub put_other : (d : ℕ) → (d ≡ c → ⊥) → put cpu c y d ≡ cpu d
   put_other d other = rw (ne_eqb d c other) refl
 
-  pub each_put : (Q : ℕ → Cpu → Type 0) → Q c y → ((d : ℕ) → (d ≡ c → ⊥) → Q d (cpu d)) → (d : ℕ) → Q d (put cpu c y d)
+  pub each_put : (Q : ℕ → Cpu → Type 0) → Q c y → ((d : ℕ) → (d ≡ c → ⊥) → Q d (cpu d)) → (d : ℕ)
+      → Q d (put cpu c y d)
   each_put Q here others d =
       elim (cases_eq d c) [
         | inl same ↦ subst (λ k. Q k (put cpu c y k)) (sym same) (subst (Q c) (sym put_same) here)
@@ -98,11 +104,13 @@ module _ (cpu : ℕ → Cpu) (c : ℕ) (y : Cpu) where
       ]
 
   -- what y has in common with the CPU that was there, each CPU has
-  pub put_alike : {X : Type 0} (h : Cpu → X) → h y ≡ h (cpu c) → (d : ℕ) → h (put cpu c y d) ≡ h (cpu d)
+  pub put_alike : {X : Type 0} (h : Cpu → X) → h y ≡ h (cpu c) → (d : ℕ)
+      → h (put cpu c y d) ≡ h (cpu d)
   put_alike {X} h same d = each_put (λ k x. h x ≡ h (cpu k)) same (λ k other. refl) d
 
 -- a group is there only in a tree with levels, and then each placed CPU has one
-pub levels_there : (t : Shape) (e : ℕ) → IsPlanned t → has_group_in t e ≡ true → 0 < level_count_of t
+pub levels_there : (t : Shape) (e : ℕ) → IsPlanned t → has_group_in t e ≡ true
+    → 0 < level_count_of t
 levels_there t e planned is =
     elim (cases_lt 0 (level_count_of t)) [
       | inl some ↦ some
@@ -111,9 +119,11 @@ levels_there t e planned is =
           absurd (false≢true (sym (ap is_some gone) ∙ is))
     ]
 
-pub group_of_placed : (t : Shape) (c e : ℕ) → IsPlanned t → has_group_in t e ≡ true → is_placed_in t c ≡ true
+pub group_of_placed : (t : Shape) (c e : ℕ) → IsPlanned t → has_group_in t e ≡ true
+    → is_placed_in t c ≡ true
     → has_group_in t c ≡ true
-group_of_placed t c e planned is placed = (placed_laws t planned).placed c (levels_there t e planned is) placed
+group_of_placed t c e planned is placed =
+    (placed_laws t planned).placed c (levels_there t e planned is) placed
 
 module _ (t : Shape) (planned : IsPlanned t) (cpu : ℕ → Cpu) where
   -- an active placed CPU
@@ -121,7 +131,8 @@ module _ (t : Shape) (planned : IsPlanned t) (cpu : ℕ → Cpu) where
   active_top c placed on none e told = absurd (both_ways (busy (cpu c)) (none c placed) on)
 
   -- a CPU that told a time has a group
-  pub teller_grouped : (now e : ℕ) → Fits t now e (cpu e) → (cpu e).told < NEVER → has_group_in t e ≡ true
+  pub teller_grouped : (now e : ℕ) → Fits t now e (cpu e) → (cpu e).told < NEVER
+      → has_group_in t e ≡ true
   teller_grouped now e fits told =
       elim (cases_Bool (has_group_in t e)) [
         | inl is ↦ is
@@ -135,9 +146,9 @@ module _ (t : Shape) (planned : IsPlanned t) (cpu : ℕ → Cpu) where
       → SomeWakes t cpu → SomeWakes t new
   alike_top new active rest wakeup told top none e comes =
       let same = told e in
-      let before = top (λ d placed. sym (active d) ∙ none d placed) e (omega (arith, comes, same)) in
-      let w = before.0 in
-      (
+      let before = top (λ d placed. sym (active d) ∙ none d placed) e
+      (omega (arith, comes, same)) in
+      let w = before.0 in (
         w,
         record {
           placed = before.1.placed;
@@ -154,7 +165,8 @@ module _ (t : Shape) (planned : IsPlanned t) (cpu : ℕ → Cpu) where
       (out : has_group_in t c ≡ false) (silent : y.told ≡ NEVER) where
     teller_other : (e : ℕ) → (put cpu c y e).told < NEVER → e ≡ c → ⊥
     teller_other e told same =
-        let here : (put cpu c y e).told ≡ NEVER = ap (λ k. (put cpu c y k).told) same ∙ ap (λ (x : Cpu). x.told) (put_same cpu c y) ∙ silent in
+        let here : (put cpu c y e).told ≡ NEVER = ap (λ k. (put cpu c y k).told) same
+        ∙ ap (λ (x : Cpu). x.told) (put_same cpu c y) ∙ silent in
         omega (arith, told, here)
 
     pub apart_top : SomeWakes t cpu → SomeWakes t (put cpu c y)
@@ -165,12 +177,13 @@ module _ (t : Shape) (planned : IsPlanned t) (cpu : ℕ → Cpu) where
         let told_before : (cpu e).told < NEVER = omega (arith, told, told_e) in
         let grouped = teller_grouped now e (each e) told_before in
         let apart : (d : ℕ) → is_placed_in t d ≡ true → d ≡ c → ⊥ = λ d placed same.
-        both_ways (has_group_in t c) out (ap (has_group_in t) (sym same) ∙ group_of_placed t d e planned grouped placed) in
-        let before = top (λ d placed. ap busy (sym (put_other cpu c y d (apart d placed))) ∙ none d placed) e told_before in
+        both_ways (has_group_in t c) out
+        (ap (has_group_in t) (sym same) ∙ group_of_placed t d e planned grouped placed) in
+        let before = top (λ d placed. ap busy (sym (put_other cpu c y d (apart d placed)))
+        ∙ none d placed) e told_before in
         let w = before.0 in
         let w_same : put cpu c y w ≡ cpu w = put_other cpu c y w (apart w before.1.placed) in
-        let wakes : (put cpu c y w).wakeup ≡ (cpu w).wakeup = ap (λ (x : Cpu). x.wakeup) w_same in
-        (
+        let wakes : (put cpu c y w).wakeup ≡ (cpu w).wakeup = ap (λ (x : Cpu). x.wakeup) w_same in (
           w,
           record {
             placed = before.1.placed;
@@ -180,14 +193,17 @@ module _ (t : Shape) (planned : IsPlanned t) (cpu : ℕ → Cpu) where
                 let first = before.1.in_time e (in_machine e grouped) in
                 elim (cases_eq f c) [
                   | inl same ↦ (
-                      let here : (put cpu c y f).told ≡ NEVER = ap (λ k. (put cpu c y k).told) same ∙ ap (λ (x : Cpu). x.told) (put_same cpu c y) ∙ silent in
+                      let here : (put cpu c y f).told ≡ NEVER = ap (λ k. (put cpu c y k).told) same
+                      ∙ ap (λ (x : Cpu). x.told) (put_same cpu c y) ∙ silent in
                       omega (arith, first, told_before, here, wakes))
                   | inr f_other ↦ (
-                      let told_f : (put cpu c y f).told ≡ (cpu f).told = ap (λ (x : Cpu). x.told) (put_other cpu c y f f_other) in
+                      let told_f : (put cpu c y f).told ≡ (cpu f).told =
+                      ap (λ (x : Cpu). x.told) (put_other cpu c y f f_other) in
                       omega (arith, at, told_f, wakes))
                 ]);
           },
         )
       where
         in_machine : (d : ℕ) → has_group_in t d ≡ true → d < cpu_count_of t
-        in_machine d grouped = (placed_laws t planned).in_range d ((placed_laws t planned).has_group d grouped)
+        in_machine d grouped = (placed_laws t planned).in_range d
+            ((placed_laws t planned).has_group d grouped)

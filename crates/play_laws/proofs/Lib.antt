@@ -12,3 +12,8 @@ pub mod Wakes
 pub mod Ends
 pub mod Timers
 pub mod Covered
+pub mod Settles
+pub mod Hotplug
+pub mod Scripts
+pub mod Starts
+pub mod Plays

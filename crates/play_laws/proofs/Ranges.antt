@@ -1,20 +1,24 @@
 -- for crates above: tests, searches and leasts over the CPUs' numbers
-use Rattle.std.proofs.Common.{◌≡◌, ℕ, zero, suc, ◌+◌, ◌<◌, ◌≤◌, List, [], ◌∷◌, Bool, true, false, Option, Some, None, refl, sym, ap, ◌∙◌, subst, arith, inl, inr, min, ⊎_elim}
-use Rattle.std.specs.Prelude.{filter, find, nat_eq, if◌then◌else◌, ◌==◌, ◌||◌}
+use Rattle.std.proofs.Common.{◌≡◌, ℕ, zero, suc, ◌+◌, ◌<◌, ◌≤◌, List, [], ◌∷◌, Bool, true, false}
+use Rattle.std.proofs.Common.{Some, None, refl, sym, ap, ◌∙◌, arith, inl, inr, min, ⊎_elim}
+use Rattle.std.specs.Prelude.{filter, find, nat_eq, ◌==◌, ◌||◌}
 use Rattle.std.specs.List.{fold, list_any, range_with_len}
 use Rattle.std.specs.Ordering.{nat_cmp}
 use Rattle.std.specs.FinSet.{contains, contains-from_list_nat, from_list}
-use Rattle.std.proofs.lemmas.Bool.{cases_Bool, cases_eq, eq-eqb, eqb-true, false≢true, or_cases, or_left, or_right}
+use Rattle.std.proofs.lemmas.Bool.{cases_Bool, cases_eq, eq-eqb, eqb-true, false≢true, or_cases}
+use Rattle.std.proofs.lemmas.Bool.{or_left, or_right}
 use Rattle.std.proofs.lemmas.Option.{none-some, same_Some}
 
 -- one of n numbers from a on passes
-pub any_here : (p : ℕ → Bool) (a n d : ℕ) → a ≤ d → d < a + n → p d ≡ true → list_any p (range_with_len a n) ≡ true
+pub any_here : (p : ℕ → Bool) (a n d : ℕ) → a ≤ d → d < a + n → p d ≡ true
+    → list_any p (range_with_len a n) ≡ true
 any_here p a zero d from below is = absurd (omega arith)
 any_here p a (suc n) d from below is =
     elim (cases_eq a d) [
       | inl same ↦ or_left (p a) (list_any p (range_with_len (a + 1) n)) (ap p same ∙ is)
       | inr other ↦
-          or_right (p a) (list_any p (range_with_len (a + 1) n)) (any_here p (a + 1) n d (omega arith) (omega arith) is)
+          or_right (p a) (list_any p (range_with_len (a + 1) n))
+          (any_here p (a + 1) n d (omega arith) (omega arith) is)
     ]
 
 pub record PassesFrom (p : ℕ → Bool) (a n : ℕ) : Type 0 where
@@ -25,12 +29,18 @@ pub record PassesFrom (p : ℕ → Bool) (a n : ℕ) : Type 0 where
 
 one_later : (p : ℕ → Bool) (a n : ℕ) → PassesFrom p (a + 1) n → PassesFrom p a (suc n)
 one_later p a n later =
-    record { number = later.number; from = omega (arith, later.from); below = omega (arith, later.below); passes = later.passes }
+    record {
+      number = later.number;
+      from = omega (arith, later.from);
+      below = omega (arith, later.below);
+      passes = later.passes;
+    }
 
 first_one : (p : ℕ → Bool) (a n : ℕ) → p a ≡ true → PassesFrom p a (suc n)
 first_one p a n is = record { number = a; from = omega arith; below = omega arith; passes = is }
 
-pub some_there : (p : ℕ → Bool) (a n : ℕ) → list_any p (range_with_len a n) ≡ true → PassesFrom p a n
+pub some_there : (p : ℕ → Bool) (a n : ℕ) → list_any p (range_with_len a n) ≡ true
+    → PassesFrom p a n
 some_there p a zero is = absurd (false≢true is)
 some_there p a (suc n) is =
     ⊎_elim (first_one p a n) (λ later. one_later p a n (some_there p (a + 1) n later))
@@ -41,7 +51,8 @@ pub record IsFound (p : ℕ → Bool) (a n d : ℕ) : Type 0 where
   pub below : d < a + n
   pub passes : p d ≡ true
 
-pub found_there : (p : ℕ → Bool) (a n d : ℕ) → find p (range_with_len a n) ≡ Some d → IsFound p a n d
+pub found_there : (p : ℕ → Bool) (a n d : ℕ) → find p (range_with_len a n) ≡ Some d
+    → IsFound p a n d
 found_there p a zero d is = absurd (none-some d is)
 found_there p a (suc n) d is =
     elim (cases_Bool (p a)) [
@@ -56,7 +67,8 @@ found_there p a (suc n) d is =
     ]
 
 -- where one passes one is found
-pub found_some : (p : ℕ → Bool) (a n d : ℕ) → a ≤ d → d < a + n → p d ≡ true → find p (range_with_len a n) ≡ None → ⊥
+pub found_some : (p : ℕ → Bool) (a n d : ℕ) → a ≤ d → d < a + n → p d ≡ true
+    → find p (range_with_len a n) ≡ None → ⊥
 found_some p a zero d from below is none = omega arith
 found_some p a (suc n) d from below is none =
     elim (cases_Bool (p a)) [
@@ -64,13 +76,15 @@ found_some p a (suc n) d from below is none =
       | inr other ↦
           let rest : find p (range_with_len (a + 1) n) ≡ None = rw other at none in
           elim (cases_eq a d) [
-            | inl same ↦ let no : true ≡ false = sym is ∙ ap p (sym same) ∙ other in false≢true (sym no)
+            | inl same ↦ let no : true ≡ false = sym is ∙ ap p (sym same) ∙ other in
+                false≢true (sym no)
             | inr apart ↦ found_some p (a + 1) n d (omega arith) (omega arith) is rest
           ]
     ]
 
 -- a member of a set of those that pass
-some_kept : (p q : ℕ → Bool) (xs : List ℕ) → list_any q (filter p xs) ≡ true → (x : ℕ) × (p x ≡ true) × (q x ≡ true)
+pub some_kept : (p q : ℕ → Bool) (xs : List ℕ) → list_any q (filter p xs) ≡ true
+    → (x : ℕ) × (p x ≡ true) × (q x ≡ true)
 some_kept p q [] is = absurd (false≢true is)
 some_kept p q (x ∷ xs) is =
     elim (cases_Bool (p x)) [
@@ -83,9 +97,11 @@ some_kept p q (x ∷ xs) is =
       | inr other ↦ let at : list_any q (filter p xs) ≡ true = rw other at is in some_kept p q xs at
     ]
 
-pub member_passes : (p : ℕ → Bool) (xs : List ℕ) (d : ℕ) → contains (from_list {R = nat_cmp} (filter p xs)) d ≡ true → p d ≡ true
+pub member_passes : (p : ℕ → Bool) (xs : List ℕ) (d : ℕ)
+    → contains (from_list {R = nat_cmp} (filter p xs)) d ≡ true → p d ≡ true
 member_passes p xs d is =
-    let any : list_any (λ y. nat_eq y d) (filter p xs) ≡ true = sym (contains-from_list_nat (filter p xs) d) ∙ is in
+    let any : list_any (λ y. nat_eq y d) (filter p xs) ≡ true =
+    sym (contains-from_list_nat (filter p xs) d) ∙ is in
     let found = some_kept p (λ y. nat_eq y d) xs any in
     ap p (sym (eqb-true found.0 d found.2)) ∙ found.1
 
@@ -98,7 +114,8 @@ module _ (h : ℕ → ℕ) where
   least_low z [] = omega arith
   least_low z (x ∷ xs) = let rest = least_low (min z (h x)) xs in omega (arith, rest)
 
-  pub least_below : (z : ℕ) (xs : List ℕ) (d : ℕ) → list_any (λ x. x == d) xs ≡ true → least_of z xs ≤ h d
+  pub least_below : (z : ℕ) (xs : List ℕ) (d : ℕ) → list_any (λ x. x == d) xs ≡ true
+      → least_of z xs ≤ h d
   least_below z [] d is = absurd (false≢true is)
   least_below z (x ∷ xs) d is =
       elim (or_cases (x == d) (list_any (λ y. y == d) xs) is) [
@@ -108,11 +125,13 @@ module _ (h : ℕ → ℕ) where
         | inr later ↦ least_below (min z (h x)) xs d later
       ]
 
-  pub least_above : (m z : ℕ) (xs : List ℕ) → m ≤ z → ((d : ℕ) → list_any (λ x. x == d) xs ≡ true → m ≤ h d)
+  pub least_above : (m z : ℕ) (xs : List ℕ) → m ≤ z
+      → ((d : ℕ) → list_any (λ x. x == d) xs ≡ true → m ≤ h d)
       → m ≤ least_of z xs
   least_above m z [] low each = low
   least_above m z (x ∷ xs) low each =
-      let here : m ≤ h x = each x (or_left (x == x) (list_any (λ y. y == x) xs) (eq-eqb x x refl)) in
+      let here : m ≤ h x = each x
+      (or_left (x == x) (list_any (λ y. y == x) xs) (eq-eqb x x refl)) in
       least_above m (min z (h x)) xs (omega (arith, low, here))
       (λ d is. each d (or_right (x == d) (list_any (λ y. y == d) xs) is))
 
@@ -125,7 +144,8 @@ range_low n d is =
     let at = some_there (λ x. x == d) 0 n is in
     let same = eqb-true at.number d at.passes in omega (arith, at.below, same)
 
-pub filter_member : (p : ℕ → Bool) (xs : List ℕ) (d : ℕ) → list_any (λ x. x == d) xs ≡ true → p d ≡ true
+pub filter_member : (p : ℕ → Bool) (xs : List ℕ) (d : ℕ) → list_any (λ x. x == d) xs ≡ true
+    → p d ≡ true
     → list_any (λ x. x == d) (filter p xs) ≡ true
 filter_member p [] d is passes = absurd (false≢true is)
 filter_member p (x ∷ xs) d is passes =

@@ -1,5 +1,7 @@
--- for crates above: what the rules have to keep, so that a fact holds all through a play under any rules
-use Rattle.std.specs.Prelude.{◌≡◌, ℕ, zero, suc, ◌+◌, ◌<◌, ◌≤◌, true, false, Some, None, max, nat_le}
+-- for crates above: what the rules have to keep, so that a fact holds all through a play under any
+-- rules
+use Rattle.std.specs.Prelude.{◌≡◌, ℕ, zero, suc, ◌+◌, ◌<◌, ◌≤◌, true, false, Some, None, max}
+use Rattle.std.specs.Prelude.{nat_le}
 use Rattle.std.specs.Ordering.{nat_cmp}
 use Rattle.std.specs.FinSet as set
 use Rattle.tm_base.specs.declared.names.Class.{Class}
@@ -17,7 +19,8 @@ pub data Stage : Type 0 where
   between : Stage
   -- of the CPUs that are due an interrupt those below c had theirs
   begun : (due : set.FinSet nat_cmp) (c : ℕ) → Stage
-  -- CPU c is in its interrupt, and so many of its own bases were drained: pinned, global, deferrable
+  -- CPU c is in its interrupt, and so many of its own bases were drained: pinned, global,
+  -- deferrable
   own : (due : set.FinSet nat_cmp) (c bases : ℕ) → Stage
   -- it looked after its groups below a level
   climbed : (due : set.FinSet nat_cmp) (c level : ℕ) → Stage
@@ -40,23 +43,29 @@ nth_class zero = Pinned
 nth_class (suc zero) = Global
 nth_class (suc (suc n)) = Deferrable
 
--- each rule keeps what holds at its stage, where the shape of a play asks it. Play has so many CPUs, timers and levels,
+-- each rule keeps what holds at its stage, where the shape of a play asks it. Play has so many
+-- CPUs, timers and levels,
 -- and goes to `end`
-pub record Keeps {S : Type 0} (r : Rules S) (cpus timers levels end : ℕ) (P : (now : ℕ) → Stage → S → Type 0)
+pub record Keeps {S : Type 0} (r : Rules S) (cpus timers levels end : ℕ)
+    (P : (now : ℕ) → Stage → S → Type 0)
     : Type 0 where
   -- WHAT IS READ
   pub clock : (now : ℕ) (s : S) → P now between s → r.clock s ≡ now
-  pub all_cpus : (now : ℕ) (due : set.FinSet nat_cmp) (s : S) → P now (begun due 0) s → r.cpus s ≡ cpus
-  pub all_levels : (now : ℕ) (due : set.FinSet nat_cmp) (c : ℕ) (s : S) → c < cpus → P now (begun due c) s →
+  pub all_cpus : (now : ℕ) (due : set.FinSet nat_cmp) (s : S) → P now (begun due 0) s
+      → r.cpus s ≡ cpus
+  pub all_levels : (now : ℕ) (due : set.FinSet nat_cmp) (c : ℕ) (s : S) → c < cpus
+      → P now (begun due c) s →
       r.levels s ≡ levels
   -- THE CLOCK comes to the next moment
   pub comes : (now next : ℕ) (s : S) → P now between s → now < next → next ≤ end →
       next ≤ max (r.clock s + 1) (r.next_interrupt s) →
       P next (begun (having_interrupt r (r.at_clock next s)) 0) (r.at_clock next s)
   -- INTERRUPTS
-  pub passed : (now : ℕ) (due : set.FinSet nat_cmp) (c : ℕ) (s : S) → c < cpus → set.contains due c ≡ false →
+  pub passed : (now : ℕ) (due : set.FinSet nat_cmp) (c : ℕ) (s : S) → c < cpus
+      → set.contains due c ≡ false →
       P now (begun due c) s → P now (begun due (c + 1)) s
-  pub entered : (now : ℕ) (due : set.FinSet nat_cmp) (c : ℕ) (s : S) → c < cpus → set.contains due c ≡ true →
+  pub entered : (now : ℕ) (due : set.FinSet nat_cmp) (c : ℕ) (s : S) → c < cpus
+      → set.contains due c ≡ true →
       P now (begun due c) s → P now (own due c 0) (r.entered s c)
   pub drained : (now : ℕ) (due : set.FinSet nat_cmp) (c k : ℕ) (s : S) → c < cpus → k < 3 →
       P now (own due c k) s → P now (own due c (k + 1)) (r.drained s c (nth_class k) c).state
@@ -66,44 +75,60 @@ pub record Keeps {S : Type 0} (r : Rules S) (cpus timers levels end : ℕ) (P : 
   pub drained_all : (now : ℕ) (due : set.FinSet nat_cmp) (c : ℕ) (s : S) → c < cpus →
       P now (own due c 3) s → P now (climbed due c 0) s
   -- a level of the look
-  pub looks : (now : ℕ) (due : set.FinSet nat_cmp) (c level : ℕ) (s : S) → c < cpus → level < levels →
+  pub looks : (now : ℕ) (due : set.FinSet nat_cmp) (c level : ℕ) (s : S) → c < cpus
+      → level < levels →
       r.looks_after s c level ≡ true →
       P now (climbed due c level) s → P now (looking due c level (r.cpus s) set.empty) s
-  pub looks_not : (now : ℕ) (due : set.FinSet nat_cmp) (c level : ℕ) (s : S) → c < cpus → level < levels →
+  pub looks_not : (now : ℕ) (due : set.FinSet nat_cmp) (c level : ℕ) (s : S) → c < cpus
+      → level < levels →
       r.looks_after s c level ≡ false →
       P now (climbed due c level) s → P now (looked due c) s
   pub top_looked : (now : ℕ) (due : set.FinSet nat_cmp) (c : ℕ) (s : S) → c < cpus →
       P now (climbed due c levels) s → P now (looked due c) s
   -- a turn at that level
-  pub named_none : (now : ℕ) (due : set.FinSet nat_cmp) (c level n : ℕ) (tried : set.FinSet nat_cmp) (s : S) → c < cpus →
+  pub named_none : (now : ℕ) (due : set.FinSet nat_cmp) (c level n : ℕ) (tried : set.FinSet nat_cmp)
+      (s : S) → c < cpus →
       r.named s c level tried ≡ None →
       P now (looking due c level (suc n) tried) s → P now (climbed due c (level + 1)) s
-  pub none_left : (now : ℕ) (due : set.FinSet nat_cmp) (c level : ℕ) (tried : set.FinSet nat_cmp) (s : S) → c < cpus →
+  pub none_left : (now : ℕ) (due : set.FinSet nat_cmp) (c level : ℕ) (tried : set.FinSet nat_cmp)
+      (s : S) → c < cpus →
       P now (looking due c level 0 tried) s → P now (climbed due c (level + 1)) s
-  pub left_alone : (now : ℕ) (due : set.FinSet nat_cmp) (c level n : ℕ) (tried : set.FinSet nat_cmp) (d : ℕ) (s : S) →
+  pub left_alone : (now : ℕ) (due : set.FinSet nat_cmp) (c level n : ℕ) (tried : set.FinSet nat_cmp)
+      (d : ℕ) (s : S) →
       c < cpus → r.named s c level tried ≡ Some d → r.takes s c d ≡ false →
-      P now (looking due c level (suc n) tried) s → P now (looking due c level n (set.insert tried d)) s
-  pub taken : (now : ℕ) (due : set.FinSet nat_cmp) (c level n : ℕ) (tried : set.FinSet nat_cmp) (d : ℕ) (s : S) →
+      P now (looking due c level (suc n) tried) s
+      → P now (looking due c level n (set.insert tried d)) s
+  pub taken : (now : ℕ) (due : set.FinSet nat_cmp) (c level n : ℕ) (tried : set.FinSet nat_cmp)
+      (d : ℕ) (s : S) →
       c < cpus → r.named s c level tried ≡ Some d → r.takes s c d ≡ true →
-      P now (looking due c level (suc n) tried) s → P now (taking due c level n tried d) (r.taken s c d)
-  pub drained_for : (now : ℕ) (due : set.FinSet nat_cmp) (c level n : ℕ) (tried : set.FinSet nat_cmp) (d : ℕ) (s : S) →
+      P now (looking due c level (suc n) tried) s
+      → P now (taking due c level n tried d) (r.taken s c d)
+  pub drained_for : (now : ℕ) (due : set.FinSet nat_cmp) (c level n : ℕ)
+      (tried : set.FinSet nat_cmp) (d : ℕ) (s : S) →
       c < cpus → P now (taking due c level n tried d) s →
       P now (running due c level n tried d) (r.drained s d Global c).state
-  pub ran_for : (now : ℕ) (due : set.FinSet nat_cmp) (c level n : ℕ) (tried : set.FinSet nat_cmp) (d : ℕ) (s : S)
+  pub ran_for : (now : ℕ) (due : set.FinSet nat_cmp) (c level n : ℕ) (tried : set.FinSet nat_cmp)
+      (d : ℕ) (s : S)
       (a : Arming) → c < cpus → r.queued s a.timer.0 ≡ None →
-      P now (running due c level n tried d) s → P now (running due c level n tried d) (r.armed s c a).state
-  pub let_go : (now : ℕ) (due : set.FinSet nat_cmp) (c level n : ℕ) (tried : set.FinSet nat_cmp) (d : ℕ) (s : S) →
+      P now (running due c level n tried d) s
+      → P now (running due c level n tried d) (r.armed s c a).state
+  pub let_go : (now : ℕ) (due : set.FinSet nat_cmp) (c level n : ℕ) (tried : set.FinSet nat_cmp)
+      (d : ℕ) (s : S) →
       c < cpus → P now (running due c level n tried d) s →
       P now (looking due c level n (set.insert tried d)) (r.let_go s c d)
   -- the ends
-  pub ended : (now : ℕ) (due : set.FinSet nat_cmp) (c : ℕ) (s : S) → c < cpus → set.contains due c ≡ true →
+  pub ended : (now : ℕ) (due : set.FinSet nat_cmp) (c : ℕ) (s : S) → c < cpus
+      → set.contains due c ≡ true →
       P now (looked due c) s → P now (begun due (c + 1)) (r.ended s c)
-  pub interrupted : (now : ℕ) (due : set.FinSet nat_cmp) (s : S) → P now (begun due cpus) s → P now between s
+  pub interrupted : (now : ℕ) (due : set.FinSet nat_cmp) (s : S) → P now (begun due cpus) s
+      → P now between s
   -- OPERATIONS
-  pub armed : (now c : ℕ) (s : S) (a : Arming) → c < cpus → a.timer.0 < timers → r.is_online s c ≡ true →
+  pub armed : (now c : ℕ) (s : S) (a : Arming) → c < cpus → a.timer.0 < timers
+      → r.is_online s c ≡ true →
       r.is_idle s c ≡ false → r.queued s a.timer.0 ≡ None →
       P now between s → P now between (r.armed s c a).state
-  pub cancelled : (now c : ℕ) (s : S) (held : Queued) (a : Cancelling) → c < cpus → a.timer.0 < timers →
+  pub cancelled : (now c : ℕ) (s : S) (held : Queued) (a : Cancelling) → c < cpus
+      → a.timer.0 < timers →
       r.is_online s c ≡ true → r.is_idle s c ≡ false → r.queued s a.timer.0 ≡ Some held →
       P now between s → P now between (r.cancelled s held.cpu.0 a)
   pub idled : (now c : ℕ) (s : S) → c < cpus → r.is_online s c ≡ true → r.is_idle s c ≡ false →
@@ -113,19 +138,26 @@ pub record Keeps {S : Type 0} (r : Rules S) (cpus timers levels end : ℕ) (P : 
       P now between s → P now between (r.woken s c)
   pub come_online : (now c : ℕ) (s : S) → c < cpus → r.is_online s c ≡ false →
       P now between s → P now between (r.come_online s c)
-  pub gone_offline : (now c : ℕ) (s : S) → c < cpus → r.is_online s c ≡ true → r.is_idle s c ≡ false →
+  pub gone_offline : (now c : ℕ) (s : S) → c < cpus → r.is_online s c ≡ true
+      → r.is_idle s c ≡ false →
       last_online r s c ≡ None →
       P now between s → P now (leaving c) (r.gone_offline s c)
-  pub keeps_on : (now c : ℕ) (s : S) → c < cpus → r.hands_on s c ≡ false → P now (leaving c) s → P now between s
-  pub no_successor : (now c : ℕ) (s : S) → c < cpus → r.hands_on s c ≡ true → r.successor s c ≡ None →
+  pub keeps_on : (now c : ℕ) (s : S) → c < cpus → r.hands_on s c ≡ false → P now (leaving c) s
+      → P now between s
+  pub no_successor : (now c : ℕ) (s : S) → c < cpus → r.hands_on s c ≡ true
+      → r.successor s c ≡ None →
       P now (leaving c) s → P now between s
-  pub handed_on : (now c d : ℕ) (s : S) → c < cpus → r.hands_on s c ≡ true → r.successor s c ≡ Some d →
+  pub handed_on : (now c d : ℕ) (s : S) → c < cpus → r.hands_on s c ≡ true
+      → r.successor s c ≡ Some d →
       P now (leaving c) s → P now between (r.handed_on s c d)
   -- MOVING
-  pub controlling : (now from d : ℕ) (s : S) → from < cpus → r.is_online s from ≡ false → r.controller s ≡ Some d →
-      P now between s → P now (moving from d (r.queued_on (r.controlling s d) from)) (r.controlling s d)
+  pub controlling : (now from d : ℕ) (s : S) → from < cpus → r.is_online s from ≡ false
+      → r.controller s ≡ Some d →
+      P now between s → P now (moving from d (r.queued_on (r.controlling s d) from))
+      (r.controlling s d)
   pub moved : (now from to n : ℕ) (s : S) (m : Moved S) → from < cpus → r.moved s from to ≡ Some m →
       P now (moving from to (suc n)) s → P now (moving from to n) m.state
   pub moved_none : (now from to n : ℕ) (s : S) → from < cpus → r.moved s from to ≡ None →
       P now (moving from to (suc n)) s → P now between s
-  pub all_moved : (now from to : ℕ) (s : S) → from < cpus → P now (moving from to 0) s → P now between s
+  pub all_moved : (now from to : ℕ) (s : S) → from < cpus → P now (moving from to 0) s
+      → P now between s

@@ -1,5 +1,6 @@
 -- for crates above: what the rules keep holds after each moment of a play
-use Rattle.std.proofs.Common.{◌≡◌, ℕ, zero, suc, ◌+◌, ◌<◌, ◌≤◌, List, [], ◌∷◌, Bool, true, false, Option, Some, None, refl, subst, arith, inl, inr, max}
+use Rattle.std.proofs.Common.{◌≡◌, ℕ, zero, suc, ◌+◌, ◌<◌, ◌≤◌, List, [], ◌∷◌, Bool, true, false}
+use Rattle.std.proofs.Common.{Option, Some, None, refl, subst, arith, inl, inr, max}
 use Rattle.std.specs.Prelude.{All, ◌≢◌, ◌==◌, if◌then◌else◌}
 use Rattle.std.specs.Option.{ForSome}
 use Rattle.std.proofs.lemmas.Bool.{cases_eq, eq-eqb, eqb-false, ne_eqb}
@@ -9,12 +10,14 @@ use Rattle.tm_script.specs.declared.syntax.Moment.{Moment}
 use Rattle.play_rules.specs.Rules.{Rules}
 use Rattle.play_rules.specs.Interrupts.{Replies, having_interrupt}
 use Rattle.play_rules.specs.Operations.{leaver}
-use Rattle.play_rules.specs.Moments.{AfterEach, Turn, moment_at, moment_now, moments_after, next_moment, next_said, scripted, turn, turn_then, turns}
+use Rattle.play_rules.specs.Moments.{AfterEach, Turn, moment_at, moment_now, moments_after}
+use Rattle.play_rules.specs.Moments.{next_moment, next_said, scripted, turn, turn_then, turns}
 use Rattle.play_laws.proofs.Shape.{Keeps, Stage, begun, between}
 use Rattle.play_laws.proofs.ShapeInterrupts.{interrupts_kept}
 use Rattle.play_laws.proofs.ShapeOperations.{IsOpIn, clear_after_kept, leaver_in, operations_kept}
 
--- WHAT IS KNOWN of the moments that are still to come: their numbers are in range, and their times rise, from a time on
+-- WHAT IS KNOWN of the moments that are still to come: their numbers are in range, and their times
+-- rise, from a time on
 abbrev pub IsMomentIn : (cpus timers : ℕ) → Moment → Type 0
 IsMomentIn cpus timers m = All (IsOpIn cpus timers) m.ops
 
@@ -22,7 +25,8 @@ abbrev pub Rise : (from end : ℕ) → List Moment → Type 0
 Rise from end [] = Unit {0}
 Rise from end (m ∷ ms) = (from ≤ m.at) × ((m.at ≤ end) × Rise (m.at + 1) end ms)
 
-moment_in : (P : Moment → Type 0) (now : ℕ) (ms : List Moment) → All P ms → ForSome (moment_at now ms) P
+moment_in : (P : Moment → Type 0) (now : ℕ) (ms : List Moment) → All P ms
+    → ForSome (moment_at now ms) P
 moment_in P now [] all = λ m none. absurd (none-some m none)
 moment_in P now (m ∷ ms) all =
     elim (m.at == now) as (λ b. ForSome (if b then Some m else None) P) [
@@ -30,12 +34,15 @@ moment_in P now (m ∷ ms) all =
       | false ↦ λ x none. absurd (none-some x none)
     ]
 
-after_in : (P : Moment → Type 0) (now : ℕ) (ms : List Moment) → All P ms → All P (moments_after now ms)
+after_in : (P : Moment → Type 0) (now : ℕ) (ms : List Moment) → All P ms
+    → All P (moments_after now ms)
 after_in P now [] all = all
 after_in P now (m ∷ ms) all =
-    elim (m.at == now) as (λ b. All P (if b then ms else m ∷ ms)) [ true ↦ All-tail P m ms all | false ↦ all ]
+    elim (m.at == now) as (λ b. All P (if b then ms else m ∷ ms))
+    [ true ↦ All-tail P m ms all | false ↦ all ]
 
-after_rise : (now end : ℕ) (ms : List Moment) → Rise now end ms → Rise (now + 1) end (moments_after now ms)
+after_rise : (now end : ℕ) (ms : List Moment) → Rise now end ms
+    → Rise (now + 1) end (moments_after now ms)
 after_rise now end [] up = up
 after_rise now end (m ∷ ms) (from, (by, up)) =
     elim (cases_eq m.at now) [
@@ -44,7 +51,8 @@ after_rise now end (m ∷ ms) (from, (by, up)) =
       | inr other ↦ rw (ne_eqb m.at now other) (omega (arith, from, other), (by, up))
     ]
 
-rise_from : (now next end : ℕ) (ms : List Moment) → Rise now end ms → next ≤ next_said ms end → Rise next end ms
+rise_from : (now next end : ℕ) (ms : List Moment) → Rise now end ms → next ≤ next_said ms end
+    → Rise next end ms
 rise_from now next end [] up by = up
 rise_from now next end (m ∷ ms) (from, rest) by = (by, rest)
 
@@ -52,16 +60,19 @@ said_by_end : (now end : ℕ) (ms : List Moment) → Rise now end ms → next_sa
 said_by_end now end [] up = omega arith
 said_by_end now end (m ∷ ms) (from, (by, up)) = by
 
-from_said : (from end : ℕ) (ms : List Moment) → Rise from end ms → from ≤ end → from ≤ next_said ms end
+from_said : (from end : ℕ) (ms : List Moment) → Rise from end ms → from ≤ end
+    → from ≤ next_said ms end
 from_said from end [] up low = low
 from_said from end (m ∷ ms) (above, rest) low = above
 
-module _ {S : Type 0} (jobs : Replies) (r : Rules S) (cpus timers levels end : ℕ) (P : (now : ℕ) → Stage → S → Type 0)
+module _ {S : Type 0} (jobs : Replies) (r : Rules S) (cpus timers levels end : ℕ)
+    (P : (now : ℕ) → Stage → S → Type 0)
     (keeps : Keeps r cpus timers levels end P) where
   abbrev Due : ℕ → S → Type 0
   Due now s = P now (begun (having_interrupt r s) 0) s
 
-  scripted_kept : (now : ℕ) (o : Option Moment) (s : S) → ForSome o (IsMomentIn cpus timers) → P now between s
+  scripted_kept : (now : ℕ) (o : Option Moment) (s : S) → ForSome o (IsMomentIn cpus timers)
+      → P now between s
       → P now between (scripted r o s).state
   scripted_kept now None s known holds = holds
   scripted_kept now (Some m) s known holds =
@@ -82,7 +93,8 @@ module _ {S : Type 0} (jobs : Replies) (r : Rules S) (cpus timers levels end : �
     no_later : next_moment r end ms s ≤ max (r.clock s + 1) (r.next_interrupt s)
     rise : Rise (next_moment r end ms s) end ms
 
-  next_is : (now : ℕ) (ms : List Moment) (s : S) → Rise (now + 1) end ms → now + 1 ≤ end → r.clock s ≡ now
+  next_is : (now : ℕ) (ms : List Moment) (s : S) → Rise (now + 1) end ms → now + 1 ≤ end
+      → r.clock s ≡ now
       → Next ms now s
   next_is now ms s up low clock =
       let said = from_said (now + 1) end ms up low in
@@ -100,12 +112,16 @@ module _ {S : Type 0} (jobs : Replies) (r : Rules S) (cpus timers levels end : �
 
   -- a turn, and those behind it unless it is the last
   then_kept : (is_last : Bool) (rest : S → List (Turn S)) (t : Turn S) → Holds t.played.state
-      → (is_last ≡ false → AfterEach Holds (rest t.played.state)) → AfterEach Holds (turn_then is_last rest t)
-  then_kept true rest t here there = All-cons (λ u. Holds u.played.state) t [] here (All-nil (λ u. Holds u.played.state))
-  then_kept false rest t here there = All-cons (λ u. Holds u.played.state) t (rest t.played.state) here (there refl)
+      → (is_last ≡ false → AfterEach Holds (rest t.played.state))
+      → AfterEach Holds (turn_then is_last rest t)
+  then_kept true rest t here there =
+      All-cons (λ u. Holds u.played.state) t [] here (All-nil (λ u. Holds u.played.state))
+  then_kept false rest t here there =
+      All-cons (λ u. Holds u.played.state) t (rest t.played.state) here (there refl)
 
   abbrev Playing : (now : ℕ) → List Moment → S → Type 0
-  Playing now ms s = All (IsMomentIn cpus timers) ms × Rise now end ms × (now ≤ end) × Due now (r.at_clock now s)
+  Playing now ms s = All (IsMomentIn cpus timers) ms × Rise now end ms × (now ≤ end) × Due now
+      (r.at_clock now s)
 
   turns_from : (n now : ℕ) (ms : List Moment) (s : S) → Playing now ms s
       → AfterEach Holds (turns jobs r n end now ms s)
@@ -115,20 +131,24 @@ module _ {S : Type 0} (jobs : Replies) (r : Rules S) (cpus timers levels end : �
       let here = turn jobs r ms now s in
       let after = moment_kept now ms (r.at_clock now s) known holds in
       let left = moments_after now ms in
-      then_kept (now == end) (λ t. turns jobs r n end (next_moment r end left t) left t) here (now, after)
+      then_kept (now == end) (λ t. turns jobs r n end (next_moment r end left t) left t) here
+      (now, after)
       (λ more.
       let apart : now ≢ end = eqb-false now end more in
-      let next = next_is now left here.played.state (after_rise now end ms up) (omega (arith, low, apart))
+      let next = next_is now left here.played.state (after_rise now end ms up)
+      (omega (arith, low, apart))
       (keeps.clock now here.played.state after) in
       turns_from n (next_moment r end left here.played.state) left here.played.state (
         after_in (IsMomentIn cpus timers) now ms known,
         next.rise,
         next.by_the_end,
-        keeps.comes now (next_moment r end left here.played.state) here.played.state after next.later next.by_the_end next.no_later,
+        keeps.comes now (next_moment r end left here.played.state) here.played.state after
+            next.later next.by_the_end next.no_later,
       ))
 
   -- AFTER EACH MOMENT from the time now on it holds, where it does as the clock comes there
-  pub turns_kept : (n now : ℕ) (ms : List Moment) (s : S) → All (IsMomentIn cpus timers) ms → Rise now end ms → now ≤ end
+  pub turns_kept : (n now : ℕ) (ms : List Moment) (s : S) → All (IsMomentIn cpus timers) ms
+      → Rise now end ms → now ≤ end
       → P now (begun (having_interrupt r (r.at_clock now s)) 0) (r.at_clock now s)
       → AfterEach Holds (turns jobs r n end now ms s)
   turns_kept n now ms s known up low holds = turns_from n now ms s (known, up, low, holds)

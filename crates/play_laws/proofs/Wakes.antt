@@ -1,26 +1,32 @@
--- for crates above: a CPU wakes, comes online, goes idle or offline, and what carries the law is kept
-use Rattle.std.proofs.Common.{◌≡◌, ℕ, ◌+◌, ◌<◌, List, Bool, true, false, Option, Some, None, refl, sym, ap, ◌∙◌, subst, arith, inl, inr, length}
-use Rattle.std.specs.Prelude.{◌&&◌, ◌==◌, not, if◌then◌else◌, map, slice_index_or, slice_set}
-use Rattle.std.specs.List.{range_with_len}
-use Rattle.std.proofs.lemmas.Bool.{and_from, and_left, and_parts, and_right, both_ways, cases_Bool, cases_eq, cond-false, cond-true, false≢true, not_from_false, not_from_true}
-use Rattle.std.proofs.lemmas.List.{get_or-set_same, length-set}
+-- for crates above: a CPU wakes, comes online, goes idle or offline, and what carries the law is
+-- kept
+use Rattle.std.proofs.Common.{◌≡◌, ℕ, ◌+◌, ◌<◌, List, Bool, true, false, Option, None, refl, sym}
+use Rattle.std.proofs.Common.{ap, ◌∙◌, subst, arith, inl, inr, length}
+use Rattle.std.specs.Prelude.{◌&&◌, if◌then◌else◌, slice_set}
+use Rattle.std.proofs.lemmas.Bool.{and_from, and_right, both_ways, cases_Bool, cases_eq, false≢true}
+use Rattle.std.proofs.lemmas.List.{length-set}
 use Rattle.std.proofs.lemmas.List.FromFn.{get_or-map-range_with_len}
 use Rattle.tm_base.specs.declared.names.TheConstants.{NEVER}
 use Rattle.tree_plan.specs.Shape.{Shape, IsPlanned}
 use Rattle.tree_plan.specs.Paths.{group_count_of, has_group_in, is_placed_in}
 use Rattle.tree_plan.proofs.Below.{placed_laws}
-use Rattle.play_rules.specs.State.{Cpu, State, cpu_at, cpu_count, has_group, is_active, migrator_at, new_cpu, with_cpu}
-use Rattle.play_rules.specs.Hierarchy.{come_online, gone_offline, idled, is_placed, next_of, rested, rested_migrator, resting, with_migrators, woken, woken_migrator}
-use Rattle.play_laws.proofs.Invariant.{Answers, Fits, Invariant, Led, SomeWakes, active_top, apart_top, busy, put, put_alike, put_other, put_same, rests}
+use Rattle.play_rules.specs.State.{Cpu, State, cpu_at, cpu_count, has_group, is_active, migrator_at}
+use Rattle.play_rules.specs.State.{with_cpu}
+use Rattle.play_rules.specs.Hierarchy.{gone_offline, idled, is_placed, next_of, rested}
+use Rattle.play_rules.specs.Hierarchy.{rested_migrator, with_migrators, woken, woken_migrator}
+use Rattle.play_laws.proofs.Invariant.{Answers, Fits, Invariant, Led, SomeWakes, active_top}
+use Rattle.play_laws.proofs.Invariant.{apart_top, busy, put, put_other, put_same, rests}
 use Rattle.play_laws.proofs.Changes.{Put, put_kept, told_in}
 use Rattle.play_laws.proofs.Migrators.{rested_led, woken_led}
-use Rattle.play_laws.proofs.States.{IsKept, Nobody, Only, here_is, programs_kept, with_kept, written, written_alike, written_twice}
+use Rattle.play_laws.proofs.States.{IsKept, Nobody, Only, here_is, programs_kept, written}
+use Rattle.play_laws.proofs.States.{written_twice}
 
 -- MIGRATORS that are made by a rule
 rule_at : (s : State) (rule : ℕ → Option ℕ) (g : ℕ) → g < group_count_of s.tree
     → migrator_at (with_migrators s rule) g ≡ rule g
 rule_at s rule g low =
-    get_or-map-range_with_len rule 0 (group_count_of s.tree) g g None low (let same : 0 + g ≡ g = omega arith in same)
+    get_or-map-range_with_len rule 0 (group_count_of s.tree) g g None low
+    (let same : 0 + g ≡ g = omega arith in same)
 
 pub led_by_rule : (s : State) (rule : ℕ → Option ℕ) (active : ℕ → Bool) → Led s.tree active rule
     → Led s.tree active (migrator_at (with_migrators s rule))
@@ -30,7 +36,8 @@ led_by_rule s rule active led = record {
 }
 
 -- a CPU that isn't placed has no group
-pub unplaced : (t : Shape) (c : ℕ) → IsPlanned t → is_placed_in t c ≡ false → has_group_in t c ≡ false
+pub unplaced : (t : Shape) (c : ℕ) → IsPlanned t → is_placed_in t c ≡ false
+    → has_group_in t c ≡ false
 unplaced t c planned out =
     elim (cases_Bool (has_group_in t c)) [
       | inl is ↦ absurd (both_ways (is_placed_in t c) out ((placed_laws t planned).has_group c is))
@@ -38,7 +45,8 @@ unplaced t c planned out =
     ]
 
 -- WAKE
-module _ (Topped Keeps : Type 0) (s : State) (c : ℕ) (low : c < cpu_count s) (kept : IsKept (Only c) Topped s)
+module _ (Topped Keeps : Type 0) (s : State) (c : ℕ) (low : c < cpu_count s)
+    (kept : IsKept (Only c) Topped s)
     (online : (cpu_at s c).online ≡ true) (tops : Keeps → is_placed s c ≡ false → Topped) where
   abbrev awake : Cpu
   awake = record (cpu_at s c) { idle = false; wakeup = NEVER; told = NEVER }
@@ -59,19 +67,22 @@ module _ (Topped Keeps : Type 0) (s : State) (c : ℕ) (low : c < cpu_count s) (
   awake_led : Led s.tree (λ d. busy (put (cpu_at s) c awake d)) (migrator_at (woken s c))
   awake_led =
       led_by_rule s (woken_migrator s c) (λ d. busy (put (cpu_at s) c awake d))
-      (woken_led s kept.planned kept.cpus (λ d. busy (put (cpu_at s) c awake d)) c put_busy awake_stay
-          (λ d other on. ap busy (sym (put_other (cpu_at s) c awake d other)) ∙ on) kept.holds.led)
+      (woken_led s kept.planned kept.cpus (λ d. busy (put (cpu_at s) c awake d)) c put_busy
+      awake_stay
+      (λ d other on. ap busy (sym (put_other (cpu_at s) c awake d other)) ∙ on) kept.holds.led)
 
   awake_top : Keeps → SomeWakes s.tree (put (cpu_at s) c awake)
   awake_top keeps =
       elim (cases_Bool (is_placed s c)) [
         | inl placed ↦ active_top s.tree kept.planned (put (cpu_at s) c awake) c placed put_busy
         | inr out ↦
-            apart_top s.tree kept.planned (cpu_at s) s.clock kept.holds.each c awake (unplaced s.tree c kept.planned out) refl
+            apart_top s.tree kept.planned (cpu_at s) s.clock kept.holds.each c awake
+            (unplaced s.tree c kept.planned out) refl
             (kept.holds.top (tops keeps out))
       ]
 
-  awake_put : Put s.clock s.tree kept.planned (cpu_at s) (migrator_at s) (Only c) Nobody Keeps c awake (migrator_at (woken s c))
+  awake_put : Put s.clock s.tree kept.planned (cpu_at s) (migrator_at s) (Only c) Nobody Keeps c
+      awake (migrator_at (woken s c))
   awake_put =
       let old = kept.holds.each c in
       record {
@@ -83,7 +94,8 @@ module _ (Topped Keeps : Type 0) (s : State) (c : ℕ) (low : c < cpu_count s) (
           global = old.global;
         };
         led = awake_led;
-        answers = λ free rest. absurd (both_ways ((cpu_at s c).online && false) (and_right (cpu_at s c).online false refl) rest);
+        answers = λ free rest. absurd (both_ways ((cpu_at s c).online && false)
+            (and_right (cpu_at s c).online false refl) rest);
         others = λ d other free is. other is;
         top = awake_top;
       }
@@ -93,16 +105,20 @@ module _ (Topped Keeps : Type 0) (s : State) (c : ℕ) (low : c < cpu_count s) (
     planned = kept.planned;
     in_time = kept.in_time;
     cpus = length-set s.cpus c awake ∙ kept.cpus;
-    holds = subst (λ f. Invariant s.clock s.tree Nobody Keeps f (migrator_at (woken s c))) (sym (written (with_migrators s (woken_migrator s c)) c awake low))
-        (put_kept s.clock s.tree kept.planned (cpu_at s) (migrator_at s) (Only c) Nobody Topped Keeps c awake (migrator_at (woken s c)) kept.holds awake_put);
+    holds = subst (λ f. Invariant s.clock s.tree Nobody Keeps f (migrator_at (woken s c)))
+        (sym (written (with_migrators s (woken_migrator s c)) c awake low))
+        (put_kept s.clock s.tree kept.planned (cpu_at s) (migrator_at s) (Only c) Nobody Topped
+        Keeps c awake (migrator_at (woken s c)) kept.holds awake_put);
   }
 
   pub woken_busy : busy (cpu_at (woken s c) c) ≡ true
   woken_busy = ap busy (here_is (with_migrators s (woken_migrator s c)) c awake low) ∙ awake_busy
 
 -- REST: the CPUs of the state with xs are those of s but for CPU c, which isn't active there
-module _ (More : ℕ → Type 0) (s : State) (xs : List Cpu) (c : ℕ) (y : Cpu) (kept : IsKept Nobody (Unit {0}) s)
-    (many : length xs ≡ cpu_count s) (is : cpu_at (record s { cpus = xs }) ≡ put (cpu_at s) c y) (off : busy y ≡ false)
+module _ (More : ℕ → Type 0) (s : State) (xs : List Cpu) (c : ℕ) (y : Cpu)
+    (kept : IsKept Nobody (Unit {0}) s)
+    (many : length xs ≡ cpu_count s) (is : cpu_at (record s { cpus = xs }) ≡ put (cpu_at s) c y)
+    (off : busy y ≡ false)
     (fits : Fits s.tree s.clock c y) (answers : (More c → ⊥) → Answers s.clock y) where
   abbrev after : State
   after = record s { cpus = xs }
@@ -116,25 +132,30 @@ module _ (More : ℕ → Type 0) (s : State) (xs : List Cpu) (c : ℕ) (y : Cpu)
   were_active : (d : ℕ) → is_active after d ≡ true → is_active s d ≡ true
   were_active d on =
       elim (cases_eq d c) [
-        | inl same ↦ absurd (both_ways (busy (cpu_at after c)) put_off (ap (λ k. busy (cpu_at after k)) (sym same) ∙ on))
+        | inl same ↦ absurd (both_ways (busy (cpu_at after c)) put_off
+            (ap (λ k. busy (cpu_at after k)) (sym same) ∙ on))
         | inr other ↦ sym (put_else d other) ∙ on
       ]
 
-  rest_led : Led s.tree (λ d. busy (put (cpu_at s) c y d)) (migrator_at (with_migrators after (rested_migrator after c)))
+  rest_led : Led s.tree (λ d. busy (put (cpu_at s) c y d))
+      (migrator_at (with_migrators after (rested_migrator after c)))
   rest_led =
-      subst (λ f. Led s.tree (λ d. busy (f d)) (migrator_at (with_migrators after (rested_migrator after c)))) is
+      subst (λ f. Led s.tree (λ d. busy (f d))
+      (migrator_at (with_migrators after (rested_migrator after c)))) is
       (led_by_rule after (rested_migrator after c) (is_active after)
-          (rested_led after kept.planned (many ∙ kept.cpus) (is_active s) c were_active
-              (λ d other on. put_else d other ∙ on) kept.holds.led))
+      (rested_led after kept.planned (many ∙ kept.cpus) (is_active s) c were_active
+      (λ d other on. put_else d other ∙ on) kept.holds.led))
 
-  rest_put : Put s.clock s.tree kept.planned (cpu_at s) (migrator_at s) Nobody More (has_group s c ≡ false) c y
+  rest_put : Put s.clock s.tree kept.planned (cpu_at s) (migrator_at s) Nobody More
+      (has_group s c ≡ false) c y
       (migrator_at (with_migrators after (rested_migrator after c)))
   rest_put = record {
     fits = fits;
     led = rest_led;
     answers = answers;
     others = λ d other free owes. owes;
-    top = λ out. apart_top s.tree kept.planned (cpu_at s) s.clock kept.holds.each c y out (fits.ungrouped out) (kept.holds.top tt);
+    top = λ out. apart_top s.tree kept.planned (cpu_at s) s.clock kept.holds.each c y out
+        (fits.ungrouped out) (kept.holds.top tt);
   }
 
   rests_kept : IsKept More (has_group s c ≡ false) (with_migrators after (rested_migrator after c))
@@ -142,9 +163,11 @@ module _ (More : ℕ → Type 0) (s : State) (xs : List Cpu) (c : ℕ) (y : Cpu)
     planned = kept.planned;
     in_time = kept.in_time;
     cpus = many ∙ kept.cpus;
-    holds = subst (λ f. Invariant s.clock s.tree More (has_group s c ≡ false) f (migrator_at (with_migrators after (rested_migrator after c)))) (sym is)
-        (put_kept s.clock s.tree kept.planned (cpu_at s) (migrator_at s) Nobody More (Unit {0}) (has_group s c ≡ false) c y
-            (migrator_at (with_migrators after (rested_migrator after c))) kept.holds rest_put);
+    holds = subst (λ f. Invariant s.clock s.tree More (has_group s c ≡ false) f
+        (migrator_at (with_migrators after (rested_migrator after c)))) (sym is)
+        (put_kept s.clock s.tree kept.planned (cpu_at s) (migrator_at s) Nobody More (Unit {0})
+        (has_group s c ≡ false) c y
+        (migrator_at (with_migrators after (rested_migrator after c))) kept.holds rest_put);
   }
 
 -- IDLE: rest, and then the wakeup
@@ -169,14 +192,17 @@ module _ (s : State) (c : ℕ) (low : c < cpu_count s) (kept : IsKept Nobody (Un
 
   rested_kept : IsKept (Only c) (has_group s c ≡ false) (rested s c (next_of s c))
   rested_kept =
-      rests_kept (Only c) s (slice_set s.cpus c idle_cpu) c idle_cpu kept (length-set s.cpus c idle_cpu)
-      (written s c idle_cpu low) (and_right (cpu_at s c).online false refl) idle_fits (λ free. absurd (free refl))
+      rests_kept (Only c) s (slice_set s.cpus c idle_cpu) c idle_cpu kept
+      (length-set s.cpus c idle_cpu)
+      (written s c idle_cpu low) (and_right (cpu_at s c).online false refl) idle_fits
+      (λ free. absurd (free refl))
 
   pub idles_kept : IsKept Nobody (Unit {0}) (idled s c)
   idles_kept =
       let r = rested s c (next_of s c) in
       let here = here_is s c idle_cpu low in
-      let still : c < cpu_count r = (let many = length-set s.cpus c idle_cpu in omega (arith, low, many)) in
+      let still : c < cpu_count r =
+      (let many = length-set s.cpus c idle_cpu in omega (arith, low, many)) in
       programs_kept r c still rested_kept (ap rests here ∙ idle_rests)
       (subst (λ (x : Cpu). x.told ≡ told_in (has_group s c) x.bases) (sym here) refl)
 

@@ -1,7 +1,10 @@
 -- after each moment of a play every idle CPU's global timers are answered for
-use Rattle.std.specs.Prelude.{◌≡◌, ℕ, ◌<◌, ◌&&◌, All, Bool, true, Option, Some, None, if◌then◌else◌, nat_lt, ◌==◌}
+use Rattle.std.specs.Prelude.{◌≡◌, ℕ, ◌<◌, ◌&&◌, All, true, Option, Some, None, if◌then◌else◌}
+use Rattle.std.specs.Prelude.{nat_lt, ◌==◌}
 use Rattle.tm_base.specs.declared.names.TheConstants.{NEVER}
 use Rattle.tree_plan.specs.Paths.{bit_towards, child_at, group_at_of}
+use Rattle.tm_base.specs.declared.names.Class.TheVariants.{Global}
+use Rattle.cpu_bases.specs.CpuBases.{base_of}
 use Rattle.coverage.specs.Coverage.{Machine, IsAnsweredFor}
 use Rattle.tm_script.specs.declared.syntax.Script.{Script}
 use Rattle.tm_script.specs.Grammar.{IsScript}
@@ -19,7 +22,8 @@ coming time = if time == NEVER then None else Some time
 abbrev pub kept_by : Cpu → Option ℕ
 kept_by cpu = if cpu.online && cpu.idle then Some cpu.wakeup else None
 
--- the machine of a play as the definitions of coverage know it: the least time told below a child stands for its event
+-- the machine of a play as the definitions of coverage know it: the least time told below a child
+-- stands for its event
 abbrev pub machine_of : State → Machine
 machine_of s = record {
   path = group_at_of s.tree;
@@ -36,8 +40,10 @@ machine_of s = record {
 abbrev pub IsSettled : State → Type 0
 IsSettled s =
     (c : ℕ) → c < cpu_count s → (cpu_at s c).online ≡ true → (cpu_at s c).idle ≡ true
-    → All (λ item. IsAnsweredFor (machine_of s) c item.wheel) (cpu_at s c).bases.bases.global.items
+    → All (λ item. IsAnsweredFor (machine_of s) c item.wheel)
+    (base_of Global (cpu_at s c).bases).items
 
 -- and so after each moment of every script's play, whatever its jobs answer
 abbrev pub SettledAfterEach : Type 0
-SettledAfterEach = (jobs : Replies) (script : Script) → IsScript script → AfterEachMoment IsSettled jobs script
+SettledAfterEach =
+    (jobs : Replies) (script : Script) → IsScript script → AfterEachMoment IsSettled jobs script

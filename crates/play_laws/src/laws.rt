@@ -1,0 +1,11 @@
+//! What holds after each moment of a play. Each of these functions does nothing; its contract is
+//! the law.
+
+ghost use Rattle.play_laws.specs.Settled.{SettledAfterEach};
+
+/// After each moment of every script's play each global timer that is queued on an online idle CPU
+/// is answered for: a group of the CPU's path was told of it in time and leads to an active CPU, or
+/// a wakeup that is kept comes in time.
+pub fn law_settled()
+    ensures { SettledAfterEach }
+{}
