@@ -11,3 +11,4 @@ pub mod LookSteps
 pub mod InterruptEnds
 pub mod OperationSteps
 pub mod MovingSteps
+pub mod Covering
