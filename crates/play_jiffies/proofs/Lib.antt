@@ -12,3 +12,4 @@ pub mod InterruptEnds
 pub mod OperationSteps
 pub mod MovingSteps
 pub mod Covering
+pub mod Comes
