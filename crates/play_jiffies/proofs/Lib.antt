@@ -13,3 +13,6 @@ pub mod OperationSteps
 pub mod MovingSteps
 pub mod Covering
 pub mod Comes
+pub mod CourseTurns
+pub mod Starts
+pub mod Jiffies
