@@ -16,3 +16,4 @@ pub mod Comes
 pub mod CourseTurns
 pub mod Starts
 pub mod Jiffies
+pub mod Endings

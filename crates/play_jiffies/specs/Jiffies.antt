@@ -1,5 +1,5 @@
 -- each timer in its jiffy: what holds after each moment of a play
-use Rattle.std.specs.Prelude.{◌≡◌, ℕ, ◌+◌, ◌^◌, ◌<◌, ◌≤◌, All, [], List, Bool, true, false, is_some}
+use Rattle.std.specs.Prelude.{◌≡◌, ℕ, ◌+◌, ◌^◌, ◌<◌, ◌≤◌, All, [], List, Bool, true, false, Some, is_some, slice_get}
 use Rattle.tm_base.specs.declared.names.Class.{Class}
 use Rattle.tm_base.specs.declared.names.Class.TheVariants.{Pinned, Global, Deferrable}
 use Rattle.job_table.specs.declared.jobs.JobCall.{JobCall}
@@ -11,7 +11,8 @@ use Rattle.cpu_bases.specs.declared.entry.Act.{Act}
 use Rattle.cpu_bases.specs.declared.entry.Act.TheVariants as acts
 use Rattle.cpu_bases.specs.declared.entry.Entry.{Entry}
 use Rattle.cpu_bases.specs.CpuBases.{CpuBases, IsConsistent, base_of, class_in}
-use Rattle.cpu_bases.specs.Journals.{LegalUpTo}
+use Rattle.cpu_bases.specs.Journals.{LegalJournal, LegalUpTo}
+use Rattle.cpu_bases.specs.Laws.{IsEndOf, is_arming}
 use Rattle.play_rules.specs.Interrupts.{Replies}
 use Rattle.play_rules.specs.State.{State, cpu_at, cpu_count}
 use Rattle.play_rules.specs.Timers.{bases_at}
@@ -72,4 +73,41 @@ pub record InItsJiffy (s : State) : Type 0 where
 -- and so after each moment of every script's play
 abbrev pub InItsJiffyAfterEach : Type 0
 InItsJiffyAfterEach =
-    (jobs : Replies) (script : Script) → AskInRange jobs → IsScript script → AfterEachMoment InItsJiffy jobs script
+    (jobs : Replies) (script : Script) → AskInRange jobs → IsScript script
+    → AfterEachMoment InItsJiffy jobs script
+
+-- ENDS: the arming at place i of a journal has its end there, which is no hand-out but at its wheel
+-- expiry
+pub record HasEndOnTime (journal : List Entry) (i : ℕ) (arming : Entry) : Type 0 where
+  pub place : ℕ
+  pub ending : Entry
+  pub is_end : IsEndOf journal i place arming ending
+  pub on_time : ending.act ≡ acts.Handed → ending.at ≡ arming.wheel
+
+-- whether timers of a class wake their CPU
+abbrev pub wakes : Class → Bool
+wakes Pinned = true
+wakes Global = true
+wakes Deferrable = false
+
+-- each arming of such a timer whose wheel expiry has come has its end in the same journal: it was
+-- handed out in that jiffy, cancelled, or moved to another CPU
+abbrev pub EachHasEnded : State → Type 0
+EachHasEnded s = (c i : ℕ) (arming : Entry) → c < cpu_count s
+    → slice_get (bases_at s c).journal i ≡ Some arming → is_arming arming.act ≡ true
+    → wakes arming.class ≡ true → arming.wheel ≤ s.clock
+    → HasEndOnTime (bases_at s c).journal i arming
+
+abbrev pub EachHasEndedAfterEach : Type 0
+EachHasEndedAfterEach =
+    (jobs : Replies) (script : Script) → AskInRange jobs → IsScript script
+    → AfterEachMoment EachHasEnded jobs script
+
+-- IN THE FIRST DRAIN: as long as an arming has no end each drain of its base is before its wheel
+-- expiry. So a deferrable timer that isn't cancelled or moved goes out in the first interrupt of
+-- its CPU that isn't before it
+abbrev pub InFirstDrain : Type 0
+InFirstDrain = (cpu : ℕ) (journal : List Entry) (i j k : ℕ) (arming ending drain : Entry)
+    → LegalJournal cpu journal → IsEndOf journal i j arming ending → i < k → k < j
+    → slice_get journal k ≡ Some drain → drain.act ≡ acts.Ticked → drain.class ≡ arming.class
+    → drain.at < arming.wheel

@@ -1,0 +1,196 @@
+-- for crates above: each arming whose wheel expiry has come has its end
+use Rattle.std.proofs.Common.{◌≡◌, ℕ, zero, suc, ◌+◌, ◌<◌, ◌≤◌, List, [], ◌∷◌, Bool, true, false}
+use Rattle.std.proofs.Common.{Option, Some, None, refl, sym, ap, ◌∙◌, subst, arith, inl, inr}
+use Rattle.std.specs.Prelude.{◌⊎◌, ◌==◌, ◌≢◌, All, slice_get}
+use Rattle.std.proofs.lemmas.Bool.{both_ways, cases_Bool, eq-eqb, eqb-true, false≢true}
+use Rattle.std.proofs.lemmas.List.Elements.{All-weaker}
+use Rattle.std.proofs.lemmas.Option.{get_or_from_slice_get, none-some, same_Some}
+use Rattle.std.proofs.lemmas.Option.{slice_get_within}
+use Rattle.tm_base.specs.Classes.{same_class}
+use Rattle.tm_base.specs.declared.names.Class.{Class}
+use Rattle.tm_base.specs.declared.names.Class.TheVariants.{Pinned, Global, Deferrable}
+use Rattle.wheel_core.specs.declared.item.Item.{Item}
+use Rattle.wheel_core.specs.PlainBase.{item_of}
+use Rattle.wheel_core.proofs.Ids.{item_holds}
+use Rattle.cpu_bases.specs.declared.entry.Act.{Act}
+use Rattle.cpu_bases.specs.declared.entry.Act.TheVariants as acts
+use Rattle.cpu_bases.specs.declared.entry.Entry.{Entry}
+use Rattle.cpu_bases.specs.CpuBases.{CpuBases, base_of}
+use Rattle.cpu_bases.specs.Journals.{EachMayFollow, LegalJournal, MayFollow, arming_of, entries_of}
+use Rattle.cpu_bases.specs.Journals.{queued_after}
+use Rattle.cpu_bases.specs.Laws.{IsEndOf, is_arming, is_end}
+use Rattle.cpu_bases.proofs.Classes.{class_itself}
+use Rattle.cpu_bases.proofs.Ends.{each_end_fits, one_end}
+use Rattle.cpu_bases.proofs.EntryKinds.{after_other, after_tick, arming_may, arming_queues, kind}
+use Rattle.cpu_bases.proofs.Keyed.{found_all, found_part, push_own}
+use Rattle.cpu_bases.proofs.Opens.{queued_or_ended}
+use Rattle.play_rules.specs.Interrupts.{Replies}
+use Rattle.play_rules.specs.Moments.{Turn}
+use Rattle.play_rules.specs.State.{State, cpu_at, cpu_count}
+use Rattle.play_rules.specs.Timers.{bases_at}
+use Rattle.play_rules.specs.Play.{play_turns}
+use Rattle.play_jiffies.specs.Jiffies.{EachHasEnded, EachHasEndedAfterEach, HandedOnTime}
+use Rattle.play_jiffies.specs.Jiffies.{HasEndOnTime, InFirstDrain, InItsJiffy, IsOnTime, wakes}
+use Rattle.play_jiffies.proofs.Jiffies.{in_its_jiffy_after_each}
+
+-- A HAND-OUT of a timer that wakes is at its wheel expiry
+at_wheel : (class : Class) (at wheel : ℕ) → wakes class ≡ true → IsOnTime class at wheel → at ≡ wheel
+at_wheel Pinned at wheel is on_time = on_time
+at_wheel Global at wheel is on_time = on_time
+at_wheel Deferrable at wheel is on_time = absurd (false≢true is)
+
+handed_at : (entry : Entry) → wakes entry.class ≡ true → HandedOnTime entry.act entry
+    → entry.act ≡ acts.Handed → entry.at ≡ entry.wheel
+handed_at entry waking on_time handed =
+    at_wheel entry.class entry.at entry.wheel waking
+    (subst (λ act. HandedOnTime act entry) handed on_time)
+
+-- NOTHING THAT HAS COME is still queued
+module _ (s : State) (is : InItsJiffy s) (c : ℕ) (low : c < cpu_count s) where
+  none_waits : (class : Class) (item : Item) (timer : ℕ) → wakes class ≡ true
+      → item_of timer (base_of class (bases_at s c)).items ≡ Some item → (cpu_at s c).online ≡ true
+      → s.clock < item.wheel
+  none_waits Pinned item timer waking there online =
+      item_holds (λ i. s.clock < i.wheel) timer (base_of Pinned (bases_at s c)).items item
+      (is.none_due c low online).pinned there
+  none_waits Global item timer waking there online =
+      item_holds (λ i. s.clock < i.wheel) timer (base_of Global (bases_at s c)).items item
+      (is.none_due c low online).global there
+  none_waits Deferrable item timer waking there online = absurd (false≢true waking)
+
+  none_queued : (class : Class) (item : Item) (timer : ℕ) → (cpu_at s c).online ≡ false
+      → item_of timer (base_of class (bases_at s c)).items ≡ Some item → ⊥
+  none_queued class item timer off there =
+      none-some item (sym (ap (item_of timer) (is.none_offline c class low off)) ∙ there)
+
+  ended_by : (i : ℕ) (arming : Entry) → slice_get (bases_at s c).journal i ≡ Some arming
+      → is_arming arming.act ≡ true → wakes arming.class ≡ true → arming.wheel ≤ s.clock
+      → HasEndOnTime (bases_at s c).journal i arming
+  ended_by i arming there arms waking come =
+      let told = is.journals.told c low in
+      let journal = (bases_at s c).journal in
+      elim (queued_or_ended (bases_at s c) i arming told.consistent there arms) [
+        | inl queued ↦
+            let item = queued.0 in
+            let same : item.wheel ≡ arming.wheel = ap (λ told. told.wheel) queued.2 in
+            absurd
+            (elim (cases_Bool (cpu_at s c).online) [
+              | inl on ↦
+                  let late = none_waits arming.class item arming.timer.0 waking queued.1 on in
+                  omega (arith, late, same, come)
+              | inr off ↦ none_queued arming.class item arming.timer.0 off queued.1
+            ])
+        | inr (j, ending, end) ↦
+            let fits = each_end_fits c journal i j arming ending told.legal.legal end in
+            let within = slice_get_within journal j ending end.ending_there in
+            let here = get_or_from_slice_get journal j ending ending end.ending_there in
+            let on_time : HandedOnTime ending.act ending =
+            subst (λ e. HandedOnTime e.act e) here (told.on_time j ending within) in
+            record {
+              place = j;
+              ending = ending;
+              is_end = end;
+              on_time = λ handed.
+                  handed_at ending (ap wakes fits.class ∙ waking) on_time handed ∙ fits.wheel;
+            }
+      ]
+
+pub each_has_ended : (s : State) → InItsJiffy s → EachHasEnded s
+each_has_ended s is c i arming low there arms waking come = ended_by s is c low i arming there arms waking come
+
+pub each_has_ended_after_each : EachHasEndedAfterEach
+each_has_ended_after_each jobs script asks is =
+    All-weaker (λ (u : Turn State). InItsJiffy u.played.state) (λ u. EachHasEnded u.played.state)
+    (λ u in_jiffy. each_has_ended u.played.state in_jiffy) (play_turns jobs script)
+    (in_its_jiffy_after_each jobs script asks is)
+
+-- AS LONG AS AN ARMING STANDS each drain of its base is before its wheel expiry
+module _ (arming drain : Entry) (ticked : drain.act ≡ acts.Ticked) (class : drain.class ≡ arming.class) where
+  abbrev timer : ℕ
+  timer = arming.timer.0
+
+  -- of the timer nothing is armed or ends below a place
+  abbrev Untouched : List Entry → ℕ → Type 0
+  Untouched journal n = (k : ℕ) (entry : Entry) → k < n → slice_get journal k ≡ Some entry
+      → entry.timer.0 ≡ timer → entry.act ≡ acts.Ticked
+
+  drain_may : (queued : List Entry) → arming_of timer queued ≡ Some arming → MayFollow drain.act queued drain
+      → drain.at < arming.wheel
+  drain_may queued there may =
+      let later = subst (λ act. MayFollow act queued drain) ticked may in
+      let same : same_class arming.class drain.class ≡ true =
+      subst (λ k. same_class arming.class k ≡ true) (sym class) (class_itself arming.class) in
+      found_all (λ (e : Entry). e.timer.0) (λ a. drain.at < a.wheel) timer (entries_of drain.class queued) arming later
+      (found_part (λ (e : Entry). e.timer.0) (λ e. same_class e.class drain.class) timer queued arming there same)
+
+  still_queued : (queued : List Entry) (first : Entry) → arming_of timer queued ≡ Some arming
+      → (first.timer.0 ≡ timer → first.act ≡ acts.Ticked)
+      → arming_of timer (queued_after first.act queued first) ≡ Some arming
+  still_queued queued first there free =
+      elim (cases_Bool (first.timer.0 == timer)) [
+        | inl own ↦ after_tick timer queued first (free (eqb-true first.timer.0 timer own)) ∙ there
+        | inr other ↦ after_other timer queued first other ∙ there
+      ]
+
+  before_wheel : (queued journal : List Entry) (n : ℕ) → arming_of timer queued ≡ Some arming
+      → EachMayFollow queued journal → Untouched journal n → slice_get journal n ≡ Some drain
+      → drain.at < arming.wheel
+  before_wheel queued [] n there each free is = absurd (none-some drain is)
+  before_wheel queued (first ∷ journal) zero there each free is =
+      let one = same_Some first drain is in
+      drain_may queued there (subst (λ e. MayFollow e.act queued e) one each.0)
+  before_wheel queued (first ∷ journal) (suc n) there each free is =
+      before_wheel (queued_after first.act queued first) journal n
+      (still_queued queued first there (free 0 first (omega arith) refl)) each.1
+      (λ k entry low at own. free (suc k) entry (omega (arith, low)) at own) is
+
+  -- from the arming on
+  abbrev Between : List Entry → ℕ → ℕ → Type 0
+  Between journal i n = (k : ℕ) (entry : Entry) → i < k → k < n → slice_get journal k ≡ Some entry
+      → entry.timer.0 ≡ timer → entry.act ≡ acts.Ticked
+
+  from_arming : (queued journal : List Entry) (i n : ℕ) → EachMayFollow queued journal
+      → slice_get journal i ≡ Some arming → is_arming arming.act ≡ true → i < n → Between journal i n
+      → slice_get journal n ≡ Some drain → drain.at < arming.wheel
+  from_arming queued [] i n each at arms low free is = absurd (none-some arming at)
+  from_arming queued (first ∷ journal) i zero each at arms low free is = absurd (omega (arith, low))
+  from_arming queued (first ∷ journal) zero (suc n) each at arms low free is =
+      let one = same_Some first arming at in
+      let may = subst (λ e. MayFollow e.act queued e) one each.0 in
+      let pushed : arming_of timer (queued_after arming.act queued arming) ≡ Some arming =
+      ap (arming_of timer) (arming_queues arming.act queued arming arms)
+      ∙ push_own (λ (e : Entry). e.timer.0) queued arming (arming_may arming.act queued arming arms may) in
+      before_wheel (queued_after first.act queued first) journal n
+      (subst (λ e. arming_of timer (queued_after e.act queued e) ≡ Some arming) (sym one) pushed) each.1
+      (λ k entry below there own. free (suc k) entry (omega arith) (omega (arith, below)) there own) is
+  from_arming queued (first ∷ journal) (suc i) (suc n) each at arms low free is =
+      from_arming (queued_after first.act queued first) journal i n each.1 at arms (omega (arith, low))
+      (λ k entry above below there own. free (suc k) entry (omega (arith, above)) (omega (arith, below)) there own) is
+
+pub in_first_drain : InFirstDrain
+in_first_drain cpu journal i j k arming ending drain legal end after before there ticked class =
+    from_arming arming drain ticked class [] journal i k legal.each_may_follow end.arming_there end.arms after
+    (λ n entry above below at own. untouched n entry above (omega (arith, below, before)) at own) there
+  where
+    untouched : (n : ℕ) (entry : Entry) → i < n → n < j → slice_get journal n ≡ Some entry
+        → entry.timer.0 ≡ arming.timer.0 → entry.act ≡ acts.Ticked
+    untouched n entry above below at own =
+        elim (kind entry.act) [
+          | inl arms ↦ absurd (end.none_between n entry above below at arms own)
+          | inr rest ↦
+              elim rest [
+                | inr is ↦ is
+                | inl ends ↦
+                    let other : IsEndOf journal i n arming entry = record {
+                      later = above;
+                      arming_there = end.arming_there;
+                      ending_there = at;
+                      arms = end.arms;
+                      ends = ends;
+                      same_timer = own;
+                      none_between = λ m e over under is armed. end.none_between m e over (omega (arith, under, below)) is armed;
+                    } in
+                    let same = one_end cpu journal i n j arming entry ending legal other end in
+                    absurd (omega (arith, same, below))
+              ]
+        ]
