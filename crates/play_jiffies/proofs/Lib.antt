@@ -17,3 +17,4 @@ pub mod CourseTurns
 pub mod Starts
 pub mod Jiffies
 pub mod Endings
+pub mod Runners

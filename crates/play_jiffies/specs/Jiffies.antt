@@ -1,5 +1,6 @@
 -- each timer in its jiffy: what holds after each moment of a play
 use Rattle.std.specs.Prelude.{◌≡◌, ℕ, ◌+◌, ◌^◌, ◌<◌, ◌≤◌, All, [], List, Bool, true, false, Some, is_some, slice_get}
+use Rattle.std.specs.FinSet as set
 use Rattle.tm_base.specs.declared.names.Class.{Class}
 use Rattle.tm_base.specs.declared.names.Class.TheVariants.{Pinned, Global, Deferrable}
 use Rattle.job_table.specs.declared.jobs.JobCall.{JobCall}
@@ -13,10 +14,10 @@ use Rattle.cpu_bases.specs.declared.entry.Entry.{Entry}
 use Rattle.cpu_bases.specs.CpuBases.{CpuBases, IsConsistent, base_of, class_in}
 use Rattle.cpu_bases.specs.Journals.{LegalJournal, LegalUpTo}
 use Rattle.cpu_bases.specs.Laws.{IsEndOf, is_arming}
-use Rattle.play_rules.specs.Interrupts.{Replies}
+use Rattle.play_rules.specs.Interrupts.{Replies, having_interrupt, interrupts}
 use Rattle.play_rules.specs.State.{State, cpu_at, cpu_count}
 use Rattle.play_rules.specs.Timers.{bases_at}
-use Rattle.play_rules.specs.Play.{AfterEachMoment, next_interrupt}
+use Rattle.play_rules.specs.Play.{AfterEachMoment, next_interrupt, plain_rules}
 
 -- the delay for which a job asks is of 32 bits where the number that its timer was armed with is
 abbrev pub AskInRange : Replies → Type 0
@@ -111,3 +112,10 @@ InFirstDrain = (cpu : ℕ) (journal : List Entry) (i j k : ℕ) (arming ending d
     → LegalJournal cpu journal → IsEndOf journal i j arming ending → i < k → k < j
     → slice_get journal k ≡ Some drain → drain.act ≡ acts.Ticked → drain.class ≡ arming.class
     → drain.at < arming.wheel
+
+-- BY AN ONLINE CPU: the CPUs that are due an interrupt as those of a moment begin are online, and
+-- so they are after the interrupts of the first n CPUs. So whoever hands out a timer is online
+abbrev pub RunnersAreOnline : Type 0
+RunnersAreOnline = (jobs : Replies) (s : State) (n c : ℕ)
+    → let due = having_interrupt plain_rules s in set.contains due c ≡ true
+    → (cpu_at (interrupts jobs plain_rules n 0 due s).state c).online ≡ true

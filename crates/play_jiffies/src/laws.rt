@@ -2,7 +2,7 @@
 //! its contract is the law.
 
 ghost use Rattle.play_jiffies.specs.Jiffies.{EachHasEndedAfterEach, InFirstDrain};
-ghost use Rattle.play_jiffies.specs.Jiffies.{InItsJiffyAfterEach};
+ghost use Rattle.play_jiffies.specs.Jiffies.{InItsJiffyAfterEach, RunnersAreOnline};
 
 /// After each moment of every script's play each pinned or global timer that was handed out was so
 /// in the jiffy of its wheel expiry, none that is queued on an online CPU is due, and the next
@@ -18,4 +18,9 @@ pub fn law_in_its_jiffy()
 pub fn law_ends()
     ensures each_has_ended { EachHasEndedAfterEach }
     ensures in_first_drain { InFirstDrain }
+{}
+
+/// Each interrupt is of a CPU that is online all through it, and so is each hand-out.
+pub fn law_runners()
+    ensures { RunnersAreOnline }
 {}
