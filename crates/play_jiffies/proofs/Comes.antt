@@ -38,7 +38,7 @@ module _ (cpus levels now : ℕ) (s : State) (quiet : Between cpus levels now s)
   none_active : list_any (is_active s) (all_cpus s) ≡ false → (d : ℕ) → d < cpu_count s → is_active s d ≡ false
   none_active none d low =
       false_from_ne_true (is_active s d) (λ on.
-          both_ways (list_any (is_active s) (all_cpus s)) none (any_here (is_active s) 0 (cpu_count s) d (omega arith) (omega (arith, low)) on))
+      both_ways (list_any (is_active s) (all_cpus s)) none (any_here (is_active s) 0 (cpu_count s) d (omega arith) (omega (arith, low)) on))
 
   none_placed : list_any (is_active s) (all_cpus s) ≡ false → NonePlacedActive s.tree (cpu_at s)
   none_placed none d placed =
@@ -114,13 +114,13 @@ free_by s d low out online =
         | inl idle ↦ and_from x.online x.idle online idle
         | inr busy_now ↦
             absurd (both_ways (has_interrupt s d) none (and_from x.online (not x.idle || nat_le x.wakeup s.clock) online
-                (or_left (not x.idle) (nat_le x.wakeup s.clock) (ap not busy_now))))
+            (or_left (not x.idle) (nat_le x.wakeup s.clock) (ap not busy_now))))
       ]);
       later = (elim (cases_lt s.clock x.wakeup) [
         | inl later ↦ omega (arith, later)
         | inr by ↦
             absurd (both_ways (has_interrupt s d) none (and_from x.online (not x.idle || nat_le x.wakeup s.clock) online
-                (or_right (not x.idle) (nat_le x.wakeup s.clock) (le-leb x.wakeup s.clock by))))
+            (or_right (not x.idle) (nat_le x.wakeup s.clock) (le-leb x.wakeup s.clock by))))
       ]);
     }
 

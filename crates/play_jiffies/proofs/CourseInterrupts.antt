@@ -26,30 +26,30 @@ module _ (jobs : Replies) (asks : AskInRange jobs) where
   -- THE JOBS that a drain hands out keep what arming on the runner keeps
   module _ (runner : ℕ) (P : State → Type 0)
       (arms : (s : State) (a : Arming) → IsArmingIn a → queued_on s a.timer.0 ≡ None → P s → P (armed_on s runner a).state)
-      where
-    again_kept : (o : Option Queued) (item : Item) (class : Class) (delay : ℕ) (s : State) → IsItemIn item → delay < 2 ^ 32
-        → queued_on s item.id ≡ o → P s → P (again plain_rules o runner item class delay s).state
-    again_kept None item class delay s known short none holds =
-        arms s (arming_again item class delay) (record { timer = known.id; delay = short; arg = known.arg }) none holds
-    again_kept (Some held) item class delay s known short there holds = holds
+    where
+      again_kept : (o : Option Queued) (item : Item) (class : Class) (delay : ℕ) (s : State) → IsItemIn item → delay < 2 ^ 32
+          → queued_on s item.id ≡ o → P s → P (again plain_rules o runner item class delay s).state
+      again_kept None item class delay s known short none holds =
+          arms s (arming_again item class delay) (record { timer = known.id; delay = short; arg = known.arg }) none holds
+      again_kept (Some held) item class delay s known short there holds = holds
 
-    answer_kept : (reply : JobReply) (item : Item) (s : State) → IsItemIn item
-        → ((class : Class) (delay : ℕ) → reply ≡ replies.Again class delay → delay < 2 ^ 32)
-        → P s → P (answered plain_rules reply runner item s).state
-    answer_kept replies.Done item s known short holds = holds
-    answer_kept (replies.Mark n) item s known short holds = holds
-    answer_kept (replies.Again class delay) item s known short holds =
-        again_kept (queued_on s item.id) item class delay s known (short class delay refl) refl holds
+      answer_kept : (reply : JobReply) (item : Item) (s : State) → IsItemIn item
+          → ((class : Class) (delay : ℕ) → reply ≡ replies.Again class delay → delay < 2 ^ 32)
+          → P s → P (answered plain_rules reply runner item s).state
+      answer_kept replies.Done item s known short holds = holds
+      answer_kept (replies.Mark n) item s known short holds = holds
+      answer_kept (replies.Again class delay) item s known short holds =
+          again_kept (queued_on s item.id) item class delay s known (short class delay refl) refl holds
 
-    jobs_kept : (home : ℕ) (items : List Item) (s : State) → All IsItemIn items → P s
-        → P (run_jobs jobs plain_rules home runner items s).state
-    unfolding run_jobs
-    jobs_kept home [] s known holds = holds
-    jobs_kept home (item ∷ items) s known holds =
-        let this = All-head IsItemIn item items known in
-        jobs_kept home items _ (All-tail IsItemIn item items known)
-        (answer_kept (jobs item.job (job_call plain_rules s runner item)) item s this
-        (λ class delay is. asks item.job (job_call plain_rules s runner item) class delay this.arg is) holds)
+      jobs_kept : (home : ℕ) (items : List Item) (s : State) → All IsItemIn items → P s
+          → P (run_jobs jobs plain_rules home runner items s).state
+      unfolding run_jobs
+      jobs_kept home [] s known holds = holds
+      jobs_kept home (item ∷ items) s known holds =
+          let this = All-head IsItemIn item items known in
+          jobs_kept home items _ (All-tail IsItemIn item items known)
+          (answer_kept (jobs item.job (job_call plain_rules s runner item)) item s this
+          (λ class delay is. asks item.job (job_call plain_rules s runner item) class delay this.arg is) holds)
 
   module _ (cpus levels end : ℕ) (P : (now : ℕ) → Stage → State → Type 0)
       (keeps : KeepsCourse cpus levels end P) (now : ℕ) (due : set.FinSet nat_cmp) (c : ℕ) (low : c < cpus) where

@@ -77,8 +77,8 @@ next_is end now ms s up low clock =
 module _ (jobs : Replies) (asks : AskInRange jobs) (cpus levels end version timers : ℕ) (few : timers ≤ 2 ^ 16)
     (P : (now : ℕ) → Stage → State → Type 0) (keeps : KeepsCourse cpus levels end P) (Known : State → Type 0)
     (comes : (now next : ℕ) (s : State) → P now between s → Known s → now < next → next ≤ end
-        → next ≤ max (s.clock + 1) (next_interrupt s)
-        → P next (begun (having_interrupt plain_rules (at_clock next s)) 0) (at_clock next s)) where
+    → next ≤ max (s.clock + 1) (next_interrupt s)
+    → P next (begun (having_interrupt plain_rules (at_clock next s)) 0) (at_clock next s)) where
   abbrev Due : ℕ → State → Type 0
   Due now s = P now (begun (having_interrupt plain_rules s) 0) s
 

@@ -85,8 +85,7 @@ module _ (s : State) (kept : IsKept Nobody (Unit {0}) s) where
       let same : d ≡ e.0 = eqb-true d e.0 under in
       let up = (edge_laws s.tree kept.planned).parent g k (children.Cpu e) there in
       let leaf = (level_laws s.tree kept.planned).leaf e.0 g up in
-      let at : group_at_of s.tree e.0 0 ≡ Some g = (paths s.tree kept.planned).leaf e.0 ∙ up in
-      (
+      let at : group_at_of s.tree e.0 0 ≡ Some g = (paths s.tree kept.planned).leaf e.0 ∙ up in (
         e.0,
         record {
           on = ap (is_active s) (sym same) ∙ on;
@@ -106,8 +105,7 @@ module _ (s : State) (kept : IsKept Nobody (Unit {0}) s) where
       let at : group_at_of s.tree c (level_of s.tree g) ≡ Some g =
       ap (group_at_of s.tree c) rises ∙ (paths s.tree kept.planned).climb c (level_of s.tree h.0) h.0 rest.1.at ∙ up in
       let there_under : is_under s.tree c (children.Group h) ≡ true =
-      ((below_laws s.tree kept.planned).tested_below c h.0).1 (level_of s.tree h.0, rest.1.at) in
-      (
+      ((below_laws s.tree kept.planned).tested_below c h.0).1 (level_of s.tree h.0, rest.1.at) in (
         c,
         record {
           on = rest.1.on;
@@ -143,15 +141,15 @@ module _ (s : State) (kept : IsKept Nobody (Unit {0}) s) where
   -- ASLEEP is a child below which no CPU is active
   asleep_by : (d g : ℕ) → is_below s.tree d g ≡ true
       → ((m : Child) → child_at s.tree g (bit_of s.tree m) ≡ Some m → is_under s.tree d m ≡ true
-          → (e : ℕ) → is_active s e ≡ true → is_under s.tree e m ≡ true → ⊥)
+      → (e : ℕ) → is_active s e ≡ true → is_under s.tree e m ≡ true → ⊥)
       → inactive_child s (towards s.tree d g) ≡ true
   asleep_by d g below none =
       let way = through s.tree d g kept.planned below in
       ap (inactive_child s) way.is
       ∙ ap not (false_from_ne_true (child_active s way.child) (λ is.
-          let one = some_there (λ e. is_active s e && is_under s.tree e way.child) 0 (cpu_count s) is in
-          let both = and_parts (is_active s one.number) (is_under s.tree one.number way.child) one.passes in
-          none way.child way.there way.under one.number both.0 both.1))
+      let one = some_there (λ e. is_active s e && is_under s.tree e way.child) 0 (cpu_count s) is in
+      let both = and_parts (is_active s one.number) (is_under s.tree one.number way.child) one.passes in
+      none way.child way.there way.under one.number both.0 both.1))
 
   -- ONE SLEEPER
   module _ (d : ℕ) (low : d < cpu_count s) (rest : rests (cpu_at s d) ≡ true) (by : (cpu_at s d).told ≤ s.clock) where
@@ -203,8 +201,7 @@ module _ (s : State) (kept : IsKept Nobody (Unit {0}) s) where
         let there : group_at_of s.tree c level ≡ Some g = ap (group_at_of s.tree c) (sym is_level) ∙ leads.1.at in
         let in_tree = below_low s.tree c g kept.planned (((below_laws s.tree kept.planned).tested_below c g).1 (level, there)) in
         let count = kept.cpus in
-        let c_low : c < cpu_count s = omega (arith, in_tree, count) in
-        (
+        let c_low : c < cpu_count s = omega (arith, in_tree, count) in (
           c,
           level,
           record {
@@ -254,8 +251,7 @@ module _ (s : State) (kept : IsKept Nobody (Unit {0}) s) where
         let w_low : w < cpu_count s = omega (arith, in_tree, count) in
         let within = (paths s.tree kept.planned).group_within d level g there.1 in
         let is_level = (paths s.tree kept.planned).level d level g there.1 in
-        let top = ((level_laws s.tree kept.planned).highest g within).0 (ap suc is_level ∙ last) in
-        (
+        let top = ((level_laws s.tree kept.planned).highest g within).0 (ap suc is_level ∙ last) in (
           w,
           level,
           record {

@@ -135,7 +135,7 @@ module _ (now c : ℕ) (owner : ℕ → ℕ) (early : now < SCRIPT_TIME_LIMIT) w
   armed_cpu class timer expires job arg line by b in_time fits short none is =
       queued_cpu acts.Armed line now class timer expires job arg by b short (omega arith) none is
       (arming_keeps now class timer expires job arg line by b is.told.consistent
-          (may_queue class timer expires b in_time fits none (is.ahead class))) tt
+      (may_queue class timer expires b in_time fits none (is.ahead class))) tt
 
   pub moved_in_cpu : (class : Class) (timer expires job arg : ℕ) (by : CpuId) (b : CpuBases) → expires < TIME_LIMIT
       → timer < 2 ^ 16 → arg < 2 ^ 32 → class_in timer b ≡ None → IsCpu now c owner b
@@ -143,7 +143,7 @@ module _ (now c : ℕ) (owner : ℕ → ℕ) (early : now < SCRIPT_TIME_LIMIT) w
   moved_in_cpu class timer expires job arg by b in_time fits short none is =
       queued_cpu acts.MovedIn 0 (now + 1) class timer expires job arg by b short (omega arith) none is
       (moving_in_keeps now class timer expires job arg by b is.told.consistent
-          (may_queue class timer expires b in_time fits none (is.ahead class))) tt
+      (may_queue class timer expires b in_time fits none (is.ahead class))) tt
 
 -- GOING
 module _ (now c : ℕ) (owner : ℕ → ℕ) where

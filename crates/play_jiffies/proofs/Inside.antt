@@ -120,7 +120,7 @@ pub inside_as : (cpus levels now : ℕ) (due : set.FinSet nat_cmp) (HadPinned Ha
     (Seen Sees : (c level : ℕ) → Type 0) (s : State) (inside : Inside cpus levels now due HadPinned HadGlobal Seen s)
     → ((d : ℕ) → AsPinned d → HadPinned d) → ((d : ℕ) → AsGlobal d → HadGlobal d)
     → ((d : ℕ) → d < cpus → Awaits cpus levels inside.from due Seen d
-        → (s.clock + 1 ≤ (cpu_at s d).told) ⊎ Awaits cpus levels inside.from due Sees d)
+    → (s.clock + 1 ≤ (cpu_at s d).told) ⊎ Awaits cpus levels inside.from due Sees d)
     → Inside cpus levels now due AsPinned AsGlobal Sees s
 inside_as cpus levels now due HadPinned HadGlobal AsPinned AsGlobal Seen Sees s inside pins globals sees = record {
   from = inside.from;
@@ -197,30 +197,30 @@ module _ (cpus levels now : ℕ) (due : set.FinSet nat_cmp) (HadPinned HadGlobal
         let is = (inside.holds.each c low).is in
         written_inside AsPinned AsGlobal (record (cpu_at s c) { bases = b }) refl refl
         (drain_holds cpus (Turn HadPinned HadGlobal) (Turn AsPinned AsGlobal) s inside.holds c low class runner may none_late
-            (λ out. record {
-              late = λ on. drained_waking (From s.clock) s.clock (bases_at s c) near most class by (is.late on);
-              away = λ off k. drained_class (λ item. ⊥) s.clock (bases_at s c) near k most class by (is.away off k);
-              had_pinned = λ had. (elim (pins c had) [
-                | inl was ↦ drained_class (From (s.clock + 1)) s.clock (bases_at s c) near Pinned most class by (is.had_pinned was)
-                | inr this ↦ subst (λ k. All (From (s.clock + 1)) (base_of k b).items) this.1 (from_due (base_of class b).items out.none_due)
-              ]);
-              had_global = λ had. (elim (globals c had) [
-                | inl was ↦ drained_class (From (s.clock + 1)) s.clock (bases_at s c) near Global most class by (is.had_global was)
-                | inr this ↦ subst (λ k. All (From (s.clock + 1)) (base_of k b).items) this.1 (from_due (base_of class b).items out.none_due)
-              ]);
-              pinned = λ free on. drained_class (From (s.clock + 1)) s.clock (bases_at s c) near Pinned most class by (is.pinned free on);
-              global = λ free on told. drained_class (From (s.clock + 1)) s.clock (bases_at s c) near Global most class by (is.global free on told);
-              watched = is.watched;
-            })
-            (λ d below other was. record {
-              late = was.late;
-              away = was.away;
-              had_pinned = λ had. (elim (pins d had) [ inl was_had ↦ was.had_pinned was_had | inr this ↦ absurd (other this.0) ]);
-              had_global = λ had. (elim (globals d had) [ inl was_had ↦ was.had_global was_had | inr this ↦ absurd (other this.0) ]);
-              pinned = was.pinned;
-              global = was.global;
-              watched = was.watched;
-            }))
+        (λ out. record {
+          late = λ on. drained_waking (From s.clock) s.clock (bases_at s c) near most class by (is.late on);
+          away = λ off k. drained_class (λ item. ⊥) s.clock (bases_at s c) near k most class by (is.away off k);
+          had_pinned = λ had. (elim (pins c had) [
+            | inl was ↦ drained_class (From (s.clock + 1)) s.clock (bases_at s c) near Pinned most class by (is.had_pinned was)
+            | inr this ↦ subst (λ k. All (From (s.clock + 1)) (base_of k b).items) this.1 (from_due (base_of class b).items out.none_due)
+          ]);
+          had_global = λ had. (elim (globals c had) [
+            | inl was ↦ drained_class (From (s.clock + 1)) s.clock (bases_at s c) near Global most class by (is.had_global was)
+            | inr this ↦ subst (λ k. All (From (s.clock + 1)) (base_of k b).items) this.1 (from_due (base_of class b).items out.none_due)
+          ]);
+          pinned = λ free on. drained_class (From (s.clock + 1)) s.clock (bases_at s c) near Pinned most class by (is.pinned free on);
+          global = λ free on told. drained_class (From (s.clock + 1)) s.clock (bases_at s c) near Global most class by (is.global free on told);
+          watched = is.watched;
+        })
+        (λ d below other was. record {
+          late = was.late;
+          away = was.away;
+          had_pinned = λ had. (elim (pins d had) [ inl was_had ↦ was.had_pinned was_had | inr this ↦ absurd (other this.0) ]);
+          had_global = λ had. (elim (globals d had) [ inl was_had ↦ was.had_global was_had | inr this ↦ absurd (other this.0) ]);
+          pinned = was.pinned;
+          global = was.global;
+          watched = was.watched;
+        }))
       where
         from_due : (items : List Item) → NoneDue s.clock items → All (From (s.clock + 1)) items
         from_due items none i d below = let is = none i d below in omega (arith, is)
@@ -239,13 +239,13 @@ module _ (cpus levels now : ℕ) (due : set.FinSet nat_cmp) (HadPinned HadGlobal
         let later : s.clock ≤ expires = omega arith in
         written_inside HadPinned HadGlobal (record (cpu_at s c) { bases = armed_bases s c a }) refl refl
         (arm_holds cpus (Turn HadPinned HadGlobal) (Turn HadPinned HadGlobal) s inside.holds c low a known free
-            (record {
-              late = λ on. armed_waking s.clock early a.timer.0 expires a.job a.arg a.line s.clock by (bases_at s c) fits later (omega arith) near none_late a.class (is.late on);
-              away = λ off. absurd (both_ways (cpu_at s c).online off online);
-              had_pinned = λ had. armed_pinned s.clock early a.timer.0 expires a.job a.arg a.line (s.clock + 1) by (bases_at s c) fits later (omega arith) near none_late a.class (is.had_pinned had);
-              had_global = λ had. armed_global s.clock early a.timer.0 expires a.job a.arg a.line (s.clock + 1) by (bases_at s c) fits later (omega arith) near none_late a.class (is.had_global had);
-              pinned = λ out on. armed_pinned s.clock early a.timer.0 expires a.job a.arg a.line (s.clock + 1) by (bases_at s c) fits later (omega arith) near none_late a.class (is.pinned out on);
-              global = λ out on told. armed_global s.clock early a.timer.0 expires a.job a.arg a.line (s.clock + 1) by (bases_at s c) fits later (omega arith) near none_late a.class (is.global out on told);
-              watched = is.watched;
-            })
-            (λ d below other was. was))
+        (record {
+          late = λ on. armed_waking s.clock early a.timer.0 expires a.job a.arg a.line s.clock by (bases_at s c) fits later (omega arith) near none_late a.class (is.late on);
+          away = λ off. absurd (both_ways (cpu_at s c).online off online);
+          had_pinned = λ had. armed_pinned s.clock early a.timer.0 expires a.job a.arg a.line (s.clock + 1) by (bases_at s c) fits later (omega arith) near none_late a.class (is.had_pinned had);
+          had_global = λ had. armed_global s.clock early a.timer.0 expires a.job a.arg a.line (s.clock + 1) by (bases_at s c) fits later (omega arith) near none_late a.class (is.had_global had);
+          pinned = λ out on. armed_pinned s.clock early a.timer.0 expires a.job a.arg a.line (s.clock + 1) by (bases_at s c) fits later (omega arith) near none_late a.class (is.pinned out on);
+          global = λ out on told. armed_global s.clock early a.timer.0 expires a.job a.arg a.line (s.clock + 1) by (bases_at s c) fits later (omega arith) near none_late a.class (is.global out on told);
+          watched = is.watched;
+        })
+        (λ d below other was. was))

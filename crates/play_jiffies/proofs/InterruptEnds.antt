@@ -35,16 +35,16 @@ module _ (cpus levels now : ℕ) (due : set.FinSet nat_cmp) where
         let Turn = InTurn s.clock due HadP HadG (Awaits cpus levels inside.from due Seen) in
         written_inside cpus levels now due HadP HadG Seen s inside c low HadP HadG x online idle
         (kept_bases cpus Turn Turn s inside.holds c low x bases
-            (record {
-              late = λ on. subst (λ b. Waking s.clock b) (sym bases) (is.late (sym online ∙ on));
-              away = λ off. subst IsEmpty (sym bases) (is.away (sym online ∙ off));
-              had_pinned = λ had. subst (λ b. All (From (s.clock + 1)) (base_of Pinned b).items) (sym bases) (is.had_pinned had);
-              had_global = λ had. subst (λ b. All (From (s.clock + 1)) (base_of Global b).items) (sym bases) (is.had_global had);
-              pinned = λ out. absurd (both_ways (set.contains due c) out is_due);
-              global = λ out. absurd (both_ways (set.contains due c) out is_due);
-              watched = λ out. absurd (both_ways (set.contains due c) out is_due);
-            })
-            (λ d below other was. was))
+        (record {
+          late = λ on. subst (λ b. Waking s.clock b) (sym bases) (is.late (sym online ∙ on));
+          away = λ off. subst IsEmpty (sym bases) (is.away (sym online ∙ off));
+          had_pinned = λ had. subst (λ b. All (From (s.clock + 1)) (base_of Pinned b).items) (sym bases) (is.had_pinned had);
+          had_global = λ had. subst (λ b. All (From (s.clock + 1)) (base_of Global b).items) (sym bases) (is.had_global had);
+          pinned = λ out. absurd (both_ways (set.contains due c) out is_due);
+          global = λ out. absurd (both_ways (set.contains due c) out is_due);
+          watched = λ out. absurd (both_ways (set.contains due c) out is_due);
+        })
+        (λ d below other was. was))
 
   evaluated : (c : ℕ) (s : State) → c < cpus → set.contains due c ≡ true → Looked cpus levels now due c s
       → Looked cpus levels now due c (reevaluated s c)

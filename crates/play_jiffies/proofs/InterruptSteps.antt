@@ -107,8 +107,8 @@ module _ (cpus levels now : ℕ) (due : set.FinSet nat_cmp) where
       inside_as cpus levels now due (HadBefore due c) (HadBefore due c) (HadBefore due (c + 1)) (HadBefore due (c + 1))
       (SeenBefore c) (SeenBefore (c + 1)) s inside (λ d had. before_passed c d out had) (λ d had. before_passed c d out had)
       (λ d low awaits.
-          inr (still_awaits cpus levels inside.from due (SeenBefore c) (SeenBefore (c + 1)) d
-              (λ k level covers seen. (before_passed c k out (covers.is_due, seen)).1) awaits))
+      inr (still_awaits cpus levels inside.from due (SeenBefore c) (SeenBefore (c + 1)) d
+      (λ k level covers seen. (before_passed c k out (covers.is_due, seen)).1) awaits))
 
   none_own : (c asked d : ℕ) → 0 < asked → HadOwn due c 0 asked d → HadBefore due c d
   none_own c asked d some (inl had) = had
@@ -209,8 +209,8 @@ module _ (cpus levels now : ℕ) (due : set.FinSet nat_cmp) where
         inside_as cpus levels now due (HadOwn due c 3 1) (HadOwn due c 3 2) (HadOwn due c 3 1) (HadOwn due c 3 2)
         (SeenBefore c) (SeenBelow c 0) s own.inside (λ d had. had) (λ d had. had)
         (λ d low awaits.
-            inr (still_awaits cpus levels own.inside.from due (SeenBefore c) (SeenBelow c 0) d
-                (λ k level covers seen. none_below c k level seen) awaits));
+        inr (still_awaits cpus levels own.inside.from due (SeenBefore c) (SeenBelow c 0) d
+        (λ k level covers seen. none_below c k level seen) awaits));
   }
 
   pub looks_there : (c level : ℕ) (s : State) → Climbed c level s → Looking c level (cpu_count s) s
@@ -224,23 +224,23 @@ module _ (cpus levels now : ℕ) (due : set.FinSet nat_cmp) where
       inside_as cpus levels now due (HadOwn due c 3 1) (HadOwn due c 3 2) (HadOwn due c 3 1) (HadOwn due c 3 2)
       (SeenBelow c level) (SeenBefore (c + 1)) s inside (λ d had. had) (λ d had. had)
       (λ d low awaits.
-          inr (still_awaits cpus levels inside.from due (SeenBelow c level) (SeenBefore (c + 1)) d
-              (λ k l covers seen.
-                  elim (cases_eq k c) [
-                    | inl same ↦
-                        elim (cases_lt l level) [
-                          | inl below ↦ inr (same, below)
-                          | inr above ↦ absurd (no_more d l above (subst (λ j. Covers cpus levels inside.from due d j l) same covers))
-                        ]
-                    | inr other ↦ inl (omega (arith, seen, other))
-                  ]) awaits))
+      inr (still_awaits cpus levels inside.from due (SeenBelow c level) (SeenBefore (c + 1)) d
+      (λ k l covers seen.
+      elim (cases_eq k c) [
+        | inl same ↦
+            elim (cases_lt l level) [
+              | inl below ↦ inr (same, below)
+              | inr above ↦ absurd (no_more d l above (subst (λ j. Covers cpus levels inside.from due d j l) same covers))
+            ]
+        | inr other ↦ inl (omega (arith, seen, other))
+      ]) awaits))
 
   pub looks_no_more : (c level : ℕ) (s : State) → looks_after s c level ≡ false → Climbed c level s → Looked c s
   looks_no_more c level s not climbed =
       stops c level s climbed
       (λ d l above covers.
-          both_ways (looks_after s c level) not
-          (looks_same climbed.inside.from s climbed.inside.frame c level ∙ covers.looks level above))
+      both_ways (looks_after s c level) not
+      (looks_same climbed.inside.from s climbed.inside.frame c level ∙ covers.looks level above))
 
   pub top_seen : (c : ℕ) (s : State) → Climbed c levels s → Looked c s
   top_seen c s climbed = stops c levels s climbed (λ d l above covers. let below = covers.below in omega (arith, above, below))
@@ -276,10 +276,15 @@ module _ (cpus levels now : ℕ) (due : set.FinSet nat_cmp) where
           → (s.clock + 1 ≤ (cpu_at s d).told) ⊎ Awaits cpus levels inside.from due (SeenBelow c (level + 1)) d
       by inside d low k l covers unseen (inl same_k) (inl same_l) = inl (told_later inside d k l low covers same_k same_l)
       by inside d low k l covers unseen (inl same_k) (inr other) =
-          inr (k, l, covers, λ seen. (elim seen [
-            | inl before ↦ unseen (inl before)
-            | inr here ↦ unseen (inr (here.0, (let below = here.1 in omega (arith, below, other))))
-          ]))
+          inr (
+            k,
+            l,
+            covers,
+            λ seen. (elim seen [
+              | inl before ↦ unseen (inl before)
+              | inr here ↦ unseen (inr (here.0, (let below = here.1 in omega (arith, below, other))))
+            ]),
+          )
       by inside d low k l covers unseen (inr other) rest =
           inr (k, l, covers, λ seen. (elim seen [ inl before ↦ unseen (inl before) | inr here ↦ other here.0 ]))
 

@@ -169,9 +169,9 @@ module _ (jobs : Replies) (script : Script) (asks : AskInRange jobs) (is : IsScr
       (λ u both. in_its_jiffy (cpu_count_of tree) (level_count_of tree) both.0.0 u.played.state both.0.1 both.1.1.kept)
       (play_turns jobs script)
       (course_kept jobs asks (cpu_count_of tree) (level_count_of tree) script.end script.version script.timers few_timers
-          (Keep (cpu_count_of tree) (level_count_of tree)) (course (cpu_count_of tree) (level_count_of tree) script.end) Known comes_on
-          (script.end + 1) 0 script.moments (start tree script.timers) is.moments (moments_rise script is) (omega arith)
-          (first_begun script is) (kept_after_each jobs script is))
+      (Keep (cpu_count_of tree) (level_count_of tree)) (course (cpu_count_of tree) (level_count_of tree) script.end) Known comes_on
+      (script.end + 1) 0 script.moments (start tree script.timers) is.moments (moments_rise script is) (omega arith)
+      (first_begun script is) (kept_after_each jobs script is))
 
 pub in_its_jiffy_after_each : InItsJiffyAfterEach
 in_its_jiffy_after_each jobs script asks is = law jobs script asks is

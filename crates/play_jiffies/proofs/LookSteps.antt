@@ -148,24 +148,24 @@ module _ (cpus levels now : ℕ) (due : set.FinSet nat_cmp) where
         let x : Cpu = record (cpu_at s d) { told = if has_group s d then next_of s d else NEVER } in
         written_inside cpus levels now due HadP HadG Seen s inside d low HadP AsG x refl refl
         (kept_bases cpus Before After s inside.holds d low x refl
-            (record {
-              late = is.late;
-              away = is.away;
-              had_pinned = is.had_pinned;
-              had_global = λ was. is.had_global (fewer d was);
-              pinned = is.pinned;
-              global = λ out on told. is.had_global had;
-              watched = λ out on. inl told_later;
-            })
-            (λ e below other was. record {
-              late = was.late;
-              away = was.away;
-              had_pinned = was.had_pinned;
-              had_global = λ is_had. was.had_global (fewer e is_had);
-              pinned = was.pinned;
-              global = was.global;
-              watched = was.watched;
-            }))
+        (record {
+          late = is.late;
+          away = is.away;
+          had_pinned = is.had_pinned;
+          had_global = λ was. is.had_global (fewer d was);
+          pinned = is.pinned;
+          global = λ out on told. is.had_global had;
+          watched = λ out on. inl told_later;
+        })
+        (λ e below other was. record {
+          late = was.late;
+          away = was.away;
+          had_pinned = was.had_pinned;
+          had_global = λ is_had. was.had_global (fewer e is_had);
+          pinned = was.pinned;
+          global = was.global;
+          watched = was.watched;
+        }))
 
   -- the test for sleepers once a CPU told a later time
   fewer_sleepers : (s : State) (c level n d told : ℕ) → Few cpus levels now due c level (suc n) s → IsNamed s c level d
@@ -179,14 +179,14 @@ module _ (cpus levels now : ℕ) (due : set.FinSet nat_cmp) where
       let here : (cpu_at t d).told ≡ told = written_here s d x name.low in
       let fewer = one_fewer (is_due_sleeper s g) (is_due_sleeper t g) (cpu_count s) d
       (λ e is.
-          elim (cases_eq e d) [
-            | inl same ↦ subst (λ k. is_due_sleeper s g k ≡ true) (sym same) (subst (λ h. is_due_sleeper s h d ≡ true) same_g name.sleeper)
-            | inr other ↦
-                sym (sleeper_same s t frame refl g e (written_else s d x e name.low other)) ∙ is
-          ]) name.low (subst (λ h. is_due_sleeper s h d ≡ true) same_g name.sleeper)
+      elim (cases_eq e d) [
+        | inl same ↦ subst (λ k. is_due_sleeper s g k ≡ true) (sym same) (subst (λ h. is_due_sleeper s h d ≡ true) same_g name.sleeper)
+        | inr other ↦
+            sym (sleeper_same s t frame refl g e (written_else s d x e name.low other)) ∙ is
+      ]) name.low (subst (λ h. is_due_sleeper s h d ≡ true) same_g name.sleeper)
       (false_from_ne_true (is_due_sleeper t g d) (λ is.
-          let due_told = leb-true (cpu_at t d).told t.clock (and_parts (nat_le (cpu_at t d).told t.clock) (inactive_child t (towards t.tree d g)) is).0 in
-          omega (arith, due_told, here, later))) in
+      let due_told = leb-true (cpu_at t d).told t.clock (and_parts (nat_le (cpu_at t d).told t.clock) (inactive_child t (towards t.tree d g)) is).0 in
+      omega (arith, due_told, here, later))) in
       let was = few g at in
       let many : length (due_sleepers t g) ≡ length (filter (is_due_sleeper t g) (range_with_len 0 (cpu_count s))) =
       ap (λ k. length (filter (is_due_sleeper t g) (range_with_len 0 k))) count in

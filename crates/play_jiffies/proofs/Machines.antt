@@ -93,7 +93,7 @@ module _ (cpus : ℕ) (F G : ℕ → Cpu → Type 0) (s : State) (holds : Holds 
   -- A DRAIN of one of its bases
   pub drain_holds : (class : Class) (runner : ℕ) → MayHand c class runner → Waking s.clock (bases_at s c)
       → (let b = drained (length (base_of class (bases_at s c)).items) s.clock class (record { 0 = runner }) (bases_at s c) in
-          IsDrained s.clock c holds.owner class b → G c (record (cpu_at s c) { bases = b }))
+      IsDrained s.clock c holds.owner class b → G c (record (cpu_at s c) { bases = b }))
       → Others → Holds cpus G (drained_on s c class runner).state
   drain_holds class runner may late here others =
       let out = drained_cpu s.clock c holds.owner class (record { 0 = runner }) (bases_at s c) holds.early may late (holds.each c low).cpu in
@@ -126,7 +126,7 @@ module _ (cpus : ℕ) (F G : ℕ → Cpu → Type 0) (s : State) (holds : Holds 
       let early = holds.early in
       come_holds a.timer.0 (armed_bases s c a) nowhere_queued
       (armed_cpu s.clock c holds.owner early a.class a.timer.0 (s.clock + a.delay) a.job a.arg a.line (record { 0 = c })
-          (bases_at s c) (omega (arith, short, early)) known.timer known.arg (nowhere_queued c low) (holds.each c low).cpu)
+      (bases_at s c) (omega (arith, short, early)) known.timer known.arg (nowhere_queued c low) (holds.each c low).cpu)
       here others
 
   pub move_in_holds : (class : Class) (item : Item) → item.expires < TIME_LIMIT → item.id < 2 ^ 16 → item.arg < 2 ^ 32
@@ -137,7 +137,7 @@ module _ (cpus : ℕ) (F G : ℕ → Cpu → Type 0) (s : State) (holds : Holds 
       come_holds item.id (moved_in s.clock class item.id item.expires item.job item.arg (record { 0 = c }) (bases_at s c))
       nowhere_queued
       (moved_in_cpu s.clock c holds.owner holds.early class item.id item.expires item.job item.arg (record { 0 = c })
-          (bases_at s c) in_time fits short (nowhere_queued c low) (holds.each c low).cpu)
+      (bases_at s c) in_time fits short (nowhere_queued c low) (holds.each c low).cpu)
       here others
 
   pub move_out_holds : (to : ℕ) (class : Class)

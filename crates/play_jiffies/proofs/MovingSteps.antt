@@ -262,8 +262,8 @@ module _ (cpus levels now : ℕ) where
               subst (λ x. class_in item.id x ≡ None) (sym (bases_of d other))
               (elsewhere item.id d s.clock quiet.holds.owner (bases_at s d) (quiet.holds.each d low).cpu
               (λ owned.
-                  let own = item_holds (IsItemOf quiet.holds.owner from) item.id (base_of class (bases_at s from)).items item (one.cpu.items class).all found in
-                  other (sym owned ∙ own.owned)))
+              let own = item_holds (IsItemOf quiet.holds.owner from) item.id (base_of class (bases_at s from)).items item (one.cpu.items class).all found in
+              other (sym owned ∙ own.owned)))
         ]
 
     to_in : (let x : CpuBases = bases_at t to in

@@ -149,13 +149,13 @@ module _ (cpus levels now : ℕ) where
         let by : CpuId = record { 0 = c } in
         based c (armed_bases s c a) low
         (arm_holds cpus (Rested s.clock) (Rested s.clock) s quiet.holds c low a known
-            (λ d below. queued_nowhere s a.timer.0 none d (omega (arith, below, count)))
-            (record {
-              waking = λ on. armed_waking s.clock early a.timer.0 expires a.job a.arg a.line (s.clock + 1) by (bases_at s c)
-                  (omega (arith, early, short)) (omega arith) (omega arith) (near c low) (sooner (bases_at s c) (is.waking online)) a.class (is.waking on);
-              away = λ off. absurd (both_ways (cpu_at s c).online off online);
-            })
-            (λ d below other was. was))
+        (λ d below. queued_nowhere s a.timer.0 none d (omega (arith, below, count)))
+        (record {
+          waking = λ on. armed_waking s.clock early a.timer.0 expires a.job a.arg a.line (s.clock + 1) by (bases_at s c)
+              (omega (arith, early, short)) (omega arith) (omega arith) (near c low) (sooner (bases_at s c) (is.waking online)) a.class (is.waking on);
+          away = λ off. absurd (both_ways (cpu_at s c).online off online);
+        })
+        (λ d below other was. was))
 
     pub cancels : (held : Queued) (a : Cancelling) → queued_on s a.timer.0 ≡ Some held
         → Between cpus levels now (cancelled_on s held.cpu.0 a)
@@ -168,12 +168,12 @@ module _ (cpus levels now : ℕ) where
         let b = cancelled s.clock a.timer.0 a.line a.by (bases_at s c) in
         based c b low
         (cancel_holds cpus (Rested s.clock) (Rested s.clock) s quiet.holds c low a
-            (record {
-              waking = λ on. cancelled_waking (From (s.clock + 1)) s.clock (bases_at s c) (near c low) a.timer.0 a.line a.by (is.waking on);
-              away = λ off k. (cancelled_kept (λ item. ⊥) s.clock k a.by a.timer.0 a.line (bases_at s c)
-                  (record { all = is.away off k; near = near c low k })).all;
-            })
-            (λ d below other was. was))
+        (record {
+          waking = λ on. cancelled_waking (From (s.clock + 1)) s.clock (bases_at s c) (near c low) a.timer.0 a.line a.by (is.waking on);
+          away = λ off k. (cancelled_kept (λ item. ⊥) s.clock k a.by a.timer.0 a.line (bases_at s c)
+              (record { all = is.away off k; near = near c low k })).all;
+        })
+        (λ d below other was. was))
 
   -- ONLINE: nothing was queued on it
   pub comes_online : (c : ℕ) (s : State) → c < cpus → (cpu_at s c).online ≡ false → Between cpus levels now s
