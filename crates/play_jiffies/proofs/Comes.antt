@@ -1,34 +1,29 @@
 -- the clock comes to the next moment: no timer that wakes an online CPU was passed
-use Rattle.std.proofs.Common.{◌≡◌, ℕ, zero, suc, ◌+◌, ◌-◌, ◌<◌, ◌≤◌, List, Bool, true, false, Option, Some, None, refl, sym, ap, ◌∙◌, subst, arith, inl, inr, length, max, min, get_or}
-use Rattle.std.specs.Prelude.{◌⊎◌, ◌&&◌, ◌||◌, ◌==◌, All, filter, if◌then◌else◌, nat_le, not}
-use Rattle.std.specs.List.{list_any, range_with_len}
+use Rattle.std.proofs.Common.{◌≡◌, ℕ, ◌+◌, ◌<◌, ◌≤◌, Bool, true, false, refl, ap, subst, arith, inl, inr, max}
+use Rattle.std.specs.Prelude.{◌||◌, if◌then◌else◌, nat_le, not}
+use Rattle.std.specs.List.{list_any}
 use Rattle.std.specs.Ordering.{nat_cmp}
 use Rattle.std.specs.FinSet as set
-use Rattle.std.proofs.lemmas.Bool.{and_from, and_parts, both_ways, cases_Bool, cases_lt, cond-false, cond-true, false_from_ne_true, le-leb, or_left, or_right}
+use Rattle.std.proofs.lemmas.Bool.{and_from, both_ways, cases_Bool, cases_lt, false_from_ne_true, le-leb, or_left, or_right}
 use Rattle.tm_base.specs.declared.names.TheConstants.{NEVER}
 use Rattle.tm_base.specs.declared.limits.TheConstants.{SCRIPT_TIME_LIMIT}
-use Rattle.tm_base.specs.declared.names.Class.TheVariants.{Pinned, Global, Deferrable}
-use Rattle.tm_base.specs.declared.names.Class.{Class}
-use Rattle.tree_plan.specs.Paths.{cpu_count_of, is_placed_in, level_count_of}
+use Rattle.tree_plan.specs.Paths.{level_count_of}
 use Rattle.tree_plan.proofs.Below.{placed_laws}
-use Rattle.cpu_bases.specs.CpuBases.{CpuBases, base_of}
 use Rattle.cpu_bases.proofs.Legal.{legal_later}
-use Rattle.play_rules.specs.State.{Cpu, State, all_cpus, cpu_at, cpu_count, is_active}
+use Rattle.play_rules.specs.State.{State, all_cpus, cpu_at, cpu_count, is_active}
 use Rattle.play_rules.specs.Timers.{bases_at}
 use Rattle.play_rules.specs.Interrupts.{having_interrupt}
 use Rattle.play_rules.specs.Play.{at_clock, has_interrupt, next_interrupt, plain_rules}
-use Rattle.play_laws.proofs.Bases.{IsBase}
-use Rattle.play_laws.proofs.Invariant.{NonePlacedActive, busy, rests}
+use Rattle.play_laws.proofs.Invariant.{NonePlacedActive, rests}
 use Rattle.play_laws.proofs.Ranges.{any_here, in_range, least_below, least_of}
 use Rattle.play_laws.proofs.Settles.{due_online, later_kept}
 use Rattle.play_laws.proofs.States.{IsKept, Nobody}
 use Rattle.play_jiffies.specs.Jiffies.{OfWaking}
-use Rattle.play_jiffies.proofs.CpuKept.{IsCpu, IsItemOf}
+use Rattle.play_jiffies.proofs.CpuKept.{IsCpu}
 use Rattle.play_jiffies.proofs.Covering.{found, is_due}
-use Rattle.play_jiffies.proofs.Inside.{Awaits, Covers, InTurn, Inside, IsEmpty, SomeOnline, frame_itself}
-use Rattle.play_jiffies.proofs.InterruptSteps.{Begun, Between, HadBefore, Rested, SeenBefore}
-use Rattle.play_jiffies.proofs.Machines.{One}
-use Rattle.play_jiffies.proofs.Waking.{From, Waking}
+use Rattle.play_jiffies.proofs.Inside.{Awaits, Covers, InTurn, IsEmpty, SomeOnline, frame_itself}
+use Rattle.play_jiffies.proofs.InterruptSteps.{Begun, Between, HadBefore, SeenBefore}
+use Rattle.play_jiffies.proofs.Waking.{Waking}
 
 -- NO TIMER IS PASSED: the next interrupt comes no later than each that wakes an online CPU
 module _ (cpus levels now : ℕ) (s : State) (quiet : Between cpus levels now s) (kept : IsKept Nobody (Unit {0}) s) where

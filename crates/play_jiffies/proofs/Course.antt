@@ -1,20 +1,18 @@
 -- what a fact has to keep, so that it holds all through a play of a script of the grammar
-use Rattle.std.specs.Prelude.{◌≡◌, ℕ, zero, suc, ◌+◌, ◌^◌, ◌<◌, ◌≤◌, All, true, false, Some, None, max, nat_le}
+use Rattle.std.specs.Prelude.{◌≡◌, ℕ, suc, ◌+◌, ◌^◌, ◌<◌, All, true, false, Some, None}
 use Rattle.std.specs.Ordering.{nat_cmp}
 use Rattle.std.specs.FinSet as set
-use Rattle.tm_base.specs.declared.names.Class.{Class}
-use Rattle.tm_base.specs.declared.names.Class.TheVariants.{Pinned, Global, Deferrable}
+use Rattle.tm_base.specs.declared.names.Class.TheVariants.{Global}
 use Rattle.wheel_core.specs.declared.item.Item.{Item}
 use Rattle.play_rules.specs.declared.asks.Arming.{Arming}
 use Rattle.play_rules.specs.declared.asks.Cancelling.{Cancelling}
 use Rattle.play_rules.specs.declared.asks.Queued.{Queued}
 use Rattle.play_rules.specs.Rules.{Moved}
 use Rattle.play_rules.specs.State.{State, cpu_at, cpu_count}
-use Rattle.play_rules.specs.Hierarchy.{come_online, first_event, gone_offline, idled, looks_after, named, told_again, woken as made_awake}
+use Rattle.play_rules.specs.Hierarchy.{come_online, gone_offline, idled, looks_after, named, told_again, woken as made_awake}
 use Rattle.play_rules.specs.Timers.{armed_on, cancelled_on, controller, controlling, count_on, drained_on, moved as moved_from, queued_on}
-use Rattle.play_rules.specs.Interrupts.{arming_again, having_interrupt}
 use Rattle.play_rules.specs.Operations.{last_online}
-use Rattle.play_rules.specs.Play.{at_clock, ended as interrupt_ended, hands_on, next_interrupt, plain_rules, successor}
+use Rattle.play_rules.specs.Play.{ended as interrupt_ended, hands_on, plain_rules, successor}
 use Rattle.play_laws.proofs.Shape.{Stage, begun, between, climbed, leaving, looked, looking, moving, nth_class, own, running, taking}
 
 -- an item's number and argument are in range

@@ -18,8 +18,8 @@ use Rattle.play_rules.specs.Parts.{silent}
 use Rattle.play_rules.specs.Rules.{Moved}
 use Rattle.play_rules.specs.State.{State, cpu_at}
 use Rattle.play_rules.specs.Hierarchy.{first_event, gone_offline}
-use Rattle.play_rules.specs.Timers.{controller, controlling, count_on, moved as moved_from, queued_on}
-use Rattle.play_rules.specs.Operations.{cancel_where, clear, clear_after, clear_where, done, done_unless, hand_on_to, hand_on_where, held_by, idle_where, last_online, leaver, leaving as leaving_cpu, leaving_by, move_printed, moves, moves_to, not_active, not_idle, offline, operation, operations, refusal}
+use Rattle.play_rules.specs.Timers.{controller, count_on, moved as moved_from, queued_on}
+use Rattle.play_rules.specs.Operations.{cancel_where, clear, clear_after, clear_where, done, done_unless, hand_on_to, hand_on_where, held_by, idle_where, last_online, leaver, leaving as leaving_cpu, leaving_by, move_printed, moves, moves_to, not_active, offline, operation, operations, refusal}
 use Rattle.play_rules.specs.Play.{hands_on, plain_rules, successor}
 use Rattle.play_laws.proofs.Shape.{Stage, between, leaving, moving}
 use Rattle.play_jiffies.proofs.Course.{KeepsCourse}

@@ -9,7 +9,6 @@ use Rattle.tm_script.specs.declared.syntax.Moment.{Moment}
 use Rattle.tm_script.specs.Grammar.{IsMoment}
 use Rattle.play_rules.specs.State.{State}
 use Rattle.play_rules.specs.Interrupts.{Replies, having_interrupt}
-use Rattle.play_rules.specs.Operations.{leaver}
 use Rattle.play_rules.specs.Moments.{AfterEach, Turn, moment_at, moment_now, moments_after, next_moment, next_said, scripted, turn, turn_then, turns}
 use Rattle.play_rules.specs.Play.{at_clock, next_interrupt, plain_rules}
 use Rattle.play_laws.proofs.Shape.{Stage, begun, between}

@@ -1,24 +1,23 @@
 -- each CPU that is asleep with a time that has come is found by the look of a CPU that is due an interrupt
-use Rattle.std.proofs.Common.{◌≡◌, ℕ, zero, suc, ◌+◌, ◌-◌, ◌<◌, ◌≤◌, List, Bool, true, false, Option, Some, None, refl, sym, ap, ◌∙◌, subst, arith, inl, inr, zero-add}
-use Rattle.std.specs.Prelude.{◌⊎◌, ◌&&◌, ◌||◌, ◌==◌, filter, if◌then◌else◌, nat_le, not, option_map}
-use Rattle.std.specs.List.{list_any, range_with_len}
+use Rattle.std.proofs.Common.{◌≡◌, ℕ, zero, suc, ◌+◌, ◌-◌, ◌<◌, ◌≤◌, List, true, Option, Some, None, refl, sym, ap, ◌∙◌, subst, arith, inl, inr, zero-add}
+use Rattle.std.specs.Prelude.{◌⊎◌, ◌&&◌, ◌||◌, ◌==◌, filter, nat_le, not, option_map}
+use Rattle.std.specs.List.{list_any}
 use Rattle.std.specs.Ordering.{nat_cmp}
 use Rattle.std.specs.FinSet as set
 use Rattle.std.specs.FinSet.{contains-from_list_nat}
-use Rattle.std.proofs.lemmas.Bool.{and_from, and_parts, both_ways, cases_Bool, cases_eq, eq-eqb, eqb-true, false_from_ne_true, le-leb, or_left, or_right}
-use Rattle.std.proofs.lemmas.Option.{none-some, same_Some}
+use Rattle.std.proofs.lemmas.Bool.{and_from, and_parts, both_ways, cases_eq, eq-eqb, eqb-true, false_from_ne_true, le-leb, or_left, or_right}
+use Rattle.std.proofs.lemmas.Option.{same_Some}
 use Rattle.tm_base.specs.declared.names.TheConstants.{NEVER}
 use Rattle.tm_base.specs.declared.names.Child.{Child}
 use Rattle.tm_base.specs.declared.names.Child.TheVariants as children
-use Rattle.tree_plan.specs.Shape.{Shape, IsPlanned}
-use Rattle.tree_plan.specs.Paths.{bit_of, child_at, cpu_count_of, group_at_of, group_count_of, has_group_in, is_below, is_placed_in, is_under, level_count_of, level_of, parent_of}
+use Rattle.tree_plan.specs.Paths.{bit_of, child_at, group_at_of, group_count_of, has_group_in, is_below, is_placed_in, is_under, level_count_of, level_of}
 use Rattle.tree_plan.proofs.Below.{below_laws, paths, placed_laws}
 use Rattle.tree_plan.proofs.Trees.{edge_laws, level_laws}
 use Rattle.play_rules.specs.State.{State, all_cpus, cpu_at, cpu_count, is_active, migrator_at}
 use Rattle.play_rules.specs.Hierarchy.{child_active, inactive_child, is_number, looks_after, looks_after_where, looks_at, number_towards, towards}
 use Rattle.play_rules.specs.Interrupts.{having_interrupt}
 use Rattle.play_rules.specs.Play.{has_interrupt, plain_rules}
-use Rattle.play_laws.proofs.Invariant.{ActiveChild, NonePlacedActive, WakesForAll, busy, levels_there, rests, teller_grouped}
+use Rattle.play_laws.proofs.Invariant.{NonePlacedActive, levels_there, rests, teller_grouped}
 use Rattle.play_laws.proofs.Migrators.{below_low, through, under_below}
 use Rattle.play_laws.proofs.Ranges.{filter_member, in_range, some_there}
 use Rattle.play_laws.proofs.States.{IsKept, Nobody}

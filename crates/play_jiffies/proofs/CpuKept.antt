@@ -1,35 +1,26 @@
 -- what each call keeps of a CPU's bases and their journal in a play
-use Rattle.std.proofs.Common.{◌≡◌, ℕ, zero, suc, ◌+◌, ◌-◌, ◌^◌, ◌<◌, ◌≤◌, List, [], ◌∷◌, ◌++◌, Bool, true, false, Option, Some, None, refl, sym, ap, ◌∙◌, subst, arith, inl, inr, max, length, get_or}
-use Rattle.std.specs.Prelude.{All, if◌then◌else◌, is_some, ◌==◌, nat_le, nat_lt}
-use Rattle.std.proofs.lemmas.Bool.{cases_Bool, cases_eq, cases_lt, cond-false, cond-true, cond_both, eq-eqb, eqb-false, le-ltb, lt-ltb, ne_eqb}
-use Rattle.std.proofs.lemmas.Option.{none-some, same_Some}
-use Rattle.std.proofs.lemmas.List.Elements.{All-cons, All-nil, All-push, All-weaker}
-use Rattle.tm_base.specs.Classes.{same_class}
+use Rattle.std.proofs.Common.{◌≡◌, ℕ, zero, suc, ◌+◌, ◌-◌, ◌^◌, ◌<◌, ◌≤◌, List, [], ◌∷◌, Option, Some, None, refl, sym, ◌∙◌, arith, get_or}
+use Rattle.std.specs.Prelude.{All, if◌then◌else◌, is_some, ◌==◌}
+use Rattle.std.proofs.lemmas.Bool.{cond-false, cond-true, cond_both, eq-eqb, ne_eqb}
+use Rattle.std.proofs.lemmas.Option.{none-some}
+use Rattle.std.proofs.lemmas.List.Elements.{All-cons, All-nil, All-push}
 use Rattle.tm_base.specs.declared.names.TheConstants.{TIME_LIMIT}
 use Rattle.tm_base.specs.declared.limits.TheConstants.{SCRIPT_TIME_LIMIT}
 use Rattle.tm_base.specs.declared.names.Class.{Class}
 use Rattle.tm_base.specs.declared.names.Class.TheVariants.{Pinned, Global, Deferrable}
 use Rattle.tm_base.specs.declared.names.CpuId.{CpuId}
 use Rattle.wheel_core.specs.declared.item.Item.{Item}
-use Rattle.wheel_core.specs.WheelExpiry.{cutoff, greatest_timeout, wheel_expiry_of}
-use Rattle.wheel_core.specs.PlainBase.{NoneBehind, NoneDue, OutIsDue, PlainBase, added, clock_forwarded, forwarded, item_of, least, next_out, placed, removed, taken}
-use Rattle.wheel_core.proofs.Ids.{item_holds, item_of_first, item_of_rest}
-use Rattle.wheel_core.proofs.Leasts.{least_attained, least_none}
-use Rattle.wheel_core.proofs.Levels.{wheel_keeps_time}
+use Rattle.wheel_core.specs.PlainBase.{NoneBehind, OutIsDue, PlainBase, added, forwarded, item_of, next_out, placed}
+use Rattle.wheel_core.proofs.Ids.{item_holds, item_of_rest}
 use Rattle.wheel_core.proofs.Plain.{clock-forwarded_le, due_out}
 use Rattle.cpu_bases.specs.declared.entry.Act.{Act}
 use Rattle.cpu_bases.specs.declared.entry.Act.TheVariants as acts
-use Rattle.cpu_bases.specs.declared.entry.Entry.{Entry}
-use Rattle.cpu_bases.specs.ByClass.{of_class, with_class}
 use Rattle.cpu_bases.specs.CpuBases.{CpuBases, IsConsistent, NotAhead, after_cancel, after_hand_out, after_move_out, armed, base_of, cancelled, class_in, drained, entry_of, found_in, handed_out, item_queued, moved_in, moved_out, oldest_in, queued, ticked_entry}
-use Rattle.cpu_bases.specs.Journals.{LegalUpTo, MayHand}
-use Rattle.cpu_bases.specs.Laws.{DrainsAll, HandsOut, Keeps, MayQueue}
+use Rattle.cpu_bases.specs.Laws.{Keeps, MayQueue}
 use Rattle.cpu_bases.proofs.Consistent.{base_none}
-use Rattle.cpu_bases.proofs.Drains.{drain_is_whole}
 use Rattle.cpu_bases.proofs.Keeping.{arming_keeps, cancelling_keeps, handing_out_keeps, moving_in_keeps, moving_out_keeps}
-use Rattle.cpu_bases.proofs.Classes.{class_is}
-use Rattle.play_laws.proofs.Bases.{IsBase, cancelled_kept, changed_kept, drained_kept, handed_kept, moved_out_kept}
-use Rattle.play_jiffies.specs.Jiffies.{HandedOnTime, IsOnTime, IsTold, OfWaking}
+use Rattle.play_laws.proofs.Bases.{IsBase, cancelled_kept, changed_kept, handed_kept, moved_out_kept}
+use Rattle.play_jiffies.specs.Jiffies.{HandedOnTime, IsOnTime, IsTold}
 
 -- ITEMS of a CPU: their argument is in range, and the CPU owns their timer
 pub record IsItemOf (owner : ℕ → ℕ) (c : ℕ) (item : Item) : Type 0 where

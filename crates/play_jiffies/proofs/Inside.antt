@@ -1,34 +1,26 @@
 -- what holds inside the interrupts of a moment
-use Rattle.std.proofs.Common.{◌≡◌, ℕ, zero, suc, ◌+◌, ◌-◌, ◌^◌, ◌<◌, ◌≤◌, List, [], ◌∷◌, Bool, true, false, Option, Some, None, refl, sym, ap, ◌∙◌, subst, arith, inl, inr, length, get_or}
-use Rattle.std.specs.Prelude.{◌⊎◌, ◌&&◌, All, not, filter, nat_le, if◌then◌else◌, option_and_then}
-use Rattle.std.specs.List.{list_any, range_with_len}
+use Rattle.std.proofs.Common.{◌≡◌, ℕ, ◌+◌, ◌^◌, ◌<◌, ◌≤◌, List, true, false, Some, None, refl, ◌∙◌, subst, arith, inl, inr, length}
+use Rattle.std.specs.Prelude.{◌⊎◌, ◌&&◌, All, not}
 use Rattle.std.specs.Ordering.{nat_cmp}
 use Rattle.std.specs.FinSet as set
-use Rattle.std.proofs.lemmas.Bool.{and_from, both_ways, cases_Bool, cases_eq}
+use Rattle.std.proofs.lemmas.Bool.{both_ways, cases_Bool}
 use Rattle.std.proofs.lemmas.List.{length-set}
-use Rattle.std.proofs.lemmas.Option.{none-some, same_Some}
-use Rattle.tm_base.specs.declared.names.TheConstants.{NEVER}
-use Rattle.tm_base.specs.declared.limits.TheConstants.{SCRIPT_TIME_LIMIT}
-use Rattle.tm_base.specs.declared.names.Child.{Child}
 use Rattle.tm_base.specs.declared.names.Class.{Class}
-use Rattle.tm_base.specs.declared.names.Class.TheVariants.{Pinned, Global, Deferrable}
+use Rattle.tm_base.specs.declared.names.Class.TheVariants.{Pinned, Global}
 use Rattle.tm_base.specs.declared.names.CpuId.{CpuId}
 use Rattle.wheel_core.specs.declared.item.Item.{Item}
 use Rattle.wheel_core.specs.PlainBase.{NoneDue}
-use Rattle.tree_plan.specs.Shape.{Shape}
-use Rattle.tree_plan.specs.Paths.{group_at_of, is_placed_in, is_under, level_count_of}
-use Rattle.cpu_bases.specs.CpuBases.{CpuBases, NotAhead, armed, base_of, class_in, drained}
+use Rattle.tree_plan.specs.Paths.{group_at_of, level_count_of}
+use Rattle.cpu_bases.specs.CpuBases.{CpuBases, NotAhead, base_of, class_in, drained}
 use Rattle.cpu_bases.specs.Journals.{MayHand}
 use Rattle.play_rules.specs.declared.asks.Arming.{Arming}
-use Rattle.play_rules.specs.State.{Cpu, State, all_cpus, cpu_at, cpu_count, is_active, migrator_at, with_bases, with_cpu}
-use Rattle.play_rules.specs.Hierarchy.{child_active, inactive_child, is_due_sleeper, is_placed, looks_after, looks_after_where, looks_at, towards}
+use Rattle.play_rules.specs.State.{Cpu, State, cpu_at, cpu_count, is_active, with_cpu}
+use Rattle.play_rules.specs.Hierarchy.{inactive_child, is_placed, looks_after, towards}
 use Rattle.play_rules.specs.Timers.{armed_bases, armed_on, bases_at, drained_on}
-use Rattle.play_laws.proofs.Bases.{IsBase, drained_kept}
 use Rattle.play_laws.proofs.States.{written_alike}
-use Rattle.play_jiffies.specs.Jiffies.{OfWaking}
 use Rattle.play_jiffies.proofs.Course.{IsArmingIn}
-use Rattle.play_jiffies.proofs.Machines.{Holds, IsNowhere, One, arm_holds, drain_holds, holds_as, kept_bases, queued_nowhere}
-use Rattle.play_jiffies.proofs.Waking.{From, IsDrained, Waking, armed_global, armed_pinned, armed_waking, drained_class, drained_waking}
+use Rattle.play_jiffies.proofs.Machines.{Holds, arm_holds, drain_holds, holds_as}
+use Rattle.play_jiffies.proofs.Waking.{From, Waking, armed_global, armed_pinned, armed_waking, drained_class, drained_waking}
 
 -- NOTHING is queued
 abbrev pub IsEmpty : CpuBases → Type 0

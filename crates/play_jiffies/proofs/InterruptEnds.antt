@@ -1,20 +1,18 @@
 -- an interrupt ends, and then all interrupts of a moment
-use Rattle.std.proofs.Common.{◌≡◌, ℕ, zero, suc, ◌+◌, ◌<◌, ◌≤◌, List, Bool, true, false, Option, Some, None, refl, sym, ap, ◌∙◌, subst, arith, inl, inr, length, min}
-use Rattle.std.specs.Prelude.{◌⊎◌, All, if◌then◌else◌}
+use Rattle.std.proofs.Common.{◌≡◌, ℕ, ◌+◌, ◌<◌, ◌≤◌, Bool, true, false, refl, sym, ◌∙◌, subst, arith, inl, inr, min}
+use Rattle.std.specs.Prelude.{All, if◌then◌else◌}
 use Rattle.std.specs.Ordering.{nat_cmp}
 use Rattle.std.specs.FinSet as set
 use Rattle.std.proofs.lemmas.Bool.{both_ways, cases_Bool, cases_eq}
-use Rattle.std.proofs.lemmas.List.{length-set}
 use Rattle.cpu_bases.specs.CpuBases.{base_of}
 use Rattle.tm_base.specs.declared.names.TheConstants.{NEVER}
 use Rattle.tm_base.specs.declared.names.Class.TheVariants.{Pinned, Global}
-use Rattle.play_rules.specs.State.{Cpu, State, cpu_at, cpu_count, has_group, with_cpu}
-use Rattle.play_rules.specs.Hierarchy.{duty, next_of, pin_of, programmed, reevaluated, told_again}
+use Rattle.play_rules.specs.State.{Cpu, State, cpu_at, has_group, with_cpu}
+use Rattle.play_rules.specs.Hierarchy.{duty, next_of, pin_of, reevaluated, told_again}
 use Rattle.play_rules.specs.Play.{ended}
-use Rattle.play_laws.proofs.States.{written_alike}
-use Rattle.play_jiffies.proofs.Inside.{Awaits, Covers, Frame, InTurn, Inside, IsEmpty, written_inside, inside_as}
+use Rattle.play_jiffies.proofs.Inside.{Awaits, InTurn, Inside, IsEmpty, written_inside, inside_as}
 use Rattle.play_jiffies.proofs.InterruptSteps.{Begun, Between, HadBefore, HadOwn, Looked, Rested, SeenBefore}
-use Rattle.play_jiffies.proofs.Machines.{Holds, holds_as, kept_bases}
+use Rattle.play_jiffies.proofs.Machines.{holds_as, kept_bases}
 use Rattle.play_jiffies.proofs.Waking.{From, Waking}
 
 module _ (cpus levels now : ℕ) (due : set.FinSet nat_cmp) where

@@ -1,36 +1,28 @@
 -- each step of an interrupt keeps what holds inside the interrupts of a moment
-use Rattle.std.proofs.Common.{◌≡◌, ℕ, zero, suc, ◌+◌, ◌-◌, ◌^◌, ◌<◌, ◌≤◌, List, [], ◌∷◌, Bool, true, false, Option, Some, None, refl, sym, ap, ◌∙◌, subst, arith, inl, inr, length, min}
-use Rattle.std.specs.Prelude.{◌⊎◌, ◌&&◌, ◌==◌, All, filter, nat_le, if◌then◌else◌}
-use Rattle.std.specs.List.{range_with_len}
+use Rattle.std.proofs.Common.{◌≡◌, ℕ, zero, suc, ◌+◌, ◌<◌, ◌≤◌, true, false, Option, Some, None, refl, sym, ap, ◌∙◌, subst, arith, inl, inr, length}
+use Rattle.std.specs.Prelude.{◌⊎◌, All, nat_le}
 use Rattle.std.specs.Ordering.{nat_cmp}
 use Rattle.std.specs.FinSet as set
-use Rattle.std.proofs.lemmas.Bool.{and_from, and_parts, both_ways, cases_Bool, cases_eq, cases_lt, false_from_ne_true, le-leb}
-use Rattle.std.proofs.lemmas.List.{length-set}
+use Rattle.std.proofs.lemmas.Bool.{and_from, both_ways, cases_eq, cases_lt, le-leb}
 use Rattle.std.proofs.lemmas.List.Elements.{All-cons, All-nil}
-use Rattle.std.proofs.lemmas.Option.{none-some, same_Some}
-use Rattle.tm_base.specs.declared.names.TheConstants.{NEVER}
-use Rattle.tm_base.specs.declared.limits.TheConstants.{SCRIPT_TIME_LIMIT}
 use Rattle.tm_base.specs.declared.names.Class.{Class}
 use Rattle.tm_base.specs.declared.names.Class.TheVariants.{Pinned, Global, Deferrable}
-use Rattle.tm_base.specs.declared.names.CpuId.{CpuId}
 use Rattle.wheel_core.specs.declared.item.Item.{Item}
-use Rattle.wheel_core.specs.PlainBase.{IsSound, OutIsDue, PlainBase, after_out, next_out, taken}
+use Rattle.wheel_core.specs.PlainBase.{IsSound, OutIsDue, PlainBase, next_out, taken}
 use Rattle.wheel_core.proofs.Plain.{all_after_out, due_out, out_holds, sound_after_out}
 use Rattle.tree_plan.specs.Paths.{group_at_of, level_count_of}
 use Rattle.cpu_bases.specs.CpuBases.{base_of, class_in}
 use Rattle.cpu_bases.specs.Journals.{MayHand}
 use Rattle.play_rules.specs.declared.asks.Arming.{Arming}
-use Rattle.play_rules.specs.State.{Cpu, State, all_cpus, cpu_at, cpu_count, has_group, with_cpu}
-use Rattle.play_rules.specs.Hierarchy.{due_sleepers, inactive_child, is_due_sleeper, looks_after, named, next_of, towards}
+use Rattle.play_rules.specs.State.{Cpu, State, cpu_at, cpu_count}
+use Rattle.play_rules.specs.Hierarchy.{due_sleepers, inactive_child, is_due_sleeper, looks_after, named, towards}
 use Rattle.play_rules.specs.Timers.{armed_on, bases_at, drained_on, due_items, item_then, queued_on}
 use Rattle.play_laws.proofs.Shape.{nth_class}
-use Rattle.play_laws.proofs.States.{written_alike}
 use Rattle.play_jiffies.proofs.Course.{IsArmingIn, IsItemIn}
-use Rattle.play_jiffies.proofs.CpuKept.{IsItemOf}
-use Rattle.play_jiffies.proofs.Inside.{Awaits, Covers, Frame, InTurn, Inside, IsEmpty, SomeOnline, arm_inside, drain_inside, frame_itself, frame_with, inside_as, still_awaits, written_inside}
-use Rattle.play_jiffies.proofs.Machines.{Holds, One, holds_as, kept_bases, queued_nowhere}
-use Rattle.play_jiffies.proofs.Sleepers.{IsNamed, few_sleepers, inactive_same, looks_same, named_is, none_named, none_passes, one_fewer, sleeper_same}
-use Rattle.play_jiffies.proofs.Waking.{From, Waking}
+use Rattle.play_jiffies.proofs.Inside.{Awaits, Covers, Inside, IsEmpty, SomeOnline, arm_inside, drain_inside, inside_as, still_awaits}
+use Rattle.play_jiffies.proofs.Machines.{Holds, queued_nowhere}
+use Rattle.play_jiffies.proofs.Sleepers.{IsNamed, few_sleepers, inactive_same, looks_same, none_named, none_passes}
+use Rattle.play_jiffies.proofs.Waking.{Waking}
 
 -- BETWEEN the parts of a moment that aren't interrupts: no timer that wakes an online CPU is due, and nothing is queued on
 -- an offline one

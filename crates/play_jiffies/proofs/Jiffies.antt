@@ -1,43 +1,36 @@
 -- for crates above: after each moment of every script's play each timer was handed out in its jiffy
-use Rattle.std.proofs.Common.{◌≡◌, ℕ, zero, suc, ◌+◌, ◌^◌, ◌<◌, ◌≤◌, List, [], ◌∷◌, Bool, true, false, Option, Some, None, refl, sym, ap, ◌∙◌, subst, arith, inl, inr, max}
-use Rattle.std.specs.Prelude.{All, is_some, option_map, replicate}
-use Rattle.std.specs.Ordering.{nat_cmp}
-use Rattle.std.specs.FinSet as set
-use Rattle.std.proofs.lemmas.Bool.{and_parts, both_ways, false≢true}
-use Rattle.std.proofs.lemmas.List.Elements.{All-nil, All-weaker}
-use Rattle.std.proofs.lemmas.Option.{none-some, same_Some}
-use Rattle.tm_base.specs.declared.limits.TheConstants.{MOST_TIMERS, SCRIPT_TIME_LIMIT}
+use Rattle.std.proofs.Common.{◌≡◌, ℕ, suc, ◌+◌, ◌^◌, ◌<◌, ◌≤◌, List, [], ◌∷◌, true, Option, Some, None, refl, sym, ap, ◌∙◌, arith, max}
+use Rattle.std.specs.Prelude.{All, is_some, option_map}
+use Rattle.std.proofs.lemmas.Bool.{both_ways, false≢true}
+use Rattle.std.proofs.lemmas.List.Elements.{All-weaker}
 use Rattle.tm_base.specs.declared.names.Class.{Class}
-use Rattle.tm_base.specs.declared.names.Class.TheVariants.{Pinned, Global, Deferrable}
 use Rattle.tm_script.specs.declared.syntax.Script.{Script}
 use Rattle.tm_script.specs.Grammar.{IsScript}
 use Rattle.tree_plan.specs.Shape.{Shape}
 use Rattle.tree_plan.specs.Paths.{cpu_count_of, level_count_of}
 use Rattle.wheel_core.specs.declared.item.Item.{Item}
 use Rattle.wheel_core.proofs.Ids.{item_holds}
-use Rattle.cpu_bases.specs.CpuBases.{CpuBases, base_of, class_in, empty_bases, found_in}
+use Rattle.cpu_bases.specs.CpuBases.{CpuBases, base_of, found_in}
 use Rattle.cpu_bases.proofs.Keeping.{found_at}
 use Rattle.play_rules.specs.Interrupts.{Replies, having_interrupt}
 use Rattle.play_rules.specs.Moments.{Turn}
-use Rattle.play_rules.specs.State.{Cpu, State, cpu_at, cpu_count, new_cpu, start}
-use Rattle.play_rules.specs.Hierarchy.{told_again, woken}
-use Rattle.play_rules.specs.Timers.{bases_at, controlling}
+use Rattle.play_rules.specs.State.{State, cpu_at, cpu_count, start}
+use Rattle.play_rules.specs.Hierarchy.{woken}
+use Rattle.play_rules.specs.Timers.{bases_at}
 use Rattle.play_rules.specs.Play.{AfterEachMoment, at_clock, next_interrupt, plain_rules, play_turns, successor}
 use Rattle.play_laws.proofs.Hotplug.{successor_is}
 use Rattle.play_laws.proofs.Plays.{kept_after_each}
-use Rattle.play_laws.proofs.Scripts.{moments_rise, planned_for, tree_for}
-use Rattle.play_laws.proofs.Settles.{Whole, later_kept}
+use Rattle.play_laws.proofs.Scripts.{moments_rise, tree_for}
+use Rattle.play_laws.proofs.Settles.{Whole}
 use Rattle.play_laws.proofs.Shape.{Stage, begun, between, climbed, leaving, looked, looking, moving, own, running, taking}
-use Rattle.play_laws.proofs.Starts.{start_kept}
 use Rattle.play_laws.proofs.States.{IsKept, Nobody}
-use Rattle.play_jiffies.specs.Jiffies.{AreToldOnce, AskInRange, InItsJiffy, InItsJiffyAfterEach, IsTold}
+use Rattle.play_jiffies.specs.Jiffies.{AreToldOnce, AskInRange, InItsJiffy, InItsJiffyAfterEach}
 use Rattle.play_jiffies.proofs.Comes.{comes, none_passed}
 use Rattle.play_jiffies.proofs.Course.{KeepsCourse}
 use Rattle.play_jiffies.proofs.CourseTurns.{course_kept}
 use Rattle.play_jiffies.proofs.CpuKept.{IsCpu, IsItemOf}
-use Rattle.play_jiffies.proofs.Inside.{IsEmpty, SomeOnline}
 use Rattle.play_jiffies.proofs.InterruptEnds.{ends_all, ends_one}
-use Rattle.play_jiffies.proofs.InterruptSteps.{Begun, Between, Climbed, HadBefore, HadOwn, Looked, Looking, Own, Rested, Running, SeenBefore, Taking, all_tried, climbs, drained_own, entered_on, looks_no_more, looks_there, none_more, out_known, passed_on, ran_own, top_seen}
+use Rattle.play_jiffies.proofs.InterruptSteps.{Begun, Between, Climbed, HadOwn, Looked, Looking, Own, Rested, Running, SeenBefore, Taking, all_tried, climbs, drained_own, entered_on, looks_no_more, looks_there, none_more, out_known, passed_on, ran_own, top_seen}
 use Rattle.play_jiffies.proofs.LookSteps.{drains_taken, lets_go, out_taken, ran_taken, takes}
 use Rattle.play_jiffies.proofs.Starts.{first_begun}
 use Rattle.play_jiffies.proofs.MovingSteps.{Moving, controls_leaving, empty_by, has_controller, leaves_again, left_empty, moves_one, none_moves, wakes_leaving}

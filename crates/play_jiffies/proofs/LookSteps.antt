@@ -1,33 +1,29 @@
 -- a CPU that a look takes, and the end of an interrupt
-use Rattle.std.proofs.Common.{◌≡◌, ℕ, zero, suc, ◌+◌, ◌-◌, ◌^◌, ◌<◌, ◌≤◌, List, [], ◌∷◌, Bool, true, false, Option, Some, None, refl, sym, ap, ◌∙◌, subst, arith, inl, inr, length, min}
-use Rattle.std.specs.Prelude.{◌⊎◌, ◌&&◌, ◌==◌, All, filter, nat_le, nat_lt, if◌then◌else◌, unwrap_or}
+use Rattle.std.proofs.Common.{◌≡◌, ℕ, suc, ◌+◌, ◌<◌, ◌≤◌, List, Bool, true, false, Option, Some, None, refl, sym, ap, ◌∙◌, subst, arith, inl, inr, length}
+use Rattle.std.specs.Prelude.{◌⊎◌, All, filter, nat_le, nat_lt, if◌then◌else◌, unwrap_or}
 use Rattle.std.specs.List.{range_with_len}
 use Rattle.std.specs.Ordering.{nat_cmp}
 use Rattle.std.specs.FinSet as set
-use Rattle.std.proofs.lemmas.Bool.{and_parts, both_ways, cases_Bool, cases_eq, cases_lt, false_from_ne_true, leb-true}
+use Rattle.std.proofs.lemmas.Bool.{and_parts, cases_eq, false_from_ne_true, leb-true}
 use Rattle.std.proofs.lemmas.List.{length-set}
-use Rattle.std.proofs.lemmas.Option.{none-some, same_Some}
+use Rattle.std.proofs.lemmas.Option.{same_Some}
 use Rattle.tm_base.specs.declared.names.TheConstants.{NEVER}
-use Rattle.tm_base.specs.declared.limits.TheConstants.{SCRIPT_TIME_LIMIT}
-use Rattle.tm_base.specs.declared.names.Class.{Class}
-use Rattle.tm_base.specs.declared.names.Class.TheVariants.{Pinned, Global, Deferrable}
+use Rattle.tm_base.specs.declared.names.Class.TheVariants.{Pinned, Global}
 use Rattle.wheel_core.specs.declared.item.Item.{Item}
 use Rattle.wheel_core.specs.PlainBase.{least}
-use Rattle.tree_plan.specs.Paths.{group_at_of}
-use Rattle.cpu_bases.specs.CpuBases.{CpuBases, base_of, class_in, drained, events_of, first_of}
+use Rattle.cpu_bases.specs.CpuBases.{CpuBases, base_of, drained, events_of, first_of}
 use Rattle.play_rules.specs.declared.asks.Arming.{Arming}
-use Rattle.play_rules.specs.State.{Cpu, State, all_cpus, cpu_at, cpu_count, has_group, with_cpu}
-use Rattle.play_rules.specs.Hierarchy.{due_sleepers, duty, inactive_child, is_due_sleeper, named, next_of, pin_of, reevaluated, told_again, towards}
+use Rattle.play_rules.specs.State.{Cpu, State, cpu_at, cpu_count, has_group, with_cpu}
+use Rattle.play_rules.specs.Hierarchy.{due_sleepers, inactive_child, is_due_sleeper, named, next_of, told_again, towards}
 use Rattle.play_rules.specs.Timers.{armed_bases, armed_on, bases_at, drained_on, queued_on}
-use Rattle.play_rules.specs.Play.{ended}
 use Rattle.play_laws.proofs.States.{here_is, written, written_alike}
 use Rattle.play_laws.proofs.Invariant.{put_other}
 use Rattle.play_jiffies.proofs.Course.{IsArmingIn, IsItemIn}
-use Rattle.play_jiffies.proofs.Inside.{Awaits, Covers, Frame, InTurn, Inside, IsEmpty, SomeOnline, arm_inside, drain_inside, frame_itself, frame_with, inside_as, written_inside}
-use Rattle.play_jiffies.proofs.InterruptSteps.{Begun, Between, Climbed, Few, HadBefore, HadOwn, Looked, Looking, Rested, Running, SeenBefore, SeenBelow, Taking, free_in, out_known}
-use Rattle.play_jiffies.proofs.Machines.{Holds, One, holds_as, kept_bases}
+use Rattle.play_jiffies.proofs.Inside.{Awaits, Frame, InTurn, Inside, arm_inside, drain_inside, frame_itself, frame_with, written_inside}
+use Rattle.play_jiffies.proofs.InterruptSteps.{Few, HadOwn, Looking, Running, SeenBelow, Taking, free_in, out_known}
+use Rattle.play_jiffies.proofs.Machines.{kept_bases}
 use Rattle.play_jiffies.proofs.Sleepers.{IsNamed, named_is, one_fewer, sleeper_same}
-use Rattle.play_jiffies.proofs.Waking.{From, Waking, first_later}
+use Rattle.play_jiffies.proofs.Waking.{From, first_later}
 
 -- a first event that isn't before a time
 first_from : (time : ℕ) (items : List Item) (o : Option ℕ) → time ≤ NEVER → least items ≡ o → All (From time) items

@@ -1,33 +1,28 @@
 -- what holds of each CPU of a state, as the bases of one of them change
-use Rattle.std.proofs.Common.{◌≡◌, ℕ, zero, suc, ◌+◌, ◌-◌, ◌^◌, ◌<◌, ◌≤◌, List, [], ◌∷◌, Bool, true, false, Option, Some, None, refl, sym, ap, ◌∙◌, subst, arith, inl, inr, length, get_or}
-use Rattle.std.specs.Prelude.{All, find, is_some, option_and_then, option_map, ◌==◌}
-use Rattle.std.specs.List.{range_with_len}
-use Rattle.std.proofs.lemmas.Bool.{both_ways, cases_Bool, cases_eq}
+use Rattle.std.proofs.Common.{◌≡◌, ℕ, ◌+◌, ◌^◌, ◌<◌, [], true, false, Option, Some, None, refl, sym, ap, ◌∙◌, subst, arith, inl, inr, length}
+use Rattle.std.specs.Prelude.{is_some, option_and_then, option_map}
+use Rattle.std.proofs.lemmas.Bool.{both_ways, cases_Bool}
 use Rattle.std.proofs.lemmas.List.{length-set}
 use Rattle.std.proofs.lemmas.Option.{none-some, same_Some}
 use Rattle.tm_base.specs.declared.names.TheConstants.{TIME_LIMIT}
 use Rattle.tm_base.specs.declared.limits.TheConstants.{SCRIPT_TIME_LIMIT}
 use Rattle.tm_base.specs.declared.names.Class.{Class}
-use Rattle.tm_base.specs.declared.names.Class.TheVariants.{Pinned, Global, Deferrable}
 use Rattle.tm_base.specs.declared.names.CpuId.{CpuId}
 use Rattle.wheel_core.specs.declared.item.Item.{Item}
-use Rattle.wheel_core.specs.PlainBase.{item_of}
 use Rattle.wheel_core.proofs.Ids.{item_holds}
 use Rattle.cpu_bases.specs.declared.entry.Act.TheVariants as acts
-use Rattle.cpu_bases.specs.CpuBases.{CpuBases, IsConsistent, after_move_out, armed, base_of, cancelled, class_in, drained, entry_of, found_in, moved_in, moved_out, oldest_in}
-use Rattle.cpu_bases.specs.Journals.{MayHand, arming_of, ended, queued_by}
-use Rattle.cpu_bases.proofs.Keeping.{found_at, moving_out_keeps, nowhere, oldest_found}
+use Rattle.cpu_bases.specs.CpuBases.{CpuBases, IsConsistent, after_move_out, base_of, cancelled, class_in, drained, entry_of, found_in, moved_in, moved_out, oldest_in}
+use Rattle.cpu_bases.specs.Journals.{MayHand, arming_of, queued_by}
+use Rattle.cpu_bases.proofs.Keeping.{found_at, moving_out_keeps, nowhere}
 use Rattle.cpu_bases.proofs.Keyed.{none_dropped}
 use Rattle.cpu_bases.proofs.Legal.{distinct_from, ended_is, queued_push}
 use Rattle.play_rules.specs.declared.asks.Arming.{Arming}
 use Rattle.play_rules.specs.declared.asks.Cancelling.{Cancelling}
-use Rattle.play_rules.specs.declared.asks.Queued.{Queued}
 use Rattle.play_rules.specs.State.{Cpu, State, cpu_at, cpu_count, with_bases, with_cpu}
 use Rattle.play_rules.specs.Timers.{armed_bases, armed_on, bases_at, cancelled_on, drained_on, holder_of, moved_into, moved_out_of, queued_as, queued_at, queued_on}
-use Rattle.play_laws.proofs.Invariant.{each_put, put}
+use Rattle.play_laws.proofs.Invariant.{each_put}
 use Rattle.play_laws.proofs.Ranges.{found_some, found_there}
 use Rattle.play_laws.proofs.States.{written}
-use Rattle.play_laws.proofs.Timers.{queued_low}
 use Rattle.play_jiffies.proofs.Course.{IsArmingIn}
 use Rattle.play_jiffies.proofs.CpuKept.{IsCpu, IsItemOf, armed_cpu, cancelled_cpu, cpu_owned, moved_in_cpu, moved_out_cpu, owning}
 use Rattle.play_jiffies.proofs.Waking.{IsDrained, Waking, drained_cpu}

@@ -1,9 +1,8 @@
 -- the timers of an offline CPU move to an online one
-use Rattle.std.proofs.Common.{◌≡◌, ℕ, zero, suc, ◌+◌, ◌^◌, ◌<◌, ◌≤◌, List, [], ◌∷◌, Bool, true, false, Option, Some, None, refl, sym, ap, ◌∙◌, subst, arith, inl, inr, length}
+use Rattle.std.proofs.Common.{◌≡◌, ℕ, suc, ◌+◌, ◌^◌, ◌<◌, ◌≤◌, List, [], ◌∷◌, Bool, true, false, Option, Some, None, refl, sym, ap, ◌∙◌, subst, arith, inl, inr, length}
 use Rattle.std.specs.Prelude.{◌⊎◌, ◌&&◌, All, find, not, option_map, if◌then◌else◌}
-use Rattle.std.specs.List.{range_with_len}
 use Rattle.std.specs.Option.{option_or}
-use Rattle.std.proofs.lemmas.Bool.{and_from, and_parts, both_ways, cases_Bool, cases_eq, false≢true}
+use Rattle.std.proofs.lemmas.Bool.{and_from, and_parts, both_ways, cases_eq}
 use Rattle.std.proofs.lemmas.List.{length-set}
 use Rattle.std.proofs.lemmas.Option.{none-some, same_Some, some_pair_parts}
 use Rattle.tm_base.specs.declared.names.Class.TheVariants.{Pinned, Global, Deferrable}
@@ -11,24 +10,24 @@ use Rattle.tm_base.specs.declared.names.Class.{Class}
 use Rattle.tm_base.specs.declared.names.CpuId.{CpuId}
 use Rattle.wheel_core.specs.declared.item.Item.{Item}
 use Rattle.tm_base.specs.declared.names.TheConstants.{NEVER}
-use Rattle.wheel_core.specs.PlainBase.{IsPlaced, item_of, removed, without}
+use Rattle.wheel_core.specs.PlainBase.{IsPlaced, item_of, removed}
 use Rattle.wheel_core.proofs.Ids.{item_holds, length-without}
 use Rattle.cpu_bases.specs.declared.entry.Act.TheVariants as acts
-use Rattle.cpu_bases.specs.CpuBases.{CpuBases, NotAhead, after_move_out, base_of, changed, class_in, entry_of, moved_in, moved_out, oldest_in}
+use Rattle.cpu_bases.specs.CpuBases.{CpuBases, after_move_out, base_of, changed, class_in, entry_of, moved_in, moved_out, oldest_in}
 use Rattle.cpu_bases.proofs.Keeping.{oldest_found}
 use Rattle.play_rules.specs.Rules.{Moved}
-use Rattle.play_rules.specs.State.{Cpu, State, all_cpus, cpu_at, cpu_count, with_bases, with_cpu}
+use Rattle.play_rules.specs.State.{Cpu, State, all_cpus, cpu_at, cpu_count}
 use Rattle.play_rules.specs.Hierarchy.{is_placed, with_migrators, woken, woken_migrator}
-use Rattle.play_rules.specs.Timers.{bases_at, controller, controlling, count_on, first_to_move, moved, moved_into, moved_one, moved_out_of, oldest_of_class}
+use Rattle.play_rules.specs.Timers.{bases_at, controller, controlling, count_on, first_to_move, moved, moved_one, moved_out_of, oldest_of_class}
 use Rattle.play_laws.proofs.Invariant.{put_other}
 use Rattle.play_laws.proofs.Ranges.{found_some, found_there}
 use Rattle.play_laws.proofs.States.{here_is, written, written_alike}
 use Rattle.play_jiffies.proofs.CpuKept.{IsItemOf}
-use Rattle.play_jiffies.proofs.Inside.{IsEmpty, SomeOnline, some_online_with}
+use Rattle.play_jiffies.proofs.Inside.{IsEmpty, some_online_with}
 use Rattle.play_jiffies.proofs.InterruptSteps.{Between, Quiet, Rested}
 use Rattle.play_jiffies.proofs.Machines.{Holds, One, elsewhere, holds_as, move_in_holds, move_out_holds, moved_out_gone}
 use Rattle.play_jiffies.proofs.OperationSteps.{Leaves, Leaving, here, leaves_of_bases, wakes}
-use Rattle.play_jiffies.proofs.Waking.{From, Waking, moved_in_waking}
+use Rattle.play_jiffies.proofs.Waking.{moved_in_waking}
 
 -- HOW MANY are queued
 abbrev count_in : CpuBases → ℕ

@@ -1,36 +1,31 @@
 -- each operation keeps what holds between the interrupts
-use Rattle.std.proofs.Common.{◌≡◌, ℕ, zero, suc, ◌+◌, ◌^◌, ◌<◌, ◌≤◌, List, [], ◌∷◌, Bool, true, false, Option, Some, None, refl, sym, ap, ◌∙◌, subst, arith, inl, inr, length, min}
-use Rattle.std.specs.Prelude.{◌⊎◌, ◌&&◌, ◌==◌, All, find, is_none, not, if◌then◌else◌}
-use Rattle.std.specs.List.{range_with_len}
-use Rattle.std.specs.Option.{option_or}
-use Rattle.std.proofs.lemmas.Bool.{and_from, and_left, and_parts, and_right, both_ways, cases_Bool, cases_eq, eq-eqb, false≢true}
+use Rattle.std.proofs.Common.{◌≡◌, ℕ, ◌+◌, ◌<◌, List, Bool, true, false, Option, Some, None, refl, sym, ap, ◌∙◌, subst, arith, inl, inr, min}
+use Rattle.std.specs.Prelude.{◌&&◌, ◌==◌, is_none, not, if◌then◌else◌}
+use Rattle.std.proofs.lemmas.Bool.{and_from, and_parts, both_ways, cases_Bool, cases_eq, eq-eqb, false≢true}
 use Rattle.std.proofs.lemmas.List.{length-set}
-use Rattle.std.proofs.lemmas.Option.{none-some, same_Some}
+use Rattle.std.proofs.lemmas.Option.{none-some}
 use Rattle.tm_base.specs.declared.names.TheConstants.{NEVER}
-use Rattle.tm_base.specs.declared.limits.TheConstants.{SCRIPT_TIME_LIMIT}
-use Rattle.tm_base.specs.declared.names.Class.TheVariants.{Pinned, Global, Deferrable}
 use Rattle.tm_base.specs.declared.names.Class.{Class}
 use Rattle.tm_base.specs.declared.names.CpuId.{CpuId}
 use Rattle.tm_base.specs.declared.faults.OpFault.TheVariants as faults
-use Rattle.wheel_core.specs.declared.item.Item.{Item}
-use Rattle.cpu_bases.specs.CpuBases.{CpuBases, NotAhead, base_of, cancelled, class_in}
+use Rattle.cpu_bases.specs.CpuBases.{CpuBases, NotAhead, base_of, cancelled}
 use Rattle.play_rules.specs.declared.asks.Arming.{Arming}
 use Rattle.play_rules.specs.declared.asks.Cancelling.{Cancelling}
 use Rattle.play_rules.specs.declared.asks.Queued.{Queued}
-use Rattle.play_rules.specs.State.{Cpu, State, all_cpus, cpu_at, cpu_count, has_group, with_bases, with_cpu}
-use Rattle.play_rules.specs.Hierarchy.{come_online, duty, gone_offline, idled, is_placed, next_of, pin_of, programmed, rested, rested_migrator, resting, with_migrators, woken, woken_migrator}
+use Rattle.play_rules.specs.State.{Cpu, State, cpu_at, cpu_count, has_group, with_bases, with_cpu}
+use Rattle.play_rules.specs.Hierarchy.{come_online, duty, gone_offline, idled, is_placed, next_of, pin_of, rested, rested_migrator, resting, with_migrators, woken, woken_migrator}
 use Rattle.play_rules.specs.Operations.{last_online}
-use Rattle.play_rules.specs.Timers.{armed_bases, armed_on, bases_at, cancelled_on, controller, controlling, queued_on}
+use Rattle.play_rules.specs.Timers.{armed_bases, armed_on, bases_at, cancelled_on, queued_on}
 use Rattle.play_rules.specs.Play.{plain_rules, successor}
 use Rattle.play_laws.proofs.Bases.{cancelled_kept}
 use Rattle.play_laws.proofs.Invariant.{put_other}
-use Rattle.play_laws.proofs.Ranges.{found_some, found_there}
-use Rattle.play_laws.proofs.States.{here_is, written, written_alike}
+use Rattle.play_laws.proofs.Ranges.{found_there}
+use Rattle.play_laws.proofs.States.{here_is, written}
 use Rattle.play_laws.proofs.Timers.{queued_low}
 use Rattle.play_jiffies.proofs.Course.{IsArmingIn}
 use Rattle.play_jiffies.proofs.Inside.{IsEmpty, SomeOnline, empty_waking, some_online_with}
 use Rattle.play_jiffies.proofs.InterruptSteps.{Between, Quiet, Rested}
-use Rattle.play_jiffies.proofs.Machines.{Holds, One, arm_holds, cancel_holds, holds_as, kept_bases, queued_nowhere}
+use Rattle.play_jiffies.proofs.Machines.{Holds, arm_holds, cancel_holds, kept_bases, queued_nowhere}
 use Rattle.play_jiffies.proofs.Waking.{From, Waking, armed_waking, cancelled_waking}
 
 -- a fact of a CPU that is said of its bases, and of whether it is online

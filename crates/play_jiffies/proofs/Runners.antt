@@ -1,10 +1,10 @@
 -- for crates above: no interrupt changes who is online
-use Rattle.std.proofs.Common.{◌≡◌, ℕ, zero, suc, ◌+◌, ◌<◌, ◌≤◌, List, [], ◌∷◌, Bool, true, false}
-use Rattle.std.proofs.Common.{Option, Some, None, refl, sym, ap, ◌∙◌, subst, arith, inl, inr, min}
-use Rattle.std.specs.Prelude.{◌&&◌, ◌||◌, nat_le, not, if◌then◌else◌}
+use Rattle.std.proofs.Common.{◌≡◌, ℕ, zero, suc, ◌+◌, List, [], ◌∷◌, Bool, true, false}
+use Rattle.std.proofs.Common.{Option, Some, None, refl, ap, ◌∙◌, inl, inr, min}
+use Rattle.std.specs.Prelude.{if◌then◌else◌}
 use Rattle.std.specs.Ordering.{nat_cmp}
 use Rattle.std.specs.FinSet as set
-use Rattle.std.proofs.lemmas.Bool.{and_parts, cases_lt}
+use Rattle.std.proofs.lemmas.Bool.{cases_lt}
 use Rattle.std.proofs.lemmas.List.{set_past}
 use Rattle.tm_base.specs.declared.names.TheConstants.{NEVER}
 use Rattle.tm_base.specs.declared.names.Class.{Class}
@@ -12,17 +12,16 @@ use Rattle.tm_base.specs.declared.names.Class.TheVariants.{Pinned, Global, Defer
 use Rattle.job_table.specs.declared.jobs.JobReply.{JobReply}
 use Rattle.job_table.specs.declared.jobs.JobReply.TheVariants as replies
 use Rattle.wheel_core.specs.declared.item.Item.{Item}
-use Rattle.cpu_bases.specs.CpuBases.{CpuBases}
 use Rattle.play_rules.specs.declared.asks.Queued.{Queued}
 use Rattle.play_rules.specs.Parts.{Played}
-use Rattle.play_rules.specs.State.{Cpu, State, cpu_at, cpu_count, has_group, with_bases, with_cpu}
+use Rattle.play_rules.specs.State.{Cpu, State, cpu_at, cpu_count, has_group, with_cpu}
 use Rattle.play_rules.specs.Hierarchy.{duty, looks_after, named, next_of, pin_of, reevaluated}
 use Rattle.play_rules.specs.Hierarchy.{told_again}
-use Rattle.play_rules.specs.Timers.{armed_bases, armed_on, bases_at, drained_on, queued_on}
+use Rattle.play_rules.specs.Timers.{armed_bases, drained_on, queued_on}
 use Rattle.play_rules.specs.Interrupts.{Replies, again, answered, arming_again, drain, drains}
 use Rattle.play_rules.specs.Interrupts.{having_interrupt, interrupt, interrupt_where, interrupts}
 use Rattle.play_rules.specs.Interrupts.{job_call, look, look_at, look_where, looks, run_jobs, try}
-use Rattle.play_rules.specs.Play.{ended, has_interrupt, plain_rules}
+use Rattle.play_rules.specs.Play.{plain_rules}
 use Rattle.play_laws.proofs.Settles.{due_online}
 use Rattle.play_laws.proofs.States.{written_alike}
 use Rattle.play_jiffies.specs.Jiffies.{RunnersAreOnline}

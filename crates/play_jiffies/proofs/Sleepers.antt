@@ -1,15 +1,14 @@
 -- whom a look finds asleep, as the times that were told change
-use Rattle.std.proofs.Common.{◌≡◌, ℕ, zero, suc, ◌+◌, ◌-◌, ◌^◌, ◌<◌, ◌≤◌, List, [], ◌∷◌, Bool, true, false, Option, Some, None, refl, sym, ap, ◌∙◌, subst, arith, inl, inr, length, min}
-use Rattle.std.specs.Prelude.{◌⊎◌, ◌&&◌, ◌==◌, ◌||◌, not, filter, find, nat_le, if◌then◌else◌, option_and_then, slice_index_or}
-use Rattle.std.specs.List.{fold, list_any, range_with_len}
-use Rattle.std.proofs.lemmas.Bool.{and_from, and_parts, both_ways, cases_Bool, cases_eq, cases_lt, eq-eqb, eqb-true, false≢true, leb-true, or_cases, or_left, or_right}
+use Rattle.std.proofs.Common.{◌≡◌, ℕ, zero, suc, ◌+◌, ◌<◌, ◌≤◌, List, [], ◌∷◌, Bool, true, false, Option, Some, None, refl, sym, ap, ◌∙◌, arith, inl, inr, length, min}
+use Rattle.std.specs.Prelude.{◌⊎◌, ◌&&◌, ◌==◌, ◌||◌, not, filter, find, nat_le, option_and_then, slice_index_or}
+use Rattle.std.specs.List.{list_any, range_with_len}
+use Rattle.std.proofs.lemmas.Bool.{and_parts, both_ways, cases_Bool, cases_lt, eq-eqb, eqb-true, false≢true, leb-true, or_cases, or_left, or_right}
 use Rattle.std.proofs.lemmas.Option.{none-some, same_Some}
 use Rattle.tm_base.specs.declared.names.TheConstants.{NEVER}
 use Rattle.tm_base.specs.declared.names.Child.{Child}
-use Rattle.tree_plan.specs.Shape.{Shape}
 use Rattle.tree_plan.specs.Paths.{group_at_of, is_under}
-use Rattle.play_rules.specs.State.{Cpu, State, all_cpus, cpu_at, cpu_count, is_active, migrator_at}
-use Rattle.play_rules.specs.Hierarchy.{due_sleeper, due_sleepers, first_to_tell, inactive_child, is_due_sleeper, least_told, looks_after, looks_after_where, looks_at, named, towards}
+use Rattle.play_rules.specs.State.{State, all_cpus, cpu_at, cpu_count}
+use Rattle.play_rules.specs.Hierarchy.{due_sleeper, due_sleepers, inactive_child, is_due_sleeper, least_told, looks_after, looks_after_where, looks_at, named, towards}
 use Rattle.play_laws.proofs.Ranges.{in_range, least_below, least_of, member_was, range_low}
 use Rattle.play_jiffies.proofs.Inside.{Frame}
 

@@ -1,6 +1,6 @@
 -- the first moment of a play begins with nothing queued
-use Rattle.std.proofs.Common.{◌≡◌, ℕ, zero, suc, ◌+◌, ◌^◌, ◌<◌, ◌≤◌, [], Bool, true, false, Some, None, refl, sym, ap, ◌∙◌, subst, arith, replicate}
-use Rattle.std.specs.Prelude.{All, ◌&&◌, not, nat_lt, slice_index_or}
+use Rattle.std.proofs.Common.{◌≡◌, ℕ, zero, suc, ◌^◌, ◌<◌, ◌≤◌, [], refl, sym, ap, ◌∙◌, subst, arith, replicate}
+use Rattle.std.specs.Prelude.{not, nat_lt, slice_index_or}
 use Rattle.std.specs.FinSet as set
 use Rattle.std.proofs.lemmas.Bool.{and_from, false≢true, lt-ltb}
 use Rattle.std.proofs.lemmas.List.Elements.{All-nil}
@@ -11,14 +11,13 @@ use Rattle.tm_base.specs.declared.names.Class.TheVariants.{Pinned, Global, Defer
 use Rattle.tm_script.specs.declared.syntax.Script.{Script}
 use Rattle.tm_script.specs.Grammar.{IsScript}
 use Rattle.tree_plan.specs.Shape.{Shape}
-use Rattle.tree_plan.specs.Paths.{cpu_count_of, is_placed_in, level_count_of}
+use Rattle.tree_plan.specs.Paths.{cpu_count_of, level_count_of}
 use Rattle.wheel_core.specs.declared.item.Item.{Item}
 use Rattle.wheel_core.specs.PlainBase.{IsPlaced, NoneBehind}
 use Rattle.cpu_bases.specs.declared.entry.Entry.{Entry}
-use Rattle.cpu_bases.specs.CpuBases.{BaseFits, CpuBases, IsConsistent, base_of, empty_bases}
-use Rattle.cpu_bases.specs.Journals.{Agrees, HandedByRight, LegalUpTo}
-use Rattle.play_rules.specs.State.{Cpu, State, cpu_at, cpu_count, new_cpu, start}
-use Rattle.play_rules.specs.Timers.{bases_at}
+use Rattle.cpu_bases.specs.CpuBases.{BaseFits, base_of, empty_bases}
+use Rattle.cpu_bases.specs.Journals.{Agrees, HandedByRight}
+use Rattle.play_rules.specs.State.{Cpu, State, cpu_at, new_cpu, start}
 use Rattle.play_rules.specs.Interrupts.{having_interrupt}
 use Rattle.play_rules.specs.Play.{at_clock, plain_rules}
 use Rattle.play_laws.proofs.Bases.{IsBase}

@@ -1,9 +1,8 @@
 -- the timers that wake a CPU: what each call leaves of their wheel expiries
-use Rattle.std.proofs.Common.{◌≡◌, ℕ, zero, suc, ◌+◌, ◌-◌, ◌^◌, ◌<◌, ◌≤◌, List, [], ◌∷◌, Bool, true, false, Option, Some, None, refl, sym, ap, ◌∙◌, subst, arith, inl, inr, length, get_or}
-use Rattle.std.specs.Prelude.{All, if◌then◌else◌, nat_le, nat_lt}
-use Rattle.std.proofs.lemmas.Bool.{cases_Bool, cases_lt, le-ltb, lt-ltb, leb-true}
-use Rattle.std.proofs.lemmas.Option.{none-some, same_Some}
-use Rattle.std.proofs.lemmas.List.Elements.{All-push, All-weaker}
+use Rattle.std.proofs.Common.{◌≡◌, ℕ, ◌+◌, ◌-◌, ◌^◌, ◌<◌, ◌≤◌, List, true, false, Option, Some, None, refl, sym, subst, arith, inl, inr, length}
+use Rattle.std.specs.Prelude.{All, if◌then◌else◌, nat_le}
+use Rattle.std.proofs.lemmas.Bool.{cases_Bool, cases_lt, le-ltb, lt-ltb}
+use Rattle.std.proofs.lemmas.List.Elements.{All-push}
 use Rattle.tm_base.specs.Classes.{same_class}
 use Rattle.tm_base.specs.declared.names.TheConstants.{TIME_LIMIT}
 use Rattle.tm_base.specs.declared.limits.TheConstants.{SCRIPT_TIME_LIMIT}
@@ -15,13 +14,11 @@ use Rattle.wheel_core.specs.WheelExpiry.{cutoff, wheel_expiry_of}
 use Rattle.wheel_core.specs.PlainBase.{NoneBehind, NoneDue, PlainBase, added, clock_forwarded, forwarded, least, placed}
 use Rattle.wheel_core.proofs.Levels.{wheel_keeps_time}
 use Rattle.wheel_core.proofs.Plain.{clock-forwarded_le, none_behind}
-use Rattle.cpu_bases.specs.ByClass.{of_class, with_class}
 use Rattle.cpu_bases.specs.CpuBases.{CpuBases, NotAhead, armed, base_of, cancelled, drained, moved_in, moved_out}
 use Rattle.cpu_bases.specs.Journals.{MayHand}
-use Rattle.cpu_bases.specs.Laws.{DrainsAll}
 use Rattle.cpu_bases.proofs.Classes.{class_is}
 use Rattle.cpu_bases.proofs.Drains.{drain_is_whole}
-use Rattle.play_laws.proofs.Bases.{IsBase, cancelled_kept, changed_kept, drained_kept, moved_out_kept}
+use Rattle.play_laws.proofs.Bases.{IsBase, cancelled_kept, drained_kept, moved_out_kept}
 use Rattle.play_jiffies.specs.Jiffies.{OfWaking}
 use Rattle.play_jiffies.proofs.CpuKept.{IsCpu, IsItemOf, NoneLate, drain_on_time}
 
