@@ -1,10 +1,12 @@
 -- the clock comes to the next moment: no timer that wakes an online CPU was passed
-use Rattle.std.proofs.Common.{◌≡◌, ℕ, ◌+◌, ◌<◌, ◌≤◌, Bool, true, false, refl, ap, subst, arith, inl, inr, max}
+use Rattle.std.proofs.Common.{◌≡◌, ℕ, ◌+◌, ◌<◌, ◌≤◌, Bool, true, false, refl, ap, subst, arith, inl}
+use Rattle.std.proofs.Common.{inr, max}
 use Rattle.std.specs.Prelude.{◌||◌, if◌then◌else◌, nat_le, not}
 use Rattle.std.specs.List.{list_any}
 use Rattle.std.specs.Ordering.{nat_cmp}
 use Rattle.std.specs.FinSet as set
-use Rattle.std.proofs.lemmas.Bool.{and_from, both_ways, cases_Bool, cases_lt, false_from_ne_true, le-leb, or_left, or_right}
+use Rattle.std.proofs.lemmas.Bool.{and_from, both_ways, cases_Bool, cases_lt, false_from_ne_true}
+use Rattle.std.proofs.lemmas.Bool.{le-leb, or_left, or_right}
 use Rattle.tm_base.specs.declared.names.TheConstants.{NEVER}
 use Rattle.tm_base.specs.declared.limits.TheConstants.{SCRIPT_TIME_LIMIT}
 use Rattle.tree_plan.specs.Paths.{level_count_of}
@@ -26,14 +28,17 @@ use Rattle.play_jiffies.proofs.InterruptSteps.{Begun, Between, HadBefore, SeenBe
 use Rattle.play_jiffies.proofs.Waking.{Waking}
 
 -- NO TIMER IS PASSED: the next interrupt comes no later than each that wakes an online CPU
-module _ (cpus levels now : ℕ) (s : State) (quiet : Between cpus levels now s) (kept : IsKept Nobody (Unit {0}) s) where
+module _ (cpus levels now : ℕ) (s : State) (quiet : Between cpus levels now s)
+    (kept : IsKept Nobody (Unit {0}) s) where
   abbrev wakeups : ℕ
   wakeups = least_of (λ c. (cpu_at s c).wakeup) NEVER (all_cpus s)
 
-  none_active : list_any (is_active s) (all_cpus s) ≡ false → (d : ℕ) → d < cpu_count s → is_active s d ≡ false
+  none_active : list_any (is_active s) (all_cpus s) ≡ false → (d : ℕ) → d < cpu_count s
+      → is_active s d ≡ false
   none_active none d low =
       false_from_ne_true (is_active s d) (λ on.
-      both_ways (list_any (is_active s) (all_cpus s)) none (any_here (is_active s) 0 (cpu_count s) d (omega arith) (omega (arith, low)) on))
+      both_ways (list_any (is_active s) (all_cpus s)) none
+      (any_here (is_active s) 0 (cpu_count s) d (omega arith) (omega (arith, low)) on))
 
   none_placed : list_any (is_active s) (all_cpus s) ≡ false → NonePlacedActive s.tree (cpu_at s)
   none_placed none d placed =
@@ -42,10 +47,12 @@ module _ (cpus levels now : ℕ) (s : State) (quiet : Between cpus levels now s)
       none_active none d (omega (arith, below, count))
 
   wakes_by : (d : ℕ) → d < cpu_count s → wakeups ≤ (cpu_at s d).wakeup
-  wakes_by d low = least_below (λ c. (cpu_at s c).wakeup) NEVER (all_cpus s) d (in_range (cpu_count s) d low)
+  wakes_by d low =
+      least_below (λ c. (cpu_at s c).wakeup) NEVER (all_cpus s) d (in_range (cpu_count s) d low)
 
   -- where a time was told, some CPU wakes by it
-  told_by : list_any (is_active s) (all_cpus s) ≡ false → (d : ℕ) → d < cpu_count s → (cpu_at s d).told < NEVER
+  told_by : list_any (is_active s) (all_cpus s) ≡ false → (d : ℕ) → d < cpu_count s
+      → (cpu_at s d).told < NEVER
       → wakeups ≤ (cpu_at s d).told
   told_by none d low told =
       let waker = kept.holds.top tt (none_placed none) d told in
@@ -56,15 +63,19 @@ module _ (cpus levels now : ℕ) (s : State) (quiet : Between cpus levels now s)
       omega (arith, wakes, least)
 
   -- where no CPU is active
-  asleep : (d : ℕ) → d < cpu_count s → (cpu_at s d).online ≡ true → is_active s d ≡ false → rests (cpu_at s d) ≡ true
+  asleep : (d : ℕ) → d < cpu_count s → (cpu_at s d).online ≡ true → is_active s d ≡ false
+      → rests (cpu_at s d) ≡ true
   asleep d low online off =
       elim (cases_Bool (cpu_at s d).idle) [
         | inl idle ↦ and_from (cpu_at s d).online (cpu_at s d).idle online idle
         | inr busy_now ↦
-            absurd (both_ways (is_active s d) off (and_from (cpu_at s d).online (not (cpu_at s d).idle) online (ap not busy_now)))
+            absurd
+            (both_ways (is_active s d) off
+            (and_from (cpu_at s d).online (not (cpu_at s d).idle) online (ap not busy_now)))
       ]
 
-  by_wakeups : list_any (is_active s) (all_cpus s) ≡ false → (d : ℕ) → d < cpu_count s → (cpu_at s d).online ≡ true
+  by_wakeups : list_any (is_active s) (all_cpus s) ≡ false → (d : ℕ) → d < cpu_count s
+      → (cpu_at s d).online ≡ true
       → OfWaking (λ item. wakeups ≤ item.wheel) (bases_at s d)
   by_wakeups none d low online =
       let rest = asleep d low online (none_active none d low) in
@@ -77,11 +88,13 @@ module _ (cpus levels now : ℕ) (s : State) (quiet : Between cpus levels now s)
               | inl wakes ↦ omega (arith, wakes, least)
               | inr told ↦
                   let soon = (kept.holds.each d).global.all k e below in
-                  let other = told_by none d low (omega (arith, told, soon)) in omega (arith, told, other)
+                  let other =
+                  told_by none d low (omega (arith, told, soon)) in omega (arith, told, other)
             ];
       }
 
-  next_by : (b : Bool) → list_any (is_active s) (all_cpus s) ≡ b → (d : ℕ) → d < cpus → (cpu_at s d).online ≡ true
+  next_by : (b : Bool) → list_any (is_active s) (all_cpus s) ≡ b → (d : ℕ) → d < cpus
+      → (cpu_at s d).online ≡ true
       → OfWaking (λ item. (if b then s.clock + 1 else wakeups) ≤ item.wheel) (bases_at s d)
   next_by true is d low online =
       let waking = (quiet.holds.each d low).is.waking online in
@@ -98,30 +111,38 @@ record IsFree (s : State) (d : ℕ) : Type 0 where
   rests : rests (cpu_at s d) ≡ true
   later : s.clock + 1 ≤ (cpu_at s d).wakeup
 
-free_by : (s : State) (d : ℕ) → d < cpu_count s → set.contains (having_interrupt plain_rules s) d ≡ false
+free_by : (s : State) (d : ℕ) → d < cpu_count s
+    → set.contains (having_interrupt plain_rules s) d ≡ false
     → (cpu_at s d).online ≡ true → IsFree s d
 free_by s d low out online =
     let x = cpu_at s d in
     let none : has_interrupt s d ≡ false =
-    false_from_ne_true (has_interrupt s d) (λ has. both_ways (set.contains (having_interrupt plain_rules s) d) out (is_due s d low has)) in
+    false_from_ne_true (has_interrupt s d)
+    (λ has. both_ways (set.contains (having_interrupt plain_rules s) d) out
+    (is_due s d low has)) in
     record {
       rests = (elim (cases_Bool x.idle) [
         | inl idle ↦ and_from x.online x.idle online idle
         | inr busy_now ↦
-            absurd (both_ways (has_interrupt s d) none (and_from x.online (not x.idle || nat_le x.wakeup s.clock) online
+            absurd
+            (both_ways (has_interrupt s d) none
+            (and_from x.online (not x.idle || nat_le x.wakeup s.clock) online
             (or_left (not x.idle) (nat_le x.wakeup s.clock) (ap not busy_now))))
       ]);
       later = (elim (cases_lt s.clock x.wakeup) [
         | inl later ↦ omega (arith, later)
         | inr by ↦
-            absurd (both_ways (has_interrupt s d) none (and_from x.online (not x.idle || nat_le x.wakeup s.clock) online
+            absurd
+            (both_ways (has_interrupt s d) none
+            (and_from x.online (not x.idle || nat_le x.wakeup s.clock) online
             (or_right (not x.idle) (nat_le x.wakeup s.clock) (le-leb x.wakeup s.clock by))))
       ]);
     }
 
 -- THE INTERRUPTS BEGIN in a state of which nothing is late
 module _ (cpus levels now : ℕ) (s : State) (kept : IsKept Nobody (Unit {0}) s) (at : s.clock ≡ now)
-    (levels_are : level_count_of s.tree ≡ levels) (count : cpu_count s ≡ cpus) (some_online : SomeOnline cpus s)
+    (levels_are : level_count_of s.tree ≡ levels) (count : cpu_count s ≡ cpus)
+    (some_online : SomeOnline cpus s)
     (owner : ℕ → ℕ) (cpu : (d : ℕ) → d < cpus → IsCpu s.clock d owner (bases_at s d))
     (late : (d : ℕ) → d < cpus → (cpu_at s d).online ≡ true → Waking s.clock (bases_at s d))
     (away : (d : ℕ) → d < cpus → (cpu_at s d).online ≡ false → IsEmpty (bases_at s d)) where
@@ -137,7 +158,9 @@ module _ (cpus levels now : ℕ) (s : State) (kept : IsKept Nobody (Unit {0}) s)
       (subst (λ n. Covers (cpu_count s) n s due d one.0 one.1) levels_are one.2) in
       (one.0, one.1, covers, λ seen. omega (arith, seen))
 
-  begins_turn : (d : ℕ) → d < cpus → InTurn s.clock due (HadBefore due 0) (HadBefore due 0) (Awaits cpus levels s due (SeenBefore 0)) d (cpu_at s d)
+  begins_turn : (d : ℕ) → d < cpus
+      → InTurn s.clock due (HadBefore due 0) (HadBefore due 0)
+      (Awaits cpus levels s due (SeenBefore 0)) d (cpu_at s d)
   begins_turn d low =
       let here : d < cpu_count s = omega (arith, low, count) in
       record {
@@ -181,8 +204,10 @@ module _ (cpus levels now : ℕ) (s : State) (kept : IsKept Nobody (Unit {0}) s)
   }
 
 -- THE NEXT MOMENT
-module _ (cpus levels now next : ℕ) (s : State) (quiet : Between cpus levels now s) (kept : IsKept Nobody (Unit {0}) s)
-    (later : s.clock ≤ next) (in_time : next < SCRIPT_TIME_LIMIT) (by : next ≤ max (s.clock + 1) (next_interrupt s)) where
+module _ (cpus levels now next : ℕ) (s : State) (quiet : Between cpus levels now s)
+    (kept : IsKept Nobody (Unit {0}) s)
+    (later : s.clock ≤ next) (in_time : next < SCRIPT_TIME_LIMIT)
+    (by : next ≤ max (s.clock + 1) (next_interrupt s)) where
   cpu_later : (d : ℕ) → d < cpus → IsCpu next d quiet.holds.owner (bases_at s d)
   cpu_later d low =
       let cpu = (quiet.holds.each d low).cpu in
@@ -193,7 +218,12 @@ module _ (cpus levels now next : ℕ) (s : State) (quiet : Between cpus levels n
           on_time = cpu.told.on_time;
         };
         ahead = cpu.ahead;
-        items = λ k. record { all = (cpu.items k).all; near = (let near = (cpu.items k).near in omega (arith, near, later)) };
+        items =
+            λ k.
+            record {
+              all = (cpu.items k).all;
+              near = (let near = (cpu.items k).near in omega (arith, near, later));
+            };
       }
 
   none_late : (d : ℕ) → d < cpus → (cpu_at s d).online ≡ true → Waking next (bases_at s d)
@@ -201,13 +231,21 @@ module _ (cpus levels now next : ℕ) (s : State) (quiet : Between cpus levels n
       let waking = (quiet.holds.each d low).is.waking online in
       let ahead = none_passed cpus levels now s quiet kept d low online in
       record {
-        pinned = λ k e below. (let past = waking.pinned k e below in let soon = ahead.pinned k e below in omega (arith, past, soon, by));
-        global = λ k e below. (let past = waking.global k e below in let soon = ahead.global k e below in omega (arith, past, soon, by));
+        pinned =
+            λ k e below.
+            (let past = waking.pinned k e below in let soon =
+            ahead.pinned k e below in omega (arith, past, soon, by));
+        global =
+            λ k e below.
+            (let past = waking.global k e below in let soon =
+            ahead.global k e below in omega (arith, past, soon, by));
       }
 
-  pub comes : Begun cpus levels next (having_interrupt plain_rules (at_clock next s)) 0 (at_clock next s)
+  pub comes : Begun cpus levels next (having_interrupt plain_rules (at_clock next s)) 0
+      (at_clock next s)
   comes =
-      begins cpus levels next (at_clock next s) (later_kept s next later in_time kept) refl quiet.levels_are quiet.holds.count
+      begins cpus levels next (at_clock next s) (later_kept s next later in_time kept) refl
+      quiet.levels_are quiet.holds.count
       (record {
         number = quiet.some_online.number;
         low = quiet.some_online.low;

@@ -32,7 +32,8 @@ use Rattle.play_jiffies.specs.Jiffies.{HasEndOnTime, InFirstDrain, InItsJiffy, I
 use Rattle.play_jiffies.proofs.Jiffies.{in_its_jiffy_after_each}
 
 -- A HAND-OUT of a timer that wakes is at its wheel expiry
-at_wheel : (class : Class) (at wheel : ℕ) → wakes class ≡ true → IsOnTime class at wheel → at ≡ wheel
+at_wheel : (class : Class) (at wheel : ℕ) → wakes class ≡ true → IsOnTime class at wheel
+    → at ≡ wheel
 at_wheel Pinned at wheel is on_time = on_time
 at_wheel Global at wheel is on_time = on_time
 at_wheel Deferrable at wheel is on_time = absurd (false≢true is)
@@ -94,7 +95,8 @@ module _ (s : State) (is : InItsJiffy s) (c : ℕ) (low : c < cpu_count s) where
       ]
 
 pub each_has_ended : (s : State) → InItsJiffy s → EachHasEnded s
-each_has_ended s is c i arming low there arms waking come = ended_by s is c low i arming there arms waking come
+each_has_ended s is c i arming low there arms waking come =
+    ended_by s is c low i arming there arms waking come
 
 pub each_has_ended_after_each : EachHasEndedAfterEach
 each_has_ended_after_each jobs script asks is =
@@ -103,7 +105,8 @@ each_has_ended_after_each jobs script asks is =
     (in_its_jiffy_after_each jobs script asks is)
 
 -- AS LONG AS AN ARMING STANDS each drain of its base is before its wheel expiry
-module _ (arming drain : Entry) (ticked : drain.act ≡ acts.Ticked) (class : drain.class ≡ arming.class) where
+module _ (arming drain : Entry) (ticked : drain.act ≡ acts.Ticked)
+    (class : drain.class ≡ arming.class) where
   abbrev timer : ℕ
   timer = arming.timer.0
 
@@ -112,14 +115,17 @@ module _ (arming drain : Entry) (ticked : drain.act ≡ acts.Ticked) (class : dr
   Untouched journal n = (k : ℕ) (entry : Entry) → k < n → slice_get journal k ≡ Some entry
       → entry.timer.0 ≡ timer → entry.act ≡ acts.Ticked
 
-  drain_may : (queued : List Entry) → arming_of timer queued ≡ Some arming → MayFollow drain.act queued drain
+  drain_may : (queued : List Entry) → arming_of timer queued ≡ Some arming
+      → MayFollow drain.act queued drain
       → drain.at < arming.wheel
   drain_may queued there may =
       let later = subst (λ act. MayFollow act queued drain) ticked may in
       let same : same_class arming.class drain.class ≡ true =
       subst (λ k. same_class arming.class k ≡ true) (sym class) (class_itself arming.class) in
-      found_all (λ (e : Entry). e.timer.0) (λ a. drain.at < a.wheel) timer (entries_of drain.class queued) arming later
-      (found_part (λ (e : Entry). e.timer.0) (λ e. same_class e.class drain.class) timer queued arming there same)
+      found_all (λ (e : Entry). e.timer.0) (λ a. drain.at < a.wheel) timer
+      (entries_of drain.class queued) arming later
+      (found_part (λ (e : Entry). e.timer.0) (λ e. same_class e.class drain.class) timer queued
+      arming there same)
 
   still_queued : (queued : List Entry) (first : Entry) → arming_of timer queued ≡ Some arming
       → (first.timer.0 ≡ timer → first.act ≡ acts.Ticked)
@@ -148,7 +154,8 @@ module _ (arming drain : Entry) (ticked : drain.act ≡ acts.Ticked) (class : dr
       → entry.timer.0 ≡ timer → entry.act ≡ acts.Ticked
 
   from_arming : (queued journal : List Entry) (i n : ℕ) → EachMayFollow queued journal
-      → slice_get journal i ≡ Some arming → is_arming arming.act ≡ true → i < n → Between journal i n
+      → slice_get journal i ≡ Some arming → is_arming arming.act ≡ true → i < n
+      → Between journal i n
       → slice_get journal n ≡ Some drain → drain.at < arming.wheel
   from_arming queued [] i n each at arms low free is = absurd (none-some arming at)
   from_arming queued (first ∷ journal) i zero each at arms low free is = absurd (omega (arith, low))
@@ -157,18 +164,25 @@ module _ (arming drain : Entry) (ticked : drain.act ≡ acts.Ticked) (class : dr
       let may = subst (λ e. MayFollow e.act queued e) one each.0 in
       let pushed : arming_of timer (queued_after arming.act queued arming) ≡ Some arming =
       ap (arming_of timer) (arming_queues arming.act queued arming arms)
-      ∙ push_own (λ (e : Entry). e.timer.0) queued arming (arming_may arming.act queued arming arms may) in
+      ∙ push_own (λ (e : Entry). e.timer.0) queued arming
+      (arming_may arming.act queued arming arms may) in
       before_wheel (queued_after first.act queued first) journal n
-      (subst (λ e. arming_of timer (queued_after e.act queued e) ≡ Some arming) (sym one) pushed) each.1
-      (λ k entry below there own. free (suc k) entry (omega arith) (omega (arith, below)) there own) is
+      (subst (λ e. arming_of timer (queued_after e.act queued e) ≡ Some arming) (sym one) pushed)
+      each.1
+      (λ k entry below there own. free (suc k) entry (omega arith) (omega (arith, below)) there own)
+      is
   from_arming queued (first ∷ journal) (suc i) (suc n) each at arms low free is =
-      from_arming (queued_after first.act queued first) journal i n each.1 at arms (omega (arith, low))
-      (λ k entry above below there own. free (suc k) entry (omega (arith, above)) (omega (arith, below)) there own) is
+      from_arming (queued_after first.act queued first) journal i n each.1 at arms
+      (omega (arith, low))
+      (λ k entry above below there own. free (suc k) entry (omega (arith, above))
+      (omega (arith, below)) there own) is
 
 pub in_first_drain : InFirstDrain
 in_first_drain cpu journal i j k arming ending drain legal end after before there ticked class =
-    from_arming arming drain ticked class [] journal i k legal.each_may_follow end.arming_there end.arms after
-    (λ n entry above below at own. untouched n entry above (omega (arith, below, before)) at own) there
+    from_arming arming drain ticked class [] journal i k legal.each_may_follow end.arming_there
+    end.arms after
+    (λ n entry above below at own. untouched n entry above (omega (arith, below, before)) at own)
+    there
   where
     untouched : (n : ℕ) (entry : Entry) → i < n → n < j → slice_get journal n ≡ Some entry
         → entry.timer.0 ≡ arming.timer.0 → entry.act ≡ acts.Ticked
@@ -186,7 +200,9 @@ in_first_drain cpu journal i j k arming ending drain legal end after before ther
                       arms = end.arms;
                       ends = ends;
                       same_timer = own;
-                      none_between = λ m e over under is armed. end.none_between m e over (omega (arith, under, below)) is armed;
+                      none_between =
+                          λ m e over under is armed. end.none_between m e over
+                          (omega (arith, under, below)) is armed;
                     } in
                     let same = one_end cpu journal i n j arming entry ending legal other end in
                     absurd (omega (arith, same, below))

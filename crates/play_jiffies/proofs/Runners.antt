@@ -30,20 +30,24 @@ use Rattle.play_jiffies.specs.Jiffies.{RunnersAreOnline}
 abbrev SameOnline : (s t : State) → Type 0
 SameOnline s t = (d : ℕ) → (cpu_at t d).online ≡ (cpu_at s d).online
 
-one_written : (s : State) (c : ℕ) (x : Cpu) → x.online ≡ (cpu_at s c).online → SameOnline s (with_cpu s c x)
+one_written : (s : State) (c : ℕ) (x : Cpu) → x.online ≡ (cpu_at s c).online
+    → SameOnline s (with_cpu s c x)
 one_written s c x same d =
     elim (cases_lt c (cpu_count s)) [
       | inl low ↦ written_alike s c x low (λ (y : Cpu). y.online) same d
-      | inr beyond ↦ ap (λ cpus. (cpu_at (record s { cpus = cpus }) d).online) (set_past s.cpus c x beyond)
+      | inr beyond ↦
+          ap (λ cpus. (cpu_at (record s { cpus = cpus }) d).online) (set_past s.cpus c x beyond)
     ]
 
 module _ (jobs : Replies) where
   -- JOBS
-  again_online : (o : Option Queued) (runner : ℕ) (item : Item) (class : Class) (delay : ℕ) (s : State)
+  again_online : (o : Option Queued) (runner : ℕ) (item : Item) (class : Class) (delay : ℕ)
+      (s : State)
       → SameOnline s (again plain_rules o runner item class delay s).state
   again_online None runner item class delay s =
       one_written s runner
-      (record (cpu_at s runner) { bases = armed_bases s runner (arming_again item class delay) }) refl
+      (record (cpu_at s runner) { bases = armed_bases s runner (arming_again item class delay) })
+      refl
   again_online (Some held) runner item class delay s = λ d. refl
 
   answer_online : (reply : JobReply) (runner : ℕ) (item : Item) (s : State)
@@ -70,7 +74,8 @@ module _ (jobs : Replies) where
   -- THE LOOK
   again_told : (s : State) (c : ℕ) → SameOnline s (told_again s c)
   again_told s c =
-      one_written s c (record (cpu_at s c) { told = if has_group s c then next_of s c else NEVER }) refl
+      one_written s c (record (cpu_at s c) { told = if has_group s c then next_of s c else NEVER })
+      refl
 
   try_online : (c d : ℕ) (s : State) → SameOnline s (try jobs plain_rules c d s).state
   try_online c d s = λ e.
@@ -78,10 +83,12 @@ module _ (jobs : Replies) where
       ∙ drain_online d Global c s e
 
   look_at_online : (o : Option ℕ) (n c level : ℕ) (tried : set.FinSet nat_cmp) (s : State)
-      → ((more : set.FinSet nat_cmp) (t : State) → SameOnline t (look jobs plain_rules n c level more t).state)
+      → ((more : set.FinSet nat_cmp) (t : State)
+      → SameOnline t (look jobs plain_rules n c level more t).state)
       → SameOnline s (look_at jobs plain_rules o c (look jobs plain_rules n c level) tried s).state
   look_at_online None n c level tried s rest = λ d. refl
-  look_at_online (Some d) n c level tried s rest = λ e. rest (set.insert tried d) _ e ∙ try_online c d s e
+  look_at_online (Some d) n c level tried s rest =
+      λ e. rest (set.insert tried d) _ e ∙ try_online c d s e
 
   look_online : (n c level : ℕ) (tried : set.FinSet nat_cmp) (s : State)
       → SameOnline s (look jobs plain_rules n c level tried s).state
@@ -97,7 +104,8 @@ module _ (jobs : Replies) where
   level_online true c level above s rest = λ d.
       rest _ d ∙ look_online (cpu_count s) c level set.empty s d
 
-  looks_online : (n c level : ℕ) (s : State) → SameOnline s (looks jobs plain_rules n c level s).state
+  looks_online : (n c level : ℕ) (s : State)
+      → SameOnline s (looks jobs plain_rules n c level s).state
   unfolding looks
   looks_online zero c level s = λ d. refl
   looks_online (suc n) c level s =
@@ -112,16 +120,21 @@ module _ (jobs : Replies) where
   ended_by : (b : Bool) (c : ℕ) (s : State) → SameOnline s (if b then reevaluated s c else s)
   ended_by true c s = λ d.
       one_written (told_again s c) c
-      (record (cpu_at (told_again s c) c) { wakeup = min (pin_of (told_again s c) c) (duty (told_again s c) c) }) refl d
+      (record (cpu_at (told_again s c) c)
+      { wakeup = min (pin_of (told_again s c) c) (duty (told_again s c) c) }) refl d
       ∙ again_told s c d
   ended_by false c s = λ d. refl
 
   interrupt_online : (c : ℕ) (s : State) → SameOnline s (interrupt jobs plain_rules c s).state
   interrupt_online c s = λ d.
-      ended_by (cpu_at (looks jobs plain_rules (plain_rules.levels s) c 0 (drains jobs plain_rules c s).state).state c).idle c _ d
+      ended_by
+      (cpu_at
+      (looks jobs plain_rules (plain_rules.levels s) c 0
+      (drains jobs plain_rules c s).state).state c).idle c _ d
       ∙ looks_online (plain_rules.levels s) c 0 _ d ∙ drains_online c s d
 
-  where_online : (b : Bool) (c : ℕ) (s : State) → SameOnline s (interrupt_where jobs plain_rules b c s).state
+  where_online : (b : Bool) (c : ℕ) (s : State)
+      → SameOnline s (interrupt_where jobs plain_rules b c s).state
   where_online false c s = λ d. refl
   where_online true c s = interrupt_online c s
 

@@ -1,5 +1,6 @@
 -- the first moment of a play begins with nothing queued
-use Rattle.std.proofs.Common.{◌≡◌, ℕ, zero, suc, ◌^◌, ◌<◌, ◌≤◌, [], refl, sym, ap, ◌∙◌, subst, arith, replicate}
+use Rattle.std.proofs.Common.{◌≡◌, ℕ, zero, suc, ◌^◌, ◌<◌, ◌≤◌, [], refl, sym, ap, ◌∙◌, subst}
+use Rattle.std.proofs.Common.{arith, replicate}
 use Rattle.std.specs.Prelude.{not, nat_lt, slice_index_or}
 use Rattle.std.specs.FinSet as set
 use Rattle.std.proofs.lemmas.Bool.{and_from, false≢true, lt-ltb}
@@ -32,9 +33,24 @@ use Rattle.play_jiffies.proofs.Waking.{From, Waking}
 
 -- EMPTY BASES
 empty_fits : (k : Class) → BaseFits (base_of k empty_bases)
-empty_fits Pinned = record { clock = omega arith; sound = record { distinct = tt; placed = All-nil IsPlaced }; timers = All-nil (λ (i : Item). i.id < 2 ^ 16) }
-empty_fits Global = record { clock = omega arith; sound = record { distinct = tt; placed = All-nil IsPlaced }; timers = All-nil (λ (i : Item). i.id < 2 ^ 16) }
-empty_fits Deferrable = record { clock = omega arith; sound = record { distinct = tt; placed = All-nil IsPlaced }; timers = All-nil (λ (i : Item). i.id < 2 ^ 16) }
+empty_fits Pinned =
+    record {
+      clock = omega arith;
+      sound = record { distinct = tt; placed = All-nil IsPlaced };
+      timers = All-nil (λ (i : Item). i.id < 2 ^ 16);
+    }
+empty_fits Global =
+    record {
+      clock = omega arith;
+      sound = record { distinct = tt; placed = All-nil IsPlaced };
+      timers = All-nil (λ (i : Item). i.id < 2 ^ 16);
+    }
+empty_fits Deferrable =
+    record {
+      clock = omega arith;
+      sound = record { distinct = tt; placed = All-nil IsPlaced };
+      timers = All-nil (λ (i : Item). i.id < 2 ^ 16);
+    }
 
 empty_agrees : (k : Class) → Agrees k (base_of k empty_bases).items []
 empty_agrees Pinned = refl
@@ -61,7 +77,12 @@ empty_cpu d owner = record {
       in_time = All-nil (λ (e : Entry). e.wheel ≤ TIME_LIMIT);
     };
     legal = record {
-      legal = record { each_may_follow = tt; times_never_fall = tt; handed_by_right = All-nil (λ e. HandedByRight d e.act e) };
+      legal =
+          record {
+            each_may_follow = tt;
+            times_never_fall = tt;
+            handed_by_right = All-nil (λ e. HandedByRight d e.act e);
+          };
       not_past = omega arith;
     };
     on_time = All-nil (λ e. HandedOnTime e.act e);
@@ -91,15 +112,20 @@ module _ (script : Script) (is : IsScript script) where
       record {
         number = some.0;
         low = some.1;
-        placed = and_from (nat_lt some.0 (cpu_count_of tree)) (not (set.contains script.isolated some.0))
+        placed =
+            and_from (nat_lt some.0 (cpu_count_of tree)) (not (set.contains script.isolated some.0))
             (lt-ltb some.0 (cpu_count_of tree) some.1) (ap not some.2);
         online = ap (λ (x : Cpu). x.online) (is_new some.0);
       }
 
-  pub first_begun : Begun (cpu_count_of tree) (level_count_of tree) 0 (having_interrupt plain_rules first) 0 first
+  pub first_begun : Begun (cpu_count_of tree) (level_count_of tree) 0
+      (having_interrupt plain_rules first) 0 first
   first_begun =
       let kept = start_kept tree script.timers (planned_for script is) in
-      begins (cpu_count_of tree) (level_count_of tree) 0 first kept refl refl kept.cpus some_placed (λ i. 0)
-      (λ d low. subst (λ (x : Cpu). IsCpu 0 d (λ i. 0) x.bases) (sym (is_new d)) (empty_cpu d (λ i. 0)))
-      (λ d low online. subst (λ (x : Cpu). Waking 0 x.bases) (sym (is_new d)) (record { pinned = All-nil (From 0); global = All-nil (From 0) }))
+      begins (cpu_count_of tree) (level_count_of tree) 0 first kept refl refl kept.cpus some_placed
+      (λ i. 0)
+      (λ d low. subst (λ (x : Cpu). IsCpu 0 d (λ i. 0) x.bases) (sym (is_new d))
+      (empty_cpu d (λ i. 0)))
+      (λ d low online. subst (λ (x : Cpu). Waking 0 x.bases) (sym (is_new d))
+      (record { pinned = All-nil (From 0); global = All-nil (From 0) }))
       (λ d low off. absurd (false≢true (sym off ∙ ap (λ (x : Cpu). x.online) (is_new d))))

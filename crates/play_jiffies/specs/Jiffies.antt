@@ -1,5 +1,6 @@
 -- each timer in its jiffy: what holds after each moment of a play
-use Rattle.std.specs.Prelude.{◌≡◌, ℕ, ◌^◌, ◌<◌, ◌≤◌, All, [], List, Bool, true, false, Some, is_some, slice_get}
+use Rattle.std.specs.Prelude.{◌≡◌, ℕ, ◌^◌, ◌<◌, ◌≤◌, All, [], List, Bool, true, false, Some}
+use Rattle.std.specs.Prelude.{is_some, slice_get}
 use Rattle.std.specs.FinSet as set
 use Rattle.tm_base.specs.declared.names.Class.{Class}
 use Rattle.tm_base.specs.declared.names.Class.TheVariants.{Pinned, Global, Deferrable}
@@ -25,7 +26,8 @@ AskInRange jobs =
     (job : ℕ) (call : JobCall) (class : Class) (delay : ℕ) → call.arg < 2 ^ 32
     → jobs job call ≡ replies.Again class delay → delay < 2 ^ 32
 
--- HANDED OUT in its jiffy: a pinned or global timer at its wheel expiry, a deferrable one not before it
+-- HANDED OUT in its jiffy: a pinned or global timer at its wheel expiry, a deferrable one not
+-- before it
 abbrev pub IsOnTime : Class → (at wheel : ℕ) → Type 0
 IsOnTime Pinned at wheel = at ≡ wheel
 IsOnTime Global at wheel = at ≡ wheel
@@ -44,7 +46,8 @@ pub record OfWaking (Q : Item → Type 0) (cpu : CpuBases) : Type 0 where
   pub pinned : All Q (base_of Pinned cpu).items
   pub global : All Q (base_of Global cpu).items
 
--- the journal of CPU c is legal up to now and each timer of it was handed out on time; its bases agree with it
+-- the journal of CPU c is legal up to now and each timer of it was handed out on time; its bases
+-- agree with it
 pub record IsTold (now c : ℕ) (cpu : CpuBases) : Type 0 where
   pub consistent : IsConsistent cpu
   pub legal : LegalUpTo c now cpu.journal
@@ -53,15 +56,16 @@ pub record IsTold (now c : ℕ) (cpu : CpuBases) : Type 0 where
 -- no timer is queued on two CPUs
 abbrev pub QueuedOnOne : State → Type 0
 QueuedOnOne s = (timer c d : ℕ) → c < cpu_count s → d < cpu_count s
-    → is_some (class_in timer (bases_at s c)) ≡ true → is_some (class_in timer (bases_at s d)) ≡ true → c ≡ d
+    → is_some (class_in timer (bases_at s c)) ≡ true
+    → is_some (class_in timer (bases_at s d)) ≡ true → c ≡ d
 
 -- JOURNALS after a moment
 pub record AreToldOnce (s : State) : Type 0 where
   pub told : (c : ℕ) → c < cpu_count s → IsTold s.clock c (bases_at s c)
   pub queued_on_one : QueuedOnOne s
 
--- IN ITS JIFFY: after a moment no pinned or global timer that is queued on an online CPU is due, the next interrupt comes
--- no later than its wheel expiry, and nothing is queued on an offline CPU
+-- IN ITS JIFFY: after a moment no pinned or global timer that is queued on an online CPU is due,
+-- the next interrupt comes no later than its wheel expiry, and nothing is queued on an offline CPU
 pub record InItsJiffy (s : State) : Type 0 where
   pub journals : AreToldOnce s
   pub none_due : (c : ℕ) → c < cpu_count s → (cpu_at s c).online ≡ true

@@ -1,5 +1,5 @@
-//! The second law of Play: each timer is handed out in its jiffy. Each of these functions does nothing; its contract is
-//! the law.
+//! The second law of Play: each timer is handed out in its jiffy. Each of these functions does
+//! nothing; its contract is the law.
 #![tactic(auto)]
 
 mod laws;
