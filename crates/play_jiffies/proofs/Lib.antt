@@ -17,4 +17,5 @@ pub mod CourseTurns
 pub mod Starts
 pub mod Jiffies
 pub mod Endings
+pub mod FirstDrains
 pub mod Runners

@@ -108,14 +108,19 @@ EachHasEndedAfterEach =
     (jobs : Replies) (script : Script) → AskInRange jobs → IsScript script
     → AfterEachMoment EachHasEnded jobs script
 
--- IN THE FIRST DRAIN: as long as an arming has no end each drain of its base is before its wheel
--- expiry. So a deferrable timer that isn't cancelled or moved goes out in the first interrupt of
--- its CPU that isn't before it
+-- IN THE FIRST DRAIN: the arming at place i of a journal has no end before place k
+pub record StandsAt (journal : List Entry) (i k : ℕ) (arming : Entry) : Type 0 where
+  pub later : i < k
+  pub arming_there : slice_get journal i ≡ Some arming
+  pub arms : is_arming arming.act ≡ true
+  pub no_end : (j : ℕ) (ending : Entry) → IsEndOf journal i j arming ending → k < j
+
+-- and so each drain of its base until then was before its wheel expiry. So a deferrable timer that
+-- isn't cancelled or moved goes out in the first interrupt of its CPU that isn't before it
 abbrev pub InFirstDrain : Type 0
-InFirstDrain = (cpu : ℕ) (journal : List Entry) (i j k : ℕ) (arming ending drain : Entry)
-    → LegalJournal cpu journal → IsEndOf journal i j arming ending → i < k → k < j
-    → slice_get journal k ≡ Some drain → drain.act ≡ acts.Ticked → drain.class ≡ arming.class
-    → drain.at < arming.wheel
+InFirstDrain = (cpu : ℕ) (journal : List Entry) (i k : ℕ) (arming drain : Entry)
+    → LegalJournal cpu journal → StandsAt journal i k arming → slice_get journal k ≡ Some drain
+    → drain.act ≡ acts.Ticked → drain.class ≡ arming.class → drain.at < arming.wheel
 
 -- BY AN ONLINE CPU: the CPUs that are due an interrupt as those of a moment begin are online, and
 -- so they are after the interrupts of the first n CPUs. So whoever hands out a timer is online

@@ -1,4 +1,5 @@
-use Rattle.play_jiffies.proofs.Endings.{each_has_ended_after_each, in_first_drain}
+use Rattle.play_jiffies.proofs.Endings.{each_has_ended_after_each}
+use Rattle.play_jiffies.proofs.FirstDrains.{in_first_drain}
 use Rattle.play_jiffies.proofs.laws.law_ends.Goals as goal
 
 pub returns-clause-each_has_ended : goal.returns-clause-each_has_ended
