@@ -1,12 +1,11 @@
 -- for crates above: each arming whose wheel expiry has come has its end
-use Rattle.std.proofs.Common.{◌≡◌, ℕ, zero, suc, ◌<◌, ◌≤◌, List, [], ◌∷◌, true, false}
-use Rattle.std.proofs.Common.{Some, refl, sym, ap, ◌∙◌, subst, arith, inl, inr}
-use Rattle.std.specs.Prelude.{◌==◌, slice_get}
-use Rattle.std.proofs.lemmas.Bool.{cases_Bool, eqb-true, false≢true}
+use Rattle.std.proofs.Common.{◌≡◌, ℕ, ◌<◌, ◌≤◌, true, false}
+use Rattle.std.proofs.Common.{Some, sym, ap, ◌∙◌, subst, arith, inl, inr}
+use Rattle.std.specs.Prelude.{slice_get}
+use Rattle.std.proofs.lemmas.Bool.{cases_Bool, false≢true}
 use Rattle.std.proofs.lemmas.List.Elements.{All-weaker}
-use Rattle.std.proofs.lemmas.Option.{get_or_from_slice_get, none-some, same_Some}
+use Rattle.std.proofs.lemmas.Option.{get_or_from_slice_get, none-some}
 use Rattle.std.proofs.lemmas.Option.{slice_get_within}
-use Rattle.tm_base.specs.Classes.{same_class}
 use Rattle.tm_base.specs.declared.names.Class.{Class}
 use Rattle.tm_base.specs.declared.names.Class.TheVariants.{Pinned, Global, Deferrable}
 use Rattle.wheel_core.specs.declared.item.Item.{Item}
@@ -15,13 +14,8 @@ use Rattle.wheel_core.proofs.Ids.{item_holds}
 use Rattle.cpu_bases.specs.declared.entry.Act.TheVariants as acts
 use Rattle.cpu_bases.specs.declared.entry.Entry.{Entry}
 use Rattle.cpu_bases.specs.CpuBases.{base_of}
-use Rattle.cpu_bases.specs.Journals.{EachMayFollow, MayFollow, arming_of, entries_of}
-use Rattle.cpu_bases.specs.Journals.{queued_after}
-use Rattle.cpu_bases.specs.Laws.{IsEndOf, is_arming}
-use Rattle.cpu_bases.proofs.Classes.{class_itself}
-use Rattle.cpu_bases.proofs.Ends.{each_end_fits, one_end}
-use Rattle.cpu_bases.proofs.EntryKinds.{after_other, after_tick, arming_may, arming_queues, kind}
-use Rattle.cpu_bases.proofs.Keyed.{found_all, found_part, push_own}
+use Rattle.cpu_bases.specs.Laws.{is_arming}
+use Rattle.cpu_bases.proofs.Ends.{each_end_fits}
 use Rattle.cpu_bases.proofs.Opens.{queued_or_ended}
 use Rattle.play_rules.specs.Moments.{Turn}
 use Rattle.play_rules.specs.State.{State, cpu_at, cpu_count}

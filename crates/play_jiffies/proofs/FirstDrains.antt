@@ -1,6 +1,7 @@
--- for crates above: as long as an arming has no end, each drain of its base is before its wheel expiry
-use Rattle.std.proofs.Common.{◌≡◌, ℕ, zero, suc, ◌+◌, ◌<◌, ◌≤◌, List, [], ◌∷◌, true, false, Some}
-use Rattle.std.proofs.Common.{None, refl, sym, ap, ◌∙◌, subst, arith, inl, inr}
+-- for crates above: as long as an arming has no end, each drain of its base is before its wheel
+-- expiry
+use Rattle.std.proofs.Common.{◌≡◌, ℕ, zero, suc, ◌<◌, List, [], ◌∷◌, true, false, Some}
+use Rattle.std.proofs.Common.{refl, sym, ap, ◌∙◌, subst, arith, inl, inr}
 use Rattle.std.specs.Prelude.{◌⊎◌, ◌==◌, ◌≢◌, slice_get}
 use Rattle.std.proofs.lemmas.Bool.{both_ways, cases_Bool, eqb-false, eqb-true}
 use Rattle.std.proofs.lemmas.Option.{none-some, same_Some}
@@ -13,7 +14,7 @@ use Rattle.cpu_bases.proofs.Classes.{class_itself}
 use Rattle.cpu_bases.proofs.Ends.{NoArming}
 use Rattle.cpu_bases.proofs.EntryKinds.{after_other, after_tick, arming_may, arming_queues, kind}
 use Rattle.cpu_bases.proofs.Keyed.{found_all, found_part, push_own}
-use Rattle.play_jiffies.specs.Jiffies.{InFirstDrain, StandsAt}
+use Rattle.play_jiffies.specs.Jiffies.{InFirstDrain}
 
 module _ (arming drain : Entry) (ticked : drain.act ≡ acts.Ticked)
     (class : drain.class ≡ arming.class) where
@@ -91,14 +92,14 @@ module _ (arming drain : Entry) (ticked : drain.act ≡ acts.Ticked)
               | inr rest ↦
                   elim rest [
                     | inl ended ↦ inr (record {
-                        place = 0;
-                        ending = first;
-                        before = omega arith;
-                        there = refl;
-                        ends = ended;
-                        own = own;
-                        no_arming = λ k entry low _ _ _. absurd (omega (arith, low));
-                      })
+                      place = 0;
+                      ending = first;
+                      before = omega arith;
+                      there = refl;
+                      ends = ended;
+                      own = own;
+                      no_arming = λ k entry low _ _ _. absurd (omega (arith, low));
+                    })
                     | inr is_tick ↦
                         one_later first journal n
                         (λ arms. absurd (both_ways false refl (sym (ap is_arming is_tick) ∙ arms)))

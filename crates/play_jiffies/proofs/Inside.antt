@@ -150,7 +150,10 @@ inside_as cpus levels now due HadPinned HadGlobal AsPinned AsGlobal Seen Sees s 
             global = is.global;
             watched =
                 λ out on.
-                (elim (is.watched out on) [ inl later ↦ inl later | inr awaits ↦ sees d low awaits ]);
+                (elim (is.watched out on) [
+                  | inl later ↦ inl later
+                  | inr awaits ↦ sees d low awaits
+                ]);
           });
     }
 

@@ -10,6 +10,7 @@ pub mod InterruptSteps
 pub mod LookSteps
 pub mod InterruptEnds
 pub mod OperationSteps
+pub mod Oldest
 pub mod MovingSteps
 pub mod Covering
 pub mod Comes
@@ -19,3 +20,4 @@ pub mod Jiffies
 pub mod Endings
 pub mod FirstDrains
 pub mod Runners
+pub mod Asks

@@ -61,9 +61,6 @@ module _ (cpus levels now : ℕ) (due : set.FinSet nat_cmp) where
   module _ (s : State) (c : ℕ) (x : Cpu) (low : c < cpu_count s)
       (online : x.online ≡ (cpu_at s c).online)
       (idle : x.idle ≡ (cpu_at s c).idle) where
-    after : State
-    after = with_cpu s c x
-
     framed : Frame s (with_cpu s c x)
     framed = frame_with s s c x (frame_itself s) low online idle
 
@@ -157,9 +154,6 @@ module _ (cpus levels now : ℕ) (due : set.FinSet nat_cmp) where
   module _ (HadP HadG AsG : ℕ → Type 0) (Seen : (c level : ℕ) → Type 0) (d : ℕ) (s : State)
       (inside : Inside cpus levels now due HadP HadG Seen s) (low : d < cpus)
       (fewer : (e : ℕ) → AsG e → HadG e) (had : HadG d) where
-    teller : Cpu
-    teller = record (cpu_at s d) { told = if has_group s d then next_of s d else NEVER }
-
     pub told_later : s.clock + 1 ≤ (if has_group s d then next_of s d else NEVER)
     told_later =
         let early = inside.holds.early in

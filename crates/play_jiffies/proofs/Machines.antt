@@ -183,12 +183,6 @@ module _ (cpus : ℕ) (F G : ℕ → Cpu → Type 0) (s : State) (holds : Holds 
       (holds.each c low).cpu) here others
 
 -- A TIMER THAT ISN'T QUEUED is in the bases of no CPU
-in_none : (o : Option (Class × Item)) → option_map (λ (found : Class × Item). found.0) o ≡ None
-    → (c : ℕ)
-    → option_map (queued_as c) o ≡ None
-in_none None none c = refl
-in_none (Some found) none c = absurd (none-some found.0 (sym none))
-
 not_some : {X : Type 0} (o : Option X) → is_some o ≡ false → o ≡ None
 not_some None is = refl
 not_some (Some x) is = absurd (both_ways true is refl)

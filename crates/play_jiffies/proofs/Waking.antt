@@ -17,11 +17,11 @@ use Rattle.wheel_core.specs.PlainBase.{forwarded, least, placed}
 use Rattle.wheel_core.proofs.Levels.{wheel_keeps_time}
 use Rattle.wheel_core.proofs.Plain.{clock-forwarded_le, none_behind}
 use Rattle.cpu_bases.specs.CpuBases.{CpuBases, NotAhead, armed, base_of, cancelled, drained}
-use Rattle.cpu_bases.specs.CpuBases.{moved_in, moved_out}
+use Rattle.cpu_bases.specs.CpuBases.{moved_in}
 use Rattle.cpu_bases.specs.Journals.{MayHand}
 use Rattle.cpu_bases.proofs.Classes.{class_is}
 use Rattle.cpu_bases.proofs.Drains.{drain_is_whole}
-use Rattle.play_laws.proofs.Bases.{IsBase, cancelled_kept, drained_kept, moved_out_kept}
+use Rattle.play_laws.proofs.Bases.{IsBase, cancelled_kept, drained_kept}
 use Rattle.play_jiffies.specs.Jiffies.{OfWaking}
 use Rattle.play_jiffies.proofs.CpuKept.{IsCpu, IsItemOf, NoneLate, drain_on_time}
 
@@ -71,12 +71,6 @@ wheel_after now expires clock low later fits clock_fits =
                 keeps.at_cutoff (omega (arith, far, ahead)) in omega (arith, by, low)
           ]
     ]
-
--- ONE BASE of which nothing is late, and nothing comes before another time
-record IsLater (now time : ℕ) (base : PlainBase) : Type 0 where
-  late : All (From now) base.items
-  all : All (From time) base.items
-  near : NotAhead now base
 
 module _ (now : ℕ) (early : now < SCRIPT_TIME_LIMIT) where
   -- an item that is added comes past now
@@ -187,13 +181,6 @@ module _ (Q : Item → Type 0) (now : ℕ) (b : CpuBases)
   cancelled_waking timer line by holds = record {
     pinned = (cancelled_kept Q now Pinned by timer line b (based Pinned holds.pinned)).all;
     global = (cancelled_kept Q now Global by timer line b (based Global holds.global)).all;
-  }
-
-  pub moved_out_waking : (class : Class) (by : CpuId) → OfWaking Q b
-      → OfWaking Q (moved_out now class by b)
-  moved_out_waking class by holds = record {
-    pinned = (moved_out_kept Q now Pinned by class b (based Pinned holds.pinned)).all;
-    global = (moved_out_kept Q now Global by class b (based Global holds.global)).all;
   }
 
 -- A WHOLE DRAIN

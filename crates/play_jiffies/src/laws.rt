@@ -1,7 +1,8 @@
 //! What holds after each moment of a play, and of journals. Each of these functions does nothing;
 //! its contract is the law.
 
-ghost use Rattle.play_jiffies.specs.Jiffies.{EachHasEndedAfterEach, InFirstDrain};
+ghost use Rattle.job_table.specs.Standard.{standard_reply};
+ghost use Rattle.play_jiffies.specs.Jiffies.{AskInRange, EachHasEndedAfterEach, InFirstDrain};
 ghost use Rattle.play_jiffies.specs.Jiffies.{InItsJiffyAfterEach, RunnersAreOnline};
 
 /// After each moment of every script's play each pinned or global timer that was handed out was so
@@ -13,8 +14,8 @@ pub fn law_in_its_jiffy()
 {}
 
 /// So each arming of such a timer whose wheel expiry has come has its end: handed out in that
-/// jiffy, cancelled, or moved. Until a timer's end each drain of its base is before its wheel
-/// expiry, so a deferrable one goes out in the first interrupt of its CPU from then on.
+/// jiffy, cancelled, or moved. As long as a timer has no end each drain of its base is before its
+/// wheel expiry, so a deferrable one goes out in the first interrupt of its CPU from then on.
 pub fn law_ends()
     ensures each_has_ended { EachHasEndedAfterEach }
     ensures in_first_drain { InFirstDrain }
@@ -23,4 +24,9 @@ pub fn law_ends()
 /// Each interrupt is of a CPU that is online all through it, and so is each hand-out.
 pub fn law_runners()
     ensures { RunnersAreOnline }
+{}
+
+/// The jobs of the program's table ask for delays in range, as the laws want it.
+pub fn law_standard_jobs()
+    ensures { AskInRange standard_reply }
 {}
