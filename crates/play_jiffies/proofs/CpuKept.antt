@@ -27,7 +27,7 @@ use Rattle.cpu_bases.proofs.Keeping.{arming_keeps, cancelling_keeps, handing_out
 use Rattle.cpu_bases.proofs.Keeping.{moving_in_keeps, moving_out_keeps}
 use Rattle.play_laws.proofs.Bases.{IsBase, cancelled_kept, changed_kept, handed_kept}
 use Rattle.play_laws.proofs.Bases.{moved_out_kept}
-use Rattle.play_jiffies.specs.Jiffies.{HandedOnTime, IsOnTime, IsTold}
+use Rattle.play_jiffies.specs.Jiffies.{HandedOnTime, IsOnTime, IsRecorded}
 
 -- ITEMS of a CPU: their argument is in range, and the CPU owns their timer
 pub record IsItemOf (owner : ℕ → ℕ) (c : ℕ) (item : Item) : Type 0 where
@@ -36,7 +36,7 @@ pub record IsItemOf (owner : ℕ → ℕ) (c : ℕ) (item : Item) : Type 0 where
 
 -- the bases of CPU c and their journal
 pub record IsCpu (now c : ℕ) (owner : ℕ → ℕ) (b : CpuBases) : Type 0 where
-  pub told : IsTold now c b
+  pub told : IsRecorded now c b
   pub ahead : (k : Class) → NoneBehind (base_of k b)
   pub items : (k : Class) → IsBase (IsItemOf owner c) now (base_of k b)
 

@@ -60,7 +60,7 @@ module _ (s : State) (is : InItsJiffy s) (c : ℕ) (low : c < cpu_count s) where
       → is_arming arming.act ≡ true → wakes arming.class ≡ true → arming.wheel ≤ s.clock
       → HasEndOnTime (bases_at s c).journal i arming
   ended_by i arming there arms waking come =
-      let told = is.journals.told c low in
+      let told = is.journals.recorded c low in
       let journal = (bases_at s c).journal in
       elim (queued_or_ended (bases_at s c) i arming told.consistent there arms) [
         | inl queued ↦

@@ -27,7 +27,7 @@ use Rattle.play_laws.proofs.Settles.{Whole}
 use Rattle.play_laws.proofs.Shape.{Stage, begun, between, climbed, leaving, looked, looking, moving}
 use Rattle.play_laws.proofs.Shape.{own, running, taking}
 use Rattle.play_laws.proofs.States.{IsKept, Nobody}
-use Rattle.play_jiffies.specs.Jiffies.{AreToldOnce, AskInRange, InItsJiffy, InItsJiffyAfterEach}
+use Rattle.play_jiffies.specs.Jiffies.{AreRecordedOnce, AskInRange, InItsJiffy, InItsJiffyAfterEach}
 use Rattle.play_jiffies.proofs.Comes.{comes, none_passed}
 use Rattle.play_jiffies.proofs.Course.{KeepsCourse}
 use Rattle.play_jiffies.proofs.CourseTurns.{course_kept}
@@ -154,9 +154,9 @@ module _ (cpus levels now : ℕ) (s : State) (quiet : Between cpus levels now s)
   low_in : (c : ℕ) → c < cpu_count s → c < cpus
   low_in c low = let count = quiet.holds.count in omega (arith, low, count)
 
-  told_once : AreToldOnce s
-  told_once = record {
-    told = λ c low. (quiet.holds.each c (low_in c low)).cpu.told;
+  recorded_once : AreRecordedOnce s
+  recorded_once = record {
+    recorded = λ c low. (quiet.holds.each c (low_in c low)).cpu.told;
     queued_on_one = λ timer c d c_low d_low on_c on_d.
         sym (owns_by timer c s.clock quiet.holds.owner (bases_at s c)
         (found_in timer (bases_at s c)) refl (quiet.holds.each c (low_in c c_low)).cpu on_c)
@@ -166,7 +166,7 @@ module _ (cpus levels now : ℕ) (s : State) (quiet : Between cpus levels now s)
 
   pub in_its_jiffy : InItsJiffy s
   in_its_jiffy = record {
-    journals = told_once;
+    journals = recorded_once;
     none_due = λ c low online. (
         let waking = (quiet.holds.each c (low_in c low)).is.waking online in
         record {

@@ -48,7 +48,7 @@ pub record OfWaking (Q : Item → Type 0) (cpu : CpuBases) : Type 0 where
 
 -- the journal of CPU c is legal up to now and each timer of it was handed out on time; its bases
 -- agree with it
-pub record IsTold (now c : ℕ) (cpu : CpuBases) : Type 0 where
+pub record IsRecorded (now c : ℕ) (cpu : CpuBases) : Type 0 where
   pub consistent : IsConsistent cpu
   pub legal : LegalUpTo c now cpu.journal
   pub on_time : All (λ entry. HandedOnTime entry.act entry) cpu.journal
@@ -60,14 +60,14 @@ QueuedOnOne s = (timer c d : ℕ) → c < cpu_count s → d < cpu_count s
     → is_some (class_in timer (bases_at s d)) ≡ true → c ≡ d
 
 -- JOURNALS after a moment
-pub record AreToldOnce (s : State) : Type 0 where
-  pub told : (c : ℕ) → c < cpu_count s → IsTold s.clock c (bases_at s c)
+pub record AreRecordedOnce (s : State) : Type 0 where
+  pub recorded : (c : ℕ) → c < cpu_count s → IsRecorded s.clock c (bases_at s c)
   pub queued_on_one : QueuedOnOne s
 
 -- IN ITS JIFFY: after a moment no pinned or global timer that is queued on an online CPU is due,
 -- the next interrupt comes no later than its wheel expiry, and nothing is queued on an offline CPU
 pub record InItsJiffy (s : State) : Type 0 where
-  pub journals : AreToldOnce s
+  pub journals : AreRecordedOnce s
   pub none_due : (c : ℕ) → c < cpu_count s → (cpu_at s c).online ≡ true
       → OfWaking (λ item. s.clock < item.wheel) (bases_at s c)
   pub none_passed : (c : ℕ) → c < cpu_count s → (cpu_at s c).online ≡ true
@@ -123,7 +123,7 @@ InFirstDrain = (cpu : ℕ) (journal : List Entry) (i k : ℕ) (arming drain : En
     → drain.act ≡ acts.Ticked → drain.class ≡ arming.class → drain.at < arming.wheel
 
 -- BY AN ONLINE CPU: the CPUs that are due an interrupt as those of a moment begin are online, and
--- so they are after the interrupts of the first n CPUs. So whoever hands out a timer is online
+-- each still is so as its own begins and as it ends: after the interrupts of the first n CPUs
 abbrev pub RunnersAreOnline : Type 0
 RunnersAreOnline = (jobs : Replies) (s : State) (n c : ℕ)
     → let due = having_interrupt plain_rules s in set.contains due c ≡ true

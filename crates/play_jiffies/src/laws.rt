@@ -21,7 +21,8 @@ pub fn law_ends()
     ensures in_first_drain { InFirstDrain }
 {}
 
-/// Each interrupt is of a CPU that is online all through it, and so is each hand-out.
+/// Each interrupt of a moment, in which timers are handed out, is of a CPU that is online as it
+/// begins and as it ends.
 pub fn law_runners()
     ensures { RunnersAreOnline }
 {}
