@@ -31,7 +31,7 @@ pub record IsArmingIn (a : Arming) : Type 0 where
 
 -- each rule of the plain machine keeps what holds at its stage, where a play asks it. A CPU that
 -- goes offline is `leaving` until its timers have moved
-pub record KeepsCourse (cpus levels end : ℕ) (P : (now : ℕ) → Stage → State → Type 0) : Type 0 where
+pub record KeepsCourse (cpus levels : ℕ) (P : (now : ℕ) → Stage → State → Type 0) : Type 0 where
   -- WHAT IS READ
   pub clock : (now : ℕ) (s : State) → P now between s → s.clock ≡ now
   pub all_cpus : (now : ℕ) (due : set.FinSet nat_cmp) (s : State) → P now (begun due 0) s

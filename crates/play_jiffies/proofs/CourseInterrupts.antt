@@ -59,8 +59,8 @@ module _ (jobs : Replies) (asks : AskInRange jobs) where
           (λ class delay is. asks item.job (job_call plain_rules s runner item) class delay this.arg
           is) holds)
 
-  module _ (cpus levels end : ℕ) (P : (now : ℕ) → Stage → State → Type 0)
-      (keeps : KeepsCourse cpus levels end P) (now : ℕ) (due : set.FinSet nat_cmp) (c : ℕ)
+  module _ (cpus levels : ℕ) (P : (now : ℕ) → Stage → State → Type 0)
+      (keeps : KeepsCourse cpus levels P) (now : ℕ) (due : set.FinSet nat_cmp) (c : ℕ)
       (low : c < cpus) where
     -- its own bases
     own_kept : (k : ℕ) (s : State) → k < 3 → P now (own due c k) s
@@ -152,8 +152,8 @@ module _ (jobs : Replies) (asks : AskInRange jobs) where
     turn_kept true s is holds = interrupt_kept s is holds
 
   -- all interrupts of a moment
-  module _ (cpus levels end : ℕ) (P : (now : ℕ) → Stage → State → Type 0)
-      (keeps : KeepsCourse cpus levels end P) (now : ℕ) (due : set.FinSet nat_cmp) where
+  module _ (cpus levels : ℕ) (P : (now : ℕ) → Stage → State → Type 0)
+      (keeps : KeepsCourse cpus levels P) (now : ℕ) (due : set.FinSet nat_cmp) where
     from_kept : (n c : ℕ) (s : State) → c + n ≡ cpus → P now (begun due c) s
         → P now (begun due cpus) (interrupts jobs plain_rules n c due s).state
     unfolding interrupts
@@ -161,7 +161,7 @@ module _ (jobs : Replies) (asks : AskInRange jobs) where
         let same : c ≡ cpus = omega (arith, all) in subst (λ k. P now (begun due k) s) same holds
     from_kept (suc n) c s all holds =
         from_kept n (c + 1) _ (omega (arith, all))
-        (turn_kept cpus levels end P keeps now due c (omega (arith, all))
+        (turn_kept cpus levels P keeps now due c (omega (arith, all))
         (set.contains due c) s refl holds)
 
     pub interrupts_kept : (s : State) → P now (begun due 0) s

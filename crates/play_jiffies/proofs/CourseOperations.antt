@@ -81,8 +81,8 @@ held_none : (o : Option Queued) → held_by plain_rules o ≡ None → o ≡ Non
 held_none None none = refl
 held_none (Some held) none = absurd (none-some (faults.Queued held.cpu) (sym none))
 
-module _ (cpus levels end : ℕ) (P : (now : ℕ) → Stage → State → Type 0)
-    (keeps : KeepsCourse cpus levels end P) (now : ℕ) where
+module _ (cpus levels : ℕ) (P : (now : ℕ) → Stage → State → Type 0)
+    (keeps : KeepsCourse cpus levels P) (now : ℕ) where
   -- MOVING
   module _ (from : ℕ) (low : from < cpus) where
     move_kept : (o : Option (Moved State)) (to n : ℕ) (s : State) → moved_from s from to ≡ o

@@ -85,7 +85,7 @@ next_is end now ms s up low clock =
 
 module _ (jobs : Replies) (asks : AskInRange jobs) (cpus levels end version timers : ℕ)
     (few : timers ≤ 2 ^ 16)
-    (P : (now : ℕ) → Stage → State → Type 0) (keeps : KeepsCourse cpus levels end P)
+    (P : (now : ℕ) → Stage → State → Type 0) (keeps : KeepsCourse cpus levels P)
     (Known : State → Type 0)
     (comes : (now next : ℕ) (s : State) → P now between s → Known s → now < next → next ≤ end
     → next ≤ max (s.clock + 1) (next_interrupt s)
@@ -99,7 +99,7 @@ module _ (jobs : Replies) (asks : AskInRange jobs) (cpus levels end version time
   scripted_kept now None s known holds = holds
   scripted_kept now (Some m) s known holds =
       let is = known m refl in
-      operations_kept cpus levels end P keeps now version timers few m.ops s is.ops is.hotplug_last
+      operations_kept cpus levels P keeps now version timers few m.ops s is.ops is.hotplug_last
       holds
 
   moment_kept : (now : ℕ) (ms : List Moment) (s : State) → All (IsMoment version cpus timers) ms
@@ -107,7 +107,7 @@ module _ (jobs : Replies) (asks : AskInRange jobs) (cpus levels end version time
       → P now between (moment_now jobs plain_rules ms now s).state
   moment_kept now ms s known holds =
       scripted_kept now (moment_at now ms) _ (moment_in (IsMoment version cpus timers) now ms known)
-      (interrupts_kept jobs asks cpus levels end P keeps now
+      (interrupts_kept jobs asks cpus levels P keeps now
       (having_interrupt plain_rules s) s holds)
 
   abbrev pub Both : State → Type 0

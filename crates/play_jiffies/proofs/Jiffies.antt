@@ -60,7 +60,7 @@ Keep cpus levels now (looked due c) s = Looked cpus levels now due c s
 Keep cpus levels now (leaving c) s = Leaving cpus levels now c s
 Keep cpus levels now (moving from to n) s = Moving cpus levels now from to n s
 
-module _ (cpus levels end : ℕ) where
+module _ (cpus levels : ℕ) where
   -- the other CPU to which the duty is handed on
   hands : (now c d : ℕ) (s : State) → successor s c ≡ Some d → Leaving cpus levels now c s
       → Leaving cpus levels now c (woken s d)
@@ -69,7 +69,7 @@ module _ (cpus levels end : ℕ) where
       let count = was.quiet.holds.count in
       wakes_leaving cpus levels now c d s (omega (arith, low, count)) was
 
-  course : KeepsCourse cpus levels end (Keep cpus levels)
+  course : KeepsCourse cpus levels (Keep cpus levels)
   course = record {
     clock = λ now s was. was.at;
     all_cpus = λ now due s was. was.holds.count;
@@ -215,7 +215,7 @@ module _ (jobs : Replies) (script : Script) (asks : AskInRange jobs) (is : IsScr
       (course_kept jobs asks (cpu_count_of tree) (level_count_of tree) script.end script.version
       script.timers few_timers
       (Keep (cpu_count_of tree) (level_count_of tree))
-      (course (cpu_count_of tree) (level_count_of tree) script.end) Known comes_on
+      (course (cpu_count_of tree) (level_count_of tree)) Known comes_on
       (script.end + 1) 0 script.moments (start tree script.timers) is.moments
       (moments_rise script is) (omega arith)
       (first_begun script is) (kept_after_each jobs script is))
