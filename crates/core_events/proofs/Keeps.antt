@@ -20,7 +20,6 @@ use Rattle.core_events.specs.Layer.{EventsFit, EventsStayFit}
 use Rattle.core_events.proofs.Bests.{calm_best, read_by, stage_best, unread_begun}
 use Rattle.core_events.proofs.Rises.{marks_told, own_told, swap_told, up_told}
 use Rattle.core_events.proofs.Sights.{free_sights, handed_sights, sees_by, stage_sights, unseen_begun}
-use Rattle.core_events.proofs.Slotted.{slots_kept, stage_slots}
 use Rattle.core_events.proofs.Stores.{store_told}
 use Rattle.core_events.proofs.Told.{child_told, finish_told, first_told, free_child_told, free_group_told, free_told, handed_told, lock_child_told, lock_group_told, read_told, scan_told, see_child_told, see_group_told, stale_told}
 use Rattle.core_events.proofs.Walking.{BeforeStep}
@@ -55,7 +54,6 @@ module _ (w : World) (c : ℕ) (k : Walk) (hc : c < length w.cpus) (a : BeforeSt
     told = stage_told st e;
     best = stage_best w c k hc a is st e;
     sights = stage_sights w c k hc a is st e may;
-    slots = stage_slots w c k a.events.slots st;
   }
 
   handed : k.stage ≡ stages.Handing → EventsFit w.tree (scene_of (own w c (with_walk (cpu_of w c) None)))
@@ -63,7 +61,6 @@ module _ (w : World) (c : ℕ) (k : Walk) (hc : c < length w.cpus) (a : BeforeSt
     told = handed_told w c k hc a is e (with_walk (cpu_of w c) None);
     best = calm_best w 0 (group_of w 0) c (with_walk (cpu_of w c) None) false hc a.events.best refl refl;
     sights = handed_sights w c k hc a is e;
-    slots = slots_kept w 0 (group_of w 0) a.events.slots refl;
   }
 
 -- a free CPU's walk begins
@@ -73,7 +70,6 @@ begins_fit w c y hc f free q kind stage pin next begun unread unseen = record {
   told = free_told w c y f.told free;
   best = calm_best w 0 (group_of w 0) c y false hc f.best refl (ap (λ m. read_by (option_map forget m)) begun ∙ unread_begun q kind stage pin next unread);
   sights = free_sights w c y hc f.sights free (ap (λ m. sees_by (option_map forget m)) begun ∙ unseen_begun q kind stage pin next unseen);
-  slots = slots_kept w 0 (group_of w 0) f.slots refl;
 }
 
 quiet : (w : World) (step : Step) → EventsFit w.tree (scene_of w) → Enabled w step → is_quiet step ≡ true → EventsFit w.tree (scene_of (stepped w step))

@@ -8,5 +8,4 @@ pub mod Rises
 pub mod Stores
 pub mod Bests
 pub mod Sights
-pub mod Slotted
 pub mod Keeps

@@ -79,7 +79,7 @@ module _ (w : World) (c : ℕ) (k : Walk) (hc : c < length w.cpus) (a : BeforeSt
       (with_walk (cpu_of w c) (Some (store_next (at_top w.tree c k.level) k)))
 
   eight : (l x : ℕ) → group_at_of w.tree c l ≡ Some x → length (group_of w x).events ≡ 8
-  eight l x there = a.events.slots x (a.hierarchy.within c l x there)
+  eight l x there = let low = a.hierarchy.within c l x there in a.sized.slots x (omega (arith, low, a.sized.groups))
 
   -- the walk carries its group's events on, unless it ends here
   carries_on : (z : ℕ) → (if k.over then None else group_at_of w.tree c k.level) ≡ Some z → Carries w.tree c (new.walk c) z

@@ -1,7 +1,5 @@
 -- events on their way upwards: part 5 of the invariant, and the law that every step keeps it
-use Rattle.std.specs.Prelude.{◌≡◌, ℕ, ◌<◌, length}
 use Rattle.tree_plan.specs.Shape.{Shape}
-use Rattle.tree_plan.specs.Paths.{group_count_of}
 use Rattle.walk_rules.specs.Clearing.{MarksHold}
 use Rattle.walk_rules.specs.Hierarchy.{IsHierarchy}
 use Rattle.walk_rules.specs.Locks.{LocksHold}
@@ -15,16 +13,12 @@ use Rattle.core_world.specs.World.{World, scene_of}
 use Rattle.core_walks.specs.Fit.{WalksFit}
 use Rattle.core_edges.specs.Layer.{EdgesFit}
 
--- each group of the tree has eight slots: what is told has its place, and a walk that has read
--- eight events has read all
-abbrev pub SlotsHold : Shape → Scene → Type 0
-SlotsHold t s = (g : ℕ) → g < group_count_of t → length (s.group g).events ≡ 8
-
+-- all that an inactive group knows of is told to its parent or on its way there, the first event
+-- that a walk has read is the first, and what was seen under a lock is still so or seen to
 pub record EventsFit (t : Shape) (s : Scene) : Type 0 where
   pub told : EventsTold t s
   pub best : BestHolds t s
   pub sights : SightsHold t s
-  pub slots : SlotsHold t s
 
 -- THE LAW
 abbrev pub EventsStayFit : Type 0

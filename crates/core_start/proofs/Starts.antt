@@ -1,5 +1,5 @@
 -- a world begins lawful
-use Rattle.std.proofs.Common.{◌≡◌, inl, inr, ℕ, ◌<◌, Bool, true, false, true≢false, Some, None, refl, sym, ap, ◌∙◌, subst, arith}
+use Rattle.std.proofs.Common.{◌^◌, ◌≤◌, ◌≡◌, inl, inr, ℕ, ◌<◌, Bool, true, false, true≢false, Some, None, refl, sym, ap, ◌∙◌, subst, arith}
 use Rattle.std.specs.Prelude.{◌&&◌, not, is_some, option_and_then, option_map, All}
 use Rattle.std.specs.FinSet.{contains}
 use Rattle.std.proofs.lemmas.Bool.{cases_lt, lt-ltb, ltb-true}
@@ -39,7 +39,7 @@ first_true : (a b : Bool) → (a && b) ≡ true → a ≡ true
 first_true true b is = refl
 first_true false b is = is
 
-module _ (t : Shape) (timers : ℕ) where
+module _ (t : Shape) (timers : ℕ) (few : timers ≤ 2 ^ 16) where
   abbrev w : World
   w = start_of t timers
 
@@ -102,6 +102,7 @@ module _ (t : Shape) (timers : ℕ) where
   times_hold : TimesHold w
   times_hold = record {
     clock = omega arith;
+    few = few;
     known = λ c class. subst (λ (base : PlainBase). All (λ item. item.id < timers) base.items) (sym (ap (base_of class) (empty c) ∙ base_empty class)) (All-nil _);
   }
 

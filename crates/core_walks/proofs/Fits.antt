@@ -1,4 +1,4 @@
--- what each stage makes of a walk that fits
+-- for crates above: what each stage makes of a walk that fits
 use Rattle.std.proofs.Common.{◌≡◌, ℕ, zero, suc, ◌+◌, ◌<◌, Bool, true, false, true≢false, cond, Option, Some, None, refl, sym, ap, ◌∙◌, subst, arith}
 use Rattle.std.specs.Prelude.{◌==◌, ◌&&◌, ◌||◌, not, is_none}
 use Rattle.std.proofs.lemmas.Bool.Decides.{nat_tests}

@@ -1,4 +1,4 @@
--- every step keeps the bookkeeping of walks
+-- for crates above: every step keeps the bookkeeping of walks
 use Rattle.std.proofs.Common.{◌≡◌, ◌≢◌, ℕ, ◌<◌, Bool, true, false, true≢false, cond, length, Option, Some, None, refl, sym, ap, ◌∙◌, subst, inl, inr, eq-eqb}
 use Rattle.std.specs.Prelude.{◌==◌, ◌&&◌, not, is_none, is_some, option_map}
 use Rattle.std.proofs.lemmas.Bool.{cases_eq}

@@ -1,5 +1,5 @@
 -- timers, journals and times: part 10 of the invariant, Times and NoNever
-use Rattle.std.specs.Prelude.{◌≡◌, ◌≢◌, ℕ, ◌-◌, ◌<◌, Some, All}
+use Rattle.std.specs.Prelude.{◌≡◌, ◌≢◌, ℕ, ◌-◌, ◌^◌, ◌<◌, ◌≤◌, Some, All}
 use Rattle.tm_base.specs.declared.names.TheConstants.{NEVER, TIME_LIMIT}
 use Rattle.tm_base.specs.declared.names.Class.{Class}
 use Rattle.event_queue.specs.declared.event.Event.{Event}
@@ -22,6 +22,8 @@ pub record TimersHold (w : World) : Type 0 where
 -- TIMES
 pub record TimesHold (w : World) : Type 0 where
   pub clock : w.clock < TIME_LIMIT - 2
+  -- a base takes no timer of a higher number
+  pub few : w.timers ≤ 2 ^ 16
   pub known : (c : ℕ) (class : Class) →
       All (λ item. item.id < w.timers) (base_of class (cpu_of w c).bases).items
 

@@ -1,4 +1,4 @@
--- three of a kind by class: what becomes of each where one is changed
+-- for crates above: three of a kind by class, and what becomes of each where one is changed
 use Rattle.std.proofs.Common.{◌≡◌, true, false, refl}
 use Rattle.std.proofs.lemmas.Bool.{both_ways}
 use Rattle.tm_base.specs.Classes.{same_class}

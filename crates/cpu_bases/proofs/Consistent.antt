@@ -1,4 +1,4 @@
--- bases and journal stay consistent through each kind of entry
+-- for crates above: bases and journal stay consistent through each kind of entry
 use Rattle.std.proofs.Common.{◌≡◌, ℕ, ◌^◌, ◌<◌, ◌≤◌, true, false, List, [], ◌∷◌, ◌++◌}
 use Rattle.std.proofs.Common.{Option, Some, None, refl, ap, subst, sym, ◌∙◌, arith, inl, inr}
 use Rattle.std.specs.Prelude.{◌==◌, map, IsSomeAnd, option_map}

@@ -1,4 +1,4 @@
--- lists whose elements have a key: looking one up by its key, and taking it away
+-- for crates above: lists whose elements have a key, looking one up by its key, and taking it away
 use Rattle.std.proofs.Common.{◌≡◌, ℕ, Bool, true, false, List, [], ◌∷◌, ◌++◌, Option, Some, None}
 use Rattle.std.proofs.Common.{refl, ap, ◌∙◌, sym, subst, inl, inr}
 use Rattle.std.specs.Prelude.{◌==◌, if◌then◌else◌}

@@ -1,4 +1,4 @@
--- a journal that gains an entry: what is queued by it, and that it stays legal
+-- for crates above: a journal that gains an entry, what is queued by it, and that it stays legal
 use Rattle.std.proofs.Common.{◌≡◌, ℕ, ◌≤◌, List, [], ◌∷◌, ◌++◌, refl, arith}
 use Rattle.std.proofs.lemmas.List.Elements.{All-push}
 use Rattle.cpu_bases.specs.declared.entry.Entry.{Entry}

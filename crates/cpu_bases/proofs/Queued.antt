@@ -20,7 +20,8 @@ use Rattle.cpu_bases.specs.declared.entry.Act.{Act}
 use Rattle.cpu_bases.specs.declared.entry.Act.TheVariants.{Armed, Handed, Cancelled, MovedOut}
 use Rattle.cpu_bases.specs.declared.entry.Act.TheVariants.{MovedIn, Ticked}
 use Rattle.cpu_bases.specs.declared.entry.Entry.{Entry}
-use Rattle.cpu_bases.specs.Journals.{Told, arming_of, ended, entries_of, queued_after, queued_by}
+use Rattle.cpu_bases.specs.Journals.{QueuedTimer, arming_of, ended, entries_of, queued_after}
+use Rattle.cpu_bases.specs.Journals.{queued_by}
 use Rattle.cpu_bases.specs.Journals.{queued_from}
 use Rattle.cpu_bases.specs.Journals.{told_by_entry, told_by_item}
 use Rattle.cpu_bases.specs.CpuBases.{CpuBases, IsConsistent, base_of, found_in}
@@ -76,7 +77,7 @@ pub queued_arms : (journal : List Entry) → All (Arms journal) (queued_by journ
 queued_arms journal =
     arms_from journal [] journal (All-nil (Arms journal)) (All-contains_itself journal)
 
-abbrev ArmedAs : Class → List Entry → Told → Type 0
+abbrev ArmedAs : Class → List Entry → QueuedTimer → Type 0
 ArmedAs class journal told =
     (entry : Entry) × Contains journal entry × (is_arming entry.act ≡ true)
     × (entry.class ≡ class) × (told_by_entry entry ≡ told)

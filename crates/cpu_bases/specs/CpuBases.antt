@@ -152,8 +152,8 @@ after_move_out (Some item) now class by cpu =
 abbrev pub moved_out : (now : ℕ) → Class → CpuId → CpuBases → CpuBases
 moved_out now class by cpu = after_move_out (oldest_in (base_of class cpu).items) now class by cpu
 
--- FIRST EVENTS: the least wheel expiries of the pinned and the global base, and the global one
--- where it comes before the pinned one
+-- FIRST EVENTS (fetch_next_timer_interrupt): the least wheel expiries of the pinned and the global
+-- base, and the global one where it comes before the pinned one
 abbrev pub first_of : Class → CpuBases → ℕ
 first_of class cpu = unwrap_or (least (base_of class cpu).items) NEVER
 

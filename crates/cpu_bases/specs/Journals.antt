@@ -109,14 +109,14 @@ pub record LegalUpTo (cpu time : ℕ) (journal : List Entry) : Type 0 where
   pub not_past : last_time 0 journal ≤ time
 
 -- what an item of a base and its arming both say
-pub record Told : Type 0 where
+pub record QueuedTimer : Type 0 where
   pub timer : ℕ
   pub expires : ℕ
   pub wheel : ℕ
   pub job : ℕ
   pub arg : ℕ
 
-abbrev pub told_by_item : Item → Told
+abbrev pub told_by_item : Item → QueuedTimer
 told_by_item item = record {
   timer = item.id;
   expires = item.expires;
@@ -125,7 +125,7 @@ told_by_item item = record {
   arg = item.arg;
 }
 
-abbrev pub told_by_entry : Entry → Told
+abbrev pub told_by_entry : Entry → QueuedTimer
 told_by_entry entry = record {
   timer = entry.timer.0;
   expires = entry.expires;

@@ -1,4 +1,4 @@
--- three bases with their room, as the code keeps them
+-- three bases with their room, as the code keeps them (no public clause cites it)
 use Rattle.std.specs.Prelude.{ℕ, ◌≤◌, List, Option, Some, None}
 use Rattle.tm_base.specs.declared.names.Class.{Class}
 use Rattle.wheel_core.specs.declared.item.Item.{Item}

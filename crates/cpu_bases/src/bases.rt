@@ -125,7 +125,7 @@ impl<B: TimerBase> Bases<B> {
 
     /// Arms a timer that isn't queued here: forwards the base of its class to now, adds it with its
     /// asked expiry, and answers its wheel expiry. `line` is the script line, 0 where a job armed
-    /// it.
+    /// it. In the kernel arming a queued timer changes it (`mod_timer`).
     pub fn arm(
         &mut self,
         now: Jiffy,
@@ -158,8 +158,8 @@ impl<B: TimerBase> Bases<B> {
         item.wheel
     }
 
-    /// Cancels a timer, and answers its item; None, with nothing changed, exactly where it isn't
-    /// queued here.
+    /// Cancels a timer, and answers its item (the kernel's `timer_delete`); None, with nothing
+    /// changed, exactly where it isn't queued here.
     pub fn cancel(&mut self, now: Jiffy, timer: TimerId, line: u32, by: CpuId) -> Option<Item>
         requires now_in_time { now < TIME_LIMIT - 1 }
         requires entry_room { length self.old.plain.journal < self.old.room.entries }
@@ -177,7 +177,8 @@ impl<B: TimerBase> Bases<B> {
     }
 
     /// Takes out the next timer of a class that is due, for its job to run; or, exactly where none
-    /// is due, answers None and writes that the base was drained.
+    /// is due, answers None and writes that the base was drained (the kernel's `__run_timers`; of
+    /// the global base by another CPU `timer_expire_remote`).
     pub fn take_due(&mut self, now: Jiffy, class: Class, by: CpuId) -> Option<Item>
         requires now_in_time { now < TIME_LIMIT - 1 }
         requires entry_room { length self.old.plain.journal < self.old.room.entries }
@@ -199,8 +200,9 @@ impl<B: TimerBase> Bases<B> {
         Some(item)
     }
 
-    /// Takes the first timer of a class in arming order out, for another CPU; None, with nothing
-    /// changed, exactly where that base is empty.
+    /// Takes the first timer of a class in arming order out, for another CPU, in the place of the
+    /// kernel's `migrate_timer_list`, which goes by buckets; None, with nothing changed, exactly
+    /// where that base is empty.
     pub fn move_out(&mut self, now: Jiffy, class: Class, by: CpuId) -> Option<Item>
         requires now_in_time { now < TIME_LIMIT - 1 }
         requires entry_room { length self.old.plain.journal < self.old.room.entries }
@@ -219,7 +221,8 @@ impl<B: TimerBase> Bases<B> {
     }
 
     /// Takes a timer in that another CPU moved out: forwards the base of its class to the next
-    /// jiffy, adds it with its old asked expiry, and answers its wheel expiry.
+    /// jiffy, adds it with its old asked expiry, and answers its wheel expiry. The kernel's
+    /// `timers_dead_cpu` forwards to the present jiffy.
     pub fn move_in(
         &mut self,
         now: Jiffy,
@@ -251,7 +254,8 @@ impl<B: TimerBase> Bases<B> {
         item.wheel
     }
 
-    /// The first events, by the pinned and the global base alone.
+    /// The first events, by the pinned and the global base alone (the kernel's
+    /// `fetch_next_timer_interrupt`).
     pub fn next(&self) -> NextEvents
         ensures events { result ≡ events_of self.now.plain }
         ensures pin { NoneSooner result.pin (base_of Class.Pinned self.now.plain).items }

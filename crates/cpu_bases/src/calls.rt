@@ -6,7 +6,7 @@ ghost use Rattle.cpu_bases.specs.Calls.{StaysLegal, after, after_all, answer_of,
 ghost use Rattle.cpu_bases.specs.Calls.{time_of};
 ghost use Rattle.cpu_bases.specs.CpuBases.{IsConsistent};
 ghost use Rattle.cpu_bases.specs.Journals.{LegalUpTo};
-ghost use Rattle.cpu_bases.specs.Replay.{AddsReplay, KeepsReplay};
+ghost use Rattle.cpu_bases.specs.Replay.{AddsReplay, IsPlayed, KeepsReplay};
 
 use crate::{Bases, NextEvents};
 use std::alloc::Global;
@@ -123,10 +123,10 @@ fn make_call<B: TimerBase>(bases: &mut Bases<B>, call: &BasesCall) -> Result<Bas
 }
 
 /// Makes calls in order, and answers what each answered: the same as three plain bases and a
-/// journal would. The bases agree with the journal then and are its replay; and where the journal
-/// was legal, each call is given a time that isn't before the last, and a CPU's pinned and
-/// deferrable timers are handed out by itself, it still is. Want of memory comes from a `reserve`
-/// or from the list of answers; the calls before it were made.
+/// journal would. The bases agree with the journal then and are its replay, from empty bases where
+/// they were that before; and where the journal was legal, each call is given a time that isn't
+/// before the last, and a CPU's pinned and deferrable timers are handed out by itself, it still is.
+/// Want of memory comes from a `reserve` or from the list of answers; the calls before it were made.
 pub fn make_calls<B: TimerBase>(
     alloc: Global,
     bases: &mut Bases<B>,
@@ -138,6 +138,7 @@ pub fn make_calls<B: TimerBase>(
     ensures consistent { OnOk result (IsConsistent bases.new.plain) }
     ensures legal { OnOk result (StaysLegal calls.now bases.old.plain bases.new.plain) }
     ensures replay { KeepsReplay bases.old.plain bases.new.plain }
+    ensures played { IsPlayed bases.old.plain → IsPlayed bases.new.plain }
     ensures err { OnErr result (StandsAfterSome calls.now bases.old bases.new) }
 {
     let mut answers = Vec::new(alloc);
@@ -146,6 +147,7 @@ pub fn make_calls<B: TimerBase>(
         let answer = make_call(bases, call)?;
         answers.push(answer)?;
     }
+    // For its invariant.
     bases.journal();
     Ok(answers)
 }

@@ -1,6 +1,6 @@
 //! Three bases, by class.
 
-ghost use Rattle.std.specs.Prelude.{◌≡◌, ℕ, ◌^◌, ◌<◌, ◌≤◌, [], None, IsOk, OnOk, OnSome, length};
+ghost use Rattle.std.specs.Prelude.{◌≡◌, ℕ, ◌<◌, ◌≤◌, [], None, IsOk, OnOk, OnSome, length};
 ghost use Rattle.wheel_core.specs.WheelExpiry.{KeepsTime};
 ghost use Rattle.wheel_core.specs.PlainBase.{NoneBehind, OneFewer, OutIsDue, added, forwarded};
 ghost use Rattle.wheel_core.specs.PlainBase.{item_of, next_out, on_plain, placed, taken};
@@ -10,7 +10,7 @@ ghost use Rattle.cpu_bases.specs.Trio.{HasCapacity, on_class, plain_of, plains, 
 ghost use Rattle.cpu_bases.specs.Trio.{without_item, without_oldest};
 
 use std::marker::Model;
-use tm_base::{Class, Jiffy, NoMemory};
+use tm_base::{Class, Jiffy, NoMemory, TIME_LIMIT};
 use wheel_core::{Item, TimerBase};
 
 /// A base for each class.
@@ -45,9 +45,9 @@ fn queue_in<B: TimerBase>(
 ) -> Item
     requires room { length (B.base base.old).plain.items < (B.base base.old).capacity }
     requires not_queued { item_of id (B.base base.old).plain.items ≡ None }
-    requires expires_in_time { expires < 2 ^ 47 }
-    requires clock_in_time { (B.base base.old).plain.clock < 2 ^ 47 }
-    requires time_in_time { time < 2 ^ 47 }
+    requires expires_in_time { expires < TIME_LIMIT }
+    requires clock_in_time { (B.base base.old).plain.clock < TIME_LIMIT }
+    requires time_in_time { time < TIME_LIMIT }
     requires none_behind { NoneBehind (B.base base.old).plain }
     ensures item { result
         ≡ placed (forwarded time (B.base base.old).plain).clock id expires job arg }
@@ -75,7 +75,7 @@ fn make_room_in<B: TimerBase>(base: &mut B, timers: usize) -> Result<(), NoMemor
     ensures plain { (B.base base.new).plain ≡ (B.base base.old).plain }
     ensures grows { (B.base base.old).capacity ≤ (B.base base.new).capacity }
 {
-    // For what a base keeps: there is memory for what is queued.
+    // For its invariant: there is memory for what is queued.
     base.clock();
     let queued = base.len();
     if queued < timers && base.reserve(timers - queued).is_err() {
@@ -137,9 +137,9 @@ impl<B: TimerBase> Trio<B> {
         requires room { length (of_class class self.old).plain.items
             < (of_class class self.old).capacity }
         requires not_queued { item_of id (of_class class self.old).plain.items ≡ None }
-        requires expires_in_time { expires < 2 ^ 47 }
-        requires clock_in_time { (of_class class self.old).plain.clock < 2 ^ 47 }
-        requires time_in_time { time < 2 ^ 47 }
+        requires expires_in_time { expires < TIME_LIMIT }
+        requires clock_in_time { (of_class class self.old).plain.clock < TIME_LIMIT }
+        requires time_in_time { time < TIME_LIMIT }
         requires none_behind { NoneBehind (of_class class self.old).plain }
         ensures item { result
             ≡ placed (forwarded time (of_class class self.old).plain).clock id expires job arg }

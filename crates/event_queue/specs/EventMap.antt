@@ -1,6 +1,7 @@
 -- the queue of a group: a finite map from child, 0 to 7, to event, seen as the list of its eight
 -- slots
-use Rattle.std.specs.Prelude.{◌≡◌, ◌≢◌, ℕ, ◌^◌, ◌<◌, ◌≤◌, true, false, Option, Some, None, List, length, slice_index_or}
+use Rattle.std.specs.Prelude.{◌≡◌, ◌≢◌, ℕ, ◌^◌, ◌<◌, ◌≤◌, true, false, Option, Some, None, List}
+use Rattle.std.specs.Prelude.{length, slice_index_or}
 use Rattle.std.specs.Option.{option_map}
 use Rattle.tm_base.specs.CpuSet.{Cpus, Contains}
 use Rattle.event_queue.specs.declared.event.Event.{Event}

@@ -1,4 +1,4 @@
--- the search for the first event that fits, slot by slot
+-- the search for the first event that fits, slot by slot (no public clause cites it)
 use Rattle.std.specs.Prelude.{◌≡◌, ℕ, Option, Some, None, nat_lt, if◌then◌else◌}
 use Rattle.event_queue.specs.declared.event.Event.{Event}
 

@@ -1,9 +1,12 @@
 //! The queue of a group.
 
-ghost use Rattle.std.specs.Prelude.{◌≡◌, ◌<◌, ◌^◌, Option, Some, None, List, IfSome, IfNone, slice_set, replicate};
+ghost use Rattle.std.specs.Prelude.{◌≡◌, ◌<◌, ◌^◌, Option, Some, None, List, IfSome, IfNone};
+ghost use Rattle.std.specs.Prelude.{slice_set, replicate};
 ghost use Rattle.std.specs.Option.{option_map};
 ghost use Rattle.event_queue.specs.Search.{Picks, earlier_of};
-ghost use Rattle.event_queue.specs.EventMap.{EventMap, FitsWord, IsEventMap, ChangesOnly, NoEvents, IsFirst, NoneFits, IsDue, Counts, as_ignored, marked_slot, event_at};
+ghost use Rattle.event_queue.specs.EventMap.{EventMap, FitsWord, IsEventMap, ChangesOnly};
+ghost use Rattle.event_queue.specs.EventMap.{NoEvents, IsFirst, NoneFits, IsDue, Counts};
+ghost use Rattle.event_queue.specs.EventMap.{as_ignored, marked_slot, event_at};
 
 use crate::Event;
 use std::marker::Model;
@@ -77,9 +80,9 @@ impl Events {
         self.slots[child as usize]
     }
 
-    /// The first event that isn't ignored, with its child (`tmigr_next_groupevt`): the one of the
-    /// least expiry, and among equal expiries that of the lowest child. None exactly where there is
-    /// no such event.
+    /// The first event that isn't ignored, with its child (`tmigr_next_groupevt`, which also takes
+    /// ignored events from the head): the one of the least expiry, and among equal expiries that of
+    /// the lowest child. None exactly where there is no such event.
     pub fn first(&self) -> Option<(u8, Event)>
         ensures found { IfSome result (λ f. IsFirst Counts self.now f.0 f.1) }
         ensures child { IfSome result (λ f. f.0 < 8) }
@@ -92,10 +95,11 @@ impl Events {
         best
     }
 
-    /// The event that a look at `now` (`tmigr_next_expired_groupevt`) tries next, with its child:
-    /// of the events that aren't ignored and not later than `now`, and whose CPU isn't in `tried`,
-    /// the one of the least expiry, and among equal expiries that of the lowest child. None exactly
-    /// where there is no such event.
+    /// The event that a look at `now` tries next, with its child, in the place of the kernel's
+    /// `tmigr_next_expired_groupevt`, which takes the event out and knows of no CPUs tried: of the
+    /// events that aren't ignored and not later than `now`, and whose CPU isn't in `tried`, the one
+    /// of the least expiry, and among equal expiries that of the lowest child. None exactly where
+    /// there is no such event.
     pub fn due(&self, now: Jiffy, tried: &CpuSet) -> Option<(u8, Event)>
         ensures found { IfSome result (λ f. IsFirst (IsDue now tried.now) self.now f.0 f.1) }
         ensures child { IfSome result (λ f. f.0 < 8) }

@@ -14,8 +14,10 @@ fn event(expiry: u64, cpu: u16, ignored: bool) -> Event
     }
 }
 
+// The words are laid out by hand: the expiry below, then CPU, ignored and present. Bits from 60 on
+// say nothing, and a word without the present bit holds no event.
 #[test]
-fn words(rt: HostRuntime) -> Result<(), Fail> {
+fn a_word_holds_an_event_exactly_where_its_present_bit_is_set(rt: HostRuntime) -> Result<(), Fail> {
     let cases = [
         (0x0801_0000_0000_003d, Some(event(61, 1, false))),
         (0x0c01_0000_0000_003d, Some(event(61, 1, true))),
@@ -38,7 +40,9 @@ fn words(rt: HostRuntime) -> Result<(), Fail> {
 }
 
 #[test]
-fn slots(rt: HostRuntime) -> Result<(), Fail> {
+fn a_slot_is_set_marked_and_cleared_and_an_empty_one_stays_empty(
+    rt: HostRuntime,
+) -> Result<(), Fail> {
     let mut events = Events::new();
     assert_eq!(rt; events.first(), None);
     events.set(7, event(30, 7, false));
@@ -51,8 +55,11 @@ fn slots(rt: HostRuntime) -> Result<(), Fail> {
     Ok(())
 }
 
+// By hand from the rule: the least expiry, then the lowest child, of what isn't ignored or tried.
 #[test]
-fn looks(rt: HostRuntime) -> Result<(), Fail> {
+fn a_look_takes_the_least_expiry_then_the_lowest_child_untried(
+    rt: HostRuntime,
+) -> Result<(), Fail> {
     let mut events = Events::new();
     events.set(2, event(61, 2, false));
     events.set(6, event(61, 6, false));

@@ -1,5 +1,6 @@
 -- the state of a group as it is kept, with the number of exchanges made on it, and its word
-use Rattle.std.specs.Prelude.{◌≡◌, ℕ, ◌+◌, ◌*◌, ◌^◌, ◌<◌, ◌==◌, Bool, true, false, Option, Some, None, if◌then◌else◌, bit_or, bit_and}
+use Rattle.std.specs.Prelude.{◌≡◌, ℕ, ◌+◌, ◌*◌, ◌^◌, ◌<◌, ◌==◌, Bool, true, false, Option, Some}
+use Rattle.std.specs.Prelude.{None, if◌then◌else◌, bit_or, bit_and}
 use Rattle.std.specs.Int.{bit_not, trailing_zeros, w8}
 use Rattle.std.specs.Option.{option_or}
 use Rattle.group_word.specs.declared.state.GroupState.{GroupState}

@@ -2,8 +2,10 @@
 
 ghost use Rattle.std.specs.Prelude.{◌≡◌, ◌-◌, ◌^◌, ◌<◌, ◌↔◌, IsTrue, is_none};
 ghost use Rattle.std.specs.Bool.{OnFalse};
-ghost use Rattle.group_word.specs.Group.{GroupLaw, Joins, Leaves, IsLowest, TakesRole, PassesOn, LooksAfter};
-ghost use Rattle.group_word.specs.State.{IsLawfulState, activated_state, swapped_state, lowest_child, migrator_without};
+ghost use Rattle.group_word.specs.Group.{GroupLaw, Joins, Leaves, IsLowest, TakesRole, PassesOn};
+ghost use Rattle.group_word.specs.Group.{LooksAfter};
+ghost use Rattle.group_word.specs.State.{IsLawfulState, activated_state, swapped_state};
+ghost use Rattle.group_word.specs.State.{lowest_child, migrator_without};
 
 use crate::GroupState;
 

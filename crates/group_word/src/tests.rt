@@ -9,8 +9,11 @@ fn state(active: u8, migrator: Option<u8>, seq: u64) -> GroupState {
     }
 }
 
+// The words are laid out by hand: the set below, the migrator's bit above it, the sequence on top.
+// Refused are words of active children with no migrator, with one that isn't active, and with two,
+// and that of a migrator where nobody is active.
 #[test]
-fn words(rt: HostRuntime) -> Result<(), Fail> {
+fn a_word_is_that_of_one_lawful_state_or_of_none(rt: HostRuntime) -> Result<(), Fail> {
     let three = GroupState {
         active: 0b111,
         migrator: Some(1),
@@ -35,8 +38,10 @@ fn words(rt: HostRuntime) -> Result<(), Fail> {
     Ok(())
 }
 
+// By hand from the rule: the child that joins takes a free role, and who leaves passes it to the
+// lowest that remains; a child found active changes the sequence alone.
 #[test]
-fn exchanges(rt: HostRuntime) -> Result<(), Fail> {
+fn the_role_is_taken_where_free_and_passed_to_the_lowest(rt: HostRuntime) -> Result<(), Fail> {
     let empty = GroupState {
         active: 0,
         migrator: None,

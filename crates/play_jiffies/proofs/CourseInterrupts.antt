@@ -20,8 +20,8 @@ use Rattle.play_rules.specs.Interrupts.{Replies, again, answered, arming_again, 
 use Rattle.play_rules.specs.Interrupts.{interrupt, interrupt_where, interrupts, job_call, look}
 use Rattle.play_rules.specs.Interrupts.{look_at, look_where, looks, run_jobs, try}
 use Rattle.play_rules.specs.Play.{plain_rules}
-use Rattle.play_laws.proofs.Shape.{Stage, begun, between, climbed, looked, looking, nth_class, own}
-use Rattle.play_laws.proofs.Shape.{running}
+use Rattle.play_shape.proofs.Shape.{Stage, begun, between, climbed, looked, looking, nth_class, own}
+use Rattle.play_shape.proofs.Shape.{running}
 use Rattle.play_jiffies.specs.Jiffies.{AskInRange}
 use Rattle.play_jiffies.proofs.Course.{IsArmingIn, IsItemIn, KeepsCourse}
 

@@ -27,7 +27,7 @@ use Rattle.play_rules.specs.Operations.{last_online, leaver, leaving as leaving_
 use Rattle.play_rules.specs.Operations.{move_printed, moves, moves_to, not_active, offline}
 use Rattle.play_rules.specs.Operations.{operation, operations, refusal}
 use Rattle.play_rules.specs.Play.{hands_on, plain_rules, successor}
-use Rattle.play_laws.proofs.Shape.{Stage, between, leaving, moving}
+use Rattle.play_shape.proofs.Shape.{Stage, between, leaving, moving}
 use Rattle.play_jiffies.proofs.Course.{KeepsCourse}
 
 -- the first of two is none where either is, and so is the other

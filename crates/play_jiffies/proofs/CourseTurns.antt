@@ -13,8 +13,8 @@ use Rattle.play_rules.specs.Interrupts.{Replies, having_interrupt}
 use Rattle.play_rules.specs.Moments.{AfterEach, Turn, moment_at, moment_now, moments_after}
 use Rattle.play_rules.specs.Moments.{next_moment, next_said, scripted, turn, turn_then, turns}
 use Rattle.play_rules.specs.Play.{at_clock, next_interrupt, plain_rules}
-use Rattle.play_laws.proofs.Shape.{Stage, begun, between}
-use Rattle.play_laws.proofs.ShapeTurns.{Rise}
+use Rattle.play_shape.proofs.Shape.{Stage, begun, between}
+use Rattle.play_shape.proofs.ShapeTurns.{Rise}
 use Rattle.play_jiffies.specs.Jiffies.{AskInRange}
 use Rattle.play_jiffies.proofs.Course.{KeepsCourse}
 use Rattle.play_jiffies.proofs.CourseInterrupts.{interrupts_kept}

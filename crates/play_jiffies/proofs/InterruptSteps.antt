@@ -19,7 +19,7 @@ use Rattle.play_rules.specs.State.{Cpu, State, cpu_at, cpu_count}
 use Rattle.play_rules.specs.Hierarchy.{due_sleepers, inactive_child, is_due_sleeper, looks_after}
 use Rattle.play_rules.specs.Hierarchy.{named, towards}
 use Rattle.play_rules.specs.Timers.{armed_on, bases_at, drained_on, due_items, item_then, queued_on}
-use Rattle.play_laws.proofs.Shape.{nth_class}
+use Rattle.play_shape.proofs.Shape.{nth_class}
 use Rattle.play_jiffies.proofs.Course.{IsArmingIn, IsItemIn}
 use Rattle.play_jiffies.proofs.Inside.{Awaits, Covers, Inside, IsEmpty, SomeOnline, arm_inside}
 use Rattle.play_jiffies.proofs.Inside.{drain_inside, inside_as, still_awaits}

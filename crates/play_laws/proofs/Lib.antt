@@ -1,7 +1,3 @@
-pub mod Shape
-pub mod ShapeInterrupts
-pub mod ShapeOperations
-pub mod ShapeTurns
 pub mod Ranges
 pub mod Bases
 pub mod Invariant

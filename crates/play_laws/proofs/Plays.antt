@@ -35,8 +35,8 @@ use Rattle.play_laws.proofs.Scripts.{moments_in, moments_rise, planned_for, tree
 use Rattle.play_laws.proofs.Settles.{AreOnline, Begun, Inside, IsAt, Leaving, Looking, Moving}
 use Rattle.play_laws.proofs.Settles.{Settles, Taking, Whole, due_online, ended_at, ended_online}
 use Rattle.play_laws.proofs.Settles.{later_kept, looker_grouped, low_in, named_sleeper}
-use Rattle.play_laws.proofs.Shape.{Keeps, Stage, nth_class}
-use Rattle.play_laws.proofs.ShapeTurns.{turns_kept}
+use Rattle.play_shape.proofs.Shape.{Keeps, Stage, nth_class}
+use Rattle.play_shape.proofs.ShapeTurns.{turns_kept}
 use Rattle.play_laws.proofs.Starts.{start_kept}
 use Rattle.play_laws.proofs.States.{IsKept, Nobody, Only, told_kept, weaker, written_alike}
 use Rattle.play_laws.proofs.Timers.{MayArm, arms_kept, bases_alike, cancels_kept, drains_kept}
@@ -253,7 +253,7 @@ module _ (t : Shape) (timers end : ℕ) (in_time : end < SCRIPT_TIME_LIMIT) wher
       }
 
   -- EACH RULE keeps it
-  pub rules_keep : Keeps plain_rules (cpu_count_of t) timers (level_count_of t) end P
+  pub rules_keep : Keeps plain_rules (cpu_count_of t) timers (level_count_of t) end (λ a. Unit {0}) P
   rules_keep = record {
     clock = λ now s was. was.at.clock;
     all_cpus = λ now due s was. was.whole.kept.cpus ∙ ap cpu_count_of was.whole.at.tree;
@@ -262,7 +262,8 @@ module _ (t : Shape) (timers end : ℕ) (in_time : end < SCRIPT_TIME_LIMIT) wher
     passed = λ now due c s low is was. was;
     entered = λ now due c s low is was. entered now due c s was;
     drained = λ now due c k s low few was. drained now due c k s low was;
-    ran = λ now due c k s a low few none was. ran now due c s a low was;
+    known = λ now due c k s low few was n d less class delay. tt;
+    ran = λ now due c k s a low few fits none was. ran now due c s a low was;
     drained_all = λ now due c s low was. was;
     looks = λ now due c level s low below is was.
         record { inside = was; grouped = looker_grouped s c level was.kept.planned is };
@@ -273,11 +274,12 @@ module _ (t : Shape) (timers end : ℕ) (in_time : end < SCRIPT_TIME_LIMIT) wher
     left_alone = λ now due c level n tried d s low is takes was. was;
     taken = λ now due c level n tried d s low is takes was. taken now due c level d s is was;
     drained_for = λ now due c level n tried d s low was. drained_for now due c d s was;
-    ran_for = λ now due c level n tried d s a low none was. ran_for now due c d s a low was;
+    known_for = λ now due c level n tried d s low was i x less class delay. tt;
+    ran_for = λ now due c level n tried d s a low fits none was. ran_for now due c d s a low was;
     let_go = λ now due c level n tried d s low was. let_go now due c d s was;
     ended = λ now due c s low is was. ended now due c s low is was;
     interrupted = λ now due s was. was.whole;
-    armed = λ now c s a low known online active none was. record {
+    armed = λ now c s a low known short online active none was. record {
       at = record { tree = was.at.tree; clock = was.at.clock };
       kept = arms_kept Nobody (Unit {0}) s was.kept c a (here_in now s c was low)
           (λ free rest. not_resting (cpu_at s c) active rest);
@@ -327,7 +329,7 @@ module _ (jobs : Replies) (script : Script) (is : IsScript script) where
   pub kept_after_each : AfterEachMoment (λ s. (now : ℕ) × Whole tree now s) jobs script
   kept_after_each =
       turns_kept jobs plain_rules (cpu_count_of tree) script.timers (level_count_of tree) script.end
-      (Settles tree)
+      (Settles tree) (λ a. Unit {0})
       (rules_keep tree script.timers script.end is.early_end) (script.end + 1) 0 script.moments
       (start tree script.timers)
       (moments_in script is) (moments_rise script is) (omega arith) first

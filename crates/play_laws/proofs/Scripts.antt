@@ -12,8 +12,8 @@ use Rattle.tm_script.specs.declared.syntax.What.TheVariants as whats
 use Rattle.tm_script.specs.Texts.{cpu_count}
 use Rattle.tm_script.specs.Grammar.{IsMoment, IsOp, IsScript, IsWhat}
 use Rattle.tree_plan.specs.Shape.{IsPlanned, Shape, tree_of}
-use Rattle.play_laws.proofs.ShapeOperations.{IsOpIn, IsTimerIn}
-use Rattle.play_laws.proofs.ShapeTurns.{IsMomentIn, Rise}
+use Rattle.play_shape.proofs.ShapeOperations.{IsOpIn, IsTimerIn}
+use Rattle.play_shape.proofs.ShapeTurns.{IsMomentIn, Rise}
 
 abbrev pub tree_for : Script → Shape
 tree_for s = tree_of s.nodes s.cpus s.isolated
@@ -31,7 +31,7 @@ planned_for s is = record {
 }
 
 timer_in : (version timers : ℕ) (what : What) → IsWhat version timers what → IsTimerIn timers what
-timer_in version timers (whats.Arm timer class delay job arg) is = is.timer_in_range
+timer_in version timers (whats.Arm timer class delay job arg) is = (is.timer_in_range, is.delay_in_range)
 timer_in version timers (whats.Cancel timer) is = is
 timer_in version timers whats.Idle is = is
 timer_in version timers whats.Wake is = is

@@ -28,8 +28,8 @@ use Rattle.play_laws.proofs.Bases.{Comes, IsBase}
 use Rattle.play_laws.proofs.Invariant.{Answers, Fits, InTime, Later, busy, rests}
 use Rattle.play_laws.proofs.Changes.{told_in}
 use Rattle.play_laws.proofs.Ranges.{member_passes, member_was, range_low, some_kept}
-use Rattle.play_laws.proofs.Shape.{Stage, begun, between, climbed, leaving, looked, looking, moving}
-use Rattle.play_laws.proofs.Shape.{own, running, taking}
+use Rattle.play_shape.proofs.Shape.{Stage, begun, between, climbed, leaving, looked, looking, moving}
+use Rattle.play_shape.proofs.Shape.{own, running, taking}
 use Rattle.play_laws.proofs.States.{IsKept, Nobody, Only, written_alike}
 
 -- the tree and the time of a state

@@ -1,5 +1,5 @@
 -- the shape of an interrupt, over any rules
-use Rattle.std.specs.Prelude.{ℕ, zero, suc, ◌+◌, List, [], ◌∷◌, Bool, true, false, Option, Some, None, if◌then◌else◌, filter}
+use Rattle.std.specs.Prelude.{ℕ, zero, suc, ◌+◌, List, [], ◌∷◌, Bool, true, false, Option, Some, None, if◌then◌else◌, filter, min, ◌^◌, ◌-◌}
 use Rattle.std.specs.List.{range_with_len}
 use Rattle.std.specs.Ordering.{nat_cmp}
 use Rattle.std.specs.FinSet as set
@@ -39,10 +39,10 @@ Replies = ℕ → JobCall → JobReply
 abbrev pub having_interrupt : {S : Type 0} → Rules S → S → set.FinSet nat_cmp
 having_interrupt r s = set.from_list (filter (r.has_interrupt s) (range_with_len 0 (r.cpus s)))
 
--- what is armed again is the item's timer, by no line of the script
+-- what is armed again is the item's timer, by no line of the script; a delay has 32 bits
 abbrev pub arming_again : Item → Class → (delay : ℕ) → Arming
 arming_again item class delay =
-    record { timer = timer_id item.id; class = class; delay = delay; job = item.job; arg = item.arg; line = 0 }
+    record { timer = timer_id item.id; class = class; delay = min delay (2 ^ 32 - 1); job = item.job; arg = item.arg; line = 0 }
 
 module _ {S : Type 0} where
   abbrev pub replied : ShownReply → S → Replied S

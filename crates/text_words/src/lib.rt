@@ -8,3 +8,6 @@ mod words;
 
 pub use pieces::{push_bytes, push_number};
 pub use words::{cut, is_number, read_number};
+
+#[cfg(test)]
+mod tests;

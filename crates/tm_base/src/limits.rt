@@ -21,8 +21,10 @@ pub const CPU_SET_SIZE: u16 = 512;
 
 const _: () = prove!(CPU_SET_SIZE == MOST_CPUS_V2);
 
-/// The most timers that a script may have.
+/// The most timers that a script may have: 2^12.
 pub const MOST_TIMERS: u16 = 4_096;
+
+const _: () = prove!(MOST_TIMERS == 1 << 12);
 
 /// Each time of a script, in jiffies, is below it: 2^40.
 pub const SCRIPT_TIME_LIMIT: Jiffy = 1_099_511_627_776;

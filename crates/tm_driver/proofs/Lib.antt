@@ -1,4 +1,5 @@
 mod Scripts
 mod Turns
 mod Unknown
+mod Wholes
 mod Playable

@@ -6,7 +6,8 @@ use Rattle.play_rules.specs.Interrupts.{Replies}
 use Rattle.play_rules.specs.Jobs.{first_unknown_job}
 use Rattle.play_rules.specs.Moments.{last_state, whole_lines}
 use Rattle.play_rules.specs.Parts.{counted}
-use Rattle.play_rules.specs.Play.{plain_rules, play_spent, play_start, play_text, play_turns}
+use Rattle.play_laws.specs.Settled.{IsSettled}
+use Rattle.play_rules.specs.Play.{AfterEachMoment, plain_rules, play_spent, play_start, play_text, play_turns}
 use Rattle.play_rules.specs.Tallies.{no_lines, tallied_all}
 use Rattle.play_rules.specs.declared.tally.Tally.{Tally}
 use Rattle.tm_driver.specs.Outcomes.{SaysFault, work_limit}
@@ -20,12 +21,13 @@ pub record CanPlay (jobs : Replies) (table : ℕ) (script : Script) : Type 0 whe
   pub within : play_spent jobs (work_limit script.version) script ≡ None
 
 -- the report has gained the text of the script's play, and this is the state that its last moment
--- leaves
+-- leaves; after each moment each global timer that is queued on an idle CPU is held or woken for
 pub record Plays (jobs : Replies) (table : ℕ) (script : Script) (old new : List ℕ) (last : State)
     : Type 0 where
   pub text : new ≡ old ++ play_text jobs script
   pub state : last ≡ last_state (play_start script) (play_turns jobs script)
   pub can_play : CanPlay jobs table script
+  pub settled : AfterEachMoment IsSettled jobs script
 
 -- why it isn't played to its end, and what the report has gained then
 abbrev pub BreaksPlay : Replies → (table : ℕ) → Script → DriveFault → (old new : List ℕ) → Type 0

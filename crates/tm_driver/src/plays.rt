@@ -10,6 +10,7 @@ use crate::numbers::Summary;
 use crate::outcomes::{Counts, DriveFault};
 use crate::playing::play_on;
 use job_table::Jobs;
+use play_laws::law_settled;
 use quiet_machine::Quiet;
 use std::alloc::Global;
 use tm_base::{Jiffy, NoMemory};
@@ -44,6 +45,7 @@ pub fn play<J: Jobs>(
     ensures fault { IfErr result (λ fault.
         BreaksPlay (J.replies jobs.now) (J.count jobs.now) script.now fault report.old report.new) }
 {
+    law_settled();
     let mut quiet = started(alloc, script)?;
     play_on(alloc, &mut quiet, script, jobs, report)?;
     Ok(quiet)

@@ -39,7 +39,7 @@ pub struct WriteFault {
     pub cause: WriteCause,
 }
 
-// The most bytes that a sink is handed at once.
+// The most bytes that a sink is handed at once. No clause says so; a test does.
 const PIECE: usize = 4_096;
 
 /// Writes all of the bytes, in pieces of at most 4,096. What the sink took before an Err it keeps.

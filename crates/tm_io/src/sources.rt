@@ -32,7 +32,7 @@ pub enum ReadFault {
     NoMemory,
 }
 
-// The most bytes that a source is asked for at once.
+// The most bytes that a source is asked for at once. No clause says so; a test does.
 pub(crate) const ROOM: usize = 4_096;
 
 /// Reads a source to its end, which has to come within `most` bytes. It asks for 4,096 bytes at

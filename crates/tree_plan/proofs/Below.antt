@@ -1,4 +1,4 @@
--- the laws of placed CPUs and of the CPUs below groups follow from the others
+-- for crates above: the laws of placed CPUs and of the CPUs below groups follow from the others
 use Rattle.std.proofs.Common.{◌≡◌, ℕ, zero, suc, ◌<◌, ⊎_elim, Bool, true, List, [], ◌∷◌, refl, sym, ◌∙◌, ap, arith}
 use Rattle.std.specs.Prelude.{◌↔◌, ◌==◌, Option, Some, None, is_some, slice_get}
 use Rattle.std.specs.List.{list_any}

@@ -1,4 +1,4 @@
--- the laws of planned trees on children, parents and levels
+-- for crates above: the laws of planned trees on children, parents and levels
 use Rattle.std.proofs.Common.{◌≡◌, ℕ, suc, ◌+◌, ◌-◌, ◌^◌, ◌<◌, ◌≤◌, ◌⊎◌, inl, inr, ⊎_elim, Bool, true, false, eqb, List, [], ◌∷◌, ◌++◌, length, map, refl, sym, ◌∙◌, ap, subst, arith, zero-add, length-append}
 use Rattle.std.specs.Prelude.{◌↔◌, Option, Some, None, not, slice_get}
 use Rattle.std.specs.List.{range_with_len}

@@ -1,10 +1,15 @@
 -- what holds of every planned tree, for walks up and down in it
-use Rattle.std.specs.Prelude.{◌≡◌, ◌↔◌, ℕ, suc, ◌-◌, ◌^◌, ◌<◌, ◌≤◌, ◌++◌, true, false, [], map, length, Some, None, slice_get}
+use Rattle.std.specs.Prelude.{◌≡◌, ◌↔◌, ℕ, suc, ◌-◌, ◌^◌, ◌<◌, ◌≤◌, ◌++◌, true, false, [], map}
+use Rattle.std.specs.Prelude.{length, Some, None, slice_get}
 use Rattle.std.specs.List.{range_with_len}
 use Rattle.tm_base.specs.declared.names.Child.{Child}
 use Rattle.tm_base.specs.Children.{of_cpu, of_group}
 use Rattle.tree_plan.specs.Shape.{Shape, joined, log2up}
-use Rattle.tree_plan.specs.Paths.{cpu_count_of, is_placed_in, placed_of, node_of, node_levels_of, group_count_of, level_count_of, groups_of, level_of, place_of, child_count_of, child_at, parent_of, bit_of, group_at_of, child_towards, has_group_in, path_of, top_of, IsTop, IsBelow, IsUnder, is_below, is_under}
+use Rattle.tree_plan.specs.Paths.{cpu_count_of, is_placed_in, placed_of, node_of, node_levels_of}
+use Rattle.tree_plan.specs.Paths.{group_count_of, level_count_of, groups_of, level_of, place_of}
+use Rattle.tree_plan.specs.Paths.{child_count_of, child_at, parent_of, bit_of, group_at_of}
+use Rattle.tree_plan.specs.Paths.{child_towards, has_group_in, path_of, top_of, IsTop, IsBelow}
+use Rattle.tree_plan.specs.Paths.{IsUnder, is_below, is_under}
 
 -- the binary logarithm rounded up is the least m with 2 ^ m at least x
 pub record LogarithmLaws (x : ℕ) : Type 0 where

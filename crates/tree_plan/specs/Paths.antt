@@ -1,5 +1,8 @@
 -- what a tree says of its groups and CPUs
-use Rattle.std.specs.Prelude.{◌≡◌, ℕ, zero, suc, ◌-◌, ◌*◌, ◌/◌, ◌==◌, nat_lt, if◌then◌else◌, Bool, not, ◌&&◌, List, [], ◌∷◌, length, Option, Some, None, is_some, unwrap_or, slice_get, slice_index_or, option_map, option_and_then, position, filter_map}
+use Rattle.std.specs.Prelude.{◌≡◌, ℕ, zero, suc, ◌-◌, ◌*◌, ◌/◌, ◌==◌, nat_lt, if◌then◌else◌, Bool}
+use Rattle.std.specs.Prelude.{not, ◌&&◌, List, [], ◌∷◌, length, Option, Some, None, is_some}
+use Rattle.std.specs.Prelude.{unwrap_or, slice_get, slice_index_or, option_map, option_and_then}
+use Rattle.std.specs.Prelude.{position, filter_map}
 use Rattle.std.specs.List.{range_with_len, position_or_len, list_any}
 use Rattle.std.specs.FinSet.{contains}
 use Rattle.tm_base.specs.declared.names.Child.{Child}

@@ -1,6 +1,8 @@
 -- the tree of a machine: its placed CPUs, those that aren't isolated, are cut into runs of at most
 -- eight level by level until one group is left
-use Rattle.std.specs.Prelude.{◌≡◌, ℕ, zero, suc, ◌+◌, ◌*◌, ◌/◌, ◌^◌, ◌<◌, ◌≤◌, ◌==◌, nat_lt, nat_le, if◌then◌else◌, false, not, List, [], ◌∷◌, length, take, drop, map, filter, flat_map}
+use Rattle.std.specs.Prelude.{◌≡◌, ℕ, zero, suc, ◌+◌, ◌*◌, ◌/◌, ◌^◌, ◌<◌, ◌≤◌, ◌==◌, nat_lt, nat_le}
+use Rattle.std.specs.Prelude.{if◌then◌else◌, false, not, List, [], ◌∷◌, length, take, drop, map}
+use Rattle.std.specs.Prelude.{filter, flat_map}
 use Rattle.std.specs.List.{range_with_len}
 use Rattle.std.specs.FinSet.{contains}
 use Rattle.tm_base.specs.declared.names.Child.{Child}

@@ -1,7 +1,9 @@
--- how a tree is kept: its groups in the order of their numbers, and for each child, the placed CPUs
--- first and then the groups, the group that has it and its child number there; the same once more
--- for each CPU by its number
-use Rattle.std.specs.Prelude.{◌≡◌, ℕ, zero, suc, ◌+◌, ◌-◌, ◌*◌, ◌/◌, ◌==◌, ◌&&◌, min, nat_lt, if◌then◌else◌, Bool, false, List, [], ◌∷◌, ◌++◌, length, map, flat_map, sum, Option, Some, None, option_map, slice_get}
+-- how a tree is kept (no public clause cites it): its groups in the order of their numbers, and for
+-- each child, the placed CPUs first and then the groups, the group that has it and its child number
+-- there; the same once more for each CPU by its number
+use Rattle.std.specs.Prelude.{◌≡◌, ℕ, zero, suc, ◌+◌, ◌-◌, ◌*◌, ◌/◌, ◌==◌, ◌&&◌, min, nat_lt}
+use Rattle.std.specs.Prelude.{if◌then◌else◌, Bool, false, List, [], ◌∷◌, ◌++◌, length, map}
+use Rattle.std.specs.Prelude.{flat_map, sum, Option, Some, None, option_map, slice_get}
 use Rattle.std.specs.List.{range_with_len}
 use Rattle.std.specs.FinSet.{contains}
 use Rattle.tm_base.specs.declared.names.Child.{Child}
@@ -9,7 +11,8 @@ use Rattle.tm_base.specs.CpuSet.{Cpus}
 use Rattle.tree_plan.specs.declared.cutting.Group.{Group}
 use Rattle.tree_plan.specs.declared.cutting.Link.{Link}
 use Rattle.tree_plan.specs.Shape.{Shape, IsWithinLimits, placed_from, tree_of}
-use Rattle.tree_plan.specs.Paths.{placed_of, groups_of, level_of, place_of, child_count_of, parent_of, bit_of}
+use Rattle.tree_plan.specs.Paths.{placed_of, groups_of, level_of, place_of, child_count_of}
+use Rattle.tree_plan.specs.Paths.{parent_of, bit_of}
 
 -- the lengths of n runs of eight of a list of m, as far as it goes
 unfoldable pub lengths_of : (n m : ℕ) → List ℕ

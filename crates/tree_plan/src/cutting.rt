@@ -1,10 +1,14 @@
 //! How a machine is cut into groups, and how every child is linked to its group.
 
-ghost use Rattle.std.specs.Prelude.{◌≡◌, ◌+◌, ◌*◌, ◌^◌, ◌<◌, ◌≤◌, [], ◌∷◌, ◌++◌, length, map, sum, flat_map, vec_len, slice_get, if◌then◌else◌, None, IfOk, OnOk};
+ghost use Rattle.std.specs.Prelude.{◌≡◌, ◌+◌, ◌*◌, ◌^◌, ◌<◌, ◌≤◌, [], ◌∷◌, ◌++◌, length, map, sum};
+ghost use Rattle.std.specs.Prelude.{flat_map, vec_len, slice_get, if◌then◌else◌, None, IfOk, OnOk};
 ghost use Rattle.std.specs.FinSet.{contains};
 ghost use Rattle.tm_base.specs.declared.limits.TheConstants.{MOST_CPUS_V2};
-ghost use Rattle.tree_plan.specs.Shape.{IsWithinLimits, levels_for, node_cpus, placed_from, tree_of};
-ghost use Rattle.tree_plan.specs.Store.{groups_for, row_lengths_at, row_groups, level_of_rows, CutsNext, groups_planned, leads_to, links_to, links_from, seat_links};
+ghost use Rattle.tree_plan.specs.Shape.{IsWithinLimits, levels_for, node_cpus, placed_from};
+ghost use Rattle.tree_plan.specs.Shape.{tree_of};
+ghost use Rattle.tree_plan.specs.Store.{groups_for, row_lengths_at, row_groups, level_of_rows};
+ghost use Rattle.tree_plan.specs.Store.{CutsNext, groups_planned, leads_to, links_to, links_from};
+ghost use Rattle.tree_plan.specs.Store.{seat_links};
 
 use std::alloc::Global;
 use tm_base::{CpuId, CpuSet, GROUP_SIZE, GroupId, NoMemory};
@@ -59,7 +63,8 @@ pub(crate) fn levels_for(members: u8) -> u8
 /// last.
 fn cut_row(groups: &mut Vec<Group>, level: u8, first: u16, members: u16) -> Result<u16, NoMemory>
     requires { first + members < 2 ^ 16 }
-    ensures groups { OnOk result (groups.new.items ≡ groups.old.items ++ row_groups level first members) }
+    ensures groups { OnOk result
+        (groups.new.items ≡ groups.old.items ++ row_groups level first members) }
     ensures behind { IfOk result (λ place. place ≡ first + groups_for members) }
 {
     let mut place = first;
@@ -130,7 +135,8 @@ fn cut_next(
 ) -> Result<(), NoMemory>
     requires some_row { 0 < vec_len rows.old }
     requires few { sum rows.old.items ≤ MOST_CPUS_V2 }
-    ensures { OnOk result (CutsNext inner level groups.old.items groups.new.items rows.old.items rows.new.items) }
+    ensures { OnOk result (CutsNext inner level
+        groups.old.items groups.new.items rows.old.items rows.new.items) }
 {
     merge_across(rows, level, inner);
     cut_level(groups, level, rows.as_slice())?;

@@ -4,7 +4,9 @@ ghost use Rattle.std.specs.Prelude.{◌≡◌, ◌<◌, ◌≤◌, ◌↔◌, tr
 ghost use Rattle.std.specs.Bool.{OnTrue, OnFalse};
 ghost use Rattle.tm_base.specs.Children.{of_cpu, of_group};
 ghost use Rattle.tree_plan.specs.Shape.{Shape, IsWithinLimits, IsPlanned, tree_of};
-ghost use Rattle.tree_plan.specs.Paths.{cpu_count_of, is_placed_in, group_count_of, level_count_of, level_of, place_of, child_count_of, child_at, parent_of, bit_of, group_at_of, IsTop};
+ghost use Rattle.tree_plan.specs.Paths.{cpu_count_of, is_placed_in, group_count_of, level_count_of};
+ghost use Rattle.tree_plan.specs.Paths.{level_of, place_of, child_count_of, child_at, parent_of};
+ghost use Rattle.tree_plan.specs.Paths.{bit_of, group_at_of, IsTop};
 ghost use Rattle.tree_plan.specs.Store.{group_of, link_of};
 
 use crate::cutting::{Group, Link, cut_groups, link_children, link_cpus, placed_among};
@@ -182,7 +184,8 @@ impl Tree {
     pub fn group_at(&self, c: CpuId, level: u8) -> Option<GroupId>
         requires { c.0 < cpu_count_of self.now }
         ensures group { option_map (λ g. g.0) result ≡ group_at_of self.now c.0 level }
-        ensures none { OnTrue (is_placed_in self.now c.0) (IsNone result ↔ (level_count_of self.now ≤ level)) }
+        ensures none { OnTrue (is_placed_in self.now c.0)
+            (IsNone result ↔ (level_count_of self.now ≤ level)) }
         ensures isolated { OnFalse (is_placed_in self.now c.0) (IsNone result) }
     {
         let Some(link) = self.cpu_link(c) else {

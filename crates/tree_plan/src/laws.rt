@@ -2,7 +2,8 @@
 
 ghost use Rattle.std.specs.Prelude.{ℕ};
 ghost use Rattle.tree_plan.specs.Shape.{Shape, IsPlanned};
-ghost use Rattle.tree_plan.specs.Laws.{LogarithmLaws, PlacedLaws, CutLaws, EdgeLaws, LevelLaws, PathLaws, BelowLaws, NodeLaws};
+ghost use Rattle.tree_plan.specs.Laws.{LogarithmLaws, PlacedLaws, CutLaws, EdgeLaws, LevelLaws};
+ghost use Rattle.tree_plan.specs.Laws.{PathLaws, BelowLaws, NodeLaws};
 
 /// The logarithm that fixes the numbers of levels is the least exponent that reaches its number.
 pub fn law_log2up()

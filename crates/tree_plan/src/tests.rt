@@ -81,6 +81,8 @@ fn check_isolated(rt: &impl Abort, tree: &Tree, cpus: &[u16]) {
 
 fn is_shared<T: Send + Sync>(_tree: &T) {}
 
+// Each row of these tests is counted out by hand by the rules of the hierarchy: runs of eight in
+// ascending order, within a node below the number of its levels and across nodes above.
 #[test]
 fn cpus_of_one_node_are_cut_into_leaves_of_eight(rt: HostRuntime) -> Result<(), Fail> {
     let alone = planned(rt.alloc(), 1, 1, 0)?;
@@ -183,8 +185,7 @@ fn nodes_stay_apart_below_the_levels_across_them(rt: HostRuntime) -> Result<(), 
     Ok(())
 }
 
-// The numbers of levels, groups and children with isolated CPUs and of the largest machine are
-// those that the rules of the hierarchy give by hand.
+// Without CPU 0 the other eight of nine fill one leaf, and CPU 1 is its child 0.
 #[test]
 fn isolated_cpus_stand_outside_the_tree(rt: HostRuntime) -> Result<(), Fail> {
     let eight_of_nine = planned(rt.alloc(), 1, 9, 1)?;
@@ -219,6 +220,7 @@ fn isolated_cpus_stand_outside_the_tree(rt: HostRuntime) -> Result<(), Fail> {
     Ok(())
 }
 
+// 64 leaves of eight, a group of eight leaves for each node, and the top.
 #[test]
 fn the_largest_machine_has_73_groups(rt: HostRuntime) -> Result<(), Fail> {
     let largest = planned(rt.alloc(), 8, 64, 0)?;

@@ -69,7 +69,7 @@ fn item(id: u32, expires: u64, wheel: u64, level: u8) -> Item {
     }
 }
 
-// Two timers of two levels, and a drain that goes past both. By the rule their wheel expiries are 80
+// Two timers of two levels, and a drain that goes past both. By the rule the wheel expiries are 80
 // and 73.
 #[test]
 #[tactic(auto, unfolding(wheel_core::specs::WheelExpiry::wheel_expiry_of, wheel_core::specs::WheelExpiry::level_of_delay, wheel_core::specs::WheelExpiry::wheel_level_of, wheel_core::specs::PlainBase::first_out))]

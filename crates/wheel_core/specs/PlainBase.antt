@@ -103,8 +103,8 @@ last_of_highest items = last_armed (filter (λ item. item.level == highest items
 unfoldable pub first_out : (wheel : ℕ) → List Item → Option Item
 first_out wheel items = last_of_highest (filter (λ item. item.wheel == wheel) items)
 
--- HAND-OUT (collect_expired_timers, expire_timers): what goes out next at a time, from the items
--- of the least wheel expiry where that isn't past now
+-- HAND-OUT (__run_timers, with collect_expired_timers and expire_timers): what goes out next at a
+-- time, from the items of the least wheel expiry where that isn't past now
 abbrev pub out_at : (now : ℕ) → Option ℕ → List Item → Option Item
 out_at now None items = None
 out_at now (Some wheel) items = if nat_le wheel now then first_out wheel items else None
@@ -112,7 +112,7 @@ out_at now (Some wheel) items = if nat_le wheel now then first_out wheel items e
 abbrev pub next_out : (now : ℕ) → PlainBase → Option Item
 next_out now base = out_at now (least base.items) base.items
 
--- the base after an item went out; the clock is then past its wheel expiry
+-- the base after an item went out; the clock is then past its wheel expiry (__run_timers)
 abbrev pub after_out : PlainBase → Option Item → PlainBase
 after_out base None = base
 after_out base (Some item) =

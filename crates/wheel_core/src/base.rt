@@ -41,15 +41,17 @@ pub trait TimerBase: Drop {
         ensures bounds { IfSome result (λ first. NoneSooner first (base self.now).plain.items) };
 
     /// Brings the clock up to a time before a timer is added at it, but not past a queued wheel
-    /// expiry that isn't past that time (the kernel's `forward_timer_base`).
+    /// expiry that isn't past that time (the kernel's `forward_timer_base`). In the middle of a
+    /// drain, where the clock is one past the expiry that is drained, forwarding to a later time
+    /// sets it back by that one, as the kernel doesn't; who drains whole never sees it.
     fn forward(&mut self, now: u64)
         ensures base { base self.new ≡ on_plain (forwarded now) (base self.old) }
         ensures none_behind { NoneBehind (base self.old).plain → NoneBehind (base self.new).plain }
         ensures clock { (base self.new).plain.clock ≤ max (base self.old).plain.clock now };
 
-    /// Queues a timer that isn't queued, at the end of the arming order, and answers its item. Its
-    /// asked expiry and the clock are below 2^47 jiffies, and no queued wheel expiry is below the
-    /// clock.
+    /// Queues a timer that isn't queued, at the end of the arming order, and answers its item (the
+    /// kernel's `enqueue_timer`). Its asked expiry and the clock are below 2^47 jiffies, and no
+    /// queued wheel expiry is below the clock.
     fn add(&mut self, id: u32, expires: u64, job: u8, arg: u32) -> Item
         requires room { length (base self.old).plain.items < (base self.old).capacity }
         requires not_queued { item_of id (base self.old).plain.items ≡ None }
@@ -62,8 +64,8 @@ pub trait TimerBase: Drop {
         ensures clock { (base self.new).plain.clock ≡ (base self.old).plain.clock }
         ensures keeps_time { KeepsTime expires (base self.old).plain.clock };
 
-    /// Takes the item of an id out, and answers it; None, with nothing changed, exactly where the
-    /// id isn't queued.
+    /// Takes the item of an id out, and answers it (the kernel's `timer_delete`); None, with
+    /// nothing changed, exactly where the id isn't queued.
     fn remove(&mut self, id: u32) -> Option<Item>
         ensures item { result ≡ item_of id (base self.old).plain.items }
         ensures base { base self.new ≡ on_plain (removed id) (base self.old) }
@@ -82,9 +84,10 @@ pub trait TimerBase: Drop {
     fn oldest(&self) -> Option<u32>
         ensures { result ≡ oldest_of (base self.now).plain.items };
 
-    /// Takes out the next item that goes out at a time, and puts the clock past its wheel expiry
-    /// (the kernel's `collect_expired_timers`, one timer at a time); None, with nothing changed,
-    /// exactly where none is due.
+    /// Takes out the next item that goes out at a time, and puts the clock past its wheel expiry;
+    /// None, with nothing changed, exactly where none is due. It is the kernel's `__run_timers`,
+    /// one timer at a time: there `collect_expired_timers` brings the clock to the wheel expiry,
+    /// `__run_timers` puts it one past that, and `expire_timers` goes from the highest level down.
     fn take_next(&mut self, now: u64) -> Option<Item>
         ensures item { result ≡ next_out now (base self.old).plain }
         ensures due { OutIsDue now (base self.old).plain.items result }

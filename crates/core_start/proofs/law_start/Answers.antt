@@ -4,5 +4,5 @@ use Rattle.core_start.proofs.Starts.{starts_lawful}
 use Rattle.core_start.proofs.law_start.Goals as goal
 
 pub returns : goal.returns
-returns c = λ nodes cpus timers isolated limits. (let planned : IsPlanned (tree_of nodes cpus isolated) = record { limits = limits; tree = refl } in
-    starts_lawful (tree_of nodes cpus isolated) timers planned (c.law_hierarchy.ensures _ planned) (c.law_edges.ensures _ planned) (c.law_cuts.ensures _ planned))
+returns c = λ nodes cpus timers isolated limits few. (let planned : IsPlanned (tree_of nodes cpus isolated) = record { limits = limits; tree = refl } in
+    starts_lawful (tree_of nodes cpus isolated) timers few planned (c.law_hierarchy.ensures _ planned) (c.law_edges.ensures _ planned) (c.law_cuts.ensures _ planned))

@@ -22,6 +22,11 @@ returns-in_err-answer-clause-replay g c =
     replays_on _ _
     (adds_both _ _ _ c.loop-call.invariant.replay c.in_err-answer.ensures.replay)
 
+pub returns-in_err-answer-clause-played : goal.returns-in_err-answer-clause-played
+returns-in_err-answer-clause-played g c =
+    replays_on _ _
+    (adds_both _ _ _ c.loop-call.invariant.replay c.in_err-answer.ensures.replay) _
+
 pub returns-in_err-push-clause-err : goal.returns-in_err-push-clause-err
 returns-in_err-push-clause-err g c =
     let stands =
@@ -33,5 +38,12 @@ pub returns-in_err-push-clause-replay : goal.returns-in_err-push-clause-replay
 returns-in_err-push-clause-replay g c =
     replays_on _ _ (adds_both _ _ _ c.loop-call.invariant.replay c.in_ok-answer.ensures.replay)
 
+pub returns-in_err-push-clause-played : goal.returns-in_err-push-clause-played
+returns-in_err-push-clause-played g c =
+    replays_on _ _ (adds_both _ _ _ c.loop-call.invariant.replay c.in_ok-answer.ensures.replay) _
+
 pub returns-clause-replay : goal.returns-clause-replay
 returns-clause-replay g c = replays_on _ _ c.loop-call.invariant.replay
+
+pub returns-clause-played : goal.returns-clause-played
+returns-clause-played g c = replays_on _ _ c.loop-call.invariant.replay _

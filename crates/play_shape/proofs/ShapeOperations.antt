@@ -2,7 +2,7 @@
 -- moment's operations
 use Rattle.std.proofs.Common.{◌≡◌, ℕ, zero, suc, ◌+◌, ◌-◌, ◌<◌, List, [], ◌∷◌, Bool, true, false}
 use Rattle.std.proofs.Common.{Option, Some, None, refl, sym, subst, length}
-use Rattle.std.specs.Prelude.{All, nat_le, slice_get, if◌then◌else◌}
+use Rattle.std.specs.Prelude.{All, ◌^◌, nat_le, slice_get, if◌then◌else◌}
 use Rattle.std.specs.Option.{option_or}
 use Rattle.std.proofs.lemmas.Option.{none-some, same_Some}
 use Rattle.std.proofs.lemmas.List.Elements.{All-head, All-tail}
@@ -15,16 +15,17 @@ use Rattle.tm_script.specs.declared.syntax.What.TheVariants as whats
 use Rattle.play_rules.specs.declared.asks.Cancelling.{Cancelling}
 use Rattle.play_rules.specs.declared.asks.Queued.{Queued}
 use Rattle.play_rules.specs.Parts.{silent}
+use Rattle.play_rules.specs.declared.asks.Arming.{Arming}
 use Rattle.play_rules.specs.Rules.{Moved, Rules}
 use Rattle.play_rules.specs.Operations.{cancel_where, clear, clear_after, clear_where, done}
 use Rattle.play_rules.specs.Operations.{done_unless, hand_on_to, hand_on_where, held_by, idle_where}
 use Rattle.play_rules.specs.Operations.{last_online, leaver, leaving, leaving_by, move_printed}
 use Rattle.play_rules.specs.Operations.{moves, moves_to, not_active, not_idle, offline, operation}
 use Rattle.play_rules.specs.Operations.{operations, refusal}
-use Rattle.play_laws.proofs.Shape.{Keeps, Stage, between, leaving as left, moving}
+use Rattle.play_shape.proofs.Shape.{Keeps, Stage, between, leaving as left, moving}
 
 abbrev pub IsTimerIn : (timers : ℕ) → What → Type 0
-IsTimerIn timers (whats.Arm timer class delay job arg) = timer.0 < timers
+IsTimerIn timers (whats.Arm timer class delay job arg) = (timer.0 < timers) × (delay < 2 ^ 32)
 IsTimerIn timers (whats.Cancel timer) = timer.0 < timers
 IsTimerIn timers what = Unit {0}
 
@@ -34,11 +35,11 @@ pub record IsOpIn (cpus timers : ℕ) (o : Op) : Type 0 where
   pub timer : IsTimerIn timers o.what
 
 -- the first of two is none where either is, and so is the other
-first_none : (a b : Option OpFault) → option_or a b ≡ None → a ≡ None
+pub first_none : (a b : Option OpFault) → option_or a b ≡ None → a ≡ None
 first_none None b none = refl
 first_none (Some x) b none = none
 
-then_none : (a b : Option OpFault) → option_or a b ≡ None → b ≡ None
+pub then_none : (a b : Option OpFault) → option_or a b ≡ None → b ≡ None
 then_none None b none = none
 then_none (Some x) b none = absurd (none-some x (sym none))
 
@@ -55,7 +56,7 @@ module _ {S : Type 0} (r : Rules S) (s : S) (c : ℕ) where
   active_by true true on off none = absurd (none-some faults.NotActive (sym none))
   active_by true false on off none = record { online = on; busy = off }
 
-  is_active : not_active r s c ≡ None → IsActive r s c
+  pub is_active : not_active r s c ≡ None → IsActive r s c
   is_active none = active_by (r.is_online s c) (r.is_idle s c) refl refl none
 
   idle_by : (online idle : Bool) → r.is_online s c ≡ online → r.is_idle s c ≡ idle
@@ -66,22 +67,22 @@ module _ {S : Type 0} (r : Rules S) (s : S) (c : ℕ) where
   idle_by true false on off none = absurd (none-some faults.NotIdle (sym none))
   idle_by true true on off none = (on, off)
 
-  is_idle : not_idle r s c ≡ None → (r.is_online s c ≡ true) × (r.is_idle s c ≡ true)
+  pub is_idle : not_idle r s c ≡ None → (r.is_online s c ≡ true) × (r.is_idle s c ≡ true)
   is_idle none = idle_by (r.is_online s c) (r.is_idle s c) refl refl none
 
-  offline_by : (online : Bool) → r.is_online s c ≡ online
+  pub offline_by : (online : Bool) → r.is_online s c ≡ online
       → (if online then Some faults.AlreadyOnline else None) ≡ None
       → r.is_online s c ≡ false
   offline_by true on none = absurd (none-some faults.AlreadyOnline (sym none))
   offline_by false on none = on
 
-  held_none : (o : Option Queued) → held_by r o ≡ None → o ≡ None
+  pub held_none : (o : Option Queued) → held_by r o ≡ None → o ≡ None
   held_none None none = refl
   held_none (Some held) none = absurd (none-some (faults.Queued held.cpu) (sym none))
 
 module _ {S : Type 0} (r : Rules S) (cpus timers levels end : ℕ)
     (P : (now : ℕ) → Stage → S → Type 0)
-    (keeps : Keeps r cpus timers levels end P) (now : ℕ) where
+    (Fits : Arming → Type 0) (keeps : Keeps r cpus timers levels end Fits P) (now : ℕ) where
   -- ONE OPERATION
   cancel_kept : (o : Option Queued) (c : ℕ) (a : Cancelling) (s : S) → c < cpus → a.timer.0 < timers
       → IsActive r s c
@@ -132,7 +133,7 @@ module _ {S : Type 0} (r : Rules S) (cpus timers levels end : ℕ)
         arg = arg;
         line = line;
       })
-      low known active.online active.busy free holds
+      low known.0 known.1 active.online active.busy free holds
   done_kept (whats.Cancel timer) line cpu s low known none holds =
       cancel_kept (r.queued s timer.0) cpu.0 (record { timer = timer; by = cpu; line = line }) s low
       known

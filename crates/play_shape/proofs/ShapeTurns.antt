@@ -7,14 +7,15 @@ use Rattle.std.proofs.lemmas.Bool.{cases_eq, eq-eqb, eqb-false, ne_eqb}
 use Rattle.std.proofs.lemmas.Option.{none-some, same_Some}
 use Rattle.std.proofs.lemmas.List.Elements.{All-cons, All-head, All-nil, All-tail}
 use Rattle.tm_script.specs.declared.syntax.Moment.{Moment}
+use Rattle.play_rules.specs.declared.asks.Arming.{Arming}
 use Rattle.play_rules.specs.Rules.{Rules}
 use Rattle.play_rules.specs.Interrupts.{Replies, having_interrupt}
 use Rattle.play_rules.specs.Operations.{leaver}
 use Rattle.play_rules.specs.Moments.{AfterEach, Turn, moment_at, moment_now, moments_after}
 use Rattle.play_rules.specs.Moments.{next_moment, next_said, scripted, turn, turn_then, turns}
-use Rattle.play_laws.proofs.Shape.{Keeps, Stage, begun, between}
-use Rattle.play_laws.proofs.ShapeInterrupts.{interrupts_kept}
-use Rattle.play_laws.proofs.ShapeOperations.{IsOpIn, clear_after_kept, leaver_in, operations_kept}
+use Rattle.play_shape.proofs.Shape.{Keeps, Stage, begun, between}
+use Rattle.play_shape.proofs.ShapeInterrupts.{interrupts_kept}
+use Rattle.play_shape.proofs.ShapeOperations.{IsOpIn, clear_after_kept, leaver_in, operations_kept}
 
 -- WHAT IS KNOWN of the moments that are still to come: their numbers are in range, and their times
 -- rise, from a time on
@@ -25,7 +26,7 @@ abbrev pub Rise : (from end : ℕ) → List Moment → Type 0
 Rise from end [] = Unit {0}
 Rise from end (m ∷ ms) = (from ≤ m.at) × ((m.at ≤ end) × Rise (m.at + 1) end ms)
 
-moment_in : (P : Moment → Type 0) (now : ℕ) (ms : List Moment) → All P ms
+pub moment_in : (P : Moment → Type 0) (now : ℕ) (ms : List Moment) → All P ms
     → ForSome (moment_at now ms) P
 moment_in P now [] all = λ m none. absurd (none-some m none)
 moment_in P now (m ∷ ms) all =
@@ -34,14 +35,14 @@ moment_in P now (m ∷ ms) all =
       | false ↦ λ x none. absurd (none-some x none)
     ]
 
-after_in : (P : Moment → Type 0) (now : ℕ) (ms : List Moment) → All P ms
+pub after_in : (P : Moment → Type 0) (now : ℕ) (ms : List Moment) → All P ms
     → All P (moments_after now ms)
 after_in P now [] all = all
 after_in P now (m ∷ ms) all =
     elim (m.at == now) as (λ b. All P (if b then ms else m ∷ ms))
     [ true ↦ All-tail P m ms all | false ↦ all ]
 
-after_rise : (now end : ℕ) (ms : List Moment) → Rise now end ms
+pub after_rise : (now end : ℕ) (ms : List Moment) → Rise now end ms
     → Rise (now + 1) end (moments_after now ms)
 after_rise now end [] up = up
 after_rise now end (m ∷ ms) (from, (by, up)) =
@@ -67,7 +68,7 @@ from_said from end (m ∷ ms) (above, rest) low = above
 
 module _ {S : Type 0} (jobs : Replies) (r : Rules S) (cpus timers levels end : ℕ)
     (P : (now : ℕ) → Stage → S → Type 0)
-    (keeps : Keeps r cpus timers levels end P) where
+    (Fits : Arming → Type 0) (keeps : Keeps r cpus timers levels end Fits P) where
   abbrev Due : ℕ → S → Type 0
   Due now s = P now (begun (having_interrupt r s) 0) s
 
@@ -76,24 +77,24 @@ module _ {S : Type 0} (jobs : Replies) (r : Rules S) (cpus timers levels end : �
       → P now between (scripted r o s).state
   scripted_kept now None s known holds = holds
   scripted_kept now (Some m) s known holds =
-      clear_after_kept r cpus timers levels end P keeps now (leaver m.ops) _
+      clear_after_kept r cpus timers levels end P Fits keeps now (leaver m.ops) _
       (λ c is. leaver_in cpus timers m.ops c (known m refl) is)
-      (operations_kept r cpus timers levels end P keeps now m.ops s (known m refl) holds)
+      (operations_kept r cpus timers levels end P Fits keeps now m.ops s (known m refl) holds)
 
-  moment_kept : (now : ℕ) (ms : List Moment) (s : S) → All (IsMomentIn cpus timers) ms → Due now s
+  pub moment_kept : (now : ℕ) (ms : List Moment) (s : S) → All (IsMomentIn cpus timers) ms → Due now s
       → P now between (moment_now jobs r ms now s).state
   moment_kept now ms s known holds =
       scripted_kept now (moment_at now ms) _ (moment_in (IsMomentIn cpus timers) now ms known)
-      (interrupts_kept jobs r cpus timers levels end P keeps now (having_interrupt r s) s holds)
+      (interrupts_kept jobs r cpus timers levels end P Fits keeps now (having_interrupt r s) s holds)
 
   -- the next moment, and the rest of the script from there on
-  record Next (ms : List Moment) (now : ℕ) (s : S) : Type 0 where
-    later : now < next_moment r end ms s
-    by_the_end : next_moment r end ms s ≤ end
-    no_later : next_moment r end ms s ≤ max (r.clock s + 1) (r.next_interrupt s)
-    rise : Rise (next_moment r end ms s) end ms
+  pub record Next (ms : List Moment) (now : ℕ) (s : S) : Type 0 where
+    pub later : now < next_moment r end ms s
+    pub by_the_end : next_moment r end ms s ≤ end
+    pub no_later : next_moment r end ms s ≤ max (r.clock s + 1) (r.next_interrupt s)
+    pub rise : Rise (next_moment r end ms s) end ms
 
-  next_is : (now : ℕ) (ms : List Moment) (s : S) → Rise (now + 1) end ms → now + 1 ≤ end
+  pub next_is : (now : ℕ) (ms : List Moment) (s : S) → Rise (now + 1) end ms → now + 1 ≤ end
       → r.clock s ≡ now
       → Next ms now s
   next_is now ms s up low clock =

@@ -1,6 +1,8 @@
 -- for crates above: what the rules keep holds after each interrupt
 use Rattle.std.proofs.Common.{◌≡◌, ℕ, zero, suc, ◌+◌, ◌<◌, List, [], ◌∷◌, Bool, true, false, Option}
 use Rattle.std.proofs.Common.{Some, None, refl, ◌∙◌, subst, arith, zero-add}
+use Rattle.std.specs.Prelude.{All}
+use Rattle.std.proofs.lemmas.List.Elements.{All-head, All-tail}
 use Rattle.std.specs.Ordering.{nat_cmp}
 use Rattle.std.specs.FinSet as set
 use Rattle.tm_base.specs.declared.names.Class.{Class}
@@ -15,46 +17,48 @@ use Rattle.play_rules.specs.Rules.{Rules}
 use Rattle.play_rules.specs.Interrupts.{Replies, again, answered, arming_again, drain, drains}
 use Rattle.play_rules.specs.Interrupts.{interrupt, interrupt_where, interrupts, look, look_at}
 use Rattle.play_rules.specs.Interrupts.{look_where, looks, run_jobs, try_where}
-use Rattle.play_laws.proofs.Shape.{Keeps, Stage, begun, between, climbed, looked, looking}
-use Rattle.play_laws.proofs.Shape.{nth_class, own, running}
+use Rattle.play_shape.proofs.Shape.{Keeps, MayRunAgain, Stage, begun, between, climbed, looked, looking}
+use Rattle.play_shape.proofs.Shape.{nth_class, own, running}
 
 -- THE JOBS that a drain hands out keep what arming on the runner keeps
 module _ {S : Type 0} (jobs : Replies) (r : Rules S) (runner : ℕ) (P : S → Type 0)
-    (arms : (s : S) (a : Arming) → r.queued s a.timer.0 ≡ None → P s
+    (Fits : Arming → Type 0)
+    (arms : (s : S) (a : Arming) → Fits a → r.queued s a.timer.0 ≡ None → P s
     → P (r.armed s runner a).state) where
   again_kept : (o : Option Queued) (item : Item) (class : Class) (delay : ℕ) (s : S)
-      → r.queued s item.id ≡ o → P s
+      → MayRunAgain Fits item → r.queued s item.id ≡ o → P s
       → P (again r o runner item class delay s).state
-  again_kept None item class delay s none holds =
-      arms s (arming_again item class delay) none holds
-  again_kept (Some held) item class delay s there holds = holds
+  again_kept None item class delay s fits none holds =
+      arms s (arming_again item class delay) (fits class delay) none holds
+  again_kept (Some held) item class delay s fits there holds = holds
 
-  answer_kept : (reply : JobReply) (item : Item) (s : S) → P s
+  pub answer_kept : (reply : JobReply) (item : Item) (s : S) → MayRunAgain Fits item → P s
       → P (answered r reply runner item s).state
-  answer_kept replies.Done item s holds = holds
-  answer_kept (replies.Mark n) item s holds = holds
-  answer_kept (replies.Again class delay) item s holds =
-      again_kept (r.queued s item.id) item class delay s refl holds
+  answer_kept replies.Done item s fits holds = holds
+  answer_kept (replies.Mark n) item s fits holds = holds
+  answer_kept (replies.Again class delay) item s fits holds =
+      again_kept (r.queued s item.id) item class delay s fits refl holds
 
-  pub jobs_kept : (home : ℕ) (items : List Item) (s : S) → P s
+  pub jobs_kept : (home : ℕ) (items : List Item) (s : S) → All (MayRunAgain Fits) items → P s
       → P (run_jobs jobs r home runner items s).state
   unfolding run_jobs
-  jobs_kept home [] s holds = holds
-  jobs_kept home (item ∷ items) s holds =
-      jobs_kept home items _ (answer_kept _ item s holds)
+  jobs_kept home [] s fits holds = holds
+  jobs_kept home (item ∷ items) s fits holds =
+      jobs_kept home items _ (All-tail (MayRunAgain Fits) item items fits)
+      (answer_kept _ item s (All-head (MayRunAgain Fits) item items fits) holds)
 
 module _ {S : Type 0} (jobs : Replies) (r : Rules S) (cpus timers levels end : ℕ)
     (P : (now : ℕ) → Stage → S → Type 0)
-    (keeps : Keeps r cpus timers levels end P) (now : ℕ) (due : set.FinSet nat_cmp) (c : ℕ)
+    (Fits : Arming → Type 0) (keeps : Keeps r cpus timers levels end Fits P) (now : ℕ) (due : set.FinSet nat_cmp) (c : ℕ)
     (low : c < cpus) where
   -- its own bases
   own_kept : (k : ℕ) (s : S) → k < 3 → P now (own due c k) s
       → P now (own due c (k + 1)) (drain jobs r c (nth_class k) c s).state
   own_kept k s few holds =
-      jobs_kept jobs r c (P now (own due c (k + 1)))
-      (λ t a none at. keeps.ran now due c k t a low few none at) c
+      jobs_kept jobs r c (P now (own due c (k + 1))) Fits
+      (λ t a fits none at. keeps.ran now due c k t a low few fits none at) c
       (r.drained s c (nth_class k) c).items (r.drained s c (nth_class k) c).state
-      (keeps.drained now due c k s low few holds)
+      (keeps.known now due c k s low few holds) (keeps.drained now due c k s low few holds)
 
   drains_kept : (s : S) → P now (own due c 0) s → P now (climbed due c 0) (drains jobs r c s).state
   drains_kept s holds =
@@ -72,12 +76,12 @@ module _ {S : Type 0} (jobs : Replies) (r : Rules S) (cpus timers levels end : �
       keeps.left_alone now due c level n tried d s low is takes holds
   try_kept level n tried d s true takes is holds =
       let out = r.drained (r.taken s c d) d Global c in
-      let had = keeps.drained_for now due c level n tried d _ low
-      (keeps.taken now due c level n tried d s low is takes holds) in
+      let taken = keeps.taken now due c level n tried d s low is takes holds in
+      let had = keeps.drained_for now due c level n tried d _ low taken in
       keeps.let_go now due c level n tried d _ low
-      (jobs_kept jobs r c (P now (running due c level n tried d))
-      (λ t a none at. keeps.ran_for now due c level n tried d t a low none at) d out.items out.state
-      had)
+      (jobs_kept jobs r c (P now (running due c level n tried d)) Fits
+      (λ t a fits none at. keeps.ran_for now due c level n tried d t a low fits none at) d out.items
+      out.state (keeps.known_for now due c level n tried d _ low taken) had)
 
   -- a turn at a level, where the turns behind it keep it
   look_at_kept : (o : Option ℕ) (level n : ℕ) (tried : set.FinSet nat_cmp) (s : S)
@@ -139,7 +143,7 @@ module _ {S : Type 0} (jobs : Replies) (r : Rules S) (cpus timers levels end : �
 -- all interrupts of a moment
 module _ {S : Type 0} (jobs : Replies) (r : Rules S) (cpus timers levels end : ℕ)
     (P : (now : ℕ) → Stage → S → Type 0)
-    (keeps : Keeps r cpus timers levels end P) (now : ℕ) (due : set.FinSet nat_cmp) where
+    (Fits : Arming → Type 0) (keeps : Keeps r cpus timers levels end Fits P) (now : ℕ) (due : set.FinSet nat_cmp) where
   from_kept : (n c : ℕ) (s : S) → c + n ≡ cpus → P now (begun due c) s
       → P now (begun due cpus) (interrupts jobs r n c due s).state
   unfolding interrupts
@@ -147,7 +151,7 @@ module _ {S : Type 0} (jobs : Replies) (r : Rules S) (cpus timers levels end : �
       let same : c ≡ cpus = omega (arith, all) in subst (λ k. P now (begun due k) s) same holds
   from_kept (suc n) c s all holds =
       from_kept n (c + 1) _ (omega (arith, all))
-      (turn_kept jobs r cpus timers levels end P keeps now due c (omega (arith, all))
+      (turn_kept jobs r cpus timers levels end P Fits keeps now due c (omega (arith, all))
       (set.contains due c) s refl holds)
 
   pub interrupts_kept : (s : S) → P now (begun due 0) s

@@ -1,6 +1,6 @@
 -- for crates above: what the rules have to keep, so that a fact holds all through a play under any
 -- rules
-use Rattle.std.specs.Prelude.{◌≡◌, ℕ, zero, suc, ◌+◌, ◌<◌, ◌≤◌, true, false, Some, None, max}
+use Rattle.std.specs.Prelude.{All, ◌^◌, ◌≡◌, ℕ, zero, suc, ◌+◌, ◌<◌, ◌≤◌, true, false, Some, None, max}
 use Rattle.std.specs.Prelude.{nat_le}
 use Rattle.std.specs.Ordering.{nat_cmp}
 use Rattle.std.specs.FinSet as set
@@ -10,7 +10,8 @@ use Rattle.play_rules.specs.declared.asks.Arming.{Arming}
 use Rattle.play_rules.specs.declared.asks.Cancelling.{Cancelling}
 use Rattle.play_rules.specs.declared.asks.Queued.{Queued}
 use Rattle.play_rules.specs.Rules.{Moved, Rules}
-use Rattle.play_rules.specs.Interrupts.{having_interrupt}
+use Rattle.wheel_core.specs.declared.item.Item.{Item}
+use Rattle.play_rules.specs.Interrupts.{arming_again, having_interrupt}
 use Rattle.play_rules.specs.Operations.{last_online}
 
 -- where a moment stands
@@ -43,11 +44,15 @@ nth_class zero = Pinned
 nth_class (suc zero) = Global
 nth_class (suc (suc n)) = Deferrable
 
+-- whatever an item's job asks, what is armed again fits
+abbrev pub MayRunAgain : (Arming → Type 0) → Item → Type 0
+MayRunAgain Fits item = (class : Class) (delay : ℕ) → Fits (arming_again item class delay)
+
 -- each rule keeps what holds at its stage, where the shape of a play asks it. Play has so many
 -- CPUs, timers and levels,
 -- and goes to `end`
 pub record Keeps {S : Type 0} (r : Rules S) (cpus timers levels end : ℕ)
-    (P : (now : ℕ) → Stage → S → Type 0)
+    (Fits : Arming → Type 0) (P : (now : ℕ) → Stage → S → Type 0)
     : Type 0 where
   -- WHAT IS READ
   pub clock : (now : ℕ) (s : S) → P now between s → r.clock s ≡ now
@@ -69,8 +74,10 @@ pub record Keeps {S : Type 0} (r : Rules S) (cpus timers levels end : ℕ)
       P now (begun due c) s → P now (own due c 0) (r.entered s c)
   pub drained : (now : ℕ) (due : set.FinSet nat_cmp) (c k : ℕ) (s : S) → c < cpus → k < 3 →
       P now (own due c k) s → P now (own due c (k + 1)) (r.drained s c (nth_class k) c).state
+  pub known : (now : ℕ) (due : set.FinSet nat_cmp) (c k : ℕ) (s : S) → c < cpus → k < 3 →
+      P now (own due c k) s → All (MayRunAgain Fits) (r.drained s c (nth_class k) c).items
   pub ran : (now : ℕ) (due : set.FinSet nat_cmp) (c k : ℕ) (s : S) (a : Arming) → c < cpus → k < 3 →
-      r.queued s a.timer.0 ≡ None →
+      Fits a → r.queued s a.timer.0 ≡ None →
       P now (own due c (k + 1)) s → P now (own due c (k + 1)) (r.armed s c a).state
   pub drained_all : (now : ℕ) (due : set.FinSet nat_cmp) (c : ℕ) (s : S) → c < cpus →
       P now (own due c 3) s → P now (climbed due c 0) s
@@ -107,9 +114,13 @@ pub record Keeps {S : Type 0} (r : Rules S) (cpus timers levels end : ℕ)
       (tried : set.FinSet nat_cmp) (d : ℕ) (s : S) →
       c < cpus → P now (taking due c level n tried d) s →
       P now (running due c level n tried d) (r.drained s d Global c).state
+  pub known_for : (now : ℕ) (due : set.FinSet nat_cmp) (c level n : ℕ)
+      (tried : set.FinSet nat_cmp) (d : ℕ) (s : S) →
+      c < cpus → P now (taking due c level n tried d) s →
+      All (MayRunAgain Fits) (r.drained s d Global c).items
   pub ran_for : (now : ℕ) (due : set.FinSet nat_cmp) (c level n : ℕ) (tried : set.FinSet nat_cmp)
       (d : ℕ) (s : S)
-      (a : Arming) → c < cpus → r.queued s a.timer.0 ≡ None →
+      (a : Arming) → c < cpus → Fits a → r.queued s a.timer.0 ≡ None →
       P now (running due c level n tried d) s
       → P now (running due c level n tried d) (r.armed s c a).state
   pub let_go : (now : ℕ) (due : set.FinSet nat_cmp) (c level n : ℕ) (tried : set.FinSet nat_cmp)
@@ -123,7 +134,7 @@ pub record Keeps {S : Type 0} (r : Rules S) (cpus timers levels end : ℕ)
   pub interrupted : (now : ℕ) (due : set.FinSet nat_cmp) (s : S) → P now (begun due cpus) s
       → P now between s
   -- OPERATIONS
-  pub armed : (now c : ℕ) (s : S) (a : Arming) → c < cpus → a.timer.0 < timers
+  pub armed : (now c : ℕ) (s : S) (a : Arming) → c < cpus → a.timer.0 < timers → a.delay < 2 ^ 32
       → r.is_online s c ≡ true →
       r.is_idle s c ≡ false → r.queued s a.timer.0 ≡ None →
       P now between s → P now between (r.armed s c a).state

@@ -1,0 +1,5 @@
+pub mod Grow
+pub mod Frame
+pub mod Walks
+pub mod Slots
+pub mod Keeps

@@ -1,0 +1,10 @@
+//! Every step keeps timers, journals and times: each timer is queued at most once, each journal is
+//! legal, and each base agrees with it.
+#![tactic(auto)]
+
+ghost use Rattle.core_timers.specs.Layer.{TimersStayFit};
+
+/// Every step keeps timers, journals and times.
+pub fn law_timers()
+    ensures { TimersStayFit }
+{}

@@ -1,0 +1,14 @@
+pub mod Rising
+pub mod Slots
+pub mod Never
+pub mod First
+pub mod Answering
+pub mod Tops
+pub mod Walking
+pub mod Raising
+pub mod Leaving
+pub mod Telling
+pub mod Storing
+pub mod Ending
+pub mod Keeps
+pub mod Law

@@ -1,0 +1,9 @@
+pub mod Active
+pub mod Covers
+pub mod Dues
+pub mod Firsts
+pub mod Leftmosts
+pub mod Looks
+pub mod Ranges
+pub mod Sights
+pub mod Tops

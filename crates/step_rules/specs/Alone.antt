@@ -1,0 +1,56 @@
+-- a walk that is made from its start to its end, with no other step between
+use Rattle.std.specs.Prelude.{ℕ, zero, suc, ◌+◌, ◌*◌, Bool, true, false, List, [], ◌∷◌, Option, Some, None, if◌then◌else◌}
+use Rattle.tree_plan.specs.Paths.{level_count_of}
+use Rattle.walk_rules.specs.declared.walk.Walk.{Walk}
+use Rattle.walk_rules.specs.declared.walk.Stage.{Stage}
+use Rattle.walk_rules.specs.declared.walk.Stage.TheVariants as stages
+use Rattle.core_world.specs.declared.step.Step.{Step}
+use Rattle.core_world.specs.declared.step.Step.TheVariants as steps
+use Rattle.core_world.specs.Steps.{stepped}
+use Rattle.core_world.specs.World.{World, cpu_of}
+
+-- what a list of steps makes of a world
+abbrev pub after_steps : List Step → World → World
+after_steps [] w = w
+after_steps (step ∷ rest) w = after_steps rest (stepped w step)
+
+-- a walk goes on unless it has ended or waits to hand on
+abbrev pub is_handing : Stage → Bool
+is_handing stages.Handing = true
+is_handing stages.Own = false
+is_handing stages.Up = false
+is_handing (stages.Mark more) = false
+is_handing stages.Read = false
+is_handing stages.Child = false
+is_handing stages.Swap = false
+is_handing stages.LockChild = false
+is_handing stages.LockGroup = false
+is_handing stages.SeeChild = false
+is_handing stages.SeeGroup = false
+is_handing (stages.Scan k) = false
+is_handing stages.Store = false
+is_handing (stages.First k) = false
+is_handing stages.FreeGroup = false
+is_handing stages.FreeChild = false
+is_handing stages.Finish = false
+
+abbrev pub goes_on : Option Walk → Bool
+goes_on None = false
+goes_on (Some k) = if is_handing k.stage then false else true
+
+-- at most n steps of CPU c's walk
+unfoldable pub walk_steps : (n c : ℕ) → World → World
+walk_steps zero c w = w
+walk_steps (suc n) c w =
+    if goes_on (cpu_of w c).walk
+    then walk_steps n c (stepped w (steps.Walk (record { 0 = c })))
+    else w
+
+-- a walk that is alone has at most 32 steps at a level: up to an exchange, eight events to scan,
+-- eight to look through at the top, locks and reads
+abbrev pub most_steps : World → ℕ
+most_steps w = 32 * (level_count_of w.tree + 1)
+
+-- CPU c's walk is made to its end
+abbrev pub walked_out : (c : ℕ) → World → World
+walked_out c w = walk_steps (most_steps w) c w

@@ -1,0 +1,5 @@
+pub mod Alike
+pub mod Alone
+pub mod Live
+pub mod Seen
+pub mod StepRules

@@ -1,0 +1,16 @@
+pub mod Firsts
+pub mod Touches
+pub mod Walking
+pub mod Seeing
+pub mod Calm
+pub mod Scans
+pub mod Alongside
+pub mod Made
+pub mod Marking
+pub mod Ascents
+pub mod Rising
+pub mod Climbing
+pub mod Actives
+pub mod Starting
+pub mod Woken
+pub mod Waking
