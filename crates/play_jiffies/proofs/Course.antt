@@ -18,16 +18,14 @@ use Rattle.play_rules.specs.Play.{ended as interrupt_ended, hands_on, plain_rule
 use Rattle.play_shape.proofs.Shape.{Stage, begun, between, climbed, leaving, looked, looking, moving}
 use Rattle.play_shape.proofs.Shape.{nth_class, own, running, taking}
 
--- an item's number and argument are in range
-pub record IsItemIn (item : Item) : Type 0 where
-  pub id : item.id < 2 ^ 16
-  pub arg : item.arg < 2 ^ 32
+-- an item's number is in range
+abbrev pub IsItemIn : Item → Type 0
+IsItemIn item = item.id < 2 ^ 16
 
--- and so are those of an arming
+-- and so are an arming's number and delay
 pub record IsArmingIn (a : Arming) : Type 0 where
   pub timer : a.timer.0 < 2 ^ 16
   pub delay : a.delay < 2 ^ 32
-  pub arg : a.arg < 2 ^ 32
 
 -- each rule of the plain machine keeps what holds at its stage, where a play asks it. A CPU that
 -- goes offline is `leaving` until its timers have moved

@@ -1,5 +1,5 @@
 -- what is kept holds after each interrupt
-use Rattle.std.proofs.Common.{◌≡◌, ℕ, zero, suc, ◌+◌, ◌^◌, ◌<◌, List, [], ◌∷◌, Bool, true, false}
+use Rattle.std.proofs.Common.{◌≡◌, ℕ, zero, suc, ◌+◌, ◌<◌, List, [], ◌∷◌, Bool, true, false}
 use Rattle.std.proofs.Common.{Option, Some, None, refl, ◌∙◌, subst, arith, zero-add}
 use Rattle.std.specs.Prelude.{All}
 use Rattle.std.specs.Ordering.{nat_cmp}
@@ -22,31 +22,27 @@ use Rattle.play_rules.specs.Interrupts.{look_at, look_where, looks, run_jobs, tr
 use Rattle.play_rules.specs.Play.{plain_rules}
 use Rattle.play_shape.proofs.Shape.{Stage, begun, between, climbed, looked, looking, nth_class, own}
 use Rattle.play_shape.proofs.Shape.{running}
-use Rattle.play_jiffies.specs.Jiffies.{AskInRange}
 use Rattle.play_jiffies.proofs.Course.{IsArmingIn, IsItemIn, KeepsCourse}
 
-module _ (jobs : Replies) (asks : AskInRange jobs) where
+module _ (jobs : Replies) where
   -- THE JOBS that a drain hands out keep what arming on the runner keeps
   module _ (runner : ℕ) (P : State → Type 0)
       (arms : (s : State) (a : Arming) → IsArmingIn a → queued_on s a.timer.0 ≡ None → P s
       → P (armed_on s runner a).state)
     where
       again_kept : (o : Option Queued) (item : Item) (class : Class) (delay : ℕ) (s : State)
-          → IsItemIn item → delay < 2 ^ 32
-          → queued_on s item.id ≡ o → P s → P (again plain_rules o runner item class delay s).state
-      again_kept None item class delay s known short none holds =
-          arms s (arming_again item class delay)
-          (record { timer = known.id; delay = short; arg = known.arg }) none holds
-      again_kept (Some held) item class delay s known short there holds = holds
+          → IsItemIn item → queued_on s item.id ≡ o → P s → P (again plain_rules o runner item class delay s).state
+      again_kept None item class delay s known none holds =
+          arms s (arming_again item class delay) (record { timer = known; delay = omega arith }) none
+          holds
+      again_kept (Some held) item class delay s known there holds = holds
 
       answer_kept : (reply : JobReply) (item : Item) (s : State) → IsItemIn item
-          → ((class : Class) (delay : ℕ) → reply ≡ replies.Again class delay → delay < 2 ^ 32)
           → P s → P (answered plain_rules reply runner item s).state
-      answer_kept replies.Done item s known short holds = holds
-      answer_kept (replies.Mark n) item s known short holds = holds
-      answer_kept (replies.Again class delay) item s known short holds =
-          again_kept (queued_on s item.id) item class delay s known
-          (short class delay refl) refl holds
+      answer_kept replies.Done item s known holds = holds
+      answer_kept (replies.Mark n) item s known holds = holds
+      answer_kept (replies.Again class delay) item s known holds =
+          again_kept (queued_on s item.id) item class delay s known refl holds
 
       jobs_kept : (home : ℕ) (items : List Item) (s : State) → All IsItemIn items → P s
           → P (run_jobs jobs plain_rules home runner items s).state
@@ -55,9 +51,7 @@ module _ (jobs : Replies) (asks : AskInRange jobs) where
       jobs_kept home (item ∷ items) s known holds =
           let this = All-head IsItemIn item items known in
           jobs_kept home items _ (All-tail IsItemIn item items known)
-          (answer_kept (jobs item.job (job_call plain_rules s runner item)) item s this
-          (λ class delay is. asks item.job (job_call plain_rules s runner item) class delay this.arg
-          is) holds)
+          (answer_kept (jobs item.job (job_call plain_rules s runner item)) item s this holds)
 
   module _ (cpus levels : ℕ) (P : (now : ℕ) → Stage → State → Type 0)
       (keeps : KeepsCourse cpus levels P) (now : ℕ) (due : set.FinSet nat_cmp) (c : ℕ)

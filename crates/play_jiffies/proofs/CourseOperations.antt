@@ -187,7 +187,6 @@ module _ (cpus levels : ℕ) (P : (now : ℕ) → Stage → State → Type 0)
         (record {
           timer = omega (arith, known.timer_in_range, few);
           delay = known.delay_in_range;
-          arg = known.arg_in_range;
         })
         active.online active.busy (held_none (queued_on s timer.0) (then_none refused held none))
         holds

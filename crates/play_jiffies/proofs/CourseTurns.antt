@@ -15,7 +15,6 @@ use Rattle.play_rules.specs.Moments.{next_moment, next_said, scripted, turn, tur
 use Rattle.play_rules.specs.Play.{at_clock, next_interrupt, plain_rules}
 use Rattle.play_shape.proofs.Shape.{Stage, begun, between}
 use Rattle.play_shape.proofs.ShapeTurns.{Rise}
-use Rattle.play_jiffies.specs.Jiffies.{AskInRange}
 use Rattle.play_jiffies.proofs.Course.{KeepsCourse}
 use Rattle.play_jiffies.proofs.CourseInterrupts.{interrupts_kept}
 use Rattle.play_jiffies.proofs.CourseOperations.{operations_kept}
@@ -83,7 +82,7 @@ next_is end now ms s up low clock =
       rise = rise_from (now + 1) (next_moment plain_rules end ms s) end ms up by_said;
     }
 
-module _ (jobs : Replies) (asks : AskInRange jobs) (cpus levels end version timers : ℕ)
+module _ (jobs : Replies) (cpus levels end version timers : ℕ)
     (few : timers ≤ 2 ^ 16)
     (P : (now : ℕ) → Stage → State → Type 0) (keeps : KeepsCourse cpus levels P)
     (Known : State → Type 0)
@@ -107,7 +106,7 @@ module _ (jobs : Replies) (asks : AskInRange jobs) (cpus levels end version time
       → P now between (moment_now jobs plain_rules ms now s).state
   moment_kept now ms s known holds =
       scripted_kept now (moment_at now ms) _ (moment_in (IsMoment version cpus timers) now ms known)
-      (interrupts_kept jobs asks cpus levels P keeps now
+      (interrupts_kept jobs cpus levels P keeps now
       (having_interrupt plain_rules s) s holds)
 
   abbrev pub Both : State → Type 0

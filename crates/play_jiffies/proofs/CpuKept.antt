@@ -29,10 +29,9 @@ use Rattle.play_laws.proofs.Bases.{IsBase, cancelled_kept, changed_kept, handed_
 use Rattle.play_laws.proofs.Bases.{moved_out_kept}
 use Rattle.play_jiffies.specs.Jiffies.{HandedOnTime, IsOnTime, IsRecorded}
 
--- ITEMS of a CPU: their argument is in range, and the CPU owns their timer
-pub record IsItemOf (owner : ℕ → ℕ) (c : ℕ) (item : Item) : Type 0 where
-  pub arg : item.arg < 2 ^ 32
-  pub owned : owner item.id ≡ c
+-- ITEMS of a CPU: the CPU owns their timer
+abbrev pub IsItemOf : (owner : ℕ → ℕ) (c : ℕ) → Item → Type 0
+IsItemOf owner c item = owner item.id ≡ c
 
 -- the bases of CPU c and their journal
 pub record IsCpu (now c : ℕ) (owner : ℕ → ℕ) (b : CpuBases) : Type 0 where
@@ -59,10 +58,8 @@ none_apart timer (item ∷ items) none =
 still_owned : (owner : ℕ → ℕ) (timer c d : ℕ) (item : Item) → (item.id ≡ timer → ⊥)
     → IsItemOf owner d item
     → IsItemOf (owning owner timer c) d item
-still_owned owner timer c d item apart is = record {
-  arg = is.arg;
-  owned = cond-false (item.id == timer) c (owner item.id) (ne_eqb item.id timer apart) ∙ is.owned;
-}
+still_owned owner timer c d item apart is =
+    cond-false (item.id == timer) c (owner item.id) (ne_eqb item.id timer apart) ∙ is
 
 -- the items of a CPU on which the timer isn't queued stay its own
 items_owned : (now : ℕ) (owner : ℕ → ℕ) (timer c d : ℕ) (b : CpuBases) → class_in timer b ≡ None
@@ -90,11 +87,11 @@ module _ (now c : ℕ) (owner : ℕ → ℕ) (early : now < SCRIPT_TIME_LIMIT) w
   owned_here timer = cond-true (timer == timer) c (owner timer) (eq-eqb timer timer refl)
 
   -- the base that gets the item
-  added_base : (time timer expires job arg : ℕ) (base : PlainBase) → arg < 2 ^ 32 → time ≤ now + 1
+  added_base : (time timer expires job arg : ℕ) (base : PlainBase) → time ≤ now + 1
       → IsBase (IsItemOf (owning owner timer c) c) now base
       → IsBase (IsItemOf (owning owner timer c) c) now
       (added timer expires job arg (forwarded time base))
-  added_base time timer expires job arg base short soon holds =
+  added_base time timer expires job arg base soon holds =
       let Q = IsItemOf (owning owner timer c) c in
       let near = holds.near in
       let forward = clock-forwarded_le time base in
@@ -102,7 +99,7 @@ module _ (now c : ℕ) (owner : ℕ → ℕ) (early : now < SCRIPT_TIME_LIMIT) w
         all =
             All-push Q base.items (placed (forwarded time base).clock timer expires job arg)
             holds.all
-            (record { arg = short; owned = owned_here timer });
+            (owned_here timer);
         near = omega (arith, near, forward, soon);
       }
 
@@ -119,13 +116,13 @@ module _ (now c : ℕ) (owner : ℕ → ℕ) (early : now < SCRIPT_TIME_LIMIT) w
 
   queued_cpu : (act : Act) (line time : ℕ) (class : Class) (timer expires job arg : ℕ) (by : CpuId)
       (b : CpuBases)
-      → arg < 2 ^ 32 → time ≤ now + 1 → class_in timer b ≡ None → IsCpu now c owner b
+      → time ≤ now + 1 → class_in timer b ≡ None → IsCpu now c owner b
       → let new = queued act line now time class timer expires job arg by b in
       IsConsistent new × Keeps now b new
       → HandedOnTime act
       (entry_of act line now class (item_queued time class timer expires job arg b) by)
       → IsCpu now c (owning owner timer c) new
-  queued_cpu act line time class timer expires job arg by b short soon none is kept on_time =
+  queued_cpu act line time class timer expires job arg by b soon none is kept on_time =
       let entry = entry_of act line now class (item_queued time class timer expires job arg b) by in
       record {
         told = record {
@@ -137,25 +134,25 @@ module _ (now c : ℕ) (owner : ℕ → ℕ) (early : now < SCRIPT_TIME_LIMIT) w
         items = λ k.
             changed_kept (IsBase (IsItemOf (owning owner timer c) c) now) k class
             (added timer expires job arg (forwarded time (base_of class b))) b
-            (added_base time timer expires job arg (base_of class b) short soon)
+            (added_base time timer expires job arg (base_of class b) soon)
             (items_owned now owner timer c c b none k (is.items k));
       }
 
   pub armed_cpu : (class : Class) (timer expires job arg line : ℕ) (by : CpuId) (b : CpuBases)
       → expires < TIME_LIMIT
-      → timer < 2 ^ 16 → arg < 2 ^ 32 → class_in timer b ≡ None → IsCpu now c owner b
+      → timer < 2 ^ 16 → class_in timer b ≡ None → IsCpu now c owner b
       → IsCpu now c (owning owner timer c) (armed now class timer expires job arg line by b)
-  armed_cpu class timer expires job arg line by b in_time fits short none is =
-      queued_cpu acts.Armed line now class timer expires job arg by b short (omega arith) none is
+  armed_cpu class timer expires job arg line by b in_time fits none is =
+      queued_cpu acts.Armed line now class timer expires job arg by b (omega arith) none is
       (arming_keeps now class timer expires job arg line by b is.told.consistent
       (may_queue class timer expires b in_time fits none (is.ahead class))) tt
 
   pub moved_in_cpu : (class : Class) (timer expires job arg : ℕ) (by : CpuId) (b : CpuBases)
       → expires < TIME_LIMIT
-      → timer < 2 ^ 16 → arg < 2 ^ 32 → class_in timer b ≡ None → IsCpu now c owner b
+      → timer < 2 ^ 16 → class_in timer b ≡ None → IsCpu now c owner b
       → IsCpu now c (owning owner timer c) (moved_in now class timer expires job arg by b)
-  moved_in_cpu class timer expires job arg by b in_time fits short none is =
-      queued_cpu acts.MovedIn 0 (now + 1) class timer expires job arg by b short
+  moved_in_cpu class timer expires job arg by b in_time fits none is =
+      queued_cpu acts.MovedIn 0 (now + 1) class timer expires job arg by b
       (omega arith) none is
       (moving_in_keeps now class timer expires job arg by b is.told.consistent
       (may_queue class timer expires b in_time fits none (is.ahead class))) tt

@@ -93,7 +93,7 @@ each_has_ended s is c i arming low there arms waking come =
     ended_by s is c low i arming there arms waking come
 
 pub each_has_ended_after_each : EachHasEndedAfterEach
-each_has_ended_after_each jobs script asks is =
+each_has_ended_after_each jobs script is =
     All-weaker (λ (u : Turn State). InItsJiffy u.played.state) (λ u. EachHasEnded u.played.state)
     (λ u in_jiffy. each_has_ended u.played.state in_jiffy) (play_turns jobs script)
-    (in_its_jiffy_after_each jobs script asks is)
+    (in_its_jiffy_after_each jobs script is)

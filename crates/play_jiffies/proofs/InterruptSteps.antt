@@ -194,8 +194,7 @@ module _ (cpus levels now : ℕ) (due : set.FinSet nat_cmp) where
       let fits = one.cpu.told.consistent.fits class in
       due_all IsItemIn (length (base_of class (bases_at s home)).items) s.clock
       (base_of class (bases_at s home)) fits.sound
-      (λ k d below.
-      record { id = fits.timers k d below; arg = ((one.cpu.items class).all k d below).arg })
+      fits.timers
 
   pub free_in : (HadP HadG : ℕ → Type 0) (Seen : (c level : ℕ) → Type 0) (s : State) (timer : ℕ)
       → Inside cpus levels now due HadP HadG Seen s → queued_on s timer ≡ None

@@ -27,7 +27,7 @@ use Rattle.play_laws.proofs.Settles.{Whole}
 use Rattle.play_shape.proofs.Shape.{Stage, begun, between, climbed, leaving, looked, looking, moving}
 use Rattle.play_shape.proofs.Shape.{own, running, taking}
 use Rattle.play_laws.proofs.States.{IsKept, Nobody}
-use Rattle.play_jiffies.specs.Jiffies.{AreRecordedOnce, AskInRange, InItsJiffy, InItsJiffyAfterEach}
+use Rattle.play_jiffies.specs.Jiffies.{AreRecordedOnce, InItsJiffy, InItsJiffyAfterEach}
 use Rattle.play_jiffies.proofs.Comes.{comes, none_passed}
 use Rattle.play_jiffies.proofs.Course.{KeepsCourse}
 use Rattle.play_jiffies.proofs.CourseTurns.{course_kept}
@@ -143,7 +143,7 @@ owns_by timer c now owner b (Some (class, item)) at cpu is =
     let own =
     item_holds (IsItemOf owner c) timer (base_of class b).items item
     (cpu.items class).all there.found in
-    ap owner (sym there.same) ∙ own.owned
+    ap owner (sym there.same) ∙ own
 
 none_there : (items : List Item) → All (λ (item : Item). ⊥) items → items ≡ []
 none_there [] none = refl
@@ -180,7 +180,7 @@ module _ (cpus levels now : ℕ) (s : State) (quiet : Between cpus levels now s)
   }
 
 -- THE LAW
-module _ (jobs : Replies) (script : Script) (asks : AskInRange jobs) (is : IsScript script) where
+module _ (jobs : Replies) (script : Script) (is : IsScript script) where
   abbrev tree : Shape
   tree = tree_for script
 
@@ -212,7 +212,7 @@ module _ (jobs : Replies) (script : Script) (asks : AskInRange jobs) (is : IsScr
       (λ u both. in_its_jiffy (cpu_count_of tree) (level_count_of tree) both.0.0 u.played.state
       both.0.1 both.1.1.kept)
       (play_turns jobs script)
-      (course_kept jobs asks (cpu_count_of tree) (level_count_of tree) script.end script.version
+      (course_kept jobs (cpu_count_of tree) (level_count_of tree) script.end script.version
       script.timers few_timers
       (Keep (cpu_count_of tree) (level_count_of tree))
       (course (cpu_count_of tree) (level_count_of tree)) Known comes_on
@@ -221,4 +221,4 @@ module _ (jobs : Replies) (script : Script) (asks : AskInRange jobs) (is : IsScr
       (first_begun script is) (kept_after_each jobs script is))
 
 pub in_its_jiffy_after_each : InItsJiffyAfterEach
-in_its_jiffy_after_each jobs script asks is = law jobs script asks is
+in_its_jiffy_after_each jobs script is = law jobs script is

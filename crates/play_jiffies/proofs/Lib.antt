@@ -20,4 +20,3 @@ pub mod Jiffies
 pub mod Endings
 pub mod FirstDrains
 pub mod Runners
-pub mod Asks

@@ -148,12 +148,11 @@ module _ (cpus : ℕ) (F G : ℕ → Cpu → Type 0) (s : State) (holds : Holds 
       come_holds a.timer.0 (armed_bases s c a) nowhere_queued
       (armed_cpu s.clock c holds.owner early a.class a.timer.0
       (s.clock + a.delay) a.job a.arg a.line (record { 0 = c })
-      (bases_at s c) (omega (arith, short, early)) known.timer known.arg (nowhere_queued c low)
+      (bases_at s c) (omega (arith, short, early)) known.timer (nowhere_queued c low)
       (holds.each c low).cpu)
       here others
 
   pub move_in_holds : (class : Class) (item : Item) → item.expires < TIME_LIMIT → item.id < 2 ^ 16
-      → item.arg < 2 ^ 32
       → IsNowhere item.id
       → G c
       (record (cpu_at s c) {
@@ -162,14 +161,14 @@ module _ (cpus : ℕ) (F G : ℕ → Cpu → Type 0) (s : State) (holds : Holds 
             (bases_at s c);
       })
       → Others → Holds cpus G (moved_into s c (class, item)).state
-  move_in_holds class item in_time fits short nowhere_queued here others =
+  move_in_holds class item in_time fits nowhere_queued here others =
       come_holds item.id
       (moved_in s.clock class item.id item.expires item.job item.arg (record { 0 = c })
       (bases_at s c))
       nowhere_queued
       (moved_in_cpu s.clock c holds.owner holds.early class item.id item.expires item.job item.arg
       (record { 0 = c })
-      (bases_at s c) in_time fits short (nowhere_queued c low) (holds.each c low).cpu)
+      (bases_at s c) in_time fits (nowhere_queued c low) (holds.each c low).cpu)
       here others
 
   pub move_out_holds : (to : ℕ) (class : Class)
@@ -248,7 +247,7 @@ owner_by timer d now owner b (Some (class, item)) is cpu other =
     let own =
     item_holds (IsItemOf owner d) timer (base_of class b).items item
     (cpu.items class).all at.found in
-    absurd (other (ap owner (sym at.same) ∙ own.owned))
+    absurd (other (ap owner (sym at.same) ∙ own))
 
 -- a timer isn't in the bases of a CPU that doesn't own it
 pub elsewhere : (timer d now : ℕ) (owner : ℕ → ℕ) (b : CpuBases) → IsCpu now d owner b

@@ -222,7 +222,7 @@ module _ (cpus levels now : ℕ) where
               let own =
               item_holds (IsItemOf quiet.holds.owner from) item.id
               (base_of class (bases_at s from)).items item (one.cpu.items class).all found in
-              other (sym owned ∙ own.owned)))
+              other (sym owned ∙ own)))
         ]
 
     to_in : (let x : CpuBases = bases_at t to in
@@ -260,7 +260,7 @@ module _ (cpus levels now : ℕ) where
         (one.cpu.items class).all found in
         move_in_holds cpus (Leaves from s.clock) (Leaves from s.clock) t out to moving.low class
         item placed.expires
-        (item_holds (λ i. i.id < 2 ^ 16) item.id items item fits.timers found) own.arg nowhere to_in
+        (item_holds (λ i. i.id < 2 ^ 16) item.id items item fits.timers found) nowhere to_in
         (λ d below other was. was)
 
     to_there : to < cpu_count t

@@ -1,11 +1,9 @@
 -- each timer in its jiffy: what holds after each moment of a play
-use Rattle.std.specs.Prelude.{◌≡◌, ℕ, ◌^◌, ◌<◌, ◌≤◌, All, [], List, Bool, true, false, Some}
+use Rattle.std.specs.Prelude.{◌≡◌, ℕ, ◌<◌, ◌≤◌, All, [], List, Bool, true, false, Some}
 use Rattle.std.specs.Prelude.{is_some, slice_get}
 use Rattle.std.specs.FinSet as set
 use Rattle.tm_base.specs.declared.names.Class.{Class}
 use Rattle.tm_base.specs.declared.names.Class.TheVariants.{Pinned, Global, Deferrable}
-use Rattle.job_table.specs.declared.jobs.JobCall.{JobCall}
-use Rattle.job_table.specs.declared.jobs.JobReply.TheVariants as replies
 use Rattle.tm_script.specs.declared.syntax.Script.{Script}
 use Rattle.tm_script.specs.Grammar.{IsScript}
 use Rattle.wheel_core.specs.declared.item.Item.{Item}
@@ -19,12 +17,6 @@ use Rattle.play_rules.specs.Interrupts.{Replies, having_interrupt, interrupts}
 use Rattle.play_rules.specs.State.{State, cpu_at, cpu_count}
 use Rattle.play_rules.specs.Timers.{bases_at}
 use Rattle.play_rules.specs.Play.{AfterEachMoment, next_interrupt, plain_rules}
-
--- the delay for which a job asks is of 32 bits where the number that its timer was armed with is
-abbrev pub AskInRange : Replies → Type 0
-AskInRange jobs =
-    (job : ℕ) (call : JobCall) (class : Class) (delay : ℕ) → call.arg < 2 ^ 32
-    → jobs job call ≡ replies.Again class delay → delay < 2 ^ 32
 
 -- HANDED OUT in its jiffy: a pinned or global timer at its wheel expiry, a deferrable one not
 -- before it
@@ -78,8 +70,7 @@ pub record InItsJiffy (s : State) : Type 0 where
 -- and so after each moment of every script's play
 abbrev pub InItsJiffyAfterEach : Type 0
 InItsJiffyAfterEach =
-    (jobs : Replies) (script : Script) → AskInRange jobs → IsScript script
-    → AfterEachMoment InItsJiffy jobs script
+    (jobs : Replies) (script : Script) → IsScript script → AfterEachMoment InItsJiffy jobs script
 
 -- ENDS: the arming at place i of a journal has its end there, which is no hand-out but at its wheel
 -- expiry
@@ -105,8 +96,7 @@ EachHasEnded s = (c i : ℕ) (arming : Entry) → c < cpu_count s
 
 abbrev pub EachHasEndedAfterEach : Type 0
 EachHasEndedAfterEach =
-    (jobs : Replies) (script : Script) → AskInRange jobs → IsScript script
-    → AfterEachMoment EachHasEnded jobs script
+    (jobs : Replies) (script : Script) → IsScript script → AfterEachMoment EachHasEnded jobs script
 
 -- IN THE FIRST DRAIN: the arming at place i of a journal has no end before place k
 pub record StandsAt (journal : List Entry) (i k : ℕ) (arming : Entry) : Type 0 where

@@ -1,8 +1,7 @@
 //! What holds after each moment of a play, and of journals. Each of these functions does nothing;
 //! its contract is the law.
 
-ghost use Rattle.job_table.specs.Standard.{standard_reply};
-ghost use Rattle.play_jiffies.specs.Jiffies.{AskInRange, EachHasEndedAfterEach, InFirstDrain};
+ghost use Rattle.play_jiffies.specs.Jiffies.{EachHasEndedAfterEach, InFirstDrain};
 ghost use Rattle.play_jiffies.specs.Jiffies.{InItsJiffyAfterEach, RunnersAreOnline};
 
 /// After each moment of every script's play each pinned or global timer that was handed out was so
@@ -25,9 +24,4 @@ pub fn law_ends()
 /// begins and as it ends.
 pub fn law_runners()
     ensures { RunnersAreOnline }
-{}
-
-/// The jobs of the program's table ask for delays in range, as the laws want it.
-pub fn law_standard_jobs()
-    ensures { AskInRange standard_reply }
 {}

@@ -4,4 +4,4 @@
 
 mod laws;
 
-pub use laws::{law_ends, law_in_its_jiffy, law_runners, law_standard_jobs};
+pub use laws::{law_ends, law_in_its_jiffy, law_runners};
