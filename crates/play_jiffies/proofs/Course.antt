@@ -15,7 +15,8 @@ use Rattle.play_rules.specs.Timers.{armed_on, cancelled_on, controller, controll
 use Rattle.play_rules.specs.Timers.{drained_on, moved as moved_from, queued_on}
 use Rattle.play_rules.specs.Operations.{last_online}
 use Rattle.play_rules.specs.Play.{ended as interrupt_ended, hands_on, plain_rules, successor}
-use Rattle.play_shape.proofs.Shape.{Stage, begun, between, climbed, leaving, looked, looking, moving}
+use Rattle.play_shape.proofs.Shape.{Stage, begun, between, climbed, leaving, looked, looking}
+use Rattle.play_shape.proofs.Shape.{moving}
 use Rattle.play_shape.proofs.Shape.{nth_class, own, running, taking}
 
 -- an item's number is in range

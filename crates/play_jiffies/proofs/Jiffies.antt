@@ -24,7 +24,8 @@ use Rattle.play_laws.proofs.Hotplug.{successor_is}
 use Rattle.play_laws.proofs.Plays.{kept_after_each}
 use Rattle.play_laws.proofs.Scripts.{moments_rise, tree_for}
 use Rattle.play_laws.proofs.Settles.{Whole}
-use Rattle.play_shape.proofs.Shape.{Stage, begun, between, climbed, leaving, looked, looking, moving}
+use Rattle.play_shape.proofs.Shape.{Stage, begun, between, climbed, leaving, looked, looking}
+use Rattle.play_shape.proofs.Shape.{moving}
 use Rattle.play_shape.proofs.Shape.{own, running, taking}
 use Rattle.play_laws.proofs.States.{IsKept, Nobody}
 use Rattle.play_jiffies.specs.Jiffies.{AreRecordedOnce, InItsJiffy, InItsJiffyAfterEach}
