@@ -31,10 +31,11 @@ module _ (jobs : Replies) where
       → P (armed_on s runner a).state)
     where
       again_kept : (o : Option Queued) (item : Item) (class : Class) (delay : ℕ) (s : State)
-          → IsItemIn item → queued_on s item.id ≡ o → P s → P (again plain_rules o runner item class delay s).state
+          → IsItemIn item → queued_on s item.id ≡ o → P s
+          → P (again plain_rules o runner item class delay s).state
       again_kept None item class delay s known none holds =
-          arms s (arming_again item class delay) (record { timer = known; delay = omega arith }) none
-          holds
+          arms s (arming_again item class delay)
+          (record { timer = known; delay = omega arith }) none holds
       again_kept (Some held) item class delay s known there holds = holds
 
       answer_kept : (reply : JobReply) (item : Item) (s : State) → IsItemIn item
