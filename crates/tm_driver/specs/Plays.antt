@@ -6,6 +6,7 @@ use Rattle.play_rules.specs.Interrupts.{Replies}
 use Rattle.play_rules.specs.Jobs.{first_unknown_job}
 use Rattle.play_rules.specs.Moments.{last_state, whole_lines}
 use Rattle.play_rules.specs.Parts.{counted}
+use Rattle.play_jiffies.specs.Jiffies.{EachHasEnded, InItsJiffy}
 use Rattle.play_laws.specs.Settled.{IsSettled}
 use Rattle.play_rules.specs.Play.{AfterEachMoment, plain_rules, play_spent, play_start, play_text, play_turns}
 use Rattle.play_rules.specs.Tallies.{no_lines, tallied_all}
@@ -21,13 +22,16 @@ pub record CanPlay (jobs : Replies) (table : ℕ) (script : Script) : Type 0 whe
   pub within : play_spent jobs (work_limit script.version) script ≡ None
 
 -- the report has gained the text of the script's play, and this is the state that its last moment
--- leaves; after each moment each global timer that is queued on an idle CPU is held or woken for
+-- leaves; after each moment each global timer that is queued on an idle CPU is held or woken for,
+-- and each pinned or global timer whose wheel expiry has come has its end, in its jiffy
 pub record Plays (jobs : Replies) (table : ℕ) (script : Script) (old new : List ℕ) (last : State)
     : Type 0 where
   pub text : new ≡ old ++ play_text jobs script
   pub state : last ≡ last_state (play_start script) (play_turns jobs script)
   pub can_play : CanPlay jobs table script
   pub settled : AfterEachMoment IsSettled jobs script
+  pub in_its_jiffy : AfterEachMoment InItsJiffy jobs script
+  pub ended : AfterEachMoment EachHasEnded jobs script
 
 -- why it isn't played to its end, and what the report has gained then
 abbrev pub BreaksPlay : Replies → (table : ℕ) → Script → DriveFault → (old new : List ℕ) → Type 0

@@ -10,6 +10,7 @@ use crate::numbers::Summary;
 use crate::outcomes::{Counts, DriveFault};
 use crate::playing::play_on;
 use job_table::Jobs;
+use play_jiffies::{law_ends, law_in_its_jiffy};
 use play_laws::law_settled;
 use quiet_machine::Quiet;
 use std::alloc::Global;
@@ -46,6 +47,8 @@ pub fn play<J: Jobs>(
         BreaksPlay (J.replies jobs.now) (J.count jobs.now) script.now fault report.old report.new) }
 {
     law_settled();
+    law_in_its_jiffy();
+    law_ends();
     let mut quiet = started(alloc, script)?;
     play_on(alloc, &mut quiet, script, jobs, report)?;
     Ok(quiet)

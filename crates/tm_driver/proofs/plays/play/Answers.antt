@@ -12,3 +12,5 @@ pub returns-clause-whole : goal.returns-clause-whole
 returns-clause-whole g c =
     whole_plays _ _ _ _ _ _ _ _ c.in_ok-quiet.ensures c.in_ok-play_on.ensures.whole
     (c.law_settled.ensures (g.J.Jobs.replies c.args.jobs.now) c.args.script.now c.requires)
+    (c.law_in_its_jiffy.ensures (g.J.Jobs.replies c.args.jobs.now) c.args.script.now c.requires)
+    (c.law_ends.ensures.each_has_ended (g.J.Jobs.replies c.args.jobs.now) c.args.script.now c.requires)
