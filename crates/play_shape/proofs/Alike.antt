@@ -97,8 +97,8 @@ pub record Alike {S T : Type 0} (r : Rules S) (q : Rules T) (f : S → T) (cpus 
   pub armed : (now c : ℕ) (s : S) (a : Arming) → c < cpus → a.timer.0 < timers → a.delay < 2 ^ 32 → r.is_online s c ≡ true →
       r.is_idle s c ≡ false → r.queued s a.timer.0 ≡ None → P now between s →
       placed_seen f (r.armed s c a) ≡ q.armed (f s) c a
-  pub cancelled : (now c : ℕ) (s : S) (held : Queued) (a : Cancelling) → c < cpus → a.timer.0 < timers →
-      r.is_online s c ≡ true → r.is_idle s c ≡ false → r.queued s a.timer.0 ≡ Some held → P now between s →
+  pub cancelled : (now c : ℕ) (s : S) (held : Queued) (a : Cancelling) → c < cpus →
+      (a.timer.0 < timers) × (a.by.0 < cpus) → r.is_online s c ≡ true → r.is_idle s c ≡ false → r.queued s a.timer.0 ≡ Some held → P now between s →
       f (r.cancelled s held.cpu.0 a) ≡ q.cancelled (f s) held.cpu.0 a
   pub idled : (now c : ℕ) (s : S) → c < cpus → r.is_online s c ≡ true → r.is_idle s c ≡ false →
       nat_le (r.first_event s c) (r.clock s + 1) ≡ false → P now between s → f (r.idled s c) ≡ q.idled (f s) c

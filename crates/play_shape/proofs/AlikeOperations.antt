@@ -67,7 +67,7 @@ module _ {S T : Type 0} (r : Rules S) (q : Rules T) (f : S → T) (cpus timers l
       ap (λ now. printing (lines.Arm now cpu a.timer a.class (r.armed s cpu.0 a).wheel) (f (r.armed s cpu.0 a).state)) (sym (alike.clock s))
       ∙ ap (arm_printed q (f s) cpu a.timer a.class) e
 
-  cancel_alike : (o : Option Queued) (c : ℕ) (a : Cancelling) (s : S) → c < cpus → a.timer.0 < timers → IsActive r s c
+  cancel_alike : (o : Option Queued) (c : ℕ) (a : Cancelling) (s : S) → c < cpus → (a.timer.0 < timers) × (a.by.0 < cpus) → IsActive r s c
       → r.queued s a.timer.0 ≡ o → P now between s → seen f (cancel_where r o a s) ≡ cancel_where q o a (f s)
   cancel_alike None c a s low known active is holds = printed (λ n. lines.NotQueued n a.by a.timer) s s (f s) refl
   cancel_alike (Some held) c a s low known active is holds =
@@ -119,7 +119,7 @@ module _ {S T : Type 0} (r : Rules S) (q : Rules T) (f : S → T) (cpus timers l
       (alike.armed now cpu.0 s (record { timer = timer; class = class; delay = delay; job = job; arg = arg; line = line })
       low known.0 known.1 active.online active.busy free holds)
   done_alike (whats.Cancel timer) line cpu s low known none holds =
-      cancel_alike (r.queued s timer.0) cpu.0 (record { timer = timer; by = cpu; line = line }) s low known
+      cancel_alike (r.queued s timer.0) cpu.0 (record { timer = timer; by = cpu; line = line }) s low (known, low)
       (is_active r s cpu.0 none) refl holds
       ∙ ap (λ o. cancel_where q o (record { timer = timer; by = cpu; line = line }) (f s)) (sym (alike.queued s timer.0))
   done_alike whats.Idle line cpu s low known none holds =

@@ -139,7 +139,7 @@ pub record Keeps {S : Type 0} (r : Rules S) (cpus timers levels end : ℕ)
       r.is_idle s c ≡ false → r.queued s a.timer.0 ≡ None →
       P now between s → P now between (r.armed s c a).state
   pub cancelled : (now c : ℕ) (s : S) (held : Queued) (a : Cancelling) → c < cpus
-      → a.timer.0 < timers →
+      → (a.timer.0 < timers) × (a.by.0 < cpus) →
       r.is_online s c ≡ true → r.is_idle s c ≡ false → r.queued s a.timer.0 ≡ Some held →
       P now between s → P now between (r.cancelled s held.cpu.0 a)
   pub idled : (now c : ℕ) (s : S) → c < cpus → r.is_online s c ≡ true → r.is_idle s c ≡ false →

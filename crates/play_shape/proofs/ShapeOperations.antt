@@ -84,8 +84,8 @@ module _ {S : Type 0} (r : Rules S) (cpus timers levels end : ℕ)
     (P : (now : ℕ) → Stage → S → Type 0)
     (Fits : Arming → Type 0) (keeps : Keeps r cpus timers levels end Fits P) (now : ℕ) where
   -- ONE OPERATION
-  cancel_kept : (o : Option Queued) (c : ℕ) (a : Cancelling) (s : S) → c < cpus → a.timer.0 < timers
-      → IsActive r s c
+  cancel_kept : (o : Option Queued) (c : ℕ) (a : Cancelling) (s : S) → c < cpus
+      → (a.timer.0 < timers) × (a.by.0 < cpus) → IsActive r s c
       → r.queued s a.timer.0 ≡ o → P now between s → P now between (cancel_where r o a s).state
   cancel_kept None c a s low known active is holds = holds
   cancel_kept (Some held) c a s low known active is holds =
@@ -136,7 +136,7 @@ module _ {S : Type 0} (r : Rules S) (cpus timers levels end : ℕ)
       low known.0 known.1 active.online active.busy free holds
   done_kept (whats.Cancel timer) line cpu s low known none holds =
       cancel_kept (r.queued s timer.0) cpu.0 (record { timer = timer; by = cpu; line = line }) s low
-      known
+      (known, low)
       (is_active r s cpu.0 none) refl holds
   done_kept whats.Idle line cpu s low known none holds =
       idle_kept (nat_le (r.first_event s cpu.0) (r.clock s + 1)) cpu s low

@@ -4,8 +4,6 @@ use Rattle.std.proofs.Common.{sym, ap, ◌∙◌, subst, arith}
 use Rattle.std.specs.Prelude.{All}
 use Rattle.tm_base.specs.declared.limits.TheConstants.{SCRIPT_TIME_LIMIT}
 use Rattle.tm_base.specs.declared.names.Class.{Class}
-use Rattle.tm_base.specs.declared.names.CpuId.{CpuId}
-use Rattle.tm_base.specs.declared.names.TimerId.{TimerId}
 use Rattle.cpu_bases.specs.declared.entry.Act.TheVariants.{Armed}
 use Rattle.wheel_core.specs.PlainBase.{NoneBehind, NoneDue}
 use Rattle.cpu_bases.specs.CpuBases.{CpuBases, armed, base_of, cancelled, drained}
@@ -19,9 +17,8 @@ use Rattle.play_rules.specs.State.{State}
 use Rattle.play_rules.specs.Timers.{armed_on, cancelled_on, drained_on, due_items}
 use Rattle.play_rules.specs.Timers.{queued_on}
 use Rattle.core_world.specs.declared.step.Step.TheVariants as steps
-use Rattle.core_world.specs.Enabled.{IsFree, MayCancel, MayRun}
-use Rattle.core_world.specs.Lawful.{IsLawful}
-use Rattle.core_world.specs.Steps.{stepped, with_bases}
+use Rattle.core_world.specs.Enabled.{IsFree, MayRun}
+use Rattle.core_world.specs.Steps.{with_bases}
 use Rattle.core_world.specs.World.{CpuRecord, World, cpu_of, is_active}
 use Rattle.core_laws.specs.Laws.{StepsStayLawful}
 use Rattle.step_rules.specs.Alike.{Plays}
@@ -54,11 +51,6 @@ rebased_class w c b v low r P holds =
     subst (λ u. P (cpu_of u c).bases) (sym r.is)
     (subst (λ (y : CpuRecord). P y.bases) (sym (put_same w c (with_bases (cpu_of w c) b) low))
     holds)
-
--- a cancelling keeps the world lawful, whoever cancels
-abbrev pub AnyoneCancels : Type 0
-AnyoneCancels = (w : World) (home : CpuId) (timer : TimerId) (by : CpuId) (line : ℕ) → IsLawful w →
-    MayCancel w home.0 timer.0 → IsLawful (stepped w (steps.Cancel home timer by line))
 
 module _ (law : StepsStayLawful) (ph : Phase) (w : World) (i : InPlay ph w) where
   -- A DRAIN
@@ -170,16 +162,19 @@ module _ (law : StepsStayLawful) (ph : Phase) (w : World) (i : InPlay ph w) wher
 
   -- A CANCELLING
   module _ (a : Cancelling) (held : Queued) (is : queued_on (state_of w) a.timer.0 ≡ Some held)
-      (free : IsFree w held.cpu.0) (cancels : AnyoneCancels) where
+      (free : IsFree w held.cpu.0) (by : a.by.0 < length w.cpus) where
     abbrev less : CpuBases
     less = cancelled w.clock a.timer.0 a.line a.by (cpu_of w held.cpu.0).bases
 
     cancel_is : Rebases w held.cpu.0 less (cancelled_by_steps w held.cpu.0 a)
     cancel_is = record {
-      lawful = cancels w (cpu_id held.cpu.0) a.timer a.by a.line i.lawful (record {
-        is_free = free;
-        queued = (held.class, held_class w a.timer.0 held is free.in_range);
-      });
+      lawful = law w (steps.Cancel (cpu_id held.cpu.0) a.timer a.by a.line) i.lawful (
+        record {
+          is_free = free;
+          queued = (held.class, held_class w a.timer.0 held is free.in_range);
+        },
+        by,
+      );
       is = own_is w held.cpu.0 _;
     }
 

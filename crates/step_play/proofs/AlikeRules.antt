@@ -18,7 +18,6 @@ use Rattle.step_rules.specs.StepRules.{armed_by_steps, step_rules}
 use Rattle.play_queues.proofs.Covers.{covers_alike}
 use Rattle.play_queues.proofs.Sights.{count_seen}
 use Rattle.step_play.specs.SamePlay.{Walks}
-use Rattle.step_play.proofs.Acts.{AnyoneCancels}
 use Rattle.step_play.proofs.Hotplug.{read}
 use Rattle.step_play.proofs.Interrupted.{arms_own, ended_plays, entered_plays, sees_own}
 use Rattle.step_play.proofs.Looking.{arms_for, can_take, lets_go_plays, names, sees_for}
@@ -60,7 +59,7 @@ module _ (t : Shape) (timers : ℕ) where
       let at = stands_at now st w was in
       read w f c (in_core t timers now st at.0 w at.1 c low)
 
-module _ (law : StepsStayLawful) (walks : Walks) (cancels : AnyoneCancels) (t : Shape)
+module _ (law : StepsStayLawful) (walks : Walks) (t : Shape)
     (timers end : ℕ) (in_time : end < SCRIPT_TIME_LIMIT) where
   pub steps_alike : Alike step_rules plain_rules state_of (cpu_count_of t) timers (level_count_of t)
       end (MayArm timers) (Stands t timers)
@@ -108,24 +107,24 @@ module _ (law : StepsStayLawful) (walks : Walks) (cancels : AnyoneCancels) (t : 
         (ended_plays law walks t timers end in_time now due c w low is was).state;
     armed = λ now c w a low few short online busy none was.
         placed resting w c a
-        (arms law walks cancels t timers end in_time now w was c low online busy a few short none);
+        (arms law walks t timers end in_time now w was c low online busy a few short none);
     cancelled = λ now c w held a low few online busy is was.
-        (cancel law walks cancels t timers end in_time now w was c low online busy a held few
+        (cancel law walks t timers end in_time now w was c low online busy a held few
         is).state;
     idled = λ now c w low online busy later was.
-        (idles law walks cancels t timers end in_time now w was c low online busy later).state;
+        (idles law walks t timers end in_time now w was c low online busy later).state;
     woken = λ now c w low online idle was.
-        (wakes law walks cancels t timers end in_time now w was c low online idle).state;
+        (wakes law walks t timers end in_time now w was c low online idle).state;
     come_online = λ now c w low offline was.
-        (comes law walks cancels t timers end in_time now w was c low offline).state;
+        (comes law walks t timers end in_time now w was c low offline).state;
     gone_offline = λ now c w low online busy none was.
-        (goes law walks cancels t timers end in_time now w was c low online busy none).plays.state;
+        (goes law walks t timers end in_time now w was c low online busy none).plays.state;
     handed_on = λ now c d w low waits is was.
-        (hands_plays law walks cancels t timers end in_time now w c low was waits d is).state;
+        (hands_plays law walks t timers end in_time now w c low was waits d is).state;
     controlling = λ now from d w low offline is was.
-        (controls law walks cancels t timers end in_time now w was from low offline d is).state;
+        (controls law walks t timers end in_time now w was from low offline d is).state;
     moved = λ now from to n w m low is was.
-        sees_moved law walks cancels t timers end in_time now w from to n low was m is;
+        sees_moved law walks t timers end in_time now w from to n low was m is;
     moved_none = λ now from to n w low none was.
-        sees_none law walks cancels t timers end in_time now w from to n low was none;
+        sees_none law walks t timers end in_time now w from to n low was none;
   }

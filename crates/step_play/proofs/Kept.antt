@@ -17,14 +17,13 @@ use Rattle.core_laws.specs.Laws.{StepsStayLawful}
 use Rattle.step_rules.specs.Seen.{inside, resting, serving, state_of}
 use Rattle.step_rules.specs.StepRules.{step_rules}
 use Rattle.step_play.specs.SamePlay.{Walks}
-use Rattle.step_play.proofs.Acts.{AnyoneCancels}
 use Rattle.step_play.proofs.Interrupted.{comes, drained, ends, entered, known, ran}
 use Rattle.step_play.proofs.Looking.{can_take, drained_for, let_go, ran_for, taken}
 use Rattle.step_play.proofs.Operated.{armed, came, cancelled, control, gone, handed, idle, keeps_on}
 use Rattle.step_play.proofs.Operated.{moves, no_successor, woke}
 use Rattle.step_play.proofs.Stages.{Inside, MayArm, Stands, restaged}
 
-module _ (law : StepsStayLawful) (walks : Walks) (cancels : AnyoneCancels) (t : Shape)
+module _ (law : StepsStayLawful) (walks : Walks) (t : Shape)
     (timers end : ℕ) (in_time : end < SCRIPT_TIME_LIMIT) where
   -- the same core at another stage of an interrupt
   within : (now : ℕ) (due : set.FinSet nat_cmp) (c : ℕ) (st next : Stage) (w : World) →
@@ -92,28 +91,28 @@ module _ (law : StepsStayLawful) (walks : Walks) (cancels : AnyoneCancels) (t : 
     interrupted = λ now due w was.
         restaged t timers now (begun due (cpu_count_of t)) resting w was between was.settles.whole;
     armed = λ now c w a low few short online busy none was.
-        armed law walks cancels t timers end in_time now w was c low online busy a few short none;
+        armed law walks t timers end in_time now w was c low online busy a few short none;
     cancelled = λ now c w held a low few online busy is was.
-        cancelled law walks cancels t timers end in_time now w was c low online busy a held few is;
+        cancelled law walks t timers end in_time now w was c low online busy a held few is;
     idled = λ now c w low online busy later was.
-        idle law walks cancels t timers end in_time now w was c low online busy later;
+        idle law walks t timers end in_time now w was c low online busy later;
     woken = λ now c w low online idle was.
-        woke law walks cancels t timers end in_time now w was c low online idle;
+        woke law walks t timers end in_time now w was c low online idle;
     come_online = λ now c w low offline was.
-        came law walks cancels t timers end in_time now w was c low offline;
+        came law walks t timers end in_time now w was c low offline;
     gone_offline = λ now c w low online busy none was.
-        gone law walks cancels t timers end in_time now w was c low online busy none;
+        gone law walks t timers end in_time now w was c low online busy none;
     keeps_on = λ now c w low none was.
-        keeps_on law walks cancels t timers end in_time now w c low was none;
+        keeps_on law walks t timers end in_time now w c low was none;
     no_successor = λ now c w low waits none was.
-        no_successor law walks cancels t timers end in_time now w c low was waits none;
+        no_successor law walks t timers end in_time now w c low was waits none;
     handed_on = λ now c d w low waits is was.
-        handed law walks cancels t timers end in_time now w c low was waits d is;
+        handed law walks t timers end in_time now w c low was waits d is;
     controlling = λ now from d w low offline is was.
-        control law walks cancels t timers end in_time now w was from low offline d is
+        control law walks t timers end in_time now w was from low offline d is
         (step_rules.queued_on (step_rules.controlling w d) from);
     moved = λ now from to n w m low is was.
-        moves law walks cancels t timers end in_time now w from to n low was m is;
+        moves law walks t timers end in_time now w from to n low was m is;
     moved_none = λ now from to n w low none was.
         restaged t timers now (moving from to (suc n)) resting w was.at between
         was.at.settles.whole;

@@ -14,5 +14,3 @@ pub mod Kept
 pub mod AlikeRules
 pub mod Starts
 pub mod Plays
-pub mod Silent
-pub mod Cancels

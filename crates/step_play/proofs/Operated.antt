@@ -34,7 +34,7 @@ use Rattle.step_rules.specs.StepRules.{is_waiting, made_active, moved_by_steps, 
 use Rattle.step_rules.specs.StepRules.{woken_by_steps}
 use Rattle.play_queues.proofs.Sights.{count_seen}
 use Rattle.step_play.specs.SamePlay.{Walks}
-use Rattle.step_play.proofs.Acts.{AnyoneCancels, arm_plays, cancel_plays}
+use Rattle.step_play.proofs.Acts.{arm_plays, cancel_plays}
 use Rattle.step_play.proofs.Hotplug.{active_plays, handed_plays, head_is, may_go, may_idle}
 use Rattle.step_play.proofs.Hotplug.{may_wake, read, runs}
 use Rattle.step_play.proofs.Interrupted.{of_either}
@@ -49,7 +49,7 @@ control_online s d low e =
     of_either (λ (x : State). (cpu_at x e).online) (cpu_at s d).idle (woken s d) s
     (written_alike (with_migrators s (woken_migrator s d)) d _ low (λ (x : Cpu). x.online) refl e)
 
-module _ (law : StepsStayLawful) (walks : Walks) (cancels : AnyoneCancels) (t : Shape)
+module _ (law : StepsStayLawful) (walks : Walks) (t : Shape)
     (timers end : ℕ) (in_time : end < SCRIPT_TIME_LIMIT) (now : ℕ) (w : World) where
   abbrev rules : Keeps plain_rules (cpu_count_of t) timers (level_count_of t) end (λ a. Unit {0})
       (Settles t)
@@ -90,7 +90,7 @@ module _ (law : StepsStayLawful) (walks : Walks) (cancels : AnyoneCancels) (t : 
             (armed_on s c a).state arms
             (rules.armed now c s a low known short on awake none was.settles) refl refl refl
 
-      module _ (a : Cancelling) (held : Queued) (known : a.timer.0 < timers)
+      module _ (a : Cancelling) (held : Queued) (known : (a.timer.0 < timers) × (a.by.0 < cpu_count_of t))
           (is : queued_on s a.timer.0 ≡ Some held) where
         pub cancel : Plays resting (cancelled_by_steps w held.cpu.0 a)
             (cancelled_on s held.cpu.0 a)
@@ -98,7 +98,7 @@ module _ (law : StepsStayLawful) (walks : Walks) (cancels : AnyoneCancels) (t : 
             cancel_plays law resting w i a held is
             (free_in resting w held.cpu.0 (bare resting w i) refl
             (from_play t timers now between resting w was held.cpu.0
-            (queued_low s a.timer.0 held is))) cancels
+            (queued_low s a.timer.0 held is))) (in_core t timers now between resting w was a.by.0 known.1)
 
         pub cancelled : At t timers now between resting (cancelled_by_steps w held.cpu.0 a)
         cancelled =

@@ -23,14 +23,13 @@ use Rattle.step_rules.specs.Seen.{InPlay, resting, state_of}
 use Rattle.step_rules.specs.StepRules.{step_rules}
 use Rattle.step_play.specs.SamePlay.{IsPlayOfSteps, StepsArePlay, Walks, core_start, play_lines}
 use Rattle.step_play.specs.SamePlay.{step_lines, step_turns, turn_seen}
-use Rattle.step_play.proofs.Acts.{AnyoneCancels}
 use Rattle.step_play.proofs.AlikeRules.{steps_alike}
 use Rattle.step_play.proofs.Interrupted.{having_seen}
 use Rattle.step_play.proofs.Kept.{steps_keep}
 use Rattle.step_play.proofs.Stages.{At, MayArm, Stands}
 use Rattle.step_play.proofs.Starts.{start_in_play, start_seen}
 
-module _ (law : StepsStayLawful) (starts : StartsLawful) (walks : Walks) (cancels : AnyoneCancels)
+module _ (law : StepsStayLawful) (starts : StartsLawful) (walks : Walks)
     (jobs : Replies) (script : Script) (is : IsScript script) where
   abbrev t : Shape
   t = tree_for script
@@ -71,8 +70,8 @@ module _ (law : StepsStayLawful) (starts : StartsLawful) (walks : Walks) (cancel
   same_turns =
       turns_alike jobs step_rules plain_rules state_of (cpu_count_of t) script.timers
       (level_count_of t) script.end (Stands t script.timers) (MayArm script.timers)
-      (steps_keep law walks cancels t script.timers script.end is.early_end)
-      (steps_alike law walks cancels t script.timers script.end is.early_end)
+      (steps_keep law walks t script.timers script.end is.early_end)
+      (steps_alike law walks t script.timers script.end is.early_end)
       (λ now u was. was.in_play.lawful.sized.cpus ∙ ap cpu_count_of was.tree)
       (script.end + 1) 0 script.moments w (moments_in script is) (moments_rise script is)
       (omega arith) first
@@ -101,11 +100,11 @@ module _ (law : StepsStayLawful) (starts : StartsLawful) (walks : Walks) (cancel
         (λ u. InPlay resting u.played.state) (λ u here. here.1.in_play) (step_turns jobs script)
         (turns_kept jobs step_rules (cpu_count_of t) script.timers (level_count_of t) script.end
         (Stands t script.timers) (MayArm script.timers)
-        (steps_keep law walks cancels t script.timers script.end is.early_end)
+        (steps_keep law walks t script.timers script.end is.early_end)
         (script.end + 1) 0 script.moments w (moments_in script is) (moments_rise script is)
         (omega arith) first);
   }
 
-pub steps_are_play : StepsStayLawful → StartsLawful → AnyoneCancels → Walks → StepsArePlay
-steps_are_play law starts cancels walks jobs script is =
-    steps_play law starts walks cancels jobs script is
+pub steps_are_play : StepsStayLawful → StartsLawful → Walks → StepsArePlay
+steps_are_play law starts walks jobs script is =
+    steps_play law starts walks jobs script is

@@ -67,7 +67,3 @@ pub record Walks : Type 0 where
   pub wakes : WakesAlike
   pub comes : ComesAlike
   pub tell : WalksTell
-
--- where the walks that tell do what Play has for them
-abbrev pub TellingMakesPlay : Type 0
-TellingMakesPlay = WalksTell → StepsArePlay
