@@ -1,67 +1,374 @@
--- how the program ends, by the reply and by how writing it went
-use Rattle.std.proofs.Common.{◌≡◌, ◌≢◌, ◌≤◌, ℕ, List, [], ◌++◌, Option, Some, None, length, refl, sym, ◌∙◌, ap, subst, arith, inl, inr, append-nil, length-append}
-use Rattle.std.specs.Prelude.{◌⊎◌, String}
+-- what each status says, by the reply and by how writing it went
+use Rattle.std.proofs.Common.{◌≡◌, ℕ, List, [], Option, Some, None, refl, sym, ◌∙◌, ap, subst}
+use Rattle.std.proofs.Common.{inl, inr, append-nil, lit<}
+use Rattle.std.specs.Prelude.{◌⊎◌, String, Vec, Result, Ok, Err, IfOk, MatchResult}
 use Rattle.std.specs.declared.alloc.Global.{Global}
-use Rattle.std.specs.Io.KnownBytes.{Appends, Consumes, IsAtEnd}
-use Rattle.tm_io.specs.Seen.{SourceSeen, SourceFailed, SinkSeen}
+use Rattle.std.specs.Io.KnownBytes.{Appends}
+use Rattle.tm_io.specs.Seen.{SourceSeen, SourceUnbroken, SinkSeen}
+use Rattle.tm_script.specs.declared.syntax.Script.{Script}
+use Rattle.play_rules.specs.Interrupts.{Replies}
+use Rattle.script_main.specs.declared.commands.Command.{Command}
 use Rattle.script_main.specs.declared.replies.Reply.{Reply}
-use Rattle.script_main.specs.declared.replies.Reply.TheVariants.{Usage, ReadFault, Refused, Played}
-use Rattle.script_main.specs.declared.statuses.TheConstants.{NO_MEMORY, PLAYED, READ_FAULT, WRITE_FAULT}
-use Rattle.script_main.specs.Words.{IsPlay}
-use Rattle.script_main.specs.Replies.{IsReply, IsScriptText, ReadsAll, ReadsNoScript, status_written}
-use Rattle.script_main.specs.Ends.{EndsAs, whole, broken, wanting}
-use Rattle.script_main.specs.Statuses.{Breaks, IsEither}
+use Rattle.script_main.specs.declared.replies.Reply.TheVariants.{Usage, ReadFault, TooLong, Refused}
+use Rattle.script_main.specs.declared.replies.Reply.TheVariants.{JobUnknown, WorkSpent, Played}
+use Rattle.script_main.specs.declared.replies.Reply.TheVariants.{Made}
+use Rattle.script_main.specs.declared.statuses.TheConstants.{DONE, USAGE, NO_MEMORY, WRITE_FAULT}
+use Rattle.script_main.specs.declared.statuses.TheConstants.{WORK_SPENT, JOB_UNKNOWN}
+use Rattle.script_main.specs.Words.{command_of, IsPlayer}
+use Rattle.script_main.specs.Scripts.{IsOutput}
+use Rattle.script_main.specs.Replies.{IsReply, IsReplyBy, LacksJob, RepliesToScript, SpendsWork}
+use Rattle.script_main.specs.Replies.{reply_text, status_written, status_broken}
+use Rattle.script_main.specs.Ends.{EndsAs, EndsUnwritten, EndsWith, WritesAll, WritesFront, Writes}
+use Rattle.script_main.specs.Ends.{whole, part, wanting, unwritten}
+use Rattle.script_main.specs.Statuses.{HasScript, SaysDone, SaysJobUnknown, SaysNoMemory}
+use Rattle.script_main.specs.Statuses.{SaysWorkSpent, SaysWriteFault, WritesReplyFront}
+
+-- ---- how a text was written
 
 -- nothing was put
 pub appends_none : (held : Option (List ℕ)) → Appends held held []
 appends_none None = tt
 appends_none (Some bytes) = sym (append-nil bytes)
 
--- what was read to the end of known bytes is these bytes
-reads_known : (known bytes : List ℕ) (left : Option (List ℕ)) → Consumes (Some known) left bytes → IsAtEnd left → known ≡ bytes
-reads_known known bytes None taken end = absurd taken
-reads_known known bytes (Some rest) taken end = taken ∙ ap (λ (xs : List ℕ). bytes ++ xs) end ∙ append-nil bytes
+no_change : (k m : SinkSeen) → m ≡ k → Appends k.held m.held []
+no_change k m same =
+    let Kept : SinkSeen → Type 0 = λ x. Appends k.held x.held [] in
+    subst Kept (sym same) (appends_none k.held)
 
--- known bytes of which some were taken are no fewer
-takes_known : (known taken : List ℕ) (left : Option (List ℕ)) → Consumes (Some known) left taken → length taken ≤ length known
-takes_known known taken None is = absurd is
-takes_known known taken (Some rest) is = omega (arith, ap (λ (xs : List ℕ). length xs) is, length-append taken rest)
+module _ (k m : SinkSeen) (status : ℕ) where
+  -- a text that was made before it was written
+  pub made_ends : {E : Type 0} (text : Result (Vec ℕ Global) E) (wanted : List ℕ) (own : ℕ)
+      → IfOk text (λ made. made.items ≡ wanted)
+      → MatchResult text (λ made. EndsWith made.items own own k m status)
+      (λ _. EndsUnwritten k m status)
+      → EndsWith wanted own own k m status
+  made_ends (Ok made) wanted own is ends =
+      let Ends : List ℕ → Type 0 = λ xs. EndsWith xs own own k m status in
+      subst Ends is ends
+  made_ends (Err e) wanted own is ends = unwritten ends
 
--- what a source with the text of a script gives is no text of no script
-not_refused : (old new : SourceSeen) (bytes : List ℕ) → old.left ≡ Some bytes → IsScriptText bytes → ReadsNoScript old new → ⊥
-not_refused old new bytes known text (inl none) =
-    let Gave : Option (List ℕ) → Type 0 = λ o. Consumes o new.left none.0 in
-    let same = reads_known bytes none.0 new.left (subst Gave known none.1.taken) none.1.end in
-    none.2 text.0 text.1 (text.2 ∙ same)
-not_refused old new bytes known text (inr long) =
-    let Gave : Option (List ℕ) → Type 0 = λ o. Consumes o new.left long.0 in
-    let many = takes_known bytes long.0 new.left (subst Gave known long.2) in
-    let few = text.1.short_text in
-    let same = ap (λ (xs : List ℕ). length xs) text.2 in
-    absurd (omega (arith, many, long.1, few, same))
+  -- three ways to a status: all was written, the sink broke, or memory was wanting
+  by_end : {A : Type 0} (text : List ℕ) (all broken x : ℕ)
+      → EndsWith text all broken k m status → status ≡ x
+      → (all ≡ x → WritesAll text k m → A)
+      → (broken ≡ x → WritesFront text k m → A)
+      → (NO_MEMORY ≡ x → A) → A
+  by_end text all broken x (whole w e) at f g h = f (sym e ∙ at) w
+  by_end text all broken x (part w e) at f g h = g (sym e ∙ at) w
+  by_end text all broken x (wanting count front sound e) at f g h = h (sym e ∙ at)
+  by_end text all broken x (unwritten e) at f g h = h (sym e.1 ∙ at)
 
--- what the reply to the text of a script is, and how the program ends with it
-module _ (words : List (String Global)) (s t : SourceSeen) (play : IsPlay words) (bytes : List ℕ) (known : s.left ≡ Some bytes) (text : IsScriptText bytes) where
-  -- unless memory is wanting, the source failed or the sink broke, the script is played
-  script_played : (reply : Reply) → IsReply words s t reply → (SourceFailed s t → ⊥) → status_written reply ≡ PLAYED
-  script_played Usage is sure = absurd (is play)
-  script_played ReadFault is sure = absurd (sure is.1)
-  script_played Refused is sure = absurd (not_refused s t bytes known text is.2)
-  script_played (Played out) is sure = refl
+-- ---- which replies have which status
 
-  -- the same, where the status isn't that of a fault of the source
-  pub script_ends : (reply : Reply) → IsReply words s t reply → (k m : SinkSeen) (status : ℕ) → EndsAs reply k m status → status ≢ READ_FAULT → (status ≡ WRITE_FAULT) ⊎ IsEither status PLAYED NO_MEMORY
-  script_ends Usage is k m status ends not = absurd (is play)
-  script_ends ReadFault is k m status (whole put sound so) not = absurd (not so)
-  script_ends ReadFault is k m status (broken put so) not = absurd (not so)
-  script_ends ReadFault is k m status (wanting n put sound so) not = inr (inr so)
-  script_ends Refused is k m status ends not = absurd (not_refused s t bytes known text is.2)
-  script_ends (Played out) is k m status (whole put sound so) not = inr (inl so)
-  script_ends (Played out) is k m status (broken put so) not = inl so
-  script_ends (Played out) is k m status (wanting n put sound so) not = inr (inr so)
+never_write_fault : (reply : Reply) → status_written reply ≡ WRITE_FAULT → ⊥
+never_write_fault Usage e = cc
+never_write_fault ReadFault e = cc
+never_write_fault TooLong e = cc
+never_write_fault (Refused fault) e = cc
+never_write_fault (JobUnknown line job) e = cc
+never_write_fault (WorkSpent count) e = cc
+never_write_fault (Played text) e = cc
+never_write_fault (Made text) e = cc
 
-  -- completeness: neither end failed or took nothing
-  pub complete_ends : (reply : Reply) → IsReply words s t reply → (k m : SinkSeen) (status : ℕ) → EndsAs reply k m status → (SourceFailed s t → ⊥) → (Breaks k m → ⊥) → IsEither status PLAYED NO_MEMORY
-  complete_ends reply is k m status (whole put sound so) sure unbroken = inl (so ∙ script_played reply is sure)
-  complete_ends reply is k m status (broken put so) sure unbroken = absurd (unbroken put.0)
-  complete_ends reply is k m status (wanting n put sound so) sure unbroken = inr so
+never_no_memory : (reply : Reply) → status_written reply ≡ NO_MEMORY → ⊥
+never_no_memory Usage e = cc
+never_no_memory ReadFault e = cc
+never_no_memory TooLong e = cc
+never_no_memory (Refused fault) e = cc
+never_no_memory (JobUnknown line job) e = cc
+never_no_memory (WorkSpent count) e = cc
+never_no_memory (Played text) e = cc
+never_no_memory (Made text) e = cc
+
+broken_output : (reply : Reply) → status_broken reply ≡ WRITE_FAULT → status_written reply ≡ DONE
+broken_output Usage e = cc
+broken_output ReadFault e = cc
+broken_output TooLong e = cc
+broken_output (Refused fault) e = cc
+broken_output (JobUnknown line job) e = cc
+broken_output (WorkSpent count) e = cc
+broken_output (Played text) e = refl
+broken_output (Made text) e = refl
+
+-- the status of a broken sink is that of an output or the reply's own
+broken_own : (reply : Reply)
+    → (status_broken reply ≡ WRITE_FAULT) ⊎ (status_broken reply ≡ status_written reply)
+broken_own Usage = inr refl
+broken_own ReadFault = inr refl
+broken_own TooLong = inr refl
+broken_own (Refused fault) = inr refl
+broken_own (JobUnknown line job) = inr refl
+broken_own (WorkSpent count) = inr refl
+broken_own (Played text) = inl refl
+broken_own (Made text) = inl refl
+
+own_of_broken : (reply : Reply) (x : ℕ) → (WRITE_FAULT ≡ x → ⊥) → status_broken reply ≡ x
+    → status_written reply ≡ x
+own_of_broken reply x not e =
+    elim (broken_own reply) [ inl b ↦ absurd (not (sym b ∙ e)) | inr b ↦ sym b ∙ e ]
+
+never_broken_done : (reply : Reply) → status_broken reply ≡ DONE → ⊥
+never_broken_done reply e =
+    elim (broken_own reply) [
+      | inl b ↦ absurd (let no : WRITE_FAULT ≡ DONE = sym b ∙ e in cc)
+      | inr b ↦ no_output reply (sym b ∙ e) (sym b)
+    ]
+  where
+    no_output : (r : Reply) → status_written r ≡ DONE → status_written r ≡ status_broken r → ⊥
+    no_output Usage e b = cc
+    no_output ReadFault e b = cc
+    no_output TooLong e b = cc
+    no_output (Refused fault) e b = cc
+    no_output (JobUnknown line job) e b = cc
+    no_output (WorkSpent count) e b = cc
+    no_output (Played text) e b = cc
+    no_output (Made text) e b = cc
+
+-- ---- what a reply with its own status rests on
+
+-- how a run ended that came to a reply
+pub record Ended (jobs : Replies) (table : ℕ) (words : List (String Global)) (s t : SourceSeen)
+    (k m : SinkSeen) (status : ℕ) : Type 0 where
+  pub reply : Reply
+  pub is : IsReply jobs table words s t reply
+  pub ends : EndsAs reply k m status
+
+module _ (jobs : Replies) (table : ℕ) (words : List (String Global)) (s t : SourceSeen) where
+  record Outputs (reply : Reply) : Type 0 where
+    command : Command
+    script : Script
+    has : HasScript words s t command script
+    output : IsOutput jobs table command script (reply_text reply)
+
+  record Lacks (reply : Reply) : Type 0 where
+    command : Command
+    script : Script
+    has : HasScript words s t command script
+    plays : IsPlayer command
+    line : ℕ
+    job : ℕ
+    lacks : LacksJob table script line job
+    is : reply ≡ JobUnknown line job
+
+  record Spends (reply : Reply) : Type 0 where
+    command : Command
+    script : Script
+    has : HasScript words s t command script
+    plays : IsPlayer command
+    count : ℕ
+    spends : SpendsWork jobs table script count
+    is : reply ≡ WorkSpent count
+
+  has_script : (command : Command) → command_of words ≡ Some command → (reply : Reply)
+      → (r : RepliesToScript jobs table command s t reply) → HasScript words s t command r.script
+  has_script command named reply r =
+      record { named = named; brought = r.brought; unbroken = r.unbroken }
+
+  no_usage : (reply : Reply) (x : ℕ) → reply ≡ Usage → status_written reply ≡ x → USAGE ≡ x
+  no_usage reply x e at = sym (ap status_written e) ∙ at
+
+  outputs : (o : Option Command) → command_of words ≡ o → (reply : Reply)
+      → IsReplyBy jobs table o s t reply → status_written reply ≡ DONE → Outputs reply
+  outputs None named reply is at = absurd (let no = no_usage reply DONE is at in cc)
+  outputs (Some command) named Usage is at = cc
+  outputs (Some command) named ReadFault is at = cc
+  outputs (Some command) named TooLong is at = cc
+  outputs (Some command) named (Refused fault) is at = cc
+  outputs (Some command) named (JobUnknown line job) is at = cc
+  outputs (Some command) named (WorkSpent count) is at = cc
+  outputs (Some command) named (Played text) is at = record {
+    command = command;
+    script = is.script;
+    has = has_script command named (Played text) is;
+    output = is.reply_is;
+  }
+  outputs (Some command) named (Made text) is at = record {
+    command = command;
+    script = is.script;
+    has = has_script command named (Made text) is;
+    output = is.reply_is;
+  }
+
+  lacks_job : (o : Option Command) → command_of words ≡ o → (reply : Reply)
+      → IsReplyBy jobs table o s t reply → status_written reply ≡ JOB_UNKNOWN → Lacks reply
+  lacks_job None named reply is at = absurd (let no = no_usage reply JOB_UNKNOWN is at in cc)
+  lacks_job (Some command) named Usage is at = cc
+  lacks_job (Some command) named ReadFault is at = cc
+  lacks_job (Some command) named TooLong is at = cc
+  lacks_job (Some command) named (Refused fault) is at = cc
+  lacks_job (Some command) named (JobUnknown line job) is at = record {
+    command = command;
+    script = is.script;
+    has = has_script command named (JobUnknown line job) is;
+    plays = is.reply_is.0;
+    line = line;
+    job = job;
+    lacks = is.reply_is.1;
+    is = refl;
+  }
+  lacks_job (Some command) named (WorkSpent count) is at = cc
+  lacks_job (Some command) named (Played text) is at = cc
+  lacks_job (Some command) named (Made text) is at = cc
+
+  spends_work : (o : Option Command) → command_of words ≡ o → (reply : Reply)
+      → IsReplyBy jobs table o s t reply → status_written reply ≡ WORK_SPENT → Spends reply
+  spends_work None named reply is at = absurd (let no = no_usage reply WORK_SPENT is at in cc)
+  spends_work (Some command) named Usage is at = cc
+  spends_work (Some command) named ReadFault is at = cc
+  spends_work (Some command) named TooLong is at = cc
+  spends_work (Some command) named (Refused fault) is at = cc
+  spends_work (Some command) named (JobUnknown line job) is at = cc
+  spends_work (Some command) named (WorkSpent count) is at = record {
+    command = command;
+    script = is.script;
+    has = has_script command named (WorkSpent count) is;
+    plays = is.reply_is.0;
+    count = count;
+    spends = is.reply_is.1;
+    is = refl;
+  }
+  spends_work (Some command) named (Played text) is at = cc
+  spends_work (Some command) named (Made text) is at = cc
+
+  -- nothing was put: the reply's text isn't empty, or the source didn't fail
+  module _ (k m : SinkSeen) (same : m ≡ k) where
+    GainsNothing : Type 0
+    GainsNothing = (SourceUnbroken s t × Appends k.held m.held [])
+        ⊎ WritesReplyFront jobs table words s t k m
+
+    sound_source : SourceUnbroken s t → GainsNothing
+    unfolding GainsNothing
+    sound_source sound = inl (sound, no_change k m same)
+
+    nothing_put : (o : Option Command) (reply : Reply) → IsReplyBy jobs table o s t reply
+        → IsReply jobs table words s t reply → GainsNothing
+    unfolding GainsNothing
+    nothing_put o Usage by is = inr (record {
+      reply = Usage;
+      called_for = is;
+      count = 0;
+      front = (lit< tt, no_change k m same);
+    })
+    nothing_put o ReadFault by is = inr (record {
+      reply = ReadFault;
+      called_for = is;
+      count = 0;
+      front = (lit< tt, no_change k m same);
+    })
+    nothing_put None TooLong by is = cc
+    nothing_put None (Refused fault) by is = cc
+    nothing_put None (JobUnknown line job) by is = cc
+    nothing_put None (WorkSpent count) by is = cc
+    nothing_put None (Played text) by is = cc
+    nothing_put None (Made text) by is = cc
+    nothing_put (Some command) TooLong by is = sound_source by.1
+    nothing_put (Some command) (Refused fault) by is = sound_source by.1
+    nothing_put (Some command) (JobUnknown line job) by is = sound_source by.unbroken
+    nothing_put (Some command) (WorkSpent count) by is = sound_source by.unbroken
+    nothing_put (Some command) (Played text) by is = sound_source by.unbroken
+    nothing_put (Some command) (Made text) by is = sound_source by.unbroken
+
+    unwritten_says : (reply : Reply) → IsReply jobs table words s t reply
+        → SaysNoMemory jobs table words s t k m
+    unfolding GainsNothing
+    unwritten_says reply is = record {
+      sound = (ap (λ (x : SinkSeen). x.faults) same, ap (λ (x : SinkSeen). x.refusals) same);
+      written = nothing_put (command_of words) reply is is;
+    }
+
+-- ---- what each status says
+
+module _ {jobs : Replies} {table : ℕ} {words : List (String Global)} {s t : SourceSeen}
+    {k m : SinkSeen} {status : ℕ} (e : Ended jobs table words s t k m status) where
+  by : {A : Type 0} (x : ℕ) → status ≡ x
+      → (status_written e.reply ≡ x → WritesAll (reply_text e.reply) k m → A)
+      → (status_broken e.reply ≡ x → WritesFront (reply_text e.reply) k m → A)
+      → (NO_MEMORY ≡ x → A) → A
+  by x =
+      by_end k m status (reply_text e.reply) (status_written e.reply) (status_broken e.reply) x
+      e.ends
+
+  out_of : status_written e.reply ≡ DONE → Outputs jobs table words s t e.reply
+  out_of own = outputs jobs table words s t (command_of words) refl e.reply e.is own
+
+  pub says_done : status ≡ DONE → SaysDone jobs table words s t k m
+  says_done at =
+      by DONE at
+      (λ own w. let out = out_of own in record {
+        command = out.command;
+        script = out.script;
+        has = out.has;
+        text = reply_text e.reply;
+        output = out.output;
+        writes = w;
+      })
+      (λ own w. absurd (never_broken_done e.reply own)) (λ own. cc)
+
+  pub says_write_fault : status ≡ WRITE_FAULT → SaysWriteFault jobs table words s t k m
+  says_write_fault at =
+      by WRITE_FAULT at (λ own w. absurd (never_write_fault e.reply own))
+      (λ own w. let out = out_of (broken_output e.reply own) in record {
+        command = out.command;
+        script = out.script;
+        has = out.has;
+        text = reply_text e.reply;
+        output = out.output;
+        writes = w;
+      })
+      (λ own. cc)
+
+  pub says_no_memory : status ≡ NO_MEMORY → SaysNoMemory jobs table words s t k m
+  says_no_memory at = no_memory_by e.ends
+    where
+      no_memory_by : EndsAs e.reply k m status → SaysNoMemory jobs table words s t k m
+      no_memory_by (whole w own) = absurd (never_no_memory e.reply (sym own ∙ at))
+      no_memory_by (part w own) =
+          absurd (never_no_memory e.reply
+          (own_of_broken e.reply NO_MEMORY (λ no. cc) (sym own ∙ at)))
+      no_memory_by (wanting count front sound own) = record {
+        sound = sound;
+        written = inr (record { reply = e.reply; called_for = e.is; count = count; front = front });
+      }
+      no_memory_by (unwritten same) =
+          unwritten_says jobs table words s t k m same.0 e.reply e.is
+
+  job_said : status_written e.reply ≡ JOB_UNKNOWN → Writes (reply_text e.reply) k m
+      → SaysJobUnknown table words s t k m
+  job_said own w =
+      let no = lacks_job jobs table words s t (command_of words) refl e.reply e.is own in
+      let Wrote : Reply → Type 0 = λ r. Writes (reply_text r) k m in
+      record {
+        command = no.command;
+        script = no.script;
+        has = no.has;
+        plays = no.plays;
+        line = no.line;
+        job = no.job;
+        lacks = no.lacks;
+        writes = subst Wrote no.is w;
+      }
+
+  pub says_job_unknown : status ≡ JOB_UNKNOWN → SaysJobUnknown table words s t k m
+  says_job_unknown at =
+      by JOB_UNKNOWN at (λ own w. job_said own (inl w))
+      (λ own w. job_said (own_of_broken e.reply JOB_UNKNOWN (λ no. cc) own) (inr w)) (λ own. cc)
+
+  work_said : status_written e.reply ≡ WORK_SPENT → Writes (reply_text e.reply) k m
+      → SaysWorkSpent jobs table words s t k m
+  work_said own w =
+      let no = spends_work jobs table words s t (command_of words) refl e.reply e.is own in
+      let Wrote : Reply → Type 0 = λ r. Writes (reply_text r) k m in
+      record {
+        command = no.command;
+        script = no.script;
+        has = no.has;
+        plays = no.plays;
+        count = no.count;
+        spends = no.spends;
+        writes = subst Wrote no.is w;
+      }
+
+  pub says_work_spent : status ≡ WORK_SPENT → SaysWorkSpent jobs table words s t k m
+  says_work_spent at =
+      by WORK_SPENT at (λ own w. work_said own (inl w))
+      (λ own w. work_said (own_of_broken e.reply WORK_SPENT (λ no. cc) own) (inr w)) (λ own. cc)

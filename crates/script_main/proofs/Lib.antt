@@ -1,1 +1,3 @@
-pub mod Endings
+mod Replying
+mod Endings
+mod Exactly

@@ -1,18 +1,49 @@
--- how writing a reply ends
-use Rattle.std.specs.Prelude.{◌≡◌, ℕ}
+-- how writing a text ends
+use Rattle.std.specs.Prelude.{◌≡◌, ◌⊎◌, ℕ, List}
 use Rattle.std.specs.Io.KnownBytes.{Appends}
-use Rattle.tm_io.specs.Seen.{SinkSeen}
+use Rattle.tm_io.specs.Seen.{SinkSeen, SinkFailed, SinkUnbroken, SinkRefused, SinkTook}
 use Rattle.tm_io.specs.Sinks.{AppendsFront}
 use Rattle.script_main.specs.declared.replies.Reply.{Reply}
 use Rattle.script_main.specs.declared.statuses.TheConstants.{NO_MEMORY}
 use Rattle.script_main.specs.Replies.{reply_text, status_broken, status_written}
-use Rattle.script_main.specs.Statuses.{SinkSound, WritesFront}
 
--- all of the text was written; or the sink broke before; or memory was wanting
-pub data EndsAs (reply : Reply) (old new : SinkSeen) (status : ℕ) : Type 0 where
-  whole : Appends old.held new.held (reply_text reply) → SinkSound old new
-      → status ≡ status_written reply → EndsAs reply old new status
-  broken : WritesFront (reply_text reply) old new
-      → status ≡ status_broken reply → EndsAs reply old new status
-  wanting : (n : ℕ) → AppendsFront old new n (reply_text reply) → SinkSound old new
-      → status ≡ NO_MEMORY → EndsAs reply old new status
+-- the sink failed, or took nothing of a piece: one of its two counts rose
+abbrev pub Breaks : SinkSeen → SinkSeen → Type 0
+Breaks old new = SinkFailed old new ⊎ SinkRefused old new
+
+-- both of the sink's counts are as they were
+abbrev pub SinkSound : SinkSeen → SinkSeen → Type 0
+SinkSound old new = SinkUnbroken old new × SinkTook old new
+
+-- the sink has gained all of a text, and neither failed nor took nothing
+pub record WritesAll (text : List ℕ) (old new : SinkSeen) : Type 0 where
+  pub written : Appends old.held new.held text
+  pub sound : SinkSound old new
+
+-- the sink broke, and has gained a front of a text and not all of it
+pub record WritesFront (text : List ℕ) (old new : SinkSeen) : Type 0 where
+  pub broke : Breaks old new
+  pub count : ℕ
+  pub front : AppendsFront old new count text
+
+-- the sink has gained the text, or where it broke a front of it
+abbrev pub Writes : List ℕ → SinkSeen → SinkSeen → Type 0
+Writes text old new = WritesAll text old new ⊎ WritesFront text old new
+
+-- memory was wanting for the text itself, and nothing was put
+abbrev pub EndsUnwritten : SinkSeen → SinkSeen → (status : ℕ) → Type 0
+EndsUnwritten old new status = (new ≡ old) × (status ≡ NO_MEMORY)
+
+-- all of a text was written, with one status; or the sink broke before, with another; or memory was
+-- wanting, for the sink or for the text itself
+pub data EndsWith (text : List ℕ) (all broken : ℕ) (old new : SinkSeen) (status : ℕ)
+    : Type 0 where
+  whole : WritesAll text old new → status ≡ all → EndsWith text all broken old new status
+  part : WritesFront text old new → status ≡ broken → EndsWith text all broken old new status
+  wanting : (count : ℕ) → AppendsFront old new count text → SinkSound old new
+      → status ≡ NO_MEMORY → EndsWith text all broken old new status
+  unwritten : EndsUnwritten old new status → EndsWith text all broken old new status
+
+abbrev pub EndsAs : Reply → SinkSeen → SinkSeen → (status : ℕ) → Type 0
+EndsAs reply old new status =
+    EndsWith (reply_text reply) (status_written reply) (status_broken reply) old new status

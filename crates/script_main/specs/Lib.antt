@@ -1,5 +1,8 @@
 pub mod Words
 pub mod Texts
+pub mod Scripts
 pub mod Replies
-pub mod Statuses
+pub mod Steps
 pub mod Ends
+pub mod Statuses
+pub mod Causes

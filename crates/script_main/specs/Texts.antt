@@ -1,11 +1,39 @@
--- what the program writes beside plays
-use Rattle.std.specs.Prelude.{ℕ, List, codes}
+-- the texts that the program writes beside outputs
+use Rattle.std.specs.Prelude.{ℕ, List, ◌++◌, codes}
+use Rattle.std.specs.Fmt.{decimal}
+use Rattle.tm_script.specs.declared.faults.Kind.{Kind}
+use Rattle.tm_script.specs.declared.faults.Kind.TheVariants.{BadLine, BadNumber, OutOfRange}
+use Rattle.tm_script.specs.declared.faults.Kind.TheVariants.{OutOfOrder, NoEnd, TooManyLines}
+use Rattle.tm_script.specs.declared.faults.ScriptFault.{ScriptFault}
 
 abbrev pub usage_text : List ℕ
-usage_text = codes "usage: tmig play\n"
+usage_text =
+    codes "usage: tmig play | tree | generate NUMBER CPUS TIMERS MOMENTS"
+    ++ codes " | day NUMBER CPUS TIMERS MOMENTS\n"
 
 abbrev pub read_fault_text : List ℕ
 read_fault_text = codes "read fault\n"
 
-abbrev pub refused_text : List ℕ
-refused_text = codes "script refused\n"
+abbrev pub too_long_text : List ℕ
+too_long_text = codes "input too long\n"
+
+-- the number of a kind of fault
+abbrev pub kind_number : Kind → ℕ
+kind_number BadLine = 1
+kind_number BadNumber = 2
+kind_number OutOfRange = 3
+kind_number OutOfOrder = 4
+kind_number NoEnd = 5
+kind_number TooManyLines = 6
+
+unfoldable pub refused_text : ScriptFault → List ℕ
+refused_text fault =
+    codes "script refused line " ++ decimal fault.line
+    ++ codes " kind " ++ decimal (kind_number fault.kind) ++ codes "\n"
+
+unfoldable pub job_unknown_text : (line job : ℕ) → List ℕ
+job_unknown_text line job =
+    codes "job unknown line " ++ decimal line ++ codes " job " ++ decimal job ++ codes "\n"
+
+unfoldable pub work_spent_text : (count : ℕ) → List ℕ
+work_spent_text count = codes "work spent " ++ decimal count ++ codes "\n"

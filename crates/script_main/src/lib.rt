@@ -2,13 +2,20 @@
 //! the bytes that it writes.
 #![tactic(auto)]
 
+mod commands;
 mod program;
 mod replies;
 mod statuses;
-mod words;
+mod texts;
 
+pub use commands::MOST_NUMBER;
 pub use program::run_program;
-pub use statuses::{NO_MEMORY, PLAYED, READ_FAULT, SCRIPT_REFUSED, Status, USAGE, WRITE_FAULT};
+pub use statuses::{
+    DONE, JOB_UNKNOWN, NO_MEMORY, READ_FAULT, SCRIPT_REFUSED, Status, TOO_LONG, USAGE, WORK_SPENT,
+    WRITE_FAULT,
+};
 
+#[cfg(test)]
+mod rows;
 #[cfg(test)]
 mod tests;

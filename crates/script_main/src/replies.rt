@@ -1,24 +1,26 @@
 //! What the program is about to write.
 
-ghost use Rattle.std.specs.Prelude.{◌≡◌, IfOk, OnErr};
+ghost use Rattle.std.specs.Prelude.{◌≡◌, ℕ, None, IfOk, OnErr};
+ghost use Rattle.play_rules.specs.Interrupts.{Replies};
 ghost use Rattle.tm_io.specs.Seen.{SourceUnbroken};
-ghost use Rattle.script_main.specs.Words.{IsPlay};
-ghost use Rattle.script_main.specs.Replies.{IsReply, IsReplyTo, reply_text};
-ghost use Rattle.script_main.specs.Replies.{status_broken, status_written};
+ghost use Rattle.tm_script.specs.Grammar.{IsScript};
+ghost use Rattle.script_main.specs.Words.{IsRecipe, Reads, recipe_in};
+ghost use Rattle.script_main.specs.Scripts.{script_by};
+ghost use Rattle.script_main.specs.Replies.{IsReply, IsReplyOf, IsReplyTo};
+ghost use Rattle.script_main.specs.Steps.{IsReplyToBytes};
 
-use crate::words::is_play;
-use crate::{PLAYED, READ_FAULT, SCRIPT_REFUSED, USAGE, WRITE_FAULT};
-use first_driver::play;
-use first_script::{ReadScript, read_script};
+use crate::commands::{Command, Recipe, read_command};
+use day_text::print_day;
+use job_table::Jobs;
 use std::alloc::Global;
-use tm_base::NoMemory;
+use tm_base::{MOST_BYTES, NoMemory};
+use tm_driver::{DriveFault, play, summary};
+use tm_generate::generate;
 use tm_io::{ReadFault, Source, read_all};
 use tm_report::Report;
-
-/// The most bytes that a script has.
-const MOST_BYTES: usize = 65_536;
-
-const _: () = prove!(MOST_BYTES == 1 << 16);
+use tm_script::{ReadScript, Script, ScriptFault, print_script, read_script};
+use tree_plan::plan;
+use tree_text::print_tree;
 
 /// A text that the program writes, and what it says.
 #[derive(Drop)]
@@ -27,83 +29,154 @@ pub(crate) enum Reply {
     Usage,
     /// The source failed.
     ReadFault,
+    /// The source has too many bytes.
+    TooLong,
     /// What was read is no script.
-    Refused,
+    Refused(ScriptFault),
+    /// A line of the script names a job that there isn't.
+    JobUnknown { line: u32, job: u8 },
+    /// The work of the play reached its limit.
+    WorkSpent { count: u32 },
     /// The report of a play.
     Played(Report),
+    /// Another output.
+    Made(Vec<u8>),
 }
 
-impl Reply {
-    pub(crate) fn text(&self) -> &[u8]
-        ensures { result.now ≡ reply_text self.now }
-    {
-        match self {
-            Reply::Usage => b"usage: tmig play\n",
-            Reply::ReadFault => b"read fault\n",
-            Reply::Refused => b"script refused\n",
-            Reply::Played(report) => report.text(),
-        }
-    }
-
-    /// The status where all of the text was written.
-    pub(crate) fn status_written(&self) -> u8
-        ensures { result ≡ status_written self.now }
-    {
-        match self {
-            Reply::Usage => USAGE,
-            Reply::ReadFault => READ_FAULT,
-            Reply::Refused => SCRIPT_REFUSED,
-            Reply::Played(_) => PLAYED,
-        }
-    }
-
-    /// The status where the sink failed or took nothing.
-    pub(crate) fn status_broken(&self) -> u8
-        ensures { result ≡ status_broken self.now }
-    {
-        match self {
-            Reply::Usage => USAGE,
-            Reply::ReadFault => READ_FAULT,
-            Reply::Refused => SCRIPT_REFUSED,
-            Reply::Played(_) => WRITE_FAULT,
-        }
+/// Plays a script.
+fn play_script<J: Jobs>(alloc: Global, script: &Script, jobs: &J) -> Result<Reply, NoMemory>
+    requires { IsScript script.now }
+    ensures { IfOk result
+        (IsReplyTo (J.replies jobs.now) (J.count jobs.now) Command.Play script.now) }
+{
+    let mut report = Report::new(alloc);
+    match play(alloc, script, jobs, &mut report) {
+        Ok(_machine) => Ok(Reply::Played(report)),
+        Err(DriveFault::BadJob { line, job }) => Ok(Reply::JobUnknown { line, job }),
+        Err(DriveFault::WorkSpent { count }) => Ok(Reply::WorkSpent { count }),
+        Err(DriveFault::NoMemory) => Err(NoMemory),
     }
 }
 
-/// Plays the script that the bytes spell.
-fn play_bytes(alloc: Global, bytes: &[u8]) -> Result<Reply, NoMemory>
-    ensures { IfOk result (IsReplyTo bytes.now) }
+/// Plays a script, and sums up what that came to.
+fn sum_up<J: Jobs>(alloc: Global, script: &Script, jobs: &J) -> Result<Reply, NoMemory>
+    requires { IsScript script.now }
+    ensures { (recipe : Recipe) → IfOk result
+        (IsReplyTo (J.replies jobs.now) (J.count jobs.now) (Command.Day recipe) script.now) }
+{
+    match summary(alloc, script, jobs) {
+        Ok(numbers) => Ok(Reply::Made(print_day(alloc, &numbers)?)),
+        Err(DriveFault::BadJob { line, job }) => Ok(Reply::JobUnknown { line, job }),
+        Err(DriveFault::WorkSpent { count }) => Ok(Reply::WorkSpent { count }),
+        Err(DriveFault::NoMemory) => Err(NoMemory),
+    }
+}
+
+/// Draws the tree of a script's machine.
+fn draw_tree(alloc: Global, script: &Script) -> Result<Reply, NoMemory>
+    requires { IsScript script.now }
+    ensures { (jobs : Replies) (table : ℕ) → IfOk result
+        (IsReplyTo jobs table Command.Tree script.now) }
+{
+    let tree = plan(alloc, script.nodes, script.cpus, &script.isolated)?;
+    Ok(Reply::Made(print_tree(alloc, &tree)?))
+}
+
+/// Does with its script what the command says.
+fn reply_to_script<J: Jobs>(
+    alloc: Global,
+    command: Command,
+    script: &Script,
+    jobs: &J,
+) -> Result<Reply, NoMemory>
+    requires { IsScript script.now }
+    ensures { IfOk result
+        (IsReplyTo (J.replies jobs.now) (J.count jobs.now) command script.now) }
+{
+    match command {
+        Command::Play => play_script(alloc, script, jobs),
+        Command::Tree => draw_tree(alloc, script),
+        Command::Generate(_) => Ok(Reply::Made(print_script(alloc, script)?)),
+        Command::Day(_) => sum_up(alloc, script, jobs),
+    }
+}
+
+/// Does with the script that the bytes spell what the command says.
+fn reply_to_bytes<J: Jobs>(
+    alloc: Global,
+    command: Command,
+    bytes: &[u8],
+    jobs: &J,
+) -> Result<Reply, NoMemory>
+    ensures { IfOk result
+        (IsReplyToBytes (J.replies jobs.now) (J.count jobs.now) command bytes.now) }
 {
     match read_script(alloc, bytes) {
-        Ok(script) => {
-            let mut report = Report::new(alloc);
-            play(alloc, &script, &mut report)?;
-            Ok(Reply::Played(report))
-        }
-        Err(ReadScript::Refused(_)) => Ok(Reply::Refused),
+        Ok(script) => reply_to_script(alloc, command, &script, jobs),
+        Err(ReadScript::Refused(fault)) => Ok(Reply::Refused(fault)),
         Err(ReadScript::NoMemory) => Err(NoMemory),
     }
 }
 
-/// Does what the words say, up to what is to be written. It reads the source only where the words
-/// are a command.
-pub(crate) fn reply_to<S: Source>(
+/// Reads the script from the source, and does with it what the command says.
+fn reply_to_source<S: Source, J: Jobs>(
+    alloc: Global,
+    command: Command,
+    source: &mut S,
+    jobs: &J,
+) -> Result<Reply, NoMemory>
+    requires { recipe_in command ≡ None }
+    ensures reply { IfOk result (IsReplyOf (J.replies jobs.now) (J.count jobs.now) command
+        (S.seen source.old) (S.seen source.new)) }
+    ensures unbroken { OnErr result (SourceUnbroken (S.seen source.old) (S.seen source.new)) }
+{
+    match read_all(alloc, source, MOST_BYTES) {
+        Ok(bytes) => reply_to_bytes(alloc, command, &bytes, jobs),
+        Err(ReadFault::Read) => Ok(Reply::ReadFault),
+        Err(ReadFault::TooLong) => Ok(Reply::TooLong),
+        Err(ReadFault::NoMemory) => Err(NoMemory),
+    }
+}
+
+/// Generates the script, and does with it what the command says.
+fn reply_to_recipe<J: Jobs>(
+    alloc: Global,
+    command: Command,
+    recipe: Recipe,
+    jobs: &J,
+) -> Result<Reply, NoMemory>
+    requires { IsRecipe recipe }
+    ensures { IfOk result
+        (IsReplyTo (J.replies jobs.now) (J.count jobs.now) command (script_by recipe)) }
+{
+    let Recipe {
+        number,
+        cpus,
+        timers,
+        moments,
+    } = recipe;
+    let script = generate(alloc, number, cpus, timers, moments)?;
+    reply_to_script(alloc, command, &script, jobs)
+}
+
+/// Does what the words say, up to what is to be written. It reads the source only where the command
+/// has no recipe.
+pub(crate) fn reply_to<S: Source, J: Jobs>(
     alloc: Global,
     words: &[String],
     source: &mut S,
+    jobs: &J,
 ) -> Result<Reply, NoMemory>
-    ensures reply { IfOk result
-        (IsReply words.now (S.seen source.old) (S.seen source.new)) }
+    ensures reply { IfOk result (IsReply (J.replies jobs.now) (J.count jobs.now) words.now
+        (S.seen source.old) (S.seen source.new)) }
     ensures unbroken { OnErr result (SourceUnbroken (S.seen source.old) (S.seen source.new)) }
-    ensures untouched { ¬ IsPlay words.now → source.new ≡ source.old }
+    ensures untouched { ¬ Reads words.now → source.new ≡ source.old }
 {
-    if !is_play(words) {
+    let Some(command) = read_command(words) else {
         return Ok(Reply::Usage);
-    }
-    match read_all(alloc, source, MOST_BYTES) {
-        Ok(bytes) => play_bytes(alloc, &bytes),
-        Err(ReadFault::Read) => Ok(Reply::ReadFault),
-        Err(ReadFault::TooLong) => Ok(Reply::Refused),
-        Err(ReadFault::NoMemory) => Err(NoMemory),
+    };
+    match command.recipe() {
+        Some(recipe) => reply_to_recipe(alloc, command, recipe, jobs),
+        None => reply_to_source(alloc, command, source, jobs),
     }
 }

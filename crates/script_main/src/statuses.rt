@@ -1,13 +1,13 @@
 //! How the program ends.
 
-/// How the program ends: its exit status, one of the six below.
+/// How the program ends: its exit status, one of the nine below.
 #[derive(Clone, Copy, Debug, PartialEq, Eq)]
 pub struct Status(pub u8);
 
-/// The script was played, and all of its report was written.
-pub const PLAYED: u8 = 0;
+/// All was done, and all of the output was written.
+pub const DONE: u8 = 0;
 
-/// What was read is no script, or is too long.
+/// What was read is no script.
 pub const SCRIPT_REFUSED: u8 = 1;
 
 /// The words are no command.
@@ -16,8 +16,17 @@ pub const USAGE: u8 = 2;
 /// The source failed.
 pub const READ_FAULT: u8 = 3;
 
-/// The sink failed, or took nothing of a piece, before all of the report was written.
+/// The sink failed, or took nothing of a piece, before all of the output was written.
 pub const WRITE_FAULT: u8 = 4;
 
 /// Want of memory.
 pub const NO_MEMORY: u8 = 5;
+
+/// The work of a play reached the limit of the script's version before its end.
+pub const WORK_SPENT: u8 = 6;
+
+/// The source has more bytes than a script may have.
+pub const TOO_LONG: u8 = 7;
+
+/// The script names a job that there isn't.
+pub const JOB_UNKNOWN: u8 = 8;

@@ -1,120 +1,142 @@
 use super::*;
+use crate::rows::{Row, rows};
+use job_table::{Job, JobTable, Marker, OneShot, Periodic};
 use std::alloc::{AllocError, Global};
 use std::test::Fail;
-use tm_io::{MemorySink, MemorySource, PlainSink, PlainSource};
+use tm_base::{Class, MOST_BYTES};
+use tm_io::{FullSink, MemorySink, MemorySource, PlainSink, PlainSource, Sink, Source};
 
+// Row plain of the specification.
 const PLAIN: &[u8] = b"tmig 1\nnodes 1\ncpus 1\ntimers 1\nat 10\narm 0 0 global 50 0 0\nend 100\n";
 
-const PLAIN_PLAY: &[u8] = b"arm 10 0 0 global 61\nrun 61 0 0 0 61 done\nend 100\n";
-
-const TWO_CPUS: &[u8] =
-    b"tmig 1\nnodes 1\ncpus 2\ntimers 2\nat 10\narm 1 0 global 5 0 0\narm 0 0 global 5 0 0\narm 0 1 global 62 0 0\nend 20\n";
-
-const TWO_CPUS_PLAY: &[u8] =
-    b"arm 10 1 0 global 16\nrefused 10 0 7 6 1\narm 10 0 1 global 73\nrun 16 1 0 1 16 done\nleft 1 0 global 73\nend 20\n";
-
-const LAST_TO_IDLE: &[u8] =
-    b"tmig 1\nnodes 1\ncpus 2\ntimers 1\nat 10\narm 1 0 global 50 0 0\nidle 1\nat 20\nidle 0\nend 100\n";
-
-const LAST_TO_IDLE_PLAY: &[u8] =
-    b"arm 10 1 0 global 61\nidle 10 1 never\ncover 10 1 61 migrator 0:0 0\nidle 20 0 61\ncover 20 1 61 wake 0 61\nrun 61 0 0 1 61 done\nend 100\n";
-
-const STAY: &[u8] =
-    b"tmig 1\nnodes 1\ncpus 1\ntimers 1\nat 10\narm 0 0 global 0 0 0\nidle 0\nend 20\n";
-
-const STAY_PLAY: &[u8] = b"arm 10 0 0 global 11\nstay 10 0 11\nrun 11 0 0 0 11 done\nend 20\n";
-
-const WAKE_REFUSED: &[u8] =
-    b"tmig 1\nnodes 1\ncpus 2\ntimers 1\nat 10\narm 1 0 global 50 0 0\nidle 1\nat 20\nwake 1\nwake 1\nend 100\n";
-
-const WAKE_REFUSED_PLAY: &[u8] =
-    b"arm 10 1 0 global 61\nidle 10 1 never\ncover 10 1 61 migrator 0:0 0\nwake 20 1\nrefused 20 1 10 2\nrun 61 1 0 1 61 done\nend 100\n";
-
-const MISSPELLED: &[u8] =
-    b"tmig 1\nnodes 1\ncpus 1\ntimers 1\nat 10\narm 0 0 globl 50 0 0\nend 100\n";
-
-fn one_word(alloc: Global, word: &str) -> Result<Vec<String>, AllocError> {
+// The words of a line.
+fn split(alloc: Global, line: &str) -> Result<Vec<String>, AllocError> {
     let mut words = Vec::new(alloc);
-    words.push(String::from_str(alloc, word)?)?;
+    for word in line.split(' ') {
+        words.push(String::from_str(alloc, word)?)?;
+    }
     Ok(words)
 }
 
-#[test]
-fn plays_what_it_reads(rt: HostRuntime) -> Result<(), Fail> {
-    let alloc = rt.alloc();
-    let cases = [
-        ("play", PLAIN, 0, PLAIN_PLAY),
-        ("play", TWO_CPUS, 0, TWO_CPUS_PLAY),
-        ("play", LAST_TO_IDLE, 0, LAST_TO_IDLE_PLAY),
-        ("play", STAY, 0, STAY_PLAY),
-        ("play", WAKE_REFUSED, 0, WAKE_REFUSED_PLAY),
-        ("play", MISSPELLED, 1, b"script refused\n".as_slice()),
-        ("paly", PLAIN, 2, b"usage: tmig play\n".as_slice()),
-    ];
-    for (word, bytes, status, text) in cases {
-        let words = one_word(alloc, word)?;
-        let mut source = PlainSource::new(bytes.to_vec(alloc)?);
-        let mut sink = PlainSink::new(alloc);
-        let ended = run_program(alloc, &words, &mut source, &mut sink);
-        assert_eq!(rt; ended.0, status, "{word}");
-        assert_eq!(rt; sink.held(), text);
-    }
-    Ok(())
+// The four jobs of the program, by the table of jobs in docs/FORMATS.md.
+fn four_jobs(alloc: Global) -> Result<JobTable, AllocError> {
+    let global = Periodic {
+        class: Class::Global,
+    };
+    let pinned = Periodic {
+        class: Class::Pinned,
+    };
+    let mut jobs: Vec<Box<dyn Job + Send + Sync>> = Vec::new(alloc);
+    jobs.push(Box::new(alloc, OneShot)?)?;
+    jobs.push(Box::new(alloc, global)?)?;
+    jobs.push(Box::new(alloc, pinned)?)?;
+    jobs.push(Box::new(alloc, Marker)?)?;
+    Ok(JobTable::new(jobs))
 }
 
-#[test]
-fn other_words_are_no_command(rt: HostRuntime) -> Result<(), Fail> {
-    let alloc = rt.alloc();
-    let mut two = one_word(alloc, "play")?;
-    two.push(String::from_str(alloc, "x")?)?;
-    for words in [Vec::new(alloc), two] {
-        let mut source = PlainSource::new(PLAIN.to_vec(alloc)?);
-        let mut sink = PlainSink::new(alloc);
-        assert_eq!(rt;
-            run_program(alloc, &words, &mut source, &mut sink),
-            Status(2)
-        );
-        assert_eq!(rt; sink.held(), b"usage: tmig play\n".as_slice());
-    }
-    Ok(())
+// Runs the program on the words of a line.
+fn ended<S: Source, K: Sink>(
+    alloc: Global,
+    line: &str,
+    source: &mut S,
+    sink: &mut K,
+) -> Result<Status, AllocError> {
+    let words = split(alloc, line)?;
+    let jobs = four_jobs(alloc)?;
+    Ok(run_program(alloc, &words, source, sink, &jobs))
 }
 
-#[test]
-fn too_long_is_refused(rt: HostRuntime) -> Result<(), Fail> {
-    let alloc = rt.alloc();
-    let words = one_word(alloc, "play")?;
-    let mut source = PlainSource::new(vec![in alloc; b'a'; 65_537]?);
+// The status and the text that words and an input come to, where no end fails.
+fn come_to(alloc: Global, line: &str, input: &[u8]) -> Result<(Status, Vec<u8>), AllocError> {
+    let mut source = PlainSource::new(input.to_vec(alloc)?);
     let mut sink = PlainSink::new(alloc);
-    assert_eq!(rt;
-        run_program(alloc, &words, &mut source, &mut sink),
-        Status(1)
-    );
-    assert_eq!(rt; sink.held(), b"script refused\n".as_slice());
+    let status = ended(alloc, line, &mut source, &mut sink)?;
+    Ok((status, sink.held().to_vec(alloc)?))
+}
+
+// Whether a row comes to its status and text.
+fn holds(alloc: Global, row: &Row) -> Result<bool, AllocError> {
+    let (status, text) = come_to(alloc, row.words, row.input)?;
+    Ok(status.0 == row.status && text.as_slice() == row.text)
+}
+
+#[test]
+fn each_worked_row_comes_to_its_status_and_text(rt: HostRuntime) -> Result<(), Fail> {
+    for (i, row) in rows().iter().enumerate() {
+        let holds = holds(rt.alloc(), row)?;
+        assert!(rt; holds, "row {i}");
+    }
+    Ok(())
+}
+
+// The script was made by another program from the rule of generated scripts in docs/FORMATS.md. The
+// day's numbers are by hand: CPU 0 stays active, so each jiffy is a moment; CPU 1 goes idle at 1,
+// and what it is to do at 5 and 10 is refused.
+#[test]
+fn a_generated_script_is_written_and_its_day_is_summed_up(rt: HostRuntime) -> Result<(), Fail> {
+    let (status, text) = come_to(rt.alloc(), "generate 5 2 1 2", b"")?;
+    assert_eq!(rt; status, Status(DONE));
+    let script = b"tmig 1\nnodes 1\ncpus 2\ntimers 1\nat 0\narm 0 0 pinned 433 2 84\nat 1\nidle 1\n\
+      at 5\nidle 1\nat 10\ncancel 1 0\nend 15\n";
+    assert_eq!(rt; text.as_slice(), script.as_slice());
+
+    let (status, text) = come_to(rt.alloc(), "day 5 2 1 2", b"")?;
+    assert_eq!(rt; status, Status(DONE));
+    let day = b"moments 16\nruns 0\nremote 0\narmed 1\ncancels 0\nidles 1\nstays 0\nwakes 0\n\
+      refused 2\nleft 1\nend 15\n";
+    assert_eq!(rt; text.as_slice(), day.as_slice());
     Ok(())
 }
 
 #[test]
-fn ends_that_fail(rt: HostRuntime) -> Result<(), Fail> {
+fn one_byte_too_many_is_too_long(rt: HostRuntime) -> Result<(), Fail> {
     let alloc = rt.alloc();
-    let words = one_word(alloc, "play")?;
+    let mut source = PlainSource::new(vec![in alloc; 0; MOST_BYTES + 1]?);
+    let mut sink = PlainSink::new(alloc);
+    let status = ended(alloc, "play", &mut source, &mut sink)?;
+    assert_eq!(rt; status, Status(TOO_LONG));
+    assert_eq!(rt; sink.held(), b"input too long\n".as_slice());
+    Ok(())
+}
 
+// Row statuses of the specification.
+#[test]
+fn a_source_that_fails_is_a_read_fault(rt: HostRuntime) -> Result<(), Fail> {
+    let alloc = rt.alloc();
     let mut source = MemorySource::new(PLAIN.to_vec(alloc)?, 16, [2].to_vec(alloc)?);
     let mut sink = PlainSink::new(alloc);
-    assert_eq!(rt;
-        run_program(alloc, &words, &mut source, &mut sink),
-        Status(3)
-    );
+    let status = ended(alloc, "play", &mut source, &mut sink)?;
+    assert_eq!(rt; status, Status(READ_FAULT));
     assert_eq!(rt; sink.held(), b"read fault\n".as_slice());
+    Ok(())
+}
+
+// Row short-sink of the specification; a sink that is full takes nothing of a piece.
+#[test]
+fn a_sink_that_fails_or_is_full_is_a_write_fault(rt: HostRuntime) -> Result<(), Fail> {
+    let alloc = rt.alloc();
+    let front = b"arm 10 0 0 global 61\nrun 61 0 0 ".as_slice();
+    let mut source = PlainSource::new(PLAIN.to_vec(alloc)?);
+    let mut failing = MemorySink::new(alloc, 16, [3].to_vec(alloc)?);
+    let status = ended(alloc, "play", &mut source, &mut failing)?;
+    assert_eq!(rt; status, Status(WRITE_FAULT));
+    assert_eq!(rt; failing.held(), front);
 
     let mut source = PlainSource::new(PLAIN.to_vec(alloc)?);
-    let mut sink = MemorySink::new(alloc, 16, [3].to_vec(alloc)?);
-    assert_eq!(rt;
-        run_program(alloc, &words, &mut source, &mut sink),
-        Status(4)
-    );
-    assert_eq!(rt;
-        sink.held(),
-        b"arm 10 0 0 global 61\nrun 61 0 0 ".as_slice()
-    );
+    let mut full = FullSink::new(alloc, 32);
+    let status = ended(alloc, "play", &mut source, &mut full)?;
+    assert_eq!(rt; status, Status(WRITE_FAULT));
+    assert_eq!(rt; full.held(), front);
+    Ok(())
+}
+
+#[test]
+fn an_earlier_cause_stays_where_the_sink_is_full(rt: HostRuntime) -> Result<(), Fail> {
+    let alloc = rt.alloc();
+    let mut source = PlainSource::new(Vec::new(alloc));
+    let mut full = FullSink::new(alloc, 6);
+    let status = ended(alloc, "play", &mut source, &mut full)?;
+    assert_eq!(rt; status, Status(SCRIPT_REFUSED));
+    assert_eq!(rt; full.held(), b"script".as_slice());
     Ok(())
 }

@@ -1,13 +1,17 @@
-//! The program tmig: its words, standard input and standard output, and its exit status.
+//! The program tmig: its words, standard input and standard output, the four jobs of its scripts,
+//! and its exit status.
 #![tactic(auto)]
 
-use script_main::run_program;
-use std::alloc::AllocError;
+use job_table::{Job, JobTable, Marker, OneShot, Periodic};
+use script_main::{NO_MEMORY, run_program};
+use std::alloc::{AllocError, Global};
 use std::process::ExitCode;
 use std::{env, io};
+use tm_base::Class;
 use tm_io::{StdSink, StdSource};
 
-/// The words after the program's name. Words that aren't UTF-8 are no command, and neither are no words.
+/// The words after the program's name. Words that aren't UTF-8 are no command, and neither are no
+/// words.
 fn words(rt: &HostRuntime) -> Result<Vec<String>, AllocError> {
     match env::args(rt) {
         Ok(all) => all.skip(1).collect(rt.alloc()),
@@ -16,12 +20,37 @@ fn words(rt: &HostRuntime) -> Result<Vec<String>, AllocError> {
     }
 }
 
+/// The jobs by their numbers: 0 is done, 1 and 2 arm again, 3 leaves a mark.
+fn jobs(alloc: Global) -> Result<JobTable, AllocError> {
+    let mut jobs: Vec<Box<dyn Job + Send + Sync>> = Vec::new(alloc);
+    jobs.push(Box::new(alloc, OneShot)?)?;
+    jobs.push(Box::new(
+        alloc,
+        Periodic {
+            class: Class::Global,
+        },
+    )?)?;
+    jobs.push(Box::new(
+        alloc,
+        Periodic {
+            class: Class::Pinned,
+        },
+    )?)?;
+    jobs.push(Box::new(alloc, Marker)?)?;
+    Ok(JobTable::new(jobs))
+}
+
+/// The words and the jobs.
+fn given(rt: &HostRuntime) -> Result<(Vec<String>, JobTable), AllocError> {
+    Ok((words(rt)?, jobs(rt.alloc())?))
+}
+
 fn main(rt: HostRuntime) -> ExitCode {
-    let Ok(words) = words(&rt) else {
-        return ExitCode::from(5);
+    let Ok((words, jobs)) = given(&rt) else {
+        return ExitCode::from(NO_MEMORY);
     };
     let mut source = StdSource::new(rt.reader());
     let mut sink = StdSink::new(io::writer(&rt));
-    let status = run_program(rt.alloc(), &words, &mut source, &mut sink);
+    let status = run_program(rt.alloc(), &words, &mut source, &mut sink, &jobs);
     ExitCode::from(status.0)
 }

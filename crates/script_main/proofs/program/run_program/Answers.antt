@@ -1,17 +1,91 @@
 use Rattle.std.proofs.Common.{refl, inl}
-use Rattle.script_main.proofs.Endings.{appends_none, script_ends, complete_ends}
+use Rattle.script_main.proofs.Endings.{appends_none, says_done, says_no_memory, says_write_fault}
+use Rattle.script_main.proofs.Endings.{says_work_spent, says_job_unknown}
+use Rattle.script_main.proofs.Exactly.{refused_exactly, job_exactly, work_exactly}
+use Rattle.script_main.proofs.Exactly.{fine_ends, fine_done}
 use Rattle.script_main.proofs.program.run_program.Goals as goal
 
-pub returns-in-Ok-clause-script_read : goal.returns-in-Ok-clause-script_read
-returns-in-Ok-clause-script_read g c =
-    λ play not bytes known text.
-    script_ends c.args.words.now (g.S.Source.seen c.args.source.now) (g.S.Source.seen c.reply_to.new.source) play bytes known text c.in-Ok.reply c.in-Ok.ensures.reply (g.K.Sink.seen c.args.sink.now) (g.K.Sink.seen c.write_reply.new.sink) c.write_reply.result c.write_reply.ensures not
+pub returns-in-Ok-clause-done : goal.returns-in-Ok-clause-done
+returns-in-Ok-clause-done g c =
+    says_done (record {
+      reply = c.in-Ok.reply;
+      is = c.in-Ok.ensures.reply;
+      ends = c.write_reply.ensures;
+    })
+
+pub returns-in-Ok-clause-write_fault : goal.returns-in-Ok-clause-write_fault
+returns-in-Ok-clause-write_fault g c =
+    says_write_fault (record {
+      reply = c.in-Ok.reply;
+      is = c.in-Ok.ensures.reply;
+      ends = c.write_reply.ensures;
+    })
+
+pub returns-in-Ok-clause-no_memory : goal.returns-in-Ok-clause-no_memory
+returns-in-Ok-clause-no_memory g c =
+    says_no_memory (record {
+      reply = c.in-Ok.reply;
+      is = c.in-Ok.ensures.reply;
+      ends = c.write_reply.ensures;
+    })
+
+pub returns-in-Ok-clause-work_spent : goal.returns-in-Ok-clause-work_spent
+returns-in-Ok-clause-work_spent g c =
+    says_work_spent (record {
+      reply = c.in-Ok.reply;
+      is = c.in-Ok.ensures.reply;
+      ends = c.write_reply.ensures;
+    })
+
+pub returns-in-Ok-clause-job_unknown : goal.returns-in-Ok-clause-job_unknown
+returns-in-Ok-clause-job_unknown g c =
+    says_job_unknown (record {
+      reply = c.in-Ok.reply;
+      is = c.in-Ok.ensures.reply;
+      ends = c.write_reply.ensures;
+    })
+
+pub returns-in-Ok-clause-refused_exactly : goal.returns-in-Ok-clause-refused_exactly
+returns-in-Ok-clause-refused_exactly g c =
+    refused_exactly (record {
+      reply = c.in-Ok.reply;
+      is = c.in-Ok.ensures.reply;
+      ends = c.write_reply.ensures;
+    })
+
+pub returns-in-Ok-clause-job_unknown_exactly : goal.returns-in-Ok-clause-job_unknown_exactly
+returns-in-Ok-clause-job_unknown_exactly g c =
+    job_exactly (record {
+      reply = c.in-Ok.reply;
+      is = c.in-Ok.ensures.reply;
+      ends = c.write_reply.ensures;
+    })
+
+pub returns-in-Ok-clause-work_spent_exactly : goal.returns-in-Ok-clause-work_spent_exactly
+returns-in-Ok-clause-work_spent_exactly g c =
+    work_exactly (record {
+      reply = c.in-Ok.reply;
+      is = c.in-Ok.ensures.reply;
+      ends = c.write_reply.ensures;
+    })
+
+pub returns-in-Ok-clause-output : goal.returns-in-Ok-clause-output
+returns-in-Ok-clause-output g c =
+    fine_ends (record {
+      reply = c.in-Ok.reply;
+      is = c.in-Ok.ensures.reply;
+      ends = c.write_reply.ensures;
+    })
 
 pub returns-in-Ok-clause-complete : goal.returns-in-Ok-clause-complete
 returns-in-Ok-clause-complete g c =
-    λ play sure unbroken bytes known text.
-    complete_ends c.args.words.now (g.S.Source.seen c.args.source.now) (g.S.Source.seen c.reply_to.new.source) play bytes known text c.in-Ok.reply c.in-Ok.ensures.reply (g.K.Sink.seen c.args.sink.now) (g.K.Sink.seen c.write_reply.new.sink) c.write_reply.result c.write_reply.ensures sure unbroken
+    fine_done (record {
+      reply = c.in-Ok.reply;
+      is = c.in-Ok.ensures.reply;
+      ends = c.write_reply.ensures;
+    })
 
 pub returns-in-Err-clause-no_memory : goal.returns-in-Err-clause-no_memory
 returns-in-Err-clause-no_memory g c =
-    λ wanting. record { sound = (refl, refl); written = inl (appends_none (g.K.Sink.seen c.args.sink.now).held) }
+    let nothing = appends_none (g.K.Sink.seen c.args.sink.now).held in
+    λ at. record { sound = (refl, refl); written = inl (c.in-Err.ensures.unbroken, nothing) }

@@ -1,10 +1,40 @@
-use Rattle.std.proofs.Common.{List, ℕ, refl, subst}
-use Rattle.tm_io.specs.Sinks.{AppendsFront}
-use Rattle.script_main.specs.Ends.{wanting}
+use Rattle.std.proofs.Common.{sym, subst}
+use Rattle.script_main.specs.declared.replies.Reply.{Reply}
+use Rattle.script_main.specs.declared.statuses.TheConstants.{SCRIPT_REFUSED, JOB_UNKNOWN}
+use Rattle.script_main.specs.declared.statuses.TheConstants.{WORK_SPENT}
+use Rattle.script_main.specs.Texts.{refused_text, job_unknown_text, work_spent_text}
+use Rattle.script_main.specs.Ends.{EndsAs}
+use Rattle.script_main.proofs.Endings.{made_ends}
 use Rattle.script_main.proofs.program.write_reply.Goals as goal
 
-pub returns-in-NoMemory : goal.returns-in-NoMemory
-returns-in-NoMemory g c =
-    let Front : List ℕ → Type 0 = λ text. AppendsFront (g.K.Sink.seen c.args.sink.now) (g.K.Sink.seen c.write_all.new.sink) c.in-Err.fault.written text in
-    wanting c.in-Err.fault.written (subst Front c.text.ensures c.in-Err.ensures.err)
-    (c.in-Err.ensures.unbroken (λ is. cc (is, c.in-NoMemory.is)), c.in-Err.ensures.took_some (λ is. cc (is, c.in-NoMemory.is))) refl
+pub returns-in-Refused : goal.returns-in-Refused
+returns-in-Refused g c =
+    let k = g.K.Sink.seen c.args.sink.now in
+    let m = g.K.Sink.seen c.write_made.new.sink in
+    let Ends : Reply → Type 0 = λ r. EndsAs r k m c.write_made.result in
+    let wrote =
+    made_ends k m c.write_made.result c.refused_text.result (refused_text c.in-Refused.fault)
+    SCRIPT_REFUSED c.refused_text.ensures c.write_made.ensures in
+    subst Ends (sym c.in-Refused.is) wrote
+
+pub returns-in-JobUnknown : goal.returns-in-JobUnknown
+returns-in-JobUnknown g c =
+    let k = g.K.Sink.seen c.args.sink.now in
+    let m = g.K.Sink.seen c.write_made-in-JobUnknown.new.sink in
+    let Ends : Reply → Type 0 = λ r. EndsAs r k m c.write_made-in-JobUnknown.result in
+    let wanted = job_unknown_text c.in-JobUnknown.line c.in-JobUnknown.job in
+    let wrote =
+    made_ends k m c.write_made-in-JobUnknown.result c.job_unknown_text.result wanted JOB_UNKNOWN
+    c.job_unknown_text.ensures c.write_made-in-JobUnknown.ensures in
+    subst Ends (sym c.in-JobUnknown.is) wrote
+
+pub returns-in-WorkSpent : goal.returns-in-WorkSpent
+returns-in-WorkSpent g c =
+    let k = g.K.Sink.seen c.args.sink.now in
+    let m = g.K.Sink.seen c.write_made-in-WorkSpent.new.sink in
+    let Ends : Reply → Type 0 = λ r. EndsAs r k m c.write_made-in-WorkSpent.result in
+    let wanted = work_spent_text c.in-WorkSpent.count in
+    let wrote =
+    made_ends k m c.write_made-in-WorkSpent.result c.work_spent_text.result wanted WORK_SPENT
+    c.work_spent_text.ensures c.write_made-in-WorkSpent.ensures in
+    subst Ends (sym c.in-WorkSpent.is) wrote

@@ -1,4 +1,0 @@
-pub mod QuietCpu
-pub mod Quiet
-pub mod Answered
-pub mod Group

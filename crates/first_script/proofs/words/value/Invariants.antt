@@ -1,7 +1,0 @@
-use Rattle.std.proofs.Common.{◌≡◌, ◌<◌, ◌^◌, drop}
-use Rattle.first_script.specs.Numbers.{value_from}
-use Rattle.first_script.proofs.words.value.Given as goal
-
-abbrev pub invariant-loop-digit : goal.invariant-loop-digit
-invariant-loop-digit l =
-    record { value : value_from l.number (drop l.digit-index l.word) ≡ value_from 0 l.word; bound : l.number < 10 ^ l.digit-index }

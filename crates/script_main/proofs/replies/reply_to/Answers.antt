@@ -1,0 +1,22 @@
+use Rattle.std.proofs.Common.{Option, sym, subst}
+use Rattle.std.proofs.lemmas.Result.{IfOk-weaker}
+use Rattle.script_main.specs.declared.commands.Command.{Command}
+use Rattle.script_main.specs.Scripts.{script_by}
+use Rattle.script_main.specs.Replies.{IsReplyBy, IsReplyTo, IsReply}
+use Rattle.script_main.proofs.Replying.{to_recipe}
+use Rattle.script_main.proofs.replies.reply_to.Goals as goal
+
+pub returns-in-Some-recipe-clause-reply : goal.returns-in-Some-recipe-clause-reply
+returns-in-Some-recipe-clause-reply g c =
+    let jobs = g.J.Jobs.replies c.args.jobs.now in
+    let table = g.J.Jobs.count c.args.jobs.now in
+    let s = g.S.Source.seen c.args.source.now in
+    let command = c.in-Some.command in
+    let recipe = c.in-Some-recipe.recipe in
+    let maker = sym c.in-Some-recipe.ensures in
+    IfOk-weaker c.reply_to_recipe.result (IsReplyTo jobs table command (script_by recipe))
+    (IsReply jobs table c.args.words.now s s)
+    (λ reply to.
+    let By : Option Command → Type 0 = λ o. IsReplyBy jobs table o s s reply in
+    subst By c.in-Some.ensures.value (to_recipe jobs table command s recipe maker reply to))
+    c.reply_to_recipe.ensures
