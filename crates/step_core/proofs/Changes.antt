@@ -7,10 +7,14 @@ use Rattle.tm_base.specs.declared.names.CpuId.{CpuId}
 use Rattle.walk_rules.specs.Scene.{Group, no_group}
 use Rattle.core_world.specs.declared.step.Step.TheVariants as steps
 use Rattle.core_world.specs.Enabled.{Enabled}
+use Rattle.walk_rules.specs.declared.walk.Walk.{Walk}
+use Rattle.walk_rules.specs.declared.walk.WalkKind.{WalkKind}
+use Rattle.walk_rules.specs.declared.walk.WalkKind.TheVariants as kinds
+use Rattle.core_world.specs.Steps.{finished}
 use Rattle.core_world.specs.World.{CpuRecord, World, cpu_of, group_of, no_cpu, own}
 use Rattle.step_core.specs.declared.status.CpuStatus.{CpuStatus}
 use Rattle.step_core.specs.Kept.{IsHeld, IsKept, WorldFits, WorldsStayFit, is_queued}
-use Rattle.step_core.specs.Status.{with_cpu_status, with_status}
+use Rattle.step_core.specs.Status.{finished_status, status_of, with_cpu_status, with_status}
 
 pub cpu_read : (cpus : List CpuRecord) (c i : ℕ) (x : CpuRecord) → i ≡ c → c < length cpus
     → x ≡ get_or cpus i x → get_or cpus c no_cpu ≡ x
@@ -85,3 +89,28 @@ clock_kept v w holders now seen law kept enabled = record {
   fits = law v kept.fits (steps.Clock now) (subst (λ u. Enabled u (steps.Clock now)) (sym seen) enabled);
   held = kept.held;
 }
+
+-- what a walk leaves as it ends is another status
+finished_is : (y : CpuRecord) (k : Walk) (kind : WalkKind)
+    → finished y k kind ≡ with_status y (finished_status (status_of y) k kind)
+finished_is y k kinds.Activate = refl
+finished_is y k kinds.Deactivate = refl
+finished_is y k kinds.Offline = refl
+finished_is y k kinds.Reeval = refl
+finished_is y k (kinds.Remote by) = refl
+
+pub finish_fits : (w : World) (c : ℕ) (k : Walk) (status read : CpuStatus)
+    → status ≡ finished_status read k k.kind → read ≡ status_of (cpu_of w c)
+    → WorldFits (own w c (finished (cpu_of w c) k k.kind)) → WorldFits (with_cpu_status w c status)
+finish_fits w c k status read is same fits =
+    status_fits w c status (finished_status (status_of (cpu_of w c)) k k.kind)
+    (is ∙ ap (λ s. finished_status s k k.kind) same)
+    (subst (λ y. WorldFits (own w c y)) (finished_is (cpu_of w c) k k.kind) fits)
+
+pub finish_made : (w after : World) (c : ℕ) (k : Walk) (status read : CpuStatus)
+    → status ≡ finished_status read k k.kind → read ≡ status_of (cpu_of w c)
+    → after ≡ with_cpu_status w c status → after ≡ own w c (finished (cpu_of w c) k k.kind)
+finish_made w after c k status read is same made =
+    status_made w after c status (finished_status (status_of (cpu_of w c)) k k.kind)
+    (is ∙ ap (λ s. finished_status s k k.kind) same) made
+    ∙ ap (own w c) (sym (finished_is (cpu_of w c) k k.kind))

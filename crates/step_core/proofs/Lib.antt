@@ -4,4 +4,5 @@ pub mod Making
 pub mod Paths
 pub mod Ranges
 pub mod Readings
+pub mod Standing
 pub mod Starts

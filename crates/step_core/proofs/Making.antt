@@ -5,6 +5,8 @@ use Rattle.std.proofs.lemmas.Bool.{cases_eq}
 use Rattle.std.proofs.lemmas.List.{get_or_default}
 use Rattle.tm_base.specs.declared.names.CpuId.{CpuId}
 use Rattle.walk_rules.specs.Scene.{Group, no_group}
+use Rattle.walk_rules.specs.declared.walk.Walk.{Walk}
+use Rattle.core_world.specs.Steps.{with_walk}
 use Rattle.core_world.specs.World.{CpuRecord, World, cpu_of, group_of, moved, no_cpu, stale_if}
 use Rattle.step_core.specs.declared.change.GroupChange.{GroupChange}
 use Rattle.step_core.specs.declared.status.CpuStatus.{CpuStatus}
@@ -82,3 +84,18 @@ module _ (v w : World) (g i c j : ℕ) (x y : Group) (cs : List CpuRecord) (a b 
         fits = fits;
         held = held_on w after holders same_after (subst (λ u. IsHeld u holders) seen kept.held);
       })
+
+-- and with a status that is known to be another one
+pub status_moved : (w : World) (g : ℕ) (change : GroupChange) (c : ℕ) (exchanges : Bool)
+    (status wanted : CpuStatus) → status ≡ wanted
+    → moved w g (changed change (group_of w g)) c (with_status (cpu_of w c) status) exchanges
+    ≡ moved w g (changed change (group_of w g)) c (with_status (cpu_of w c) wanted) exchanges
+status_moved w g change c exchanges status wanted is =
+    ap (λ s. moved w g (changed change (group_of w g)) c (with_status (cpu_of w c) s) exchanges) is
+
+pub walk_moved : (w : World) (c : ℕ) (exchanges : Bool) (g h : ℕ) (change wanted : GroupChange)
+    (k j : Option Walk) → g ≡ h → change ≡ wanted → k ≡ j
+    → moved w g (changed change (group_of w g)) c (with_walk (cpu_of w c) k) exchanges
+    ≡ moved w h (changed wanted (group_of w h)) c (with_walk (cpu_of w c) j) exchanges
+walk_moved w c exchanges g h change wanted k j at is walk =
+    λ i. moved w (at i) (changed (is i) (group_of w (at i))) c (with_walk (cpu_of w c) (walk i)) exchanges

@@ -1,4 +1,5 @@
 pub mod Changes
 pub mod Kept
 pub mod Shown
+pub mod Stands
 pub mod Status

@@ -1,8 +1,14 @@
 -- what a CPU is besides its timers, and its record with another one of it
-use Rattle.std.specs.Prelude.{ℕ, ◌^◌, ◌<◌, Option, Some, None, slice_set}
+use Rattle.std.specs.Prelude.{ℕ, ◌==◌, ◌^◌, ◌<◌, Option, Some, None, false, if◌then◌else◌, min}
+use Rattle.std.specs.Prelude.{slice_set}
+use Rattle.tm_base.specs.declared.names.TheConstants.{NEVER}
 use Rattle.event_queue.specs.declared.event.Event.{Event}
 use Rattle.event_queue.specs.EventMap.{FitsWord}
 use Rattle.walk_rules.specs.declared.walk.Walk.{Walk}
+use Rattle.walk_rules.specs.declared.walk.WalkKind.{WalkKind}
+use Rattle.walk_rules.specs.declared.walk.WalkKind.TheVariants as kinds
+use Rattle.walk_rules.specs.declared.walk.Stage.TheVariants as stages
+use Rattle.walk_rules.specs.Stages.{at_stage}
 use Rattle.core_world.specs.World.{CpuRecord, World, cpu_of}
 use Rattle.step_core.specs.declared.status.CpuStatus.{CpuStatus}
 
@@ -45,3 +51,16 @@ pub record WalkRanges (k : Walk) : Type 0 where
 abbrev pub IsInRange : Option Walk → Type 0
 IsInRange None = Unit {0}
 IsInRange (Some k) = WalkRanges k
+
+-- what a walk leaves in its CPU as it ends
+abbrev pub handing_walk : Walk → Option Walk
+handing_walk k = if k.first == NEVER then None else Some (at_stage k stages.Handing)
+
+abbrev pub finished_status : CpuStatus → Walk → WalkKind → CpuStatus
+finished_status status k kinds.Activate = record status { walk = None }
+finished_status status k kinds.Deactivate =
+    record status { wakeup = min k.pin k.first; walk = None }
+finished_status status k kinds.Offline = record status { walk = handing_walk k }
+finished_status status k kinds.Reeval =
+    record status { wakeup = min k.pin k.first; inside = false; walk = None }
+finished_status status k (kinds.Remote by) = record status { mark = None; walk = None }

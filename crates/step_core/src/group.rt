@@ -1,6 +1,6 @@
 //! One group of the core.
 
-ghost use Rattle.std.specs.Prelude.{◌≡◌, ◌-◌, ◌^◌, ◌<◌, ◌≤◌, is_some};
+ghost use Rattle.std.specs.Prelude.{◌≡◌, ◌-◌, ◌^◌, ◌<◌, ◌≤◌, is_none, is_some};
 ghost use Rattle.group_word.specs.Group.{GroupLaw};
 ghost use Rattle.group_word.specs.State.{IsLawfulState};
 ghost use Rattle.event_queue.specs.EventMap.{event_at};
@@ -68,6 +68,12 @@ impl CoreGroup {
         ensures { result ≡ is_some self.now.migrator }
     {
         self.migrator.is_some()
+    }
+
+    pub(crate) fn is_off(&self) -> bool
+        ensures { result ≡ is_none self.now.migrator }
+    {
+        self.migrator.is_none()
     }
 
     pub(crate) fn lock(&self) -> Option<u16>

@@ -2,18 +2,25 @@
 //! as a call.
 #![tactic(auto)]
 
+mod activation;
 mod begin;
 mod change;
 mod cpu;
+mod finishing;
 mod flags;
 mod group;
 mod laws;
+mod leaving;
+mod locking;
 mod machine;
+mod places;
 mod readers;
 mod shown;
+mod stages;
 mod stale;
 mod start;
 mod status;
+mod telling;
 mod tree;
 
 pub use machine::Core;
