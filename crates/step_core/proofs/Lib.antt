@@ -2,7 +2,10 @@ pub mod Changes
 pub mod Holders
 pub mod Making
 pub mod Paths
+pub mod Queues
 pub mod Ranges
 pub mod Readings
+pub mod Rooms
 pub mod Standing
 pub mod Starts
+pub mod TimerSteps

@@ -1,7 +1,8 @@
 -- what the core keeps
-use Rattle.std.specs.Prelude.{◌≡◌, ℕ, ◌-◌, ◌^◌, ◌<◌, ◌==◌, List, Bool, false, Option, Some, None}
+use Rattle.std.specs.Prelude.{◌≡◌, ℕ, ◌-◌, ◌^◌, ◌<◌, ◌==◌, ◌&&◌, not, List, Bool, false, Option, Some, None}
 use Rattle.std.specs.Prelude.{is_some, slice_index_or}
 use Rattle.tm_base.specs.declared.names.CpuId.{CpuId}
+use Rattle.wheel_core.specs.declared.item.Item.{Item}
 use Rattle.tree_plan.specs.Shape.{Shape, IsPlanned}
 use Rattle.tree_plan.specs.Paths.{group_at_of}
 use Rattle.cpu_bases.specs.CpuBases.{CpuBases, class_in}
@@ -46,6 +47,11 @@ WorldsStayFit = (w : World) → WorldFits w → StaysFit w
 -- a timer is queued in the bases of a CPU
 abbrev pub is_queued : (timer : ℕ) → CpuBases → Bool
 is_queued timer bases = is_some (class_in timer bases)
+
+-- without the item that went, if one did
+abbrev pub but : Bool → Option Item → (timer : ℕ) → Bool
+but there None timer = there
+but there (Some item) timer = there && not (item.id == timer)
 
 -- the CPU that is noted for a timer is this one
 abbrev pub holds : Option CpuId → (c : ℕ) → Bool

@@ -14,8 +14,8 @@ use wheel_core::TimerBase;
 /// What it is, and its timers.
 #[derive(Drop)]
 pub(crate) struct CoreCpu<B: TimerBase> {
-    status: CpuStatus,
-    bases: Bases<B>,
+    pub(crate) status: CpuStatus,
+    pub(crate) bases: Bases<B>,
 }
 
 impl<B: TimerBase> Model for CoreCpu<B> {

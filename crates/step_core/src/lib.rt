@@ -14,6 +14,7 @@ mod leaving;
 mod locking;
 mod machine;
 mod places;
+mod queueing;
 mod readers;
 mod shown;
 mod stages;
@@ -21,6 +22,7 @@ mod stale;
 mod start;
 mod status;
 mod telling;
+mod timers;
 mod tree;
 
 pub use machine::Core;

@@ -1,0 +1,99 @@
+//! Steps that arm and take out timers.
+
+ghost use Rattle.std.specs.Prelude.{◌≡◌, ◌<◌, OnErr, OnOk, length};
+ghost use Rattle.cpu_bases.specs.CpuBases.{IsConsistent};
+ghost use Rattle.core_world.specs.declared.step.Step.TheVariants as steps;
+ghost use Rattle.core_world.specs.Enabled.{Enabled};
+ghost use Rattle.core_world.specs.Steps.{stepped};
+ghost use Rattle.core_world.specs.World.{cpu_of};
+
+use crate::machine::Core;
+use tm_base::{Class, CpuId, NoMemory, TimerId};
+use wheel_core::TimerBase;
+
+impl<B: TimerBase> Core<B> {
+    /// Does nothing: its contract says what the timers of every CPU keep.
+    pub(crate) fn timers_kept(&self, cpu: CpuId)
+        requires { cpu.0 < length self.now.cpus }
+        ensures { IsConsistent (cpu_of self.now cpu.0).bases }
+    {
+        self.cpus[usize::from(cpu.0)].kept();
+    }
+
+    /// A timer is armed on a CPU.
+    pub(crate) fn arm(
+        &mut self,
+        cpu: CpuId,
+        timer: TimerId,
+        class: Class,
+        expires: u64,
+        job: u8,
+        arg: u32,
+        line: u32,
+    ) -> Result<(), NoMemory>
+        requires { Enabled self.old (steps.Arm cpu timer class expires job arg line) }
+        ensures ok { OnOk result
+            (self.new ≡ stepped self.old (steps.Arm cpu timer class expires job arg line)) }
+        ensures err { OnErr result (self.new ≡ self.old) }
+    {
+        self.kept();
+        self.timers_kept(cpu);
+        let now = self.now();
+        self.cpus[usize::from(cpu.0)].arm(now, class, timer, expires, job, arg, line, cpu)?;
+        self.holders[usize::from(timer.0)] = Some(cpu);
+        Ok(())
+    }
+
+    /// A timer that is queued on a CPU is cancelled.
+    pub(crate) fn cancel(
+        &mut self,
+        cpu: CpuId,
+        timer: TimerId,
+        by: CpuId,
+        line: u32,
+    ) -> Result<(), NoMemory>
+        requires { Enabled self.old (steps.Cancel cpu timer by line) }
+        ensures ok { OnOk result
+            (self.new ≡ stepped self.old (steps.Cancel cpu timer by line)) }
+        ensures err { OnErr result (self.new ≡ self.old) }
+    {
+        self.kept();
+        self.timers_kept(cpu);
+        let now = self.now();
+        self.cpus[usize::from(cpu.0)].cancel(now, timer, line, by)?;
+        self.holders[usize::from(timer.0)] = None;
+        Ok(())
+    }
+
+    /// The next due timer of a CPU goes out, for its job to run on the runner.
+    pub(crate) fn hand(&mut self, cpu: CpuId, timer: TimerId, runner: CpuId) -> Result<(), NoMemory>
+        requires { Enabled self.old (steps.Hand cpu timer runner) }
+        ensures ok { OnOk result (self.new ≡ stepped self.old (steps.Hand cpu timer runner)) }
+        ensures err { OnErr result (self.new ≡ self.old) }
+    {
+        self.kept();
+        self.timers_kept(cpu);
+        let now = self.now();
+        self.cpus[usize::from(cpu.0)].hand(now, timer, runner)?;
+        self.holders[usize::from(timer.0)] = None;
+        Ok(())
+    }
+
+    /// Nothing of a class is due any more.
+    pub(crate) fn drained(
+        &mut self,
+        cpu: CpuId,
+        class: Class,
+        runner: CpuId,
+    ) -> Result<(), NoMemory>
+        requires { Enabled self.old (steps.Ticked cpu class runner) }
+        ensures ok { OnOk result (self.new ≡ stepped self.old (steps.Ticked cpu class runner)) }
+        ensures err { OnErr result (self.new ≡ self.old) }
+    {
+        self.kept();
+        self.timers_kept(cpu);
+        let now = self.now();
+        self.cpus[usize::from(cpu.0)].drain_one(now, class, runner)?;
+        Ok(())
+    }
+}
