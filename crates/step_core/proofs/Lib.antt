@@ -1,6 +1,8 @@
 pub mod Changes
 pub mod Holders
 pub mod Making
+pub mod MoveStep
+pub mod Pairs
 pub mod Paths
 pub mod Queues
 pub mod Ranges

@@ -1,5 +1,6 @@
 pub mod Changes
 pub mod Kept
+pub mod Moves
 pub mod Shown
 pub mod Stands
 pub mod Status

@@ -13,6 +13,7 @@ mod laws;
 mod leaving;
 mod locking;
 mod machine;
+mod moving;
 mod places;
 mod queueing;
 mod readers;

@@ -1,13 +1,15 @@
 //! Steps that arm and take out timers.
 
-ghost use Rattle.std.specs.Prelude.{◌≡◌, ◌<◌, OnErr, OnOk, length};
+ghost use Rattle.std.specs.Prelude.{◌≡◌, ◌<◌, OnErr, OnOk, length, option_map};
 ghost use Rattle.cpu_bases.specs.CpuBases.{IsConsistent};
 ghost use Rattle.core_world.specs.declared.step.Step.TheVariants as steps;
 ghost use Rattle.core_world.specs.Enabled.{Enabled};
-ghost use Rattle.core_world.specs.Steps.{stepped};
+ghost use Rattle.core_world.specs.Steps.{first_moved, stepped};
 ghost use Rattle.core_world.specs.World.{cpu_of};
 
 use crate::machine::Core;
+use crate::moving::move_between;
+use cpu_bases::law_bases;
 use tm_base::{Class, CpuId, NoMemory, TimerId};
 use wheel_core::TimerBase;
 
@@ -94,6 +96,39 @@ impl<B: TimerBase> Core<B> {
         self.timers_kept(cpu);
         let now = self.now();
         self.cpus[usize::from(cpu.0)].drain_one(now, class, runner)?;
+        Ok(())
+    }
+
+    /// The class of the first timer to move from a CPU.
+    pub(crate) fn class_to_move(&self, cpu: CpuId) -> Option<Class>
+        requires { cpu.0 < length self.now.cpus }
+        ensures class { result
+            ≡ option_map (λ first. first.0) (first_moved (cpu_of self.now cpu.0).bases) }
+    {
+        self.cpus[usize::from(cpu.0)].class_to_move()
+    }
+
+    /// The first timer of an offline CPU moves to another one.
+    pub(crate) fn move_timer(
+        &mut self,
+        from: CpuId,
+        to: CpuId,
+        timer: TimerId,
+    ) -> Result<(), NoMemory>
+        requires { Enabled self.old (steps.Move from to timer) }
+        ensures ok { OnOk result (self.new ≡ stepped self.old (steps.Move from to timer)) }
+        ensures err { OnErr result (self.new ≡ self.old) }
+    {
+        law_bases();
+        self.kept();
+        self.timers_kept(from);
+        self.timers_kept(to);
+        let now = self.now();
+        let Some(class) = self.class_to_move(from) else {
+            return Ok(());
+        };
+        move_between(&mut self.cpus, from, to, now, class)?;
+        self.holders[usize::from(timer.0)] = Some(to);
         Ok(())
     }
 }
