@@ -4,3 +4,4 @@ pub mod Moves
 pub mod Shown
 pub mod Stands
 pub mod Status
+pub mod Wants

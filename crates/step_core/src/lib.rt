@@ -3,6 +3,7 @@
 #![tactic(auto)]
 
 mod activation;
+mod asking;
 mod begin;
 mod change;
 mod cpu;
@@ -22,6 +23,7 @@ mod stages;
 mod stale;
 mod start;
 mod status;
+mod steps;
 mod telling;
 mod timers;
 mod tree;
