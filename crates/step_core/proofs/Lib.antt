@@ -8,6 +8,7 @@ pub mod Queues
 pub mod Ranges
 pub mod Readings
 pub mod Rooms
+pub mod Searches
 pub mod Standing
 pub mod Starts
 pub mod TimerSteps

@@ -7,6 +7,7 @@ ghost use Rattle.core_world.specs.Enabled.{MayBeMissed, MayCarry, MayComeOnline,
 ghost use Rattle.core_world.specs.Enabled.{MayGoOffline, MayHandOn, MayIdle, MayLeave, MayReeval};
 ghost use Rattle.core_world.specs.Enabled.{MayRelease, MayTake, MayTime, MayWake};
 ghost use Rattle.core_world.specs.World.{cpu_of, is_active};
+ghost use Rattle.step_core.specs.Asking.{MayLook, StandsIn};
 ghost use Rattle.walk_rules.specs.declared.walk.Walk.{Walk};
 ghost use Rattle.walk_rules.specs.declared.walk.WalkKind.TheVariants as kinds;
 ghost use Rattle.walk_rules.specs.declared.walk.Stage.TheVariants as stages;
@@ -110,5 +111,183 @@ impl<B: TimerBase> Core<B> {
         }
         let status = self.status(cpu);
         status.online && status.idle
+    }
+
+    /// Whether a CPU's mark doesn't name this one.
+    fn leaves_alone(&self, other: CpuId, cpu: CpuId) -> bool
+        requires { other.0 < length self.now.cpus }
+        ensures yes { result ≡ true → (cpu_of self.now other.0).mark ≡ Some cpu.0 → ⊥ }
+        ensures no { result ≡ false → (cpu_of self.now other.0).mark ≡ Some cpu.0 }
+    {
+        !names(self.status(other).mark, cpu)
+    }
+
+    /// Whether no CPU's mark names this one.
+    fn marks_nobody(&self, cpu: CpuId) -> bool
+        ensures yes { result ≡ true → MarksNobody self.now cpu.0 }
+        ensures no { MarksNobody self.now cpu.0 → result ≡ true }
+    {
+        for other in 0..self.count() {
+            if !self.leaves_alone(CpuId(other), cpu) {
+                return false;
+            }
+        }
+        true
+    }
+
+    /// Whether a CPU is another one that is placed and online.
+    fn stands_in(&self, other: CpuId, cpu: CpuId) -> bool
+        requires { other.0 < length self.now.cpus }
+        ensures yes { result ≡ true → StandsIn self.now cpu.0 other.0 }
+        ensures no { StandsIn self.now cpu.0 other.0 → result ≡ true }
+    {
+        other.0 != cpu.0 && self.is_placed(other) && self.status(other).online
+    }
+
+    /// Whether the CPU is isolated, or another placed CPU is online.
+    fn may_be_missed(&self, cpu: CpuId) -> bool
+        requires { cpu.0 < length self.now.cpus }
+        ensures yes { result ≡ true → MayBeMissed self.now cpu.0 }
+        ensures no { MayBeMissed self.now cpu.0 → result ≡ true }
+    {
+        if !self.is_placed(cpu) {
+            return true;
+        }
+        for other in 0..self.count() {
+            if self.stands_in(CpuId(other), cpu) {
+                return true;
+            }
+        }
+        false
+    }
+
+    fn may_leave(&self, cpu: CpuId) -> bool
+        ensures yes { result ≡ true → MayLeave self.now cpu.0 }
+        ensures no { MayLeave self.now cpu.0 → result ≡ true }
+    {
+        if !self.is_free(cpu) {
+            return false;
+        }
+        let status = self.status(cpu);
+        status.inside && !status.idle && self.marks_nobody(cpu)
+    }
+
+    fn may_idle(&self, cpu: CpuId) -> bool
+        ensures yes { result ≡ true → MayIdle self.now cpu.0 }
+        ensures no { MayIdle self.now cpu.0 → result ≡ true }
+    {
+        if !self.is_free(cpu) {
+            return false;
+        }
+        let events = self.events_of(cpu);
+        let first = events.pin.min(events.first_global);
+        self.kept();
+        self.is_active(cpu) && !self.status(cpu).inside && self.now() + 1 < first
+    }
+
+    fn may_go_offline(&self, cpu: CpuId) -> bool
+        ensures yes { result ≡ true → MayGoOffline self.now cpu.0 }
+        ensures no { MayGoOffline self.now cpu.0 → result ≡ true }
+    {
+        if !self.is_free(cpu) {
+            return false;
+        }
+        self.is_active(cpu) && !self.status(cpu).inside && self.may_be_missed(cpu)
+    }
+
+    fn may_come_online(&self, cpu: CpuId) -> bool
+        ensures yes { result ≡ true → MayComeOnline self.now cpu.0 }
+        ensures no { MayComeOnline self.now cpu.0 → result ≡ true }
+    {
+        if !self.is_free(cpu) {
+            return false;
+        }
+        !self.status(cpu).online
+    }
+
+    fn may_reevaluate(&self, cpu: CpuId) -> bool
+        ensures yes { result ≡ true → MayReeval self.now cpu.0 }
+        ensures no { MayReeval self.now cpu.0 → result ≡ true }
+    {
+        if !self.is_free(cpu) {
+            return false;
+        }
+        let status = self.status(cpu);
+        status.online && status.idle && status.inside && self.marks_nobody(cpu)
+    }
+
+    /// Whether a CPU's event in its leaf is due.
+    fn is_due_at_leaf(&self, cpu: CpuId) -> bool
+        requires { cpu.0 < length self.now.cpus }
+        ensures yes { result ≡ true → IsDueAtLeaf self.now cpu.0 }
+        ensures no { IsDueAtLeaf self.now cpu.0 → result ≡ true }
+    {
+        if !self.has_group(cpu) {
+            return false;
+        }
+        let leaf = self.group_on(cpu, 0);
+        let child = self.side(cpu, 0);
+        match self.event_of(leaf, child) {
+            Some(event) => !event.ignored && event.expiry <= self.now(),
+            None => false,
+        }
+    }
+
+    /// Whether a CPU may look after others.
+    fn may_look(&self, by: CpuId) -> bool
+        ensures yes { result ≡ true → MayLook self.now by.0 }
+        ensures no { MayLook self.now by.0 → result ≡ true }
+    {
+        if by.0 >= self.count() {
+            return false;
+        }
+        let status = self.status(by);
+        self.is_placed(by) && status.inside && !is_reeval(status.walk)
+    }
+
+    fn may_take(&self, cpu: CpuId, by: CpuId) -> bool
+        ensures yes { result ≡ true → MayTake self.now cpu.0 by.0 }
+        ensures no { MayTake self.now cpu.0 by.0 → result ≡ true }
+    {
+        if !self.is_free(cpu) || !self.may_look(by) {
+            return false;
+        }
+        let status = self.status(cpu);
+        status.online && status.idle && status.mark.is_none() && self.is_due_at_leaf(cpu)
+    }
+
+    fn may_carry(&self, cpu: CpuId) -> bool
+        ensures yes { result ≡ true → MayCarry self.now cpu.0 }
+        ensures no { MayCarry self.now cpu.0 → result ≡ true }
+    {
+        if !self.is_free(cpu) {
+            return false;
+        }
+        let status = self.status(cpu);
+        status.mark.is_some() && status.online && status.idle
+    }
+
+    fn may_release(&self, cpu: CpuId) -> bool
+        ensures yes { result ≡ true → MayRelease self.now cpu.0 }
+        ensures no { MayRelease self.now cpu.0 → result ≡ true }
+    {
+        if !self.is_free(cpu) {
+            return false;
+        }
+        let status = self.status(cpu);
+        status.mark.is_some() && (!status.online || !status.idle)
+    }
+
+    fn may_hand_on(&self, cpu: CpuId, to: CpuId) -> bool
+        ensures yes { result ≡ true → MayHandOn self.now cpu.0 to.0 }
+        ensures no { MayHandOn self.now cpu.0 to.0 → result ≡ true }
+    {
+        if cpu.0 >= self.count() || to.0 >= self.count() {
+            return false;
+        }
+        to.0 != cpu.0
+            && is_handing(self.status(cpu).walk)
+            && self.is_placed(to)
+            && self.is_active(to)
     }
 }
