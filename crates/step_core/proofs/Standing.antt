@@ -35,19 +35,26 @@ pub walked_fits : (w : World) (c : CpuId) (k : Walk) (st : Stage) → StaysFit w
 walked_fits w c k st stays stands =
     subst WorldFits (walk_is w c.0 k st stands) (stays (steps.Walk c) (may_walk w c.0 k st stands))
 
-module _ (w : World) (fits : WorldFits w) (c : ℕ) (k : Walk) (st : Stage) (stands : StandsAt w c k st) where
+module _ (w : World) (fits : WorldFits w) (c : ℕ) (k : Walk) (st : Stage) (walk : (cpu_of w c).walk ≡ Some k)
+    (at : k.stage ≡ st) where
   seen : (scene_of w).walk c ≡ Some (forget k)
-  seen = ap (option_map forget) stands.walk
+  seen = ap (option_map forget) walk
 
+  pub level_at : (st ≡ stages.Finish → ⊥) → HasLevel w.tree c k.level
+  level_at other = stands_in w.tree (scene_of w) fits.walks c (forget k) seen (λ e. other (sym at ∙ e))
+
+  pub fit_at : (st ≡ stages.Finish → ⊥) → FitsStage w.tree c k.kind k.level st
+  fit_at other = elim (stage_fits w.tree (scene_of w) fits.walks c (forget k) seen) [
+    | inl is ↦ subst (FitsStage w.tree c k.kind k.level) at is
+    | inr finish ↦ absurd (other (sym at ∙ finish))
+  ]
+
+module _ (w : World) (fits : WorldFits w) (c : ℕ) (k : Walk) (st : Stage) (stands : StandsAt w c k st) where
   pub level_here : (st ≡ stages.Finish → ⊥) → HasLevel w.tree c k.level
-  level_here other =
-      stands_in w.tree (scene_of w) fits.walks c (forget k) seen (λ e. other (sym stands.stage ∙ e))
+  level_here = level_at w fits c k st stands.walk stands.stage
 
   pub fit : (st ≡ stages.Finish → ⊥) → FitsStage w.tree c k.kind k.level st
-  fit other = elim (stage_fits w.tree (scene_of w) fits.walks c (forget k) seen) [
-    | inl is ↦ subst (FitsStage w.tree c k.kind k.level) stands.stage is
-    | inr finish ↦ absurd (other (sym stands.stage ∙ finish))
-  ]
+  fit = fit_at w fits c k st stands.walk stands.stage
 
 -- the level below
 pub lower_level : (t : Shape) (c l : ℕ) → IsHierarchy t → 0 < l → HasLevel t c l → HasLevel t c (l - 1)

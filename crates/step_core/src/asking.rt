@@ -19,7 +19,7 @@ use walk_rules::{Stage, Walk, WalkKind};
 use wheel_core::TimerBase;
 
 /// Whether a mark names this CPU.
-fn names(mark: Option<u16>, cpu: CpuId) -> bool
+pub(crate) fn names(mark: Option<u16>, cpu: CpuId) -> bool
     ensures yes { result ≡ true → mark ≡ Some cpu.0 }
     ensures no { mark ≡ Some cpu.0 → result ≡ true }
 {
@@ -69,7 +69,7 @@ impl<B: TimerBase> Core<B> {
         self.status(cpu).walk.is_none()
     }
 
-    fn is_active(&self, cpu: CpuId) -> bool
+    pub(crate) fn is_active(&self, cpu: CpuId) -> bool
         requires { cpu.0 < length self.now.cpus }
         ensures { result ≡ is_active (cpu_of self.now cpu.0) }
     {
@@ -77,21 +77,21 @@ impl<B: TimerBase> Core<B> {
         status.online && !status.idle
     }
 
-    fn is_placed(&self, cpu: CpuId) -> bool
+    pub(crate) fn is_placed(&self, cpu: CpuId) -> bool
         requires { cpu.0 < length self.now.cpus }
         ensures { result ≡ is_placed_in self.now.tree cpu.0 }
     {
         self.tree.is_placed(cpu)
     }
 
-    fn may_time(&self, now: Jiffy) -> bool
+    pub(crate) fn may_time(&self, now: Jiffy) -> bool
         ensures yes { result ≡ true → MayTime self.now now }
         ensures no { MayTime self.now now → result ≡ true }
     {
         self.now() <= now && now < TIME_LIMIT - 2
     }
 
-    fn may_enter(&self, cpu: CpuId) -> bool
+    pub(crate) fn may_enter(&self, cpu: CpuId) -> bool
         ensures yes { result ≡ true → MayEnter self.now cpu.0 }
         ensures no { MayEnter self.now cpu.0 → result ≡ true }
     {
@@ -102,7 +102,7 @@ impl<B: TimerBase> Core<B> {
         status.online && !status.inside
     }
 
-    fn may_wake(&self, cpu: CpuId) -> bool
+    pub(crate) fn may_wake(&self, cpu: CpuId) -> bool
         ensures yes { result ≡ true → MayWake self.now cpu.0 }
         ensures no { MayWake self.now cpu.0 → result ≡ true }
     {
@@ -145,7 +145,7 @@ impl<B: TimerBase> Core<B> {
     }
 
     /// Whether the CPU is isolated, or another placed CPU is online.
-    fn may_be_missed(&self, cpu: CpuId) -> bool
+    pub(crate) fn may_be_missed(&self, cpu: CpuId) -> bool
         requires { cpu.0 < length self.now.cpus }
         ensures yes { result ≡ true → MayBeMissed self.now cpu.0 }
         ensures no { MayBeMissed self.now cpu.0 → result ≡ true }
@@ -161,7 +161,7 @@ impl<B: TimerBase> Core<B> {
         false
     }
 
-    fn may_leave(&self, cpu: CpuId) -> bool
+    pub(crate) fn may_leave(&self, cpu: CpuId) -> bool
         ensures yes { result ≡ true → MayLeave self.now cpu.0 }
         ensures no { MayLeave self.now cpu.0 → result ≡ true }
     {
@@ -172,7 +172,7 @@ impl<B: TimerBase> Core<B> {
         status.inside && !status.idle && self.marks_nobody(cpu)
     }
 
-    fn may_idle(&self, cpu: CpuId) -> bool
+    pub(crate) fn may_idle(&self, cpu: CpuId) -> bool
         ensures yes { result ≡ true → MayIdle self.now cpu.0 }
         ensures no { MayIdle self.now cpu.0 → result ≡ true }
     {
@@ -185,7 +185,7 @@ impl<B: TimerBase> Core<B> {
         self.is_active(cpu) && !self.status(cpu).inside && self.now() + 1 < first
     }
 
-    fn may_go_offline(&self, cpu: CpuId) -> bool
+    pub(crate) fn may_go_offline(&self, cpu: CpuId) -> bool
         ensures yes { result ≡ true → MayGoOffline self.now cpu.0 }
         ensures no { MayGoOffline self.now cpu.0 → result ≡ true }
     {
@@ -195,7 +195,7 @@ impl<B: TimerBase> Core<B> {
         self.is_active(cpu) && !self.status(cpu).inside && self.may_be_missed(cpu)
     }
 
-    fn may_come_online(&self, cpu: CpuId) -> bool
+    pub(crate) fn may_come_online(&self, cpu: CpuId) -> bool
         ensures yes { result ≡ true → MayComeOnline self.now cpu.0 }
         ensures no { MayComeOnline self.now cpu.0 → result ≡ true }
     {
@@ -205,7 +205,7 @@ impl<B: TimerBase> Core<B> {
         !self.status(cpu).online
     }
 
-    fn may_reevaluate(&self, cpu: CpuId) -> bool
+    pub(crate) fn may_reevaluate(&self, cpu: CpuId) -> bool
         ensures yes { result ≡ true → MayReeval self.now cpu.0 }
         ensures no { MayReeval self.now cpu.0 → result ≡ true }
     {
@@ -234,7 +234,7 @@ impl<B: TimerBase> Core<B> {
     }
 
     /// Whether a CPU may look after others.
-    fn may_look(&self, by: CpuId) -> bool
+    pub(crate) fn may_look(&self, by: CpuId) -> bool
         ensures yes { result ≡ true → MayLook self.now by.0 }
         ensures no { MayLook self.now by.0 → result ≡ true }
     {
@@ -245,7 +245,7 @@ impl<B: TimerBase> Core<B> {
         self.is_placed(by) && status.inside && !is_reeval(status.walk)
     }
 
-    fn may_take(&self, cpu: CpuId, by: CpuId) -> bool
+    pub(crate) fn may_take(&self, cpu: CpuId, by: CpuId) -> bool
         ensures yes { result ≡ true → MayTake self.now cpu.0 by.0 }
         ensures no { MayTake self.now cpu.0 by.0 → result ≡ true }
     {
@@ -256,7 +256,7 @@ impl<B: TimerBase> Core<B> {
         status.online && status.idle && status.mark.is_none() && self.is_due_at_leaf(cpu)
     }
 
-    fn may_carry(&self, cpu: CpuId) -> bool
+    pub(crate) fn may_carry(&self, cpu: CpuId) -> bool
         ensures yes { result ≡ true → MayCarry self.now cpu.0 }
         ensures no { MayCarry self.now cpu.0 → result ≡ true }
     {
@@ -267,7 +267,7 @@ impl<B: TimerBase> Core<B> {
         status.mark.is_some() && status.online && status.idle
     }
 
-    fn may_release(&self, cpu: CpuId) -> bool
+    pub(crate) fn may_release(&self, cpu: CpuId) -> bool
         ensures yes { result ≡ true → MayRelease self.now cpu.0 }
         ensures no { MayRelease self.now cpu.0 → result ≡ true }
     {
@@ -278,7 +278,7 @@ impl<B: TimerBase> Core<B> {
         status.mark.is_some() && (!status.online || !status.idle)
     }
 
-    fn may_hand_on(&self, cpu: CpuId, to: CpuId) -> bool
+    pub(crate) fn may_hand_on(&self, cpu: CpuId, to: CpuId) -> bool
         ensures yes { result ≡ true → MayHandOn self.now cpu.0 to.0 }
         ensures no { MayHandOn self.now cpu.0 to.0 → result ≡ true }
     {

@@ -4,9 +4,11 @@
 
 mod activation;
 mod asking;
+mod asking_timers;
 mod begin;
 mod change;
 mod cpu;
+mod enabled;
 mod finishing;
 mod flags;
 mod group;
