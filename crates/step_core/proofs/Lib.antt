@@ -1,5 +1,6 @@
 pub mod Changes
 pub mod Holders
+pub mod Lists
 pub mod Making
 pub mod MoveStep
 pub mod Pairs

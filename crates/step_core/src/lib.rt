@@ -20,6 +20,7 @@ mod moving;
 mod places;
 mod queueing;
 mod readers;
+mod running;
 mod shown;
 mod stages;
 mod stale;
@@ -31,5 +32,6 @@ mod timers;
 mod tree;
 
 pub use machine::Core;
+pub use running::{StepsFault, run_steps};
 pub use shown::CpuState;
 pub use start::new_core;
