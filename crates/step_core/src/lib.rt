@@ -35,3 +35,6 @@ pub use machine::Core;
 pub use running::{StepsFault, run_steps};
 pub use shown::CpuState;
 pub use start::new_core;
+
+#[cfg(test)]
+mod tests;

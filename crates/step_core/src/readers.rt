@@ -1,6 +1,7 @@
 //! What a core says of itself.
 
 ghost use Rattle.std.specs.Prelude.{◌≡◌, ℕ, ◌<◌, IfNone, IfSome, length, option_map, true, false};
+ghost use Rattle.core_world.specs.Frames.{IsSized};
 ghost use Rattle.core_world.specs.World.{cpu_of, group_of};
 ghost use Rattle.step_core.specs.Kept.{is_queued};
 ghost use Rattle.step_core.specs.Shown.{as_cpu, shown_cpu};
@@ -25,6 +26,7 @@ impl<B: TimerBase> Core<B> {
     /// The tree of its groups.
     pub fn tree(&self) -> &Tree
         ensures tree { result.now ≡ self.now.tree }
+        ensures sized { IsSized self.now }
     {
         &self.tree
     }
