@@ -1,15 +1,3 @@
-pub mod Changes
-pub mod Holders
 pub mod Lists
-pub mod Making
-pub mod MoveStep
-pub mod Pairs
-pub mod Paths
-pub mod Queues
-pub mod Ranges
-pub mod Readings
-pub mod Rooms
 pub mod Searches
 pub mod Standing
-pub mod Starts
-pub mod TimerSteps

@@ -15,7 +15,7 @@ use Rattle.core_world.specs.Enabled.{MayGoOn, MayWalk}
 use Rattle.core_world.specs.Steps.{swapped, walk_made, walked}
 use Rattle.core_world.specs.World.{World, cpu_of, scene_of}
 use Rattle.core_walks.proofs.Stands.{stage_fits, stands_in}
-use Rattle.step_core.specs.Kept.{HasLevel, StaysFit, WorldFits}
+use Rattle.core_state.specs.Kept.{HasLevel, StaysFit, WorldFits}
 use Rattle.step_core.specs.Stands.{StandsAt}
 
 pub may_walk : (w : World) (c : ℕ) (k : Walk) (st : Stage) → StandsAt w c k st → MayWalk w c

@@ -1,9 +1,4 @@
 pub mod Asking
-pub mod Changes
-pub mod Kept
-pub mod Moves
 pub mod Runs
-pub mod Shown
 pub mod Stands
-pub mod Status
 pub mod Wants

@@ -1,16 +1,12 @@
 //! How a walk begins.
 
-ghost use Rattle.std.specs.Prelude.{◌≡◌, ◌^◌, ◌<◌, false, is_some, length};
-ghost use Rattle.cpu_bases.specs.CpuBases.{events_of};
-ghost use Rattle.tree_plan.specs.Paths.{group_at_of};
+ghost use Rattle.std.specs.Prelude.{◌≡◌, ◌^◌, ◌<◌, false, length};
 ghost use Rattle.walk_rules.specs.Stages.{started};
 ghost use Rattle.walk_rules.specs.declared.walk.Stage.{Stage};
 ghost use Rattle.core_world.specs.Steps.{begins, begins_with, begun_where};
-ghost use Rattle.core_world.specs.World.{cpu_of};
-ghost use Rattle.step_core.specs.Status.{IsInRange, WalkRanges};
+ghost use Rattle.core_state.specs.Status.{IsInRange, WalkRanges};
 
-use crate::machine::Core;
-use cpu_bases::NextEvents;
+use core_state::Core;
 use tm_base::{CpuId, Jiffy, NEVER};
 use walk_rules::{Stage, Walk, WalkKind};
 use wheel_core::TimerBase;
@@ -71,48 +67,34 @@ fn begun_where(
     }
 }
 
-impl<B: TimerBase> Core<B> {
-    /// The first events of a CPU.
-    pub(crate) fn events_of(&self, cpu: CpuId) -> NextEvents
-        requires { cpu.0 < length self.now.cpus }
-        ensures events { result ≡ events_of (cpu_of self.now cpu.0).bases }
-        ensures in_range { result.next < 2 ^ 48 }
-    {
-        self.cpus[usize::from(cpu.0)].events()
-    }
+/// The walk with which a CPU begins, to tell a time, in jiffies.
+pub(crate) fn begins_with<B: TimerBase>(
+    core: &Core<B>,
+    cpu: CpuId,
+    kind: WalkKind,
+    stage: Stage,
+    next: Jiffy,
+) -> Option<Walk>
+    requires cpu { cpu.0 < length core.now.cpus }
+    requires next { next < 2 ^ 48 }
+    ensures walk { result ≡ begins_with core.now cpu.0 kind stage next }
+    ensures in_range { IsInRange result }
+{
+    let pin = core.events_of(cpu).pin;
+    begun_where(core.has_group(cpu), kind, stage, pin, next)
+}
 
-    /// Whether a CPU has a group.
-    pub(crate) fn has_group(&self, cpu: CpuId) -> bool
-        requires { cpu.0 < length self.now.cpus }
-        ensures { result ≡ is_some (group_at_of self.now.tree cpu.0 0) }
-    {
-        self.tree.group_at(cpu, 0).is_some()
-    }
-
-    /// The walk with which a CPU begins, to tell a time, in jiffies.
-    pub(crate) fn begins_with(
-        &self,
-        cpu: CpuId,
-        kind: WalkKind,
-        stage: Stage,
-        next: Jiffy,
-    ) -> Option<Walk>
-        requires cpu { cpu.0 < length self.now.cpus }
-        requires next { next < 2 ^ 48 }
-        ensures walk { result ≡ begins_with self.now cpu.0 kind stage next }
-        ensures in_range { IsInRange result }
-    {
-        let pin = self.events_of(cpu).pin;
-        begun_where(self.has_group(cpu), kind, stage, pin, next)
-    }
-
-    /// The walk with which a CPU begins, to tell what it has.
-    pub(crate) fn begins(&self, cpu: CpuId, kind: WalkKind, stage: Stage) -> Option<Walk>
-        requires { cpu.0 < length self.now.cpus }
-        ensures walk { result ≡ begins self.now cpu.0 kind stage }
-        ensures in_range { IsInRange result }
-    {
-        let next = self.events_of(cpu).next;
-        self.begins_with(cpu, kind, stage, next)
-    }
+/// The walk with which a CPU begins, to tell what it has.
+pub(crate) fn begins<B: TimerBase>(
+    core: &Core<B>,
+    cpu: CpuId,
+    kind: WalkKind,
+    stage: Stage,
+) -> Option<Walk>
+    requires { cpu.0 < length core.now.cpus }
+    ensures walk { result ≡ begins core.now cpu.0 kind stage }
+    ensures in_range { IsInRange result }
+{
+    let next = core.events_of(cpu).next;
+    begins_with(core, cpu, kind, stage, next)
 }

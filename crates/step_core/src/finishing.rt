@@ -6,12 +6,15 @@ ghost use Rattle.core_world.specs.declared.step.Step.TheVariants as steps;
 ghost use Rattle.core_world.specs.Enabled.{Enabled};
 ghost use Rattle.core_world.specs.Steps.{stepped, walked};
 ghost use Rattle.step_core.specs.Stands.{StandsAt};
-ghost use Rattle.step_core.specs.Status.{IsInRange, WalkRanges, finished_status};
-ghost use Rattle.step_core.specs.Status.{handing_walk};
+ghost use Rattle.core_state.specs.Status.{IsInRange, WalkRanges, finished_status};
+ghost use Rattle.core_state.specs.Status.{handing_walk};
 
-use crate::machine::Core;
+use crate::activation::{go_up, pass_mark, pass_own};
+use crate::leaving::{exchange, read_again, read_child, read_group};
+use crate::locking::{free_child, free_group, lock_child, lock_group};
 use crate::stages::at_stage;
-use crate::status::CpuStatus;
+use crate::telling::{read_first, scan, see_child, see_group, store};
+use core_state::{Core, CpuStatus};
 use tm_base::{CpuId, NEVER};
 use walk_rules::{Stage, Walk, WalkKind};
 use wheel_core::TimerBase;
@@ -63,68 +66,66 @@ fn finished(status: CpuStatus, walk: Walk) -> CpuStatus
     }
 }
 
-impl<B: TimerBase> Core<B> {
-    /// Writes what came out into the CPU.
-    fn finish(&mut self, cpu: CpuId, walk: Walk)
-        requires stands { StandsAt self.old cpu.0 walk stages.Finish }
-        requires in_range { WalkRanges walk }
-        ensures { self.new ≡ walked self.old cpu.0 walk stages.Finish }
-    {
-        self.kept();
-        let status = self.status(cpu);
-        let left = finished(status, walk);
-        self.set(cpu, left);
-    }
+/// Writes what came out into the CPU.
+fn finish<B: TimerBase>(core: &mut Core<B>, cpu: CpuId, walk: Walk)
+    requires stands { StandsAt core.old cpu.0 walk stages.Finish }
+    requires in_range { WalkRanges walk }
+    ensures { core.new ≡ walked core.old cpu.0 walk stages.Finish }
+{
+    core.kept();
+    let status = core.status(cpu);
+    let left = finished(status, walk);
+    core.set(cpu, left);
+}
 
-    /// Makes the exchange, or finds the word changed.
-    fn swap(&mut self, cpu: CpuId, walk: Walk)
-        requires stands { StandsAt self.old cpu.0 walk stages.Swap }
-        requires in_range { WalkRanges walk }
-        ensures { self.new ≡ walked self.old cpu.0 walk stages.Swap }
-    {
-        if walk.fresh {
-            self.exchange(cpu, walk);
-        } else {
-            self.read_again(cpu, walk);
-        }
+/// Makes the exchange, or finds the word changed.
+fn swap<B: TimerBase>(core: &mut Core<B>, cpu: CpuId, walk: Walk)
+    requires stands { StandsAt core.old cpu.0 walk stages.Swap }
+    requires in_range { WalkRanges walk }
+    ensures { core.new ≡ walked core.old cpu.0 walk stages.Swap }
+{
+    if walk.fresh {
+        exchange(core, cpu, walk);
+    } else {
+        read_again(core, cpu, walk);
     }
+}
 
-    /// What the stage of a walk does.
-    fn walk_from(&mut self, cpu: CpuId, walk: Walk)
-        requires stands { StandsAt self.old cpu.0 walk walk.stage }
-        requires in_range { WalkRanges walk }
-        ensures { self.new ≡ walked self.old cpu.0 walk walk.stage }
-    {
-        match walk.stage {
-            Stage::Own => self.pass_own(cpu, walk),
-            Stage::Up => self.go_up(cpu, walk),
-            Stage::Mark { more } => self.pass_mark(cpu, walk, more),
-            Stage::Read => self.read_group(cpu, walk),
-            Stage::Child => self.read_child(cpu, walk),
-            Stage::Swap => self.swap(cpu, walk),
-            Stage::LockChild => self.lock_child(cpu, walk),
-            Stage::LockGroup => self.lock_group(cpu, walk),
-            Stage::SeeChild => self.see_child(cpu, walk),
-            Stage::SeeGroup => self.see_group(cpu, walk),
-            Stage::Scan { k } => self.scan(cpu, walk, k),
-            Stage::Store => self.store(cpu, walk),
-            Stage::First { k } => self.read_first(cpu, walk, k),
-            Stage::FreeGroup => self.free_group(cpu, walk),
-            Stage::FreeChild => self.free_child(cpu, walk),
-            Stage::Finish => self.finish(cpu, walk),
-            Stage::Handing => {}
-        }
+/// What the stage of a walk does.
+fn walk_from<B: TimerBase>(core: &mut Core<B>, cpu: CpuId, walk: Walk)
+    requires stands { StandsAt core.old cpu.0 walk walk.stage }
+    requires in_range { WalkRanges walk }
+    ensures { core.new ≡ walked core.old cpu.0 walk walk.stage }
+{
+    match walk.stage {
+        Stage::Own => pass_own(core, cpu, walk),
+        Stage::Up => go_up(core, cpu, walk),
+        Stage::Mark { more } => pass_mark(core, cpu, walk, more),
+        Stage::Read => read_group(core, cpu, walk),
+        Stage::Child => read_child(core, cpu, walk),
+        Stage::Swap => swap(core, cpu, walk),
+        Stage::LockChild => lock_child(core, cpu, walk),
+        Stage::LockGroup => lock_group(core, cpu, walk),
+        Stage::SeeChild => see_child(core, cpu, walk),
+        Stage::SeeGroup => see_group(core, cpu, walk),
+        Stage::Scan { k } => scan(core, cpu, walk, k),
+        Stage::Store => store(core, cpu, walk),
+        Stage::First { k } => read_first(core, cpu, walk, k),
+        Stage::FreeGroup => free_group(core, cpu, walk),
+        Stage::FreeChild => free_child(core, cpu, walk),
+        Stage::Finish => finish(core, cpu, walk),
+        Stage::Handing => {}
     }
+}
 
-    /// The walk of a CPU makes its next step.
-    pub(crate) fn step_walk(&mut self, cpu: CpuId)
-        requires { Enabled self.old (steps.Walk cpu) }
-        ensures { self.new ≡ stepped self.old (steps.Walk cpu) }
-    {
-        let status = self.status(cpu);
-        let Some(walk) = status.walk else {
-            return;
-        };
-        self.walk_from(cpu, walk);
-    }
+/// The walk of a CPU makes its next step.
+pub(crate) fn step_walk<B: TimerBase>(core: &mut Core<B>, cpu: CpuId)
+    requires { Enabled core.old (steps.Walk cpu) }
+    ensures { core.new ≡ stepped core.old (steps.Walk cpu) }
+{
+    let status = core.status(cpu);
+    let Some(walk) = status.walk else {
+        return;
+    };
+    walk_from(core, cpu, walk);
 }

@@ -3,7 +3,9 @@
 ghost use Rattle.std.specs.Prelude.{IfErr, OnOk};
 ghost use Rattle.step_core.specs.Runs.{RunsWhole, Stops};
 
-use crate::machine::Core;
+use crate::enabling::enabled;
+use crate::steps::apply;
+use core_state::Core;
 use core_world::Step;
 use wheel_core::TimerBase;
 
@@ -23,10 +25,10 @@ pub fn run_steps<B: TimerBase>(core: &mut Core<B>, steps: &[Step]) -> Result<(),
     ensures stops { IfErr result (λ fault. Stops fault steps.now core.old core.new) }
 {
     for (index, step) in steps.iter().enumerate() {
-        if !core.enabled(step) {
+        if !enabled(core, step) {
             return Err(StepsFault::NotEnabled { index });
         }
-        if core.apply(*step).is_err() {
+        if apply(core, *step).is_err() {
             return Err(StepsFault::NoMemory { index });
         }
     }

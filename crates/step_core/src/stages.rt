@@ -8,7 +8,7 @@ ghost use Rattle.walk_rules.specs.Stages.{free_group_next, freed_next, higher, i
 ghost use Rattle.walk_rules.specs.Stages.{mark_next, read_next, scan_next, see_child_next};
 ghost use Rattle.walk_rules.specs.Stages.{see_group_next, sooner_event, store_next, stored_event};
 ghost use Rattle.walk_rules.specs.Stages.{swap_next, up_next};
-ghost use Rattle.step_core.specs.Status.{EventFits, IsInRange, WalkRanges};
+ghost use Rattle.core_state.specs.Status.{EventFits, IsInRange, WalkRanges};
 
 use event_queue::Event;
 use tm_base::{CpuId, Jiffy, NEVER};

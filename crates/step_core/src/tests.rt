@@ -3,6 +3,7 @@ ghost use Rattle.tm_base.specs.declared.limits.TheConstants.{MOST_NODE_CPUS};
 ghost use Rattle.cpu_bases.specs.CpuBases.{empty_bases};
 
 use super::*;
+use core_state::{Core, new_core};
 use core_world::Step;
 use cpu_bases::Bases;
 use std::alloc::Global;
@@ -46,13 +47,7 @@ fn add_walks(steps: &mut Vec<Step>, times: u8, cpu: u16) -> Result<(), NoMemory>
     Ok(())
 }
 
-fn check_group(
-    rt: &impl Abort,
-    core: &Core<ListBase>,
-    g: u16,
-    active: u8,
-    migrator: Option<u8>,
-) {
+fn check_group(rt: &impl Abort, core: &Core<ListBase>, g: u16, active: u8, migrator: Option<u8>) {
     assert!(rt; g < core.tree().group_count());
     assert_eq!(rt; core.active(GroupId(g)), active, "of group {g}");
     assert_eq!(rt; core.migrator(GroupId(g)), migrator, "of group {g}");

@@ -1,7 +1,0 @@
-use Rattle.step_core.proofs.Changes.{clock_kept}
-use Rattle.step_core.proofs.machine.Core.bring_to.Goals as goal
-
-pub invariant_of-self : goal.invariant_of-self
-invariant_of-self g c =
-    clock_kept _ c.args.self.now c.self.inside.holders.items c.args.now c.self.view_is c.law_fits.ensures
-    c.self.invariant c.requires

@@ -1,8 +1,0 @@
-use Rattle.std.proofs.Common.{refl}
-use Rattle.step_core.proofs.Holders.{read_low}
-use Rattle.step_core.proofs.machine.Core.queued_on.Goals as goal
-
-pub returns-clause-in_range : goal.returns-clause-in_range
-returns-clause-in_range g c =
-    read_low _ c.args.self.now c.self.inside.holders.items c.args.t.0 c.from.result c.index.result.now
-    c.self.view_is refl c.self.invariant.held c.from.ensures c.requires c.index.ensures
