@@ -82,12 +82,7 @@ impl<B: TimerBase> Core<B> {
     }
 
     /// Nothing of a class is due any more.
-    pub fn drained(
-        &mut self,
-        cpu: CpuId,
-        class: Class,
-        runner: CpuId,
-    ) -> Result<(), NoMemory>
+    pub fn drained(&mut self, cpu: CpuId, class: Class, runner: CpuId) -> Result<(), NoMemory>
         requires { Enabled self.old (steps.Ticked cpu class runner) }
         ensures ok { OnOk result (self.new ≡ stepped self.old (steps.Ticked cpu class runner)) }
         ensures err { OnErr result (self.new ≡ self.old) }
@@ -109,12 +104,7 @@ impl<B: TimerBase> Core<B> {
     }
 
     /// The first timer of an offline CPU moves to another one.
-    pub fn move_timer(
-        &mut self,
-        from: CpuId,
-        to: CpuId,
-        timer: TimerId,
-    ) -> Result<(), NoMemory>
+    pub fn move_timer(&mut self, from: CpuId, to: CpuId, timer: TimerId) -> Result<(), NoMemory>
         requires { Enabled self.old (steps.Move from to timer) }
         ensures ok { OnOk result (self.new ≡ stepped self.old (steps.Move from to timer)) }
         ensures err { OnErr result (self.new ≡ self.old) }

@@ -14,18 +14,24 @@ use tree_plan::plan;
 use walk_rules::Stage;
 use wheel_core::ListBase;
 
+fn no_timers(alloc: Global) -> Bases<ListBase>
+    ensures { result.plain ≡ empty_bases }
+{
+    Bases::with(
+        alloc,
+        ListBase::new(alloc),
+        ListBase::new(alloc),
+        ListBase::new(alloc),
+    )
+}
+
 fn new_bases(alloc: Global, count: u16) -> Result<Vec<Bases<ListBase>>, NoMemory>
     ensures count { IfOk result (λ bases. length bases.items ≡ count) }
     ensures empty { IfOk result (λ bases. All (λ b. b.plain ≡ empty_bases) bases.items) }
 {
     let mut bases = Vec::new(alloc);
     for _cpu in 0..count {
-        bases.push(Bases::with(
-            alloc,
-            ListBase::new(alloc),
-            ListBase::new(alloc),
-            ListBase::new(alloc),
-        ))?;
+        bases.push(no_timers(alloc))?;
     }
     Ok(bases)
 }
