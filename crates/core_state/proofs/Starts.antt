@@ -1,10 +1,9 @@
 -- the start
-use Rattle.std.proofs.Common.{◌≡◌, ℕ, zero, suc, ◌+◌, ◌<◌, ◌≤◌, false, List, [], ◌∷◌, ◌++◌, Option, Some, None, length, refl, sym, ap, ◌∙◌, subst, arith, get_or, inl, inr}
+use Rattle.std.proofs.Common.{◌≡◌, ℕ, suc, ◌+◌, List, [], ◌∷◌, ◌++◌, Option, None, length, refl, sym, ap, ◌∙◌, subst, arith, get_or, inl, inr}
 use Rattle.std.specs.Prelude.{All, map, option_map, replicate}
 use Rattle.std.specs.List.{range_with_len}
 use Rattle.std.proofs.lemmas.Bool.{cases_lt}
-use Rattle.std.proofs.lemmas.List.{append_assoc, get_or-replicate, get_or_past, length-replicate, length-map}
-use Rattle.std.proofs.lemmas.List.Elements.{All-head}
+use Rattle.std.proofs.lemmas.List.{append_assoc, get_or-replicate, get_or_past, length-replicate}
 use Rattle.std.proofs.lemmas.List.FromFn.{length-map-range_with_len, map-range_with_len_more}
 use Rattle.std.proofs.lemmas.Option.{none-some}
 use Rattle.tm_base.specs.declared.names.CpuId.{CpuId}
@@ -13,10 +12,10 @@ use Rattle.tree_plan.specs.Paths.{child_count_of, cpu_count_of, group_count_of}
 use Rattle.cpu_bases.specs.CpuBases.{RoomyBases, empty_bases}
 use Rattle.walk_rules.specs.Scene.{Group, Scene}
 use Rattle.core_world.specs.Start.{start_cpu, start_group}
-use Rattle.core_world.specs.World.{CpuRecord, World, cpu_of, no_cpu, scene_of}
+use Rattle.core_world.specs.World.{CpuRecord, no_cpu, scene_of}
 use Rattle.walk_rules.specs.Stages.{forget}
 use Rattle.core_walks.specs.Fit.{WalksFit}
-use Rattle.core_state.specs.Kept.{IsHeld, IsKept, WorldFits, holds, is_queued, noted, world_of}
+use Rattle.core_state.specs.Kept.{IsKept, holds, is_queued, noted, world_of}
 
 pub one_more_group : (t : Shape) (n : ℕ) (groups : List Group) (x : Group)
     → groups ≡ map (λ g. start_group (child_count_of t g)) (range_with_len 0 n)

@@ -1,5 +1,4 @@
 -- which steps may want memory
-use Rattle.std.specs.Prelude.{ℕ}
 use Rattle.core_world.specs.declared.step.Step.{Step}
 use Rattle.core_world.specs.declared.step.Step.TheVariants as steps
 

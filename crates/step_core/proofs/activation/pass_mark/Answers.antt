@@ -1,17 +1,10 @@
-use Rattle.std.proofs.Common.{refl, sym, subst, ap, ◌∙◌, true, false, Some, None, arith, not}
-use Rattle.std.specs.Prelude.{is_none, is_some}
-use Rattle.event_queue.specs.EventMap.{event_at}
+use Rattle.std.proofs.Common.{sym, subst, ap, ◌∙◌, false, arith}
 use Rattle.walk_rules.specs.declared.walk.Stage.TheVariants as stages
 use Rattle.walk_rules.specs.Hierarchy.{group_on, side}
-use Rattle.walk_rules.specs.Scene.{Group}
-use Rattle.walk_rules.specs.Stages.{at_stage, child_next, first_next, scan_next, see_child_next, see_group_next, store_next, up_next}
-use Rattle.core_world.specs.Steps.{with_walk}
-use Rattle.core_world.specs.World.{World, cpu_of, group_of, own}
-use Rattle.core_state.specs.declared.change.GroupChange.{GroupChange}
 use Rattle.core_state.specs.declared.change.GroupChange.TheVariants as changes
 use Rattle.core_state.specs.Kept.{HasLevel, WorldFits}
 use Rattle.core_state.proofs.Making.{walk_moved}
-use Rattle.step_core.proofs.Standing.{fit, level_here, lower_level, walked_fits}
+use Rattle.step_core.proofs.Standing.{fit, level_here, walked_fits}
 use Rattle.step_core.proofs.activation.pass_mark.Goals as goal
 
 pub walk_at-requires-clause-group : goal.walk_at-requires-clause-group

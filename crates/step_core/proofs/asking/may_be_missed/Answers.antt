@@ -1,4 +1,4 @@
-use Rattle.std.proofs.Common.{rules, arith, ap, sym, ◌∙◌}
+use Rattle.std.proofs.Common.{rules, arith}
 use Rattle.step_core.proofs.Searches.{none_stands}
 use Rattle.step_core.proofs.asking.may_be_missed.Goals as goal
 

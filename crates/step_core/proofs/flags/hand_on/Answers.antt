@@ -1,7 +1,5 @@
-use Rattle.std.proofs.Common.{true, false, Some, None}
-use Rattle.tm_base.specs.declared.names.TheConstants.{NEVER}
+use Rattle.std.proofs.Common.{None}
 use Rattle.core_world.specs.declared.step.Step.TheVariants as steps
-use Rattle.core_state.specs.declared.status.CpuStatus.{CpuStatus}
 use Rattle.core_state.proofs.Changes.{status_fits, status_made}
 use Rattle.step_core.proofs.flags.hand_on.Goals as goal
 

@@ -1,4 +1,4 @@
-use Rattle.std.proofs.Common.{refl, rules, sym, ap, ◌∙◌}
+use Rattle.std.proofs.Common.{refl, rules}
 use Rattle.core_state.proofs.TimerSteps.{arm_kept, on_err, unchanged}
 use Rattle.core_state.proofs.machine.Core.arm.Goals as goal
 

@@ -1,4 +1,4 @@
-use Rattle.std.proofs.Common.{refl, rules, sym, ap, ◌∙◌}
+use Rattle.std.proofs.Common.{refl}
 use Rattle.core_state.proofs.TimerSteps.{cancel_kept}
 use Rattle.core_state.proofs.machine.Core.cancel.Goals as goal
 
