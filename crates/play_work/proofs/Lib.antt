@@ -1,0 +1,9 @@
+pub mod Homes
+pub mod Drains
+pub mod Comings
+pub mod Movings
+pub mod Alikes
+pub mod Whole
+pub mod Interrupts
+pub mod Silent
+pub mod Turns
