@@ -1,3 +1,4 @@
 mod Replying
 mod Endings
 mod Exactly
+mod Works

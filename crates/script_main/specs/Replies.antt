@@ -1,5 +1,5 @@
 -- what the program is about to write, and what it rests on
-use Rattle.std.specs.Prelude.{◌≡◌, ℕ, ◌+◌, List, String, Option, Some, None, option_map}
+use Rattle.std.specs.Prelude.{◌≡◌, ℕ, ◌+◌, ◌*◌, ◌≤◌, List, String, Option, Some, None, option_map}
 use Rattle.std.specs.declared.alloc.Global.{Global}
 use Rattle.tm_base.specs.declared.limits.TheConstants.{MOST_BYTES}
 use Rattle.tm_io.specs.Seen.{SourceSeen, SourceFailed, SourceUnbroken}
@@ -8,6 +8,8 @@ use Rattle.tm_script.specs.declared.faults.ScriptFault.{ScriptFault}
 use Rattle.tm_script.specs.declared.faults.ReadScript.TheVariants as answers
 use Rattle.tm_script.specs.declared.syntax.Script.{Script}
 use Rattle.tm_script.specs.Reader.{IsRefusalOf}
+use Rattle.tm_script.specs.Texts.{cpu_count}
+use Rattle.tm_driver.specs.Outcomes.{work_limit}
 use Rattle.play_rules.specs.Interrupts.{Replies}
 use Rattle.play_rules.specs.Parts.{counted}
 use Rattle.play_rules.specs.Jobs.{first_unknown_job}
@@ -39,10 +41,12 @@ abbrev pub LacksJob : (table : ℕ) → Script → (line job : ℕ) → Type 0
 LacksJob table script line job =
     first_unknown_job table script.moments ≡ Some (record { line = line; job = job })
 
--- the work of the script's play is broken off at this count, as it is printed
+-- the work of the script's play is broken off at this count, as it is printed; so its end comes late
+-- enough for its CPUs and timers to come to the limit
 pub record SpendsWork (jobs : Replies) (table : ℕ) (script : Script) (count : ℕ) : Type 0 where
   pub known : KnowsJobs table script
   pub spent : option_map counted (spent_by jobs script) ≡ Some count
+  pub late : work_limit script.version ≤ script.end * (1 + cpu_count script + script.timers)
 
 -- THE REPLY TO A SCRIPT, by the command
 abbrev pub IsReplyTo : Replies → (table : ℕ) → Command → Script → Reply → Type 0

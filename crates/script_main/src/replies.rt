@@ -12,6 +12,7 @@ ghost use Rattle.script_main.specs.Steps.{IsReplyToBytes};
 use crate::commands::{Command, Recipe, read_command};
 use day_text::print_day;
 use job_table::Jobs;
+use play_work::law_work;
 use std::alloc::Global;
 use tm_base::{MOST_BYTES, NoMemory};
 use tm_driver::{DriveFault, play, summary};
@@ -49,6 +50,7 @@ fn play_script<J: Jobs>(alloc: Global, script: &Script, jobs: &J) -> Result<Repl
     ensures { IfOk result
         (IsReplyTo (J.replies jobs.now) (J.count jobs.now) Command.Play script.now) }
 {
+    law_work();
     let mut report = Report::new(alloc);
     match play(alloc, script, jobs, &mut report) {
         Ok(_machine) => Ok(Reply::Played(report)),
@@ -64,6 +66,7 @@ fn sum_up<J: Jobs>(alloc: Global, script: &Script, jobs: &J) -> Result<Reply, No
     ensures { (recipe : Recipe) → IfOk result
         (IsReplyTo (J.replies jobs.now) (J.count jobs.now) (Command.Day recipe) script.now) }
 {
+    law_work();
     match summary(alloc, script, jobs) {
         Ok(numbers) => Ok(Reply::Made(print_day(alloc, &numbers)?)),
         Err(DriveFault::BadJob { line, job }) => Ok(Reply::JobUnknown { line, job }),
