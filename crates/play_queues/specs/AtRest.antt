@@ -2,12 +2,13 @@
 use Rattle.std.specs.Prelude.{◌≡◌, ℕ, ◌&&◌, false, Some}
 use Rattle.tm_base.specs.declared.names.TheConstants.{NEVER}
 use Rattle.tree_plan.specs.Shape.{IsPlanned}
+use Rattle.play_rules.specs.Phases.{Phase}
 use Rattle.walk_rules.specs.declared.walk.Walk.{Walk}
 use Rattle.walk_rules.specs.declared.walk.Stage.TheVariants as stages
 use Rattle.core_world.specs.Lawful.{IsLawful}
 use Rattle.core_world.specs.World.{World, cpu_of}
 use Rattle.step_rules.specs.Live.{Exact, told_by}
-use Rattle.step_rules.specs.Seen.{InPlay, Phase}
+use Rattle.step_rules.specs.Seen.{InPlay}
 
 -- AT REST: lawful, each group's event exact, nothing told by a CPU that is active or offline, and
 -- no walk but such as wait to hand on

@@ -1,5 +1,5 @@
 -- for crates above: the loops of a driver, under any rules
-use Rattle.std.proofs.Common.{◌≡◌, ℕ, zero, suc, ◌+◌, ◌-◌, ◌<◌, ◌≤◌, List, [], ◌∷◌, Bool, true, false, Option, Some, None, refl, sym, ap, ◌∙◌, arith, ◌++◌, append-nil, if◌then◌else◌}
+use Rattle.std.proofs.Common.{◌≡◌, ℕ, zero, suc, ◌+◌, ◌-◌, ◌<◌, ◌≤◌, List, [], ◌∷◌, Bool, true, false, Option, Some, None, sym, ap, ◌∙◌, arith, ◌++◌, append-nil, if◌then◌else◌}
 use Rattle.std.specs.FinSet as set
 use Rattle.std.specs.Prelude.{drop, filter, length}
 use Rattle.std.specs.List.{range_with_len}
@@ -9,7 +9,6 @@ use Rattle.std.proofs.lemmas.List.Elements.{filter-append}
 use Rattle.std.proofs.Common.{get_or}
 use Rattle.std.proofs.lemmas.List.{drop_all, drop_more}
 use Rattle.wheel_core.specs.declared.item.Item.{Item}
-use Rattle.tm_report.specs.declared.lines.Line.{Line}
 use Rattle.tm_report.specs.declared.lines.Line.TheVariants as lines
 use Rattle.tm_script.specs.declared.syntax.Op.{Op}
 use Rattle.play_rules.specs.declared.asks.Answerer.{Answerer}
@@ -21,10 +20,10 @@ use Rattle.tm_report.specs.Lines.{line_text}
 use Rattle.std.specs.Option.{option_map}
 use Rattle.std.proofs.lemmas.Option.{none-some, same_Some}
 use Rattle.play_rules.specs.Rules.{Moved, Rules}
-use Rattle.play_rules.specs.Parts.{Played, Prints, Progress, and_then, lines_told, printing, silent}
+use Rattle.play_rules.specs.Parts.{Played, Prints, Progress, lines_told, printing}
 use Rattle.play_rules.specs.Operations.{cover_lines, moves, operation, operations}
 use Rattle.play_rules.specs.Moments.{left}
-use Rattle.play_rules.specs.Interrupts.{Replies, cpu_id, timer_id, interrupt_where, interrupts, look, look_at, look_where, looks, run_job, run_jobs, try}
+use Rattle.play_rules.specs.Interrupts.{Replies, cpu_id, timer_id, interrupt_where, interrupts, look, looks, run_job, run_jobs, try}
 use Rattle.play_rules.proofs.Plays.{Continues, continues_end, continues_then, prints_at, prints_line}
 
 below : (n i : ℕ) → i < n → n - i ≡ suc (n - (i + 1))

@@ -1,6 +1,5 @@
 -- who answers for the first global timer of an idle CPU
-use Rattle.std.specs.Prelude.{ℕ, zero, suc, ◌-◌, ◌&&◌, List, [], ◌∷◌, Bool, true, false, Option, Some, None, if◌then◌else◌, filter, find, is_some, nat_le, option_and_then, option_map}
-use Rattle.tm_base.specs.declared.names.CpuId.{CpuId}
+use Rattle.std.specs.Prelude.{ℕ, zero, suc, ◌-◌, ◌&&◌, [], Bool, Option, Some, None, if◌then◌else◌, filter, find, is_some, nat_le, option_and_then, option_map}
 use Rattle.tm_base.specs.declared.names.Child.{Child}
 use Rattle.tm_base.specs.declared.names.Child.TheVariants.{Cpu, Group}
 use Rattle.tm_report.specs.declared.lines.ShownCover.{ShownCover}
@@ -8,7 +7,7 @@ use Rattle.tm_report.specs.declared.lines.ShownCover.TheVariants as covers
 use Rattle.tree_plan.specs.Paths.{child_at, child_towards, is_under, level_count_of, level_of, path_of, place_of}
 use Rattle.wheel_core.specs.PlainBase.{least}
 use Rattle.play_rules.specs.declared.asks.Answerer.{Answerer}
-use Rattle.play_rules.specs.State.{State, all_cpus, cpu_at, has_group, migrator_at}
+use Rattle.play_rules.specs.State.{State, all_cpus, cpu_at, migrator_at}
 use Rattle.play_rules.specs.Hierarchy.{is_placed, least_told}
 
 -- the CPU to which the migrators lead from a group, where they come to one within n levels

@@ -1,5 +1,5 @@
 -- how CPUs go idle and wake in the tree of groups, what they wake for, and whom they look after
-use Rattle.std.specs.Prelude.{ℕ, zero, suc, ◌&&◌, List, [], ◌∷◌, Bool, true, false, not, Option, Some, None, if◌then◌else◌, filter, find, is_some, map, min, nat_le, option_and_then, option_map, position, ◌==◌}
+use Rattle.std.specs.Prelude.{ℕ, ◌&&◌, List, Bool, true, false, not, Option, Some, None, if◌then◌else◌, filter, find, map, min, nat_le, option_and_then, option_map, position, ◌==◌}
 use Rattle.std.specs.List.{fold, list_any, range_with_len}
 use Rattle.tm_base.specs.declared.names.TheConstants.{NEVER}
 use Rattle.tm_base.specs.declared.names.Child.{Child}

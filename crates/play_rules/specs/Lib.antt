@@ -11,3 +11,4 @@ pub mod Timers
 pub mod Covers
 pub mod Play
 pub mod Machines
+pub mod Phases

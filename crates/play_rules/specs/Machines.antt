@@ -14,6 +14,16 @@ pub record Same {S : Type 0} (r : Rules S) (old new : S) : Type 0 where
   pub timers : r.timers new ≡ r.timers old
   pub cpus : r.cpus new ≡ r.cpus old
   pub levels : r.levels new ≡ r.levels old
+  pub placed : (c : ℕ) → r.is_placed new c ≡ r.is_placed old c
+
+-- no CPU has gone offline or come online
+pub record SameOnline {S : Type 0} (r : Rules S) (old new : S) : Type 0 where
+  pub online : (c : ℕ) → r.is_online new c ≡ r.is_online old c
+
+-- nor gone idle or woken
+pub record SameFlags {S : Type 0} (r : Rules S) (old new : S) : Type 0 where
+  pub online : (c : ℕ) → r.is_online new c ≡ r.is_online old c
+  pub idle : (c : ℕ) → r.is_idle new c ≡ r.is_idle old c
 
 -- the same machine, perhaps at another time
 pub record SameBuild {S : Type 0} (r : Rules S) (old new : S) : Type 0 where

@@ -1,5 +1,5 @@
 -- PLAY: the shape of a play under the rules of the plain machine
-use Rattle.std.specs.Prelude.{ℕ, ◌+◌, ◌&&◌, ◌||◌, List, Bool, not, Option, Some, None, if◌then◌else◌, find, min, nat_le, nat_lt, true, ◌==◌}
+use Rattle.std.specs.Prelude.{ℕ, ◌+◌, ◌&&◌, ◌||◌, List, Bool, not, Option, if◌then◌else◌, find, min, nat_le, nat_lt, true, ◌==◌}
 use Rattle.std.specs.List.{fold, list_any}
 use Rattle.tm_base.specs.declared.names.TheConstants.{NEVER}
 use Rattle.tree_plan.specs.Shape.{tree_of}

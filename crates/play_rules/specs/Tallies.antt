@@ -1,5 +1,5 @@
 -- how many lines of each kind a report has
-use Rattle.std.specs.Prelude.{ℕ, ◌+◌, ◌-◌, ◌^◌, List, Bool, true, false, if◌then◌else◌, min, not, ◌==◌}
+use Rattle.std.specs.Prelude.{ℕ, ◌+◌, ◌-◌, ◌^◌, List, Bool, true, false, min, not, ◌==◌}
 use Rattle.std.specs.List.{fold}
 use Rattle.tm_base.specs.declared.names.CpuId.{CpuId}
 use Rattle.tm_report.specs.declared.lines.Line.{Line}

@@ -1,18 +1,16 @@
 -- where timers are queued, and what arming, cancelling, draining and moving make of the machine
-use Rattle.std.specs.Prelude.{ℕ, zero, suc, ◌+◌, ◌&&◌, not, List, [], ◌∷◌, Bool, true, false, Option, Some, None, if◌then◌else◌, find, is_some, length, option_map, option_and_then}
+use Rattle.std.specs.Prelude.{ℕ, zero, suc, ◌+◌, ◌&&◌, not, List, [], ◌∷◌, Option, Some, None, if◌then◌else◌, find, is_some, length, option_map, option_and_then}
 use Rattle.std.specs.Option.{option_or}
 use Rattle.tm_base.specs.declared.names.Class.{Class}
 use Rattle.tm_base.specs.declared.names.Class.TheVariants.{Pinned, Global, Deferrable}
-use Rattle.tm_base.specs.declared.names.CpuId.{CpuId}
 use Rattle.wheel_core.specs.declared.item.Item.{Item}
 use Rattle.wheel_core.specs.PlainBase.{PlainBase, next_out, taken}
 use Rattle.cpu_bases.specs.CpuBases.{CpuBases, armed, base_of, cancelled, class_in, drained, found_in, item_queued, moved_in, moved_out, oldest_in}
 use Rattle.play_rules.specs.declared.asks.Arming.{Arming}
 use Rattle.play_rules.specs.declared.asks.Cancelling.{Cancelling}
-use Rattle.play_rules.specs.declared.asks.Mover.{Mover}
 use Rattle.play_rules.specs.declared.asks.Queued.{Queued}
 use Rattle.play_rules.specs.Rules.{Drained, Moved, Placed}
-use Rattle.play_rules.specs.State.{Cpu, State, all_cpus, cpu_at, with_bases}
+use Rattle.play_rules.specs.State.{State, all_cpus, cpu_at, with_bases}
 use Rattle.play_rules.specs.Hierarchy.{is_placed, woken}
 
 abbrev pub bases_at : State → (c : ℕ) → CpuBases

@@ -1,5 +1,6 @@
 mod Dues
 pub mod Clears
+pub mod Controllers
 pub mod Drains
 pub mod Frames
 pub mod Holders

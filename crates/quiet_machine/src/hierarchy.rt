@@ -6,7 +6,7 @@ ghost use Rattle.tm_base.specs.declared.names.TheConstants.{NEVER};
 ghost use Rattle.tm_base.specs.Children.{of_cpu, of_group};
 ghost use Rattle.tree_plan.specs.Paths.{bit_of, child_at, child_towards, cpu_count_of, group_at_of, group_count_of, is_below, is_under, level_count_of};
 ghost use Rattle.play_rules.specs.State.{all_cpus, cpu_at, cpu_count, has_group, is_active, migrator_at, with_cpu};
-ghost use Rattle.play_rules.specs.Hierarchy.{looks_at, child_active, common_duty, due_sleeper, duty, first_to_tell, due_sleepers, gives_up, group_active, is_due_sleeper, least_told, looks_after, lowest_active_child, named, next_of, number_towards, pin_of, programmed, rested, rested_migrator, resting, told_again, towards, with_migrators, woken, woken_migrator};
+ghost use Rattle.play_rules.specs.Hierarchy.{looks_at, child_active, common_duty, due_sleeper, duty, first_to_tell, due_sleepers, gives_up, group_active, is_due_sleeper, is_placed, least_told, looks_after, lowest_active_child, named, next_of, number_towards, pin_of, programmed, rested, rested_migrator, resting, told_again, towards, with_migrators, woken, woken_migrator};
 ghost use Rattle.quiet_machine.specs.Fits.{InTree, some_active_child};
 
 use crate::quiet::Quiet;
@@ -342,7 +342,8 @@ impl Quiet {
     /// Whether a CPU looks after its group at a level.
     pub(crate) fn looks_at(&self, cpu: CpuId, level: u8) -> bool
         requires { cpu.0 < cpu_count self.now }
-        ensures { result ≡ looks_after self.now cpu.0 level }
+        ensures looks { result ≡ looks_after self.now cpu.0 level }
+        ensures placed { result ≡ true → is_placed self.now cpu.0 ≡ true }
     {
         let tree = self.tree();
         let Some(group) = tree.group_at(cpu, level) else {

@@ -15,6 +15,8 @@ impl Machine for Quiet {
 
     ghost world = { λ s. s };
 
+    ghost Fit = { λ ph s. Unit {0} };
+
     fn clock(&self) -> Jiffy {
         self.time()
     }

@@ -51,7 +51,8 @@ impl Quiet {
 
     pub(crate) fn has_group(&self, cpu: CpuId) -> bool
         requires { cpu.0 < cpu_count self.now }
-        ensures { result ≡ has_group self.now cpu.0 }
+        ensures has { result ≡ has_group self.now cpu.0 }
+        ensures placed { result ≡ true → is_placed self.now cpu.0 ≡ true }
     {
         self.tree().group_at(cpu, 0).is_some()
     }

@@ -1,13 +1,14 @@
 -- what the rules of steps owe Play: in a core in play each leaves a core in play, and Play's state of
 -- it is what Play's rule makes of Play's state. Laws on walks, each begun by a step and made to its
 -- end
-use Rattle.std.specs.Prelude.{◌≡◌, ℕ, true, false, if◌then◌else◌}
+use Rattle.std.specs.Prelude.{◌≡◌, ℕ, true, if◌then◌else◌}
 use Rattle.play_rules.specs.Hierarchy.{come_online, gone_offline, idled, told_again, woken}
+use Rattle.play_rules.specs.Phases.{Phase, handing, inside, resting, serving}
 use Rattle.play_rules.specs.Play.{ended, hands_on}
 use Rattle.play_rules.specs.State.{State}
 use Rattle.core_world.specs.Enabled.{MayComeOnline, MayGoOffline, MayIdle, MayWake}
 use Rattle.core_world.specs.World.{World, cpu_of}
-use Rattle.step_rules.specs.Seen.{InPlay, Phase, handing, inside, resting, serving, state_of}
+use Rattle.step_rules.specs.Seen.{InPlay, state_of}
 use Rattle.step_rules.specs.StepRules.{come_by_steps, ended_by_steps, gone_by_steps, idled_by_steps}
 use Rattle.step_rules.specs.StepRules.{is_waiting, let_go_by_steps, woken_by_steps}
 

@@ -1,6 +1,6 @@
 -- what the queues of a core's groups have, and when each of them has exactly what is below it
-use Rattle.std.specs.Prelude.{◌≡◌, ℕ, ◌&&◌, not, nat_le, Bool, List, Option, Some, None, is_none}
-use Rattle.std.specs.Prelude.{if◌then◌else◌, option_map}
+use Rattle.std.specs.Prelude.{◌≡◌, ℕ, ◌&&◌, not, nat_le, Bool, Option, Some, None, is_none}
+use Rattle.std.specs.Prelude.{if◌then◌else◌}
 use Rattle.std.specs.List.{fold}
 use Rattle.std.specs.FinSet.{contains}
 use Rattle.tm_base.specs.declared.names.TheConstants.{NEVER}

@@ -6,6 +6,7 @@ use Rattle.tm_base.specs.declared.names.Class.{Class}
 use Rattle.wheel_core.specs.PlainBase.{NoneBehind}
 use Rattle.cpu_bases.specs.CpuBases.{base_of}
 use Rattle.tree_plan.specs.Shape.{IsPlanned}
+pub use Rattle.play_rules.specs.Phases.{Phase, handing, inside, resting, serving}
 use Rattle.play_rules.specs.State.{Cpu, State}
 use Rattle.walk_rules.specs.declared.walk.Walk.{Walk}
 use Rattle.walk_rules.specs.declared.walk.Stage.TheVariants as stages
@@ -31,14 +32,6 @@ state_of w = record {
   cpus = map (cpu_seen w) (range_with_len 0 (length w.cpus));
   migrators = map (λ g. (group_of w g).migrator) (range_with_len 0 (length w.groups));
 }
-
--- where a play stands between two rules: between operations; in the interrupt of a CPU; there with
--- another CPU, or itself, taken; with a CPU that went offline and has to hand on its duty
-pub data Phase : Type 0 where
-  resting : Phase
-  inside : (r : ℕ) → Phase
-  serving : (r d : ℕ) → Phase
-  handing : (c : ℕ) → Phase
 
 -- the CPU whose interrupt it is, by which a CPU is marked, and the one that hands on
 abbrev pub is_inside : Phase → ℕ → Bool

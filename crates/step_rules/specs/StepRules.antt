@@ -1,11 +1,10 @@
 -- THE RULES OF STEPS: what a play asks of a core, each change a list of steps
-use Rattle.std.specs.Prelude.{ℕ, ◌+◌, ◌-◌, ◌&&◌, not, Bool, true, false, List, [], ◌∷◌, ◌++◌, Option, Some, None, if◌then◌else◌, find, is_none, length, map, nat_le, option_and_then, option_map}
+use Rattle.std.specs.Prelude.{ℕ, ◌+◌, ◌-◌, ◌&&◌, not, Bool, false, List, [], ◌∷◌, ◌++◌, Option, Some, None, if◌then◌else◌, is_none, length, map, nat_le, option_and_then, option_map}
 use Rattle.std.specs.FinSet.{FinSet}
 use Rattle.std.specs.Ordering.{nat_cmp}
 use Rattle.tm_base.specs.declared.names.Class.{Class}
 use Rattle.tm_base.specs.declared.names.CpuId.{CpuId}
 use Rattle.tm_base.specs.declared.names.TimerId.{TimerId}
-use Rattle.event_queue.specs.declared.event.Event.{Event}
 use Rattle.wheel_core.specs.declared.item.Item.{Item}
 use Rattle.wheel_core.specs.PlainBase.{least}
 use Rattle.cpu_bases.specs.CpuBases.{base_of}
@@ -14,9 +13,7 @@ use Rattle.tm_report.specs.declared.lines.ShownCover.{ShownCover}
 use Rattle.play_rules.specs.declared.asks.Answerer.{Answerer}
 use Rattle.play_rules.specs.declared.asks.Arming.{Arming}
 use Rattle.play_rules.specs.declared.asks.Cancelling.{Cancelling}
-use Rattle.play_rules.specs.declared.asks.Queued.{Queued}
 use Rattle.play_rules.specs.Rules.{Drained, Moved, Placed, Rules}
-use Rattle.play_rules.specs.State.{State}
 use Rattle.play_rules.specs.Hierarchy.{first_event, looks_after}
 use Rattle.play_rules.specs.Timers.{armed_item, controller, count_on, due_items, first_to_move, moved_one, queued_on}
 use Rattle.play_rules.specs.Play.{has_interrupt, next_interrupt, successor}

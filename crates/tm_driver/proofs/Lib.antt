@@ -1,3 +1,4 @@
+mod Onlines
 mod Scripts
 mod Turns
 mod Unknown

@@ -1,11 +1,15 @@
--- what a driver needs of a script: its numbers are in range, and its moments rise
-use Rattle.std.specs.Prelude.{ℕ, ◌+◌, ◌<◌, ◌≤◌, All, List, [], ◌∷◌}
+-- what a driver needs of a script: its numbers are in range, and its moments rise; and of a moment:
+-- who has an interrupt is online
+use Rattle.std.specs.Prelude.{◌≡◌, ℕ, ◌+◌, ◌<◌, ◌≤◌, All, List, [], ◌∷◌, true}
+use Rattle.std.specs.FinSet.{FinSet, contains}
+use Rattle.std.specs.Ordering.{nat_cmp}
 use Rattle.tm_base.specs.declared.limits.TheConstants.{SCRIPT_TIME_LIMIT}
 use Rattle.tm_script.specs.declared.syntax.Moment.{Moment}
 use Rattle.tm_script.specs.declared.syntax.Op.{Op}
 use Rattle.tm_script.specs.declared.syntax.What.{What}
 use Rattle.tm_script.specs.declared.syntax.What.TheVariants as whats
 use Rattle.tm_script.specs.declared.syntax.Script.{Script}
+use Rattle.play_rules.specs.Rules.{Rules}
 
 abbrev pub IsTimerInRange : (timers : ℕ) → What → Type 0
 IsTimerInRange timers (whats.Arm timer class delay job arg) = timer.0 < timers
@@ -28,3 +32,7 @@ pub record IsPlayable (cpus timers : ℕ) (script : Script) : Type 0 where
   pub in_range : All (IsMomentInRange cpus timers) script.moments
   pub rise : Rise 0 script.end script.moments
   pub in_time : script.end < SCRIPT_TIME_LIMIT
+
+-- every CPU of a set is online
+abbrev pub AreOnline : {S : Type 0} → Rules S → S → FinSet nat_cmp → Type 0
+AreOnline r s cpus = (c : ℕ) → contains cpus c ≡ true → r.is_online s c ≡ true

@@ -1,10 +1,12 @@
 //! The interrupts of a moment.
 
-ghost use Rattle.std.specs.Prelude.{◌≡◌, ◌<◌, OnOk};
+ghost use Rattle.std.specs.Prelude.{◌≡◌, ◌<◌, true, OnOk};
 ghost use Rattle.std.specs.FinSet as set;
 ghost use Rattle.play_rules.specs.Interrupts.{drains, having_interrupt, interrupt, interrupt_where, interrupts, look, looks, try};
-ghost use Rattle.play_rules.specs.Machines.{Same};
+ghost use Rattle.play_rules.specs.Machines.{Same, SameOnline};
 ghost use Rattle.play_rules.specs.Parts.{Gains, Prints};
+ghost use Rattle.play_rules.specs.Phases.{inside, resting};
+ghost use Rattle.tm_driver.specs.Conditions.{AreOnline};
 
 use crate::jobs::drain;
 use crate::telling::Telling;
@@ -22,10 +24,14 @@ fn try_one<M: Machine, J: Jobs>(
 ) -> Result<(), NoMemory>
     requires cpu { cpu.0 < M.rules.cpus (M.world machine.old) }
     requires other { other.0 < M.rules.cpus (M.world machine.old) }
+    requires placed { M.rules.is_placed (M.world machine.old) cpu.0 ≡ true }
+    requires fit { M.Fit (inside cpu.0) (M.world machine.old) }
     ensures prints { OnOk result
         (Prints (try (J.replies jobs.now) M.rules cpu.0 other.0 (M.world machine.old))
         telling.old telling.new (M.world machine.new)) }
     ensures same { OnOk result (Same M.rules (M.world machine.old) (M.world machine.new)) }
+    ensures fit { OnOk result (M.Fit (inside cpu.0) (M.world machine.new)) }
+    ensures online { OnOk result (SameOnline M.rules (M.world machine.old) (M.world machine.new)) }
     ensures gains { Gains telling.old.text telling.new.text }
 {
     if !machine.takes(cpu, other) {
@@ -45,13 +51,17 @@ fn look<M: Machine, J: Jobs>(
     level: u8,
     telling: &mut Telling,
 ) -> Result<(), NoMemory>
-    requires { cpu.0 < M.rules.cpus (M.world machine.old) }
+    requires cpu { cpu.0 < M.rules.cpus (M.world machine.old) }
+    requires placed { M.rules.is_placed (M.world machine.old) cpu.0 ≡ true }
+    requires fit { M.Fit (inside cpu.0) (M.world machine.old) }
     ensures prints { OnOk result
         (Prints
         (look (J.replies jobs.now) M.rules (M.rules.cpus (M.world machine.old)) cpu.0 level set.empty
         (M.world machine.old))
         telling.old telling.new (M.world machine.new)) }
     ensures same { OnOk result (Same M.rules (M.world machine.old) (M.world machine.new)) }
+    ensures fit { OnOk result (M.Fit (inside cpu.0) (M.world machine.new)) }
+    ensures online { OnOk result (SameOnline M.rules (M.world machine.old) (M.world machine.new)) }
     ensures gains { Gains telling.old.text telling.new.text }
 {
     let mut tried = CpuSet::new();
@@ -72,13 +82,16 @@ fn looks<M: Machine, J: Jobs>(
     cpu: CpuId,
     telling: &mut Telling,
 ) -> Result<(), NoMemory>
-    requires { cpu.0 < M.rules.cpus (M.world machine.old) }
+    requires cpu { cpu.0 < M.rules.cpus (M.world machine.old) }
+    requires fit { M.Fit (inside cpu.0) (M.world machine.old) }
     ensures prints { OnOk result
         (Prints
         (looks (J.replies jobs.now) M.rules (M.rules.levels (M.world machine.old)) cpu.0 0
         (M.world machine.old))
         telling.old telling.new (M.world machine.new)) }
     ensures same { OnOk result (Same M.rules (M.world machine.old) (M.world machine.new)) }
+    ensures fit { OnOk result (M.Fit (inside cpu.0) (M.world machine.new)) }
+    ensures online { OnOk result (SameOnline M.rules (M.world machine.old) (M.world machine.new)) }
     ensures gains { Gains telling.old.text telling.new.text }
 {
     for level in 0..machine.levels() {
@@ -97,11 +110,14 @@ fn drains<M: Machine, J: Jobs>(
     cpu: CpuId,
     telling: &mut Telling,
 ) -> Result<(), NoMemory>
-    requires { cpu.0 < M.rules.cpus (M.world machine.old) }
+    requires cpu { cpu.0 < M.rules.cpus (M.world machine.old) }
+    requires fit { M.Fit (inside cpu.0) (M.world machine.old) }
     ensures prints { OnOk result
         (Prints (drains (J.replies jobs.now) M.rules cpu.0 (M.world machine.old))
         telling.old telling.new (M.world machine.new)) }
     ensures same { OnOk result (Same M.rules (M.world machine.old) (M.world machine.new)) }
+    ensures fit { OnOk result (M.Fit (inside cpu.0) (M.world machine.new)) }
+    ensures online { OnOk result (SameOnline M.rules (M.world machine.old) (M.world machine.new)) }
     ensures gains { Gains telling.old.text telling.new.text }
 {
     drain(machine, jobs, cpu, Class::Pinned, cpu, telling)?;
@@ -116,11 +132,15 @@ fn interrupt<M: Machine, J: Jobs>(
     cpu: CpuId,
     telling: &mut Telling,
 ) -> Result<(), NoMemory>
-    requires { cpu.0 < M.rules.cpus (M.world machine.old) }
+    requires cpu { cpu.0 < M.rules.cpus (M.world machine.old) }
+    requires online { M.rules.is_online (M.world machine.old) cpu.0 ≡ true }
+    requires fit { M.Fit resting (M.world machine.old) }
     ensures prints { OnOk result
         (Prints (interrupt (J.replies jobs.now) M.rules cpu.0 (M.world machine.old))
         telling.old telling.new (M.world machine.new)) }
     ensures same { OnOk result (Same M.rules (M.world machine.old) (M.world machine.new)) }
+    ensures fit { OnOk result (M.Fit resting (M.world machine.new)) }
+    ensures online { OnOk result (SameOnline M.rules (M.world machine.old) (M.world machine.new)) }
     ensures gains { Gains telling.old.text telling.new.text }
 {
     telling.count();
@@ -139,13 +159,17 @@ fn interrupt_if_due<M: Machine, J: Jobs>(
     cpu: CpuId,
     telling: &mut Telling,
 ) -> Result<(), NoMemory>
-    requires { cpu.0 < M.rules.cpus (M.world machine.old) }
+    requires cpu { cpu.0 < M.rules.cpus (M.world machine.old) }
+    requires online { AreOnline M.rules (M.world machine.old) due.now }
+    requires fit { M.Fit resting (M.world machine.old) }
     ensures prints { OnOk result
         (Prints
         (interrupt_where (J.replies jobs.now) M.rules (set.contains due.now cpu.0) cpu.0
         (M.world machine.old))
         telling.old telling.new (M.world machine.new)) }
     ensures same { OnOk result (Same M.rules (M.world machine.old) (M.world machine.new)) }
+    ensures fit { OnOk result (M.Fit resting (M.world machine.new)) }
+    ensures online { OnOk result (SameOnline M.rules (M.world machine.old) (M.world machine.new)) }
     ensures gains { Gains telling.old.text telling.new.text }
 {
     if due.has(cpu) {
@@ -161,12 +185,15 @@ pub(crate) fn interrupts<M: Machine, J: Jobs>(
     due: &CpuSet,
     telling: &mut Telling,
 ) -> Result<(), NoMemory>
+    requires online { AreOnline M.rules (M.world machine.old) due.now }
+    requires fit { M.Fit resting (M.world machine.old) }
     ensures prints { OnOk result
         (Prints
         (interrupts (J.replies jobs.now) M.rules (M.rules.cpus (M.world machine.old)) 0 due.now
         (M.world machine.old))
         telling.old telling.new (M.world machine.new)) }
     ensures same { OnOk result (Same M.rules (M.world machine.old) (M.world machine.new)) }
+    ensures fit { OnOk result (M.Fit resting (M.world machine.new)) }
     ensures gains { Gains telling.old.text telling.new.text }
 {
     for cpu in 0..machine.cpus() {
@@ -177,7 +204,8 @@ pub(crate) fn interrupts<M: Machine, J: Jobs>(
 
 /// The CPUs that have an interrupt at the clock.
 pub(crate) fn having_interrupt<M: Machine>(machine: &M) -> CpuSet
-    ensures { result ≡ having_interrupt M.rules (M.world machine.now) }
+    ensures set { result ≡ having_interrupt M.rules (M.world machine.now) }
+    ensures online { AreOnline M.rules (M.world machine.now) result }
 {
     let mut due = CpuSet::new();
     for cpu in 0..machine.cpus() {

@@ -2,7 +2,8 @@
 
 ghost use Rattle.std.specs.Prelude.{◌≡◌, ◌<◌, All, IfOk, OnOk};
 ghost use Rattle.play_rules.specs.Interrupts.{again, drain, reply_to, run_job, run_jobs};
-ghost use Rattle.play_rules.specs.Machines.{IsTimerOf, Same};
+ghost use Rattle.play_rules.specs.Machines.{IsTimerOf, Same, SameOnline};
+ghost use Rattle.play_rules.specs.Phases.{FitsSome, MayDrain, MayRunIn, StaysFit};
 ghost use Rattle.play_rules.specs.Parts.{Gains, Prints};
 
 use crate::telling::Telling;
@@ -22,6 +23,7 @@ fn arm_again<M: Machine>(
 ) -> Result<ShownReply, NoMemory>
     requires runner { runner.0 < M.rules.cpus (M.world machine.old) }
     requires timer { IsTimerOf (M.rules.timers (M.world machine.old)) item }
+    requires fit { FitsSome M.Fit (λ ph. MayRunIn ph runner.0) (M.world machine.old) }
     ensures reply { IfOk result (λ shown.
         shown ≡ (again M.rules (M.rules.queued (M.world machine.old) item.id) runner.0 item class delay
         (M.world machine.old)).reply) }
@@ -29,6 +31,9 @@ fn arm_again<M: Machine>(
         (again M.rules (M.rules.queued (M.world machine.old) item.id) runner.0 item class delay
         (M.world machine.old)).state) }
     ensures same { OnOk result (Same M.rules (M.world machine.old) (M.world machine.new)) }
+    ensures fit { OnOk result
+        (StaysFit M.Fit (λ ph. MayRunIn ph runner.0) (M.world machine.old) (M.world machine.new)) }
+    ensures online { OnOk result (SameOnline M.rules (M.world machine.old) (M.world machine.new)) }
 {
     let timer = TimerId(item.id as u16);
     if let Some(cpu) = machine.holder(timer) {
@@ -55,11 +60,15 @@ fn reply_to<M: Machine, J: Jobs>(
 ) -> Result<ShownReply, NoMemory>
     requires runner { runner.0 < M.rules.cpus (M.world machine.old) }
     requires timer { IsTimerOf (M.rules.timers (M.world machine.old)) item }
+    requires fit { FitsSome M.Fit (λ ph. MayRunIn ph runner.0) (M.world machine.old) }
     ensures reply { IfOk result (λ shown.
         shown ≡ (reply_to (J.replies jobs.now) M.rules runner.0 item (M.world machine.old)).reply) }
     ensures state { OnOk result (M.world machine.new ≡
         (reply_to (J.replies jobs.now) M.rules runner.0 item (M.world machine.old)).state) }
     ensures same { OnOk result (Same M.rules (M.world machine.old) (M.world machine.new)) }
+    ensures fit { OnOk result
+        (StaysFit M.Fit (λ ph. MayRunIn ph runner.0) (M.world machine.old) (M.world machine.new)) }
+    ensures online { OnOk result (SameOnline M.rules (M.world machine.old) (M.world machine.new)) }
 {
     let call = JobCall {
         timer: TimerId(item.id as u16),
@@ -85,10 +94,14 @@ fn run_job<M: Machine, J: Jobs>(
 ) -> Result<(), NoMemory>
     requires runner { runner.0 < M.rules.cpus (M.world machine.old) }
     requires timer { IsTimerOf (M.rules.timers (M.world machine.old)) item }
+    requires fit { FitsSome M.Fit (λ ph. MayRunIn ph runner.0) (M.world machine.old) }
     ensures prints { OnOk result
         (Prints (run_job (J.replies jobs.now) M.rules home.0 runner.0 item (M.world machine.old))
         telling.old telling.new (M.world machine.new)) }
     ensures same { OnOk result (Same M.rules (M.world machine.old) (M.world machine.new)) }
+    ensures fit { OnOk result
+        (StaysFit M.Fit (λ ph. MayRunIn ph runner.0) (M.world machine.old) (M.world machine.new)) }
+    ensures online { OnOk result (SameOnline M.rules (M.world machine.old) (M.world machine.new)) }
     ensures gains { Gains telling.old.text telling.new.text }
 {
     let now = machine.clock();
@@ -115,10 +128,14 @@ fn run_jobs<M: Machine, J: Jobs>(
 ) -> Result<(), NoMemory>
     requires runner { runner.0 < M.rules.cpus (M.world machine.old) }
     requires timers { All (IsTimerOf (M.rules.timers (M.world machine.old))) items.now }
+    requires fit { FitsSome M.Fit (λ ph. MayRunIn ph runner.0) (M.world machine.old) }
     ensures prints { OnOk result
         (Prints (run_jobs (J.replies jobs.now) M.rules home.0 runner.0 items.now (M.world machine.old))
         telling.old telling.new (M.world machine.new)) }
     ensures same { OnOk result (Same M.rules (M.world machine.old) (M.world machine.new)) }
+    ensures fit { OnOk result
+        (StaysFit M.Fit (λ ph. MayRunIn ph runner.0) (M.world machine.old) (M.world machine.new)) }
+    ensures online { OnOk result (SameOnline M.rules (M.world machine.old) (M.world machine.new)) }
     ensures gains { Gains telling.old.text telling.new.text }
 {
     for item in items {
@@ -138,10 +155,14 @@ pub(crate) fn drain<M: Machine, J: Jobs>(
 ) -> Result<(), NoMemory>
     requires home { home.0 < M.rules.cpus (M.world machine.old) }
     requires runner { runner.0 < M.rules.cpus (M.world machine.old) }
+    requires fit { FitsSome M.Fit (λ ph. MayDrain ph home.0 class runner.0) (M.world machine.old) }
     ensures prints { OnOk result
         (Prints (drain (J.replies jobs.now) M.rules home.0 class runner.0 (M.world machine.old))
         telling.old telling.new (M.world machine.new)) }
     ensures same { OnOk result (Same M.rules (M.world machine.old) (M.world machine.new)) }
+    ensures fit { OnOk result
+        (StaysFit M.Fit (λ ph. MayDrain ph home.0 class runner.0) (M.world machine.old) (M.world machine.new)) }
+    ensures online { OnOk result (SameOnline M.rules (M.world machine.old) (M.world machine.new)) }
     ensures gains { Gains telling.old.text telling.new.text }
 {
     let items = machine.drain(home, class, runner)?;

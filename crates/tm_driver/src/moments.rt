@@ -5,9 +5,10 @@ ghost use Rattle.std.specs.Option.{ForSome, option_copied};
 ghost use Rattle.play_rules.specs.Machines.{Same, SameBuild};
 ghost use Rattle.play_rules.specs.Moments.{moment, moment_at, moment_now, moments_after, next_moment, next_said, scripted, turn, turns};
 ghost use Rattle.play_rules.specs.Parts.{Gains, Prints, counted};
+ghost use Rattle.play_rules.specs.Phases.{resting};
 ghost use Rattle.tm_base.specs.declared.limits.TheConstants.{SCRIPT_TIME_LIMIT};
 ghost use Rattle.tm_driver.specs.Outcomes.{EndsEarly, PlaysOut, script_turns, work_limit};
-ghost use Rattle.tm_driver.specs.Conditions.{IsMomentInRange, IsPlayable};
+ghost use Rattle.tm_driver.specs.Conditions.{AreOnline, IsMomentInRange, IsPlayable};
 
 use crate::interrupts::{having_interrupt, interrupts};
 use crate::moving::{clear_after, covers};
@@ -25,12 +26,14 @@ fn scripted<M: Machine>(
     due: Option<&Moment>,
     telling: &mut Telling,
 ) -> Result<(), NoMemory>
-    requires { ForSome (option_copied due)
+    requires in_range { ForSome (option_copied due)
         (IsMomentInRange (M.rules.cpus (M.world machine.old)) (M.rules.timers (M.world machine.old))) }
+    requires fit { M.Fit resting (M.world machine.old) }
     ensures prints { OnOk result
         (Prints (scripted M.rules (option_copied due.entry) (M.world machine.old))
         telling.old telling.new (M.world machine.new)) }
     ensures same { OnOk result (Same M.rules (M.world machine.old) (M.world machine.new)) }
+    ensures fit { OnOk result (M.Fit resting (M.world machine.new)) }
     ensures gains { Gains telling.old.text telling.new.text }
 {
     let Some(due) = due else {
@@ -49,14 +52,17 @@ fn moment<M: Machine, J: Jobs>(
     due: Option<&Moment>,
     telling: &mut Telling,
 ) -> Result<(), NoMemory>
-    requires { ForSome (option_copied due)
+    requires in_range { ForSome (option_copied due)
         (IsMomentInRange (M.rules.cpus (M.world machine.old)) (M.rules.timers (M.world machine.old))) }
+    requires online { AreOnline M.rules (M.world machine.old) interrupted.now }
+    requires fit { M.Fit resting (M.world machine.old) }
     ensures prints { OnOk result
         (Prints
         (moment (J.replies jobs.now) M.rules interrupted.now (option_copied due.entry)
         (M.world machine.old))
         telling.old telling.new (M.world machine.new)) }
     ensures same { OnOk result (Same M.rules (M.world machine.old) (M.world machine.new)) }
+    ensures fit { OnOk result (M.Fit resting (M.world machine.new)) }
     ensures gains { Gains telling.old.text telling.new.text }
 {
     telling.count();
@@ -96,11 +102,13 @@ fn turn<M: Machine, J: Jobs>(
     requires in_time { now < SCRIPT_TIME_LIMIT }
     requires in_range { All
         (IsMomentInRange (M.rules.cpus (M.world machine.old)) (M.rules.timers (M.world machine.old))) left.now }
+    requires fit { M.Fit resting (M.world machine.old) }
     ensures prints { OnOk result
         (Prints (turn (J.replies jobs.now) M.rules left.now now (M.world machine.old)).played
         telling.old telling.new (M.world machine.new)) }
     ensures clock { OnOk result (M.rules.clock (M.world machine.new) ≡ now) }
     ensures same { OnOk result (SameBuild M.rules (M.world machine.old) (M.world machine.new)) }
+    ensures fit { OnOk result (M.Fit resting (M.world machine.new)) }
     ensures gains { Gains telling.old.text telling.new.text }
 {
     machine.set_clock(now);
@@ -131,6 +139,7 @@ pub(crate) fn moments<M: Machine, J: Jobs>(
     requires start { M.rules.clock (M.world machine.old) ≡ 0 }
     requires playable { IsPlayable (M.rules.cpus (M.world machine.old)) (M.rules.timers (M.world machine.old)) script.now }
     requires no_work { telling.old.work ≡ 0 }
+    requires fit { M.Fit resting (M.world machine.old) }
     ensures whole { OnOk result
         (PlaysOut (work_limit script.now.version)
         (script_turns (J.replies jobs.now) M.rules script.now (M.world machine.old)) (M.world machine.old)
@@ -141,6 +150,7 @@ pub(crate) fn moments<M: Machine, J: Jobs>(
         EndsEarly (work_limit script.now.version)
         (script_turns (J.replies jobs.now) M.rules script.now (M.world machine.old)) fault
         telling.old.text telling.new.text) }
+    ensures fit { OnOk result (M.Fit resting (M.world machine.new)) }
     ensures gains { Gains telling.old.text telling.new.text }
 {
     let limit = work_limit(script.version);

@@ -1,9 +1,10 @@
 //! The timers of a CPU that went offline, and the covers.
 
-ghost use Rattle.std.specs.Prelude.{◌≡◌, ◌≢◌, ◌<◌, Some, All, IfSome, OnOk, false, option_map};
+ghost use Rattle.std.specs.Prelude.{◌≡◌, ◌≢◌, ◌<◌, Some, All, IfSome, OnOk, false, true, option_map};
 ghost use Rattle.play_rules.specs.Machines.{Same};
 ghost use Rattle.play_rules.specs.Operations.{clear, clear_after, covers, leaver, leaving, move_all};
 ghost use Rattle.play_rules.specs.Parts.{Gains, Prints};
+ghost use Rattle.play_rules.specs.Phases.{IsUp, resting};
 ghost use Rattle.tm_report.specs.Lines.{report_text};
 ghost use Rattle.tm_driver.specs.Conditions.{IsOpInRange};
 
@@ -23,9 +24,14 @@ fn moves<M: Machine>(
     requires from { from.0 < M.rules.cpus (M.world machine.old) }
     requires to { to.0 < M.rules.cpus (M.world machine.old) }
     requires other { from.0 ≢ to.0 }
+    requires offline { M.rules.is_online (M.world machine.old) from.0 ≡ false }
+    requires placed { M.rules.is_placed (M.world machine.old) to.0 ≡ true }
+    requires active { IsUp M.rules (M.world machine.old) to.0 false }
+    requires fit { M.Fit resting (M.world machine.old) }
     ensures prints { OnOk result
         (Prints (move_all M.rules from.0 to.0 (M.world machine.old)) telling.old telling.new (M.world machine.new)) }
     ensures same { OnOk result (Same M.rules (M.world machine.old) (M.world machine.new)) }
+    ensures fit { OnOk result (M.Fit resting (M.world machine.new)) }
     ensures gains { Gains telling.old.text telling.new.text }
 {
     let now = machine.clock();
@@ -46,10 +52,12 @@ fn moves<M: Machine>(
 
 /// What is queued on a CPU that is offline moves to the controlling CPU.
 fn clear<M: Machine>(machine: &mut M, from: CpuId, telling: &mut Telling) -> Result<(), NoMemory>
-    requires { from.0 < M.rules.cpus (M.world machine.old) }
+    requires from { from.0 < M.rules.cpus (M.world machine.old) }
+    requires fit { M.Fit resting (M.world machine.old) }
     ensures prints { OnOk result
         (Prints (clear M.rules from.0 (M.world machine.old)) telling.old telling.new (M.world machine.new)) }
     ensures same { OnOk result (Same M.rules (M.world machine.old) (M.world machine.new)) }
+    ensures fit { OnOk result (M.Fit resting (M.world machine.new)) }
     ensures gains { Gains telling.old.text telling.new.text }
 {
     if machine.is_online(from) || machine.queued_on(from) == 0 {
@@ -93,11 +101,13 @@ pub(crate) fn clear_after<M: Machine>(
     ops: &[Op],
     telling: &mut Telling,
 ) -> Result<(), NoMemory>
-    requires { All (IsOpInRange (M.rules.cpus (M.world machine.old)) (M.rules.timers (M.world machine.old))) ops.now }
+    requires in_range { All (IsOpInRange (M.rules.cpus (M.world machine.old)) (M.rules.timers (M.world machine.old))) ops.now }
+    requires fit { M.Fit resting (M.world machine.old) }
     ensures prints { OnOk result
         (Prints (clear_after M.rules (leaver ops.now) (M.world machine.old))
         telling.old telling.new (M.world machine.new)) }
     ensures same { OnOk result (Same M.rules (M.world machine.old) (M.world machine.new)) }
+    ensures fit { OnOk result (M.Fit resting (M.world machine.new)) }
     ensures gains { Gains telling.old.text telling.new.text }
 {
     if let Some(cpu) = leaver(ops, machine.cpus(), machine.timers()) {
@@ -108,6 +118,7 @@ pub(crate) fn clear_after<M: Machine>(
 
 /// Who answers for each idle CPU that has a global timer.
 pub(crate) fn covers<M: Machine>(machine: &M, telling: &mut Telling) -> Result<(), NoMemory>
+    requires fit { M.Fit resting (M.world machine.now) }
     ensures prints { OnOk result
         (Prints (covers M.rules (M.world machine.now)) telling.old telling.new (M.world machine.now)) }
     ensures gains { Gains telling.old.text telling.new.text }

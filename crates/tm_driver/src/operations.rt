@@ -5,6 +5,7 @@ ghost use Rattle.std.specs.Option.{option_copied};
 ghost use Rattle.play_rules.specs.Machines.{Same};
 ghost use Rattle.play_rules.specs.Operations.{arm, cancel, clear, clear_after, covers, done, done_unless, hand_on, idle, last_online, leaver, moves, not_active, not_idle, offline, online, operation, operations, refusal, refused_line, wake};
 ghost use Rattle.play_rules.specs.Parts.{Gains, Prints};
+ghost use Rattle.play_rules.specs.Phases.{after_offline, resting};
 ghost use Rattle.tm_driver.specs.Conditions.{IsOpInRange};
 
 use crate::telling::Telling;
@@ -115,9 +116,12 @@ fn arm<M: Machine>(
     requires cpu { cpu.0 < M.rules.cpus (M.world machine.old) }
     requires timer { arming.timer.0 < M.rules.timers (M.world machine.old) }
     requires not_queued { M.rules.queued (M.world machine.old) arming.timer.0 ≡ None }
+    requires allowed { not_active M.rules (M.world machine.old) cpu.0 ≡ None }
+    requires fit { M.Fit resting (M.world machine.old) }
     ensures prints { OnOk result
         (Prints (arm M.rules cpu arming (M.world machine.old)) telling.old telling.new (M.world machine.new)) }
     ensures same { OnOk result (Same M.rules (M.world machine.old) (M.world machine.new)) }
+    ensures fit { OnOk result (M.Fit resting (M.world machine.new)) }
     ensures gains { Gains telling.old.text telling.new.text }
 {
     let now = machine.clock();
@@ -140,11 +144,13 @@ fn cancel<M: Machine>(
 ) -> Result<(), NoMemory>
     requires cpu { cancelling.by.0 < M.rules.cpus (M.world machine.old) }
     requires timer { cancelling.timer.0 < M.rules.timers (M.world machine.old) }
+    requires fit { M.Fit resting (M.world machine.old) }
     ensures prints { OnOk result
         (Prints
         (cancel M.rules cancelling (M.world machine.old))
         telling.old telling.new (M.world machine.new)) }
     ensures same { OnOk result (Same M.rules (M.world machine.old) (M.world machine.new)) }
+    ensures fit { OnOk result (M.Fit resting (M.world machine.new)) }
     ensures gains { Gains telling.old.text telling.new.text }
 {
     let now = machine.clock();
@@ -165,9 +171,11 @@ fn cancel<M: Machine>(
 fn idle<M: Machine>(machine: &mut M, cpu: CpuId, telling: &mut Telling) -> Result<(), NoMemory>
     requires cpu { cpu.0 < M.rules.cpus (M.world machine.old) }
     requires allowed { not_active M.rules (M.world machine.old) cpu.0 ≡ None }
+    requires fit { M.Fit resting (M.world machine.old) }
     ensures prints { OnOk result
         (Prints (idle M.rules cpu (M.world machine.old)) telling.old telling.new (M.world machine.new)) }
     ensures same { OnOk result (Same M.rules (M.world machine.old) (M.world machine.new)) }
+    ensures fit { OnOk result (M.Fit resting (M.world machine.new)) }
     ensures gains { Gains telling.old.text telling.new.text }
 {
     let now = machine.clock();
@@ -184,9 +192,11 @@ fn idle<M: Machine>(machine: &mut M, cpu: CpuId, telling: &mut Telling) -> Resul
 fn wake<M: Machine>(machine: &mut M, cpu: CpuId, telling: &mut Telling) -> Result<(), NoMemory>
     requires cpu { cpu.0 < M.rules.cpus (M.world machine.old) }
     requires allowed { not_idle M.rules (M.world machine.old) cpu.0 ≡ None }
+    requires fit { M.Fit resting (M.world machine.old) }
     ensures prints { OnOk result
         (Prints (wake M.rules cpu (M.world machine.old)) telling.old telling.new (M.world machine.new)) }
     ensures same { OnOk result (Same M.rules (M.world machine.old) (M.world machine.new)) }
+    ensures fit { OnOk result (M.Fit resting (M.world machine.new)) }
     ensures gains { Gains telling.old.text telling.new.text }
 {
     let now = machine.clock();
@@ -198,9 +208,11 @@ fn wake<M: Machine>(machine: &mut M, cpu: CpuId, telling: &mut Telling) -> Resul
 fn online<M: Machine>(machine: &mut M, cpu: CpuId, telling: &mut Telling) -> Result<(), NoMemory>
     requires cpu { cpu.0 < M.rules.cpus (M.world machine.old) }
     requires offline { M.rules.is_online (M.world machine.old) cpu.0 ≡ false }
+    requires fit { M.Fit resting (M.world machine.old) }
     ensures prints { OnOk result
         (Prints (online M.rules cpu (M.world machine.old)) telling.old telling.new (M.world machine.new)) }
     ensures same { OnOk result (Same M.rules (M.world machine.old) (M.world machine.new)) }
+    ensures fit { OnOk result (M.Fit resting (M.world machine.new)) }
     ensures gains { Gains telling.old.text telling.new.text }
 {
     let now = machine.clock();
@@ -211,9 +223,12 @@ fn online<M: Machine>(machine: &mut M, cpu: CpuId, telling: &mut Telling) -> Res
 /// A CPU that went offline hands on its duty, where it has one.
 fn hand_on<M: Machine>(machine: &mut M, cpu: CpuId, telling: &mut Telling) -> Result<(), NoMemory>
     requires cpu { cpu.0 < M.rules.cpus (M.world machine.old) }
+    requires missed { last_online M.rules (M.world machine.old) cpu.0 ≡ None }
+    requires fit { M.Fit (after_offline (M.rules.hands_on (M.world machine.old) cpu.0) cpu.0) (M.world machine.old) }
     ensures prints { OnOk result
         (Prints (hand_on M.rules cpu (M.world machine.old)) telling.old telling.new (M.world machine.new)) }
     ensures same { OnOk result (Same M.rules (M.world machine.old) (M.world machine.new)) }
+    ensures fit { OnOk result (M.Fit resting (M.world machine.new)) }
     ensures gains { Gains telling.old.text telling.new.text }
 {
     if !machine.hands_on(cpu) {
@@ -231,9 +246,12 @@ fn hand_on<M: Machine>(machine: &mut M, cpu: CpuId, telling: &mut Telling) -> Re
 fn offline<M: Machine>(machine: &mut M, cpu: CpuId, telling: &mut Telling) -> Result<(), NoMemory>
     requires cpu { cpu.0 < M.rules.cpus (M.world machine.old) }
     requires allowed { not_active M.rules (M.world machine.old) cpu.0 ≡ None }
+    requires missed { last_online M.rules (M.world machine.old) cpu.0 ≡ None }
+    requires fit { M.Fit resting (M.world machine.old) }
     ensures prints { OnOk result
         (Prints (offline M.rules cpu (M.world machine.old)) telling.old telling.new (M.world machine.new)) }
     ensures same { OnOk result (Same M.rules (M.world machine.old) (M.world machine.new)) }
+    ensures fit { OnOk result (M.Fit resting (M.world machine.new)) }
     ensures gains { Gains telling.old.text telling.new.text }
 {
     let now = machine.clock();
@@ -246,10 +264,12 @@ fn offline<M: Machine>(machine: &mut M, cpu: CpuId, telling: &mut Telling) -> Re
 fn done<M: Machine>(machine: &mut M, op: &Op, telling: &mut Telling) -> Result<(), NoMemory>
     requires in_range { IsOpInRange (M.rules.cpus (M.world machine.old)) (M.rules.timers (M.world machine.old)) op.now }
     requires allowed { refusal M.rules op.now.what op.now.cpu.0 (M.world machine.old) ≡ None }
+    requires fit { M.Fit resting (M.world machine.old) }
     ensures prints { OnOk result
         (Prints (done M.rules op.now.what op.now.line op.now.cpu (M.world machine.old))
         telling.old telling.new (M.world machine.new)) }
     ensures same { OnOk result (Same M.rules (M.world machine.old) (M.world machine.new)) }
+    ensures fit { OnOk result (M.Fit resting (M.world machine.new)) }
     ensures gains { Gains telling.old.text telling.new.text }
 {
     let cpu = op.cpu;
@@ -292,10 +312,12 @@ fn done<M: Machine>(machine: &mut M, op: &Op, telling: &mut Telling) -> Result<(
 
 /// One operation of a script: it is done, or refused.
 fn operation<M: Machine>(machine: &mut M, op: &Op, telling: &mut Telling) -> Result<(), NoMemory>
-    requires { IsOpInRange (M.rules.cpus (M.world machine.old)) (M.rules.timers (M.world machine.old)) op.now }
+    requires in_range { IsOpInRange (M.rules.cpus (M.world machine.old)) (M.rules.timers (M.world machine.old)) op.now }
+    requires fit { M.Fit resting (M.world machine.old) }
     ensures prints { OnOk result
         (Prints (operation M.rules op.now (M.world machine.old)) telling.old telling.new (M.world machine.new)) }
     ensures same { OnOk result (Same M.rules (M.world machine.old) (M.world machine.new)) }
+    ensures fit { OnOk result (M.Fit resting (M.world machine.new)) }
     ensures gains { Gains telling.old.text telling.new.text }
 {
     if let Some(fault) = refusal(machine, op) {
@@ -310,10 +332,12 @@ pub(crate) fn operations<M: Machine>(
     ops: &[Op],
     telling: &mut Telling,
 ) -> Result<(), NoMemory>
-    requires { All (IsOpInRange (M.rules.cpus (M.world machine.old)) (M.rules.timers (M.world machine.old))) ops.now }
+    requires in_range { All (IsOpInRange (M.rules.cpus (M.world machine.old)) (M.rules.timers (M.world machine.old))) ops.now }
+    requires fit { M.Fit resting (M.world machine.old) }
     ensures prints { OnOk result
         (Prints (operations M.rules ops.now (M.world machine.old)) telling.old telling.new (M.world machine.new)) }
     ensures same { OnOk result (Same M.rules (M.world machine.old) (M.world machine.new)) }
+    ensures fit { OnOk result (M.Fit resting (M.world machine.new)) }
     ensures gains { Gains telling.old.text telling.new.text }
 {
     for op in ops {

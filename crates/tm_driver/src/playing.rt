@@ -3,6 +3,7 @@
 ghost use Rattle.std.specs.Prelude.{◌≡◌, IfErr, IfOk, OnOk, length};
 ghost use Rattle.play_rules.specs.Jobs.{first_unknown_job, unknown_in_ops, unknown_job_of};
 ghost use Rattle.play_rules.specs.Parts.{Gains, counted};
+ghost use Rattle.play_rules.specs.Phases.{resting};
 ghost use Rattle.tm_driver.specs.Conditions.{IsPlayable};
 ghost use Rattle.tm_driver.specs.Outcomes.{EndsEarly, PlaysWhole, SaysFault, TellsAll, script_turns, work_limit};
 
@@ -64,6 +65,7 @@ fn play_known<M: Machine, J: Jobs>(
     requires start { M.rules.clock (M.world machine.old) ≡ 0 }
     requires playable { IsPlayable (M.rules.cpus (M.world machine.old)) (M.rules.timers (M.world machine.old)) script.now }
     requires no_work { telling.old.work ≡ 0 }
+    requires fit { M.Fit resting (M.world machine.old) }
     ensures whole { OnOk result
         (TellsAll M.rules (J.replies jobs.now) script.now (M.world machine.old)
         telling.old telling.new (M.world machine.new)) }
@@ -73,6 +75,7 @@ fn play_known<M: Machine, J: Jobs>(
         EndsEarly (work_limit script.now.version)
         (script_turns (J.replies jobs.now) M.rules script.now (M.world machine.old)) fault
         telling.old.text telling.new.text) }
+    ensures fit { OnOk result (M.Fit resting (M.world machine.new)) }
     ensures gains { Gains telling.old.text telling.new.text }
 {
     let count = moments(machine, jobs, script, telling)?;
@@ -91,12 +94,14 @@ pub fn play_on<M: Machine, J: Jobs>(
 ) -> Result<Counts, DriveFault>
     requires start { M.rules.clock (M.world machine.old) ≡ 0 }
     requires playable { IsPlayable (M.rules.cpus (M.world machine.old)) (M.rules.timers (M.world machine.old)) script.now }
+    requires fit { M.Fit resting (M.world machine.old) }
     ensures whole { IfOk result (λ counts.
         PlaysWhole M.rules (J.replies jobs.now) (J.count jobs.now) script.now (M.world machine.old)
         report.old report.new counts (M.world machine.new)) }
     ensures fault { IfErr result (λ fault.
         SaysFault M.rules (J.replies jobs.now) (J.count jobs.now) script.now (M.world machine.old) fault
         report.old report.new) }
+    ensures fit { OnOk result (M.Fit resting (M.world machine.new)) }
 {
     if let Some(UnknownJob { line, job }) = first_unknown_job(script, jobs) {
         return Err(DriveFault::BadJob { line, job });

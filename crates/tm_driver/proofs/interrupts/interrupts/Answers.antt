@@ -10,6 +10,8 @@ loop-cpu-preserved g c =
       rest = interrupted_more _ _ _ _ _ _ _ _ _ _ _ c.loop-cpu.invariant.rest
           (omega (arith, c.loop-cpu-test.true, c.cpus-cpu-end.ensures.count)) done.prints;
       same = search rules;
+      online = search rules;
+      fit = done.fit;
       gains = gains_then _ _ _ c.loop-cpu.invariant.gains done.gains;
     }
 

@@ -1,7 +1,8 @@
 use Rattle.std.proofs.Common.{◌-◌}
 use Rattle.play_rules.specs.Interrupts.{interrupts}
-use Rattle.play_rules.specs.Machines.{Same}
+use Rattle.play_rules.specs.Machines.{Same, SameOnline}
 use Rattle.play_rules.specs.Parts.{Gains}
+use Rattle.play_rules.specs.Phases.{resting}
 use Rattle.play_rules.proofs.Plays.{Continues}
 use Rattle.tm_driver.proofs.interrupts.interrupts.Given as goal
 
@@ -14,5 +15,7 @@ invariant-loop-cpu g l =
       rest : Continues (interrupts jobs r (cpus - l.cpu) l.cpu l.due (g.M.Machine.world l.machine)) l.telling
           (interrupts jobs r cpus 0 l.due (g.M.Machine.world l.fn.machine)) l.fn.telling;
       same : Same r (g.M.Machine.world l.fn.machine) (g.M.Machine.world l.machine);
+      online : SameOnline r (g.M.Machine.world l.fn.machine) (g.M.Machine.world l.machine);
+      fit : g.M.Machine.Fit resting (g.M.Machine.world l.machine);
       gains : Gains l.fn.telling.text l.telling.text;
     }

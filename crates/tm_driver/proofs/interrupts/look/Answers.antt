@@ -10,6 +10,8 @@ loop-turn-preserved g c =
       rest = rw c.add.ensures.added (looked_more _ _ _ _ _ _ _ _ _ _ _ _ _ _ c.loop-turn.invariant.rest
           (omega (arith, c.loop-turn-test.true, c.cpus-turn-end.ensures.count)) (sym c.in-Some.ensures.named) done.prints);
       same = search rules;
+      online = search rules;
+      fit = done.fit;
       gains = gains_then _ _ _ c.loop-turn.invariant.gains done.gains;
     }
 

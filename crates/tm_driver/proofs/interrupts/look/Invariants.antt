@@ -1,8 +1,9 @@
 use Rattle.std.proofs.Common.{◌-◌}
 use Rattle.std.specs.FinSet as set
 use Rattle.play_rules.specs.Interrupts.{look}
-use Rattle.play_rules.specs.Machines.{Same}
+use Rattle.play_rules.specs.Machines.{Same, SameOnline}
 use Rattle.play_rules.specs.Parts.{Gains}
+use Rattle.play_rules.specs.Phases.{inside}
 use Rattle.play_rules.proofs.Plays.{Continues}
 use Rattle.tm_driver.proofs.interrupts.look.Given as goal
 
@@ -15,5 +16,7 @@ invariant-loop-turn g l =
       rest : Continues (look jobs r (cpus - l._turn) l.cpu.0 l.level l.tried (g.M.Machine.world l.machine)) l.telling
           (look jobs r cpus l.cpu.0 l.level set.empty (g.M.Machine.world l.fn.machine)) l.fn.telling;
       same : Same r (g.M.Machine.world l.fn.machine) (g.M.Machine.world l.machine);
+      online : SameOnline r (g.M.Machine.world l.fn.machine) (g.M.Machine.world l.machine);
+      fit : g.M.Machine.Fit (inside l.cpu.0) (g.M.Machine.world l.machine);
       gains : Gains l.fn.telling.text l.telling.text;
     }

@@ -15,6 +15,8 @@ loop-level-preserved g c =
       rest = looks_more _ _ _ _ _ _ _ _ _ _ _ _ c.loop-level.invariant.rest
           (omega (arith, c.loop-level-test.true, c.levels-level-end.ensures)) (search (rules, c.looks_after.ensures, c.if-not-looks_after.false)) refl done.prints;
       same = search rules;
+      online = search rules;
+      fit = done.fit;
       gains = gains_then _ _ _ c.loop-level.invariant.gains done.gains;
     }
 

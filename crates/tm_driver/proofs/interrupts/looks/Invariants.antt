@@ -1,7 +1,8 @@
 use Rattle.std.proofs.Common.{◌-◌}
 use Rattle.play_rules.specs.Interrupts.{looks}
-use Rattle.play_rules.specs.Machines.{Same}
+use Rattle.play_rules.specs.Machines.{Same, SameOnline}
 use Rattle.play_rules.specs.Parts.{Gains}
+use Rattle.play_rules.specs.Phases.{inside}
 use Rattle.play_rules.proofs.Plays.{Continues}
 use Rattle.tm_driver.proofs.interrupts.looks.Given as goal
 
@@ -14,5 +15,7 @@ invariant-loop-level g l =
       rest : Continues (looks jobs r (levels - l.level) l.cpu.0 l.level (g.M.Machine.world l.machine)) l.telling
           (looks jobs r levels l.cpu.0 0 (g.M.Machine.world l.fn.machine)) l.fn.telling;
       same : Same r (g.M.Machine.world l.fn.machine) (g.M.Machine.world l.machine);
+      online : SameOnline r (g.M.Machine.world l.fn.machine) (g.M.Machine.world l.machine);
+      fit : g.M.Machine.Fit (inside l.cpu.0) (g.M.Machine.world l.machine);
       gains : Gains l.fn.telling.text l.telling.text;
     }

@@ -9,6 +9,8 @@ loop-item-preserved g c =
     record {
       rest = jobs_more _ _ _ _ _ _ _ _ _ _ _ _ _ c.loop-item.invariant.rest c.loop-item-test.true done.prints;
       same = search rules;
+      online = search rules;
+      fit = λ ph may was. done.fit ph may (c.loop-item.invariant.fit ph may was);
       gains = gains_then _ _ _ c.loop-item.invariant.gains done.gains;
     }
 

@@ -1,7 +1,8 @@
 use Rattle.std.specs.Prelude.{drop}
 use Rattle.play_rules.specs.Interrupts.{run_jobs}
-use Rattle.play_rules.specs.Machines.{Same}
+use Rattle.play_rules.specs.Machines.{Same, SameOnline}
 use Rattle.play_rules.specs.Parts.{Gains}
+use Rattle.play_rules.specs.Phases.{MayRunIn, StaysFit}
 use Rattle.play_rules.proofs.Plays.{Continues}
 use Rattle.tm_driver.proofs.jobs.run_jobs.Given as goal
 
@@ -13,5 +14,8 @@ invariant-loop-item g l =
       rest : Continues (run_jobs jobs r l.home.0 l.runner.0 (drop l.item-index l.items) (g.M.Machine.world l.machine)) l.telling
           (run_jobs jobs r l.home.0 l.runner.0 l.items (g.M.Machine.world l.fn.machine)) l.fn.telling;
       same : Same r (g.M.Machine.world l.fn.machine) (g.M.Machine.world l.machine);
+      online : SameOnline r (g.M.Machine.world l.fn.machine) (g.M.Machine.world l.machine);
+      fit : StaysFit g.M.Machine.Fit (λ ph. MayRunIn ph l.runner.0) (g.M.Machine.world l.fn.machine)
+          (g.M.Machine.world l.machine);
       gains : Gains l.fn.telling.text l.telling.text;
     }

@@ -13,6 +13,7 @@ loop-now-init g c = rw c.as_slice-left.ensures (record {
   rise = c.requires.playable.rise;
   in_range = c.requires.playable.in_range;
   same = search rules;
+  fit = c.requires.fit;
   gains = search rules;
 })
 
@@ -38,6 +39,7 @@ loop-now-preserved g c =
       rise = rise_from _ _ _ _ rises (omega (arith, done.clock, from));
       in_range = rw (done.same.cpus, done.same.timers) (after_in_range (IsMomentInRange (g.M.Machine.rules.cpus (g.M.Machine.world c.loop-now.machine)) (g.M.Machine.rules.timers (g.M.Machine.world c.loop-now.machine))) _ _ so_far.in_range);
       same = record { timers = done.same.timers ∙ so_far.same.timers; cpus = done.same.cpus ∙ so_far.same.cpus };
+      fit = done.fit;
       gains = gains_then _ _ _ so_far.gains done.gains;
     })
 

@@ -2,6 +2,7 @@ use Rattle.std.proofs.Common.{◌-◌, ◌≤◌}
 use Rattle.std.specs.Prelude.{All}
 use Rattle.play_rules.specs.Machines.{SameBuild}
 use Rattle.play_rules.specs.Parts.{Gains}
+use Rattle.play_rules.specs.Phases.{resting}
 use Rattle.tm_driver.specs.Conditions.{IsMomentInRange, Rise}
 use Rattle.tm_driver.specs.Outcomes.{script_turns}
 use Rattle.tm_driver.proofs.Turns.{SoFar}
@@ -20,6 +21,7 @@ invariant-loop-now g l =
       rise : Rise l.now l.script.end l.left;
       in_range : All (IsMomentInRange (r.cpus s) (r.timers s)) l.left;
       same : SameBuild r start s;
+      fit : g.M.Machine.Fit resting s;
       gains : Gains l.fn.telling.text l.telling.text;
     }
 

@@ -18,6 +18,8 @@ loop-turn-preserved g c =
           (omega (arith, c.loop-turn-test.true, c.queued_on-turn-end.ensures)) refl (sym done.moved ∙ c.in-Some.is) done.state
           (c.clock-now.ensures.clock ∙ sym c.loop-turn.invariant.same.clock) told.text told.tally told.work;
       same = search rules;
+      flags = search rules;
+      fit = done.fit;
       gains = gains_then _ _ _ c.loop-turn.invariant.gains (_, told.text);
     }
 

@@ -1,7 +1,8 @@
 use Rattle.std.proofs.Common.{◌-◌}
 use Rattle.play_rules.specs.Operations.{moves}
-use Rattle.play_rules.specs.Machines.{Same}
+use Rattle.play_rules.specs.Machines.{Same, SameFlags}
 use Rattle.play_rules.specs.Parts.{Gains}
+use Rattle.play_rules.specs.Phases.{resting}
 use Rattle.play_rules.proofs.Plays.{Continues}
 use Rattle.tm_driver.proofs.moving.moves.Given as goal
 
@@ -13,5 +14,7 @@ invariant-loop-turn g l =
       rest : Continues (moves r (n - l._turn) l.from.0 l.to.0 (g.M.Machine.world l.machine)) l.telling
           (moves r n l.from.0 l.to.0 (g.M.Machine.world l.fn.machine)) l.fn.telling;
       same : Same r (g.M.Machine.world l.fn.machine) (g.M.Machine.world l.machine);
+      flags : SameFlags r (g.M.Machine.world l.fn.machine) (g.M.Machine.world l.machine);
+      fit : g.M.Machine.Fit resting (g.M.Machine.world l.machine);
       gains : Gains l.fn.telling.text l.telling.text;
     }

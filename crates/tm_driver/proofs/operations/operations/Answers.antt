@@ -9,6 +9,7 @@ loop-op-preserved g c =
     record {
       rest = operations_more _ _ _ _ _ _ _ _ _ _ c.loop-op.invariant.rest c.loop-op-test.true done.prints;
       same = search rules;
+      fit = done.fit;
       gains = gains_then _ _ _ c.loop-op.invariant.gains done.gains;
     }
 

@@ -2,6 +2,7 @@ use Rattle.std.specs.Prelude.{drop}
 use Rattle.play_rules.specs.Operations.{operations}
 use Rattle.play_rules.specs.Machines.{Same}
 use Rattle.play_rules.specs.Parts.{Gains}
+use Rattle.play_rules.specs.Phases.{resting}
 use Rattle.play_rules.proofs.Plays.{Continues}
 use Rattle.tm_driver.proofs.operations.operations.Given as goal
 
@@ -12,5 +13,6 @@ invariant-loop-op g l =
       rest : Continues (operations r (drop l.op-index l.ops) (g.M.Machine.world l.machine)) l.telling
           (operations r l.ops (g.M.Machine.world l.fn.machine)) l.fn.telling;
       same : Same r (g.M.Machine.world l.fn.machine) (g.M.Machine.world l.machine);
+      fit : g.M.Machine.Fit resting (g.M.Machine.world l.machine);
       gains : Gains l.fn.telling.text l.telling.text;
     }
