@@ -31,6 +31,8 @@ def fault(path, number, what):
     faults.append(f"{path}:{number}: {what}")
 
 
+# the beginning of a definition, which may stand in a module
+HEADS = r"^\s*(?:(?:abbrev|unfoldable|opaque) )?(?:(?:abbrev|unfoldable) pub|pub|abbrev|unfoldable) (?!mod\b|use\b)(?:record |data )?"
 stated = {}
 
 
@@ -38,18 +40,16 @@ def names_of(path):
     """The names that a file of definitions states: definitions, records with their fields, data with their cases."""
     if path not in stated:
         text = read(path) if os.path.isfile(path) else ""
-        heads = r"^(?:(?:pub|abbrev|unfoldable|opaque|infix[lr]? \d+)\s+)*(?:abbrev pub|unfoldable pub|pub|abbrev|unfoldable)?\s*(?:record |data )?"
-        found = set(re.findall(heads + r"([^\s:({]+)\s*(?:\(|:|\{|$)", text, re.M))
+        found = set(re.findall(HEADS + r"([^\s:({]+)", text, re.M))
         found |= set(re.findall(r"^\s+(?:pub )?(\w+)\s*:", text, re.M))
         stated[path] = found
     return stated[path]
 
 
 def definitions_of(path):
-    """The definitions alone, for --missing."""
-    heads = r"^(?:abbrev pub|unfoldable pub|pub record|pub data|pub abbrev|pub unfoldable|pub)\s+(?!mod\b|use\b|record\b|data\b)([^\s:({]+)"
-    records = r"^pub (?:record|data)\s+([^\s:({]+)"
-    return set(re.findall(heads, read(path), re.M)) | set(re.findall(records, read(path), re.M))
+    """The definitions alone, without fields and cases, for --missing."""
+    heads = r"^\s*(?:abbrev|unfoldable) pub ([^\s:({]+)|^\s*pub (?:record|data) ([^\s:({]+)"
+    return {one or other for one, other in re.findall(heads, read(path), re.M)}
 
 
 sources = {}
@@ -62,15 +62,12 @@ def source_of(crate):
 
 
 def contracts_of(crate, function):
-    """The heads of the functions of that name, from fn to the body."""
+    """The heads of the functions of that name, from fn to the body, a line that is one brace or an empty body."""
     found = []
     for it in re.finditer(rf"\bfn {re.escape(function)}\b", source_of(crate)):
         rest = source_of(crate)[it.start():]
-        end = re.search(r"^\s*\{[^\n]*\}?\s*$|;\s*$|\{\}\s*$", rest, re.M)
-        # a clause may itself begin a line with a brace only inside `ensures`, so a body is a brace at the line's start
-        body = re.search(r"^ *\{\}?\s*$", rest, re.M)
-        stop = min(x.start() for x in (body, re.search(r";\s*$", rest, re.M)) if x) if body or end else len(rest)
-        found.append(rest[:stop])
+        ends = [x.start() for x in (re.search(r"^ *\{\}?\s*$", rest, re.M), re.search(r";\s*$", rest, re.M)) if x]
+        found.append(rest[: min(ends, default=len(rest))])
     return found
 
 
@@ -97,7 +94,8 @@ def check_cites(path, text):
         names = [it[3], *re.findall(r"`([^`]+)`", it[4])]
         for name in names:
             if re.fullmatch(r"[^\s.]+", name) and "::" not in name:
-                check_definition(path, number, it[1], it[2], name)
+                if it[1] != "crate":
+                    check_definition(path, number, it[1], it[2], name)
     for it in re.finditer(r"`(\w+)/specs/(\w+)`", text):
         if not os.path.isfile(f"crates/{it[1]}/specs/{it[2]}.antt"):
             fault(path, line_of(text, it.start()), f"there is no crates/{it[1]}/specs/{it[2]}.antt")
