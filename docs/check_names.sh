@@ -9,7 +9,7 @@
 #                                         empty first field stands for the file above
 # - `crate::function`: `clause`, ..       in README.md: the function stands in that crate's src/, and its contract has
 #                                         each of these clauses. `function` alone is of the crate named last in that
-#                                         row; [`name`] is a definition, and is looked for in the specs of any crate
+#                                         table; [`name`] is a definition, and is looked for in the specs of any crate
 # - `crate::Name` ..                      in any page: the crate's src/ has an item of that name
 # - `examples/NAME`, `docs/NAME` ..       in any page: the file is there
 #
@@ -85,7 +85,7 @@ def line_of(text, at):
     return text.count("\n", 0, at) + 1
 
 
-CITE = re.compile(r"`(\w+)/specs/(\w+): ([^`]+)`((?:(?:,|;| and| with|, with| or)?\s+`[^`/:]+`(?:\s+there)?)*)")
+CITE = re.compile(r"`(\w+)/specs/(\w+):\s+([^`]+)`((?:(?:,|;| and| with|, with| or)?\s+`[^`/:]+`(?:\s+there)?)*)")
 
 
 def check_cites(path, text):
@@ -100,7 +100,7 @@ def check_cites(path, text):
         if not os.path.isfile(f"crates/{it[1]}/specs/{it[2]}.antt"):
             fault(path, line_of(text, it.start()), f"there is no crates/{it[1]}/specs/{it[2]}.antt")
     for it in re.finditer(r"`((?:examples|docs|man|bench)/[\w./-]+)`", text):
-        if not os.path.exists(it[1]) and not glob.glob(it[1] + ".*"):
+        if "NAME" not in it[1] and not os.path.exists(it[1]):
             fault(path, line_of(text, it.start()), f"there is no {it[1]}")
 
 
@@ -144,10 +144,10 @@ def everywhere(name):
 
 def check_claims(path, text):
     """The last field of each row of a table whose head is | Claim | Clause |."""
-    within = False
+    within, crate = False, None
     for number, line in enumerate(text.split("\n"), 1):
         if not line.startswith("|"):
-            within = False
+            within, crate = False, None
             continue
         cells = [it.strip() for it in line.strip().strip("|").split("|")]
         if cells[-1] == "Clause":
@@ -158,7 +158,6 @@ def check_claims(path, text):
             for one in re.findall(r"`([^`]+)`", name):
                 if not everywhere(one.split(".")[0]) or not everywhere(one.split(".")[-1]):
                     fault(path, number, f"no specs/ state {one}")
-        crate = None
         for part in re.sub(r"\[[^\]]*\]", "", cells[-1]).split(";"):
             at = part.find("`:")
             functions, clauses = (part[: at + 1], part[at + 2 :]) if at >= 0 else (part, "")
