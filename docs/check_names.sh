@@ -1,6 +1,7 @@
 #!/bin/sh
-# Holds the names that README.md and docs/ cite against the crates. It changes nothing, and ends with status 1 where a
-# name isn't there, which it tells with its place. It looks at these forms:
+# Holds the names that README.md and docs/ cite against the crates, and the examples that they show against examples/. It
+# changes nothing, and ends with status 1 where something isn't so, which it tells with its place. It looks at these
+# forms:
 #
 # - `crate/specs/File: name`, `name` ..   in any page: each name is stated in crates/crate/specs/File.antt. Further
 #                                         names stand in the same quotes, or in quotes behind a comma; the word 'there'
@@ -12,6 +13,10 @@
 #                                         table; [`name`] is a definition, and is looked for in the specs of any crate
 # - `crate::Name` ..                      in any page: the crate's src/ has an item of that name
 # - `examples/NAME`, `docs/NAME` ..       in any page: the file is there
+# - a picture of an example               in README.md the block before 'This is `examples/NAME.tmig`', in docs/FORMATS.md
+#                                         the block behind '`examples/NAME.tmig`': it has each line of the script and of
+#                                         the report, in order
+# - `NAME` under '## Examples'            in README.md: it is one of examples/, and each of examples/ is named there
 #
 # docs/check_names.sh --missing lists, besides, each definition of a crate's specs/ that docs/DEFINITIONS.md doesn't have.
 cd "$(dirname "$0")/.." || exit 1
@@ -182,6 +187,40 @@ def check_claims(path, text):
                     fault(path, number, f"no contract of {', '.join(it for _, it in named)} has a clause {clause}")
 
 
+def is_within(lines, fields):
+    """Whether these lines stand among the fields, in order."""
+    rest = iter(fields)
+    return all(line in rest for line in lines)
+
+
+def check_picture(path, text, name, block):
+    fields = [it for line in block.split("\n") for it in re.split(r"\s{2,}", line.strip())]
+    for ending in ("tmig", "report"):
+        if not is_within(read(f"examples/{name}.{ending}").split("\n")[:-1], fields):
+            fault(path, line_of(text, text.index(block)), f"the picture isn't examples/{name}.{ending}")
+
+
+def check_pictures():
+    text = read("README.md")
+    for it in re.finditer(r"```\n((?:(?!```).)*)\n```\n\nThis is `examples/([\w-]+)\.tmig`", text, re.S):
+        check_picture("README.md", text, it[2], it[1])
+    text = read("docs/FORMATS.md")
+    for it in re.finditer(r"^`examples/([\w-]+)\.tmig`[^`]*```\n((?:(?!```).)*)\n```", text, re.M | re.S):
+        check_picture("docs/FORMATS.md", text, it[1], it[2])
+
+
+def check_examples():
+    text = read("README.md")
+    part = text[text.index("## Examples"):]
+    part = part[: part.index("\n## ", 5)]
+    named = set(re.findall(r"`([a-z][a-z0-9-]*)`", part))
+    there = {os.path.basename(it)[: -len(".report")] for it in glob.glob("examples/*.report")}
+    for name in sorted(named ^ there):
+        fault("README.md", line_of(text, text.index("## Examples")), f"examples/ and this part don't both have {name}")
+
+
+check_pictures()
+check_examples()
 pages = ["README.md", *sorted(glob.glob("docs/*.md"))]
 for page in pages:
     text = read(page)
@@ -199,8 +238,9 @@ if "--missing" in sys.argv[1:]:
             if lacks:
                 print(f"{path}: {' '.join(lacks)}")
 
+faults = list(dict.fromkeys(faults))
 for it in faults:
     print(it)
-print(f"{len(faults)} names that aren't there")
+print(f"the pages: {len(faults)} faults")
 sys.exit(1 if faults else 0)
 PYTHON
