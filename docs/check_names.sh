@@ -1,0 +1,246 @@
+#!/bin/sh
+# Holds the names that README.md and docs/ cite against the crates, and the examples that they show against examples/. It
+# changes nothing, and ends with status 1 where something isn't so, which it tells with its place. It looks at these
+# forms:
+#
+# - `crate/specs/File: name`, `name` ..   in any page: each name is stated in crates/crate/specs/File.antt. Further
+#                                         names stand in the same quotes, or in quotes behind a comma; the word 'there'
+#                                         behind a name stands for the file cited last
+# - | File | `name`, `name` | ..          in docs/DEFINITIONS.md below a heading '## crate': the same of that crate; an
+#                                         empty first field stands for the file above
+# - `crate::function`: `clause`, ..       in README.md: the function stands in that crate's src/, and its contract has
+#                                         each of these clauses. `function` alone is of the crate named last in that
+#                                         table; [`name`] is a definition, and is looked for in the specs of any crate
+# - `crate::Name` ..                      in any page: the crate's src/ has an item of that name
+# - `examples/NAME`, `docs/NAME` ..       in any page: the file is there
+# - a picture of an example               in README.md the block before 'This is `examples/NAME.tmig`', in docs/FORMATS.md
+#                                         the block behind '`examples/NAME.tmig`': it has each line of the script and of
+#                                         the report, in order
+# - `NAME` under '## Examples'            in README.md: it is one of examples/, and each of examples/ is named there
+#
+# docs/check_names.sh --missing lists, besides, each definition of a crate's specs/ that docs/DEFINITIONS.md doesn't have.
+cd "$(dirname "$0")/.." || exit 1
+exec python3 - "$@" <<'PYTHON'
+import glob, os, re, sys
+
+crates = [line.split(":")[0].split()[0] for line in open("crates.txt") if line.strip() and not line.startswith("#")]
+faults = []
+
+
+def read(path):
+    with open(path, encoding="utf-8") as file:
+        return file.read()
+
+
+def fault(path, number, what):
+    faults.append(f"{path}:{number}: {what}")
+
+
+# the beginning of a definition, which may stand in a module
+HEADS = r"^\s*(?:(?:abbrev|unfoldable|opaque) )?(?:(?:abbrev|unfoldable) pub|pub|abbrev|unfoldable) (?!mod\b|use\b)(?:record |data )?"
+stated = {}
+
+
+def names_of(path):
+    """The names that a file of definitions states: definitions, records with their fields, data with their cases."""
+    if path not in stated:
+        text = read(path) if os.path.isfile(path) else ""
+        found = set(re.findall(HEADS + r"([^\s:({]+)", text, re.M))
+        found |= set(re.findall(r"^\s+(?:pub )?(\w+)\s*:", text, re.M))
+        stated[path] = found
+    return stated[path]
+
+
+def definitions_of(path):
+    """The definitions alone, without fields and cases, for --missing."""
+    heads = r"^\s*(?:abbrev|unfoldable) pub ([^\s:({]+)|^\s*pub (?:record|data) ([^\s:({]+)"
+    return {one or other for one, other in re.findall(heads, read(path), re.M)}
+
+
+sources = {}
+
+
+def source_of(crate):
+    if crate not in sources:
+        sources[crate] = "\n".join(read(it) for it in sorted(glob.glob(f"crates/{crate}/src/**/*.rt", recursive=True)))
+    return sources[crate]
+
+
+def contracts_of(crate, function):
+    """The heads of the functions of that name, from fn to the body, a line that is one brace or an empty body."""
+    found = []
+    for it in re.finditer(rf"\bfn {re.escape(function)}\b", source_of(crate)):
+        rest = source_of(crate)[it.start():]
+        ends = [x.start() for x in (re.search(r"^ *\{\}?\s*$", rest, re.M), re.search(r";\s*$", rest, re.M)) if x]
+        found.append(rest[: min(ends, default=len(rest))])
+    return found
+
+
+def check_definition(path, number, crate, file, name):
+    at = f"crates/{crate}/specs/{file}.antt"
+    if crate not in crates:
+        fault(path, number, f"there is no crate {crate}")
+    elif not os.path.isfile(at):
+        fault(path, number, f"there is no {at}")
+    elif name not in names_of(at):
+        fault(path, number, f"{at} doesn't state {name}")
+
+
+def line_of(text, at):
+    return text.count("\n", 0, at) + 1
+
+
+CITE = re.compile(r"`(\w+)/specs/(\w+):\s+([^`]+)`((?:(?:,|;| and| with|, with| or)?\s+`[^`/:]+`(?:\s+there)?)*)")
+
+
+def check_cites(path, text):
+    for it in CITE.finditer(text):
+        number = line_of(text, it.start())
+        names = [it[3], *re.findall(r"`([^`]+)`", it[4])]
+        for name in names:
+            if re.fullmatch(r"[^\s.]+", name) and "::" not in name:
+                if it[1] != "crate":
+                    check_definition(path, number, it[1], it[2], name)
+    for it in re.finditer(r"`(\w+)/specs/(\w+)`", text):
+        if not os.path.isfile(f"crates/{it[1]}/specs/{it[2]}.antt"):
+            fault(path, line_of(text, it.start()), f"there is no crates/{it[1]}/specs/{it[2]}.antt")
+    for it in re.finditer(r"`((?:examples|docs|man|bench)/[\w./-]+)`", text):
+        if "NAME" not in it[1] and not os.path.exists(it[1]):
+            fault(path, line_of(text, it.start()), f"there is no {it[1]}")
+
+
+def check_items(path, text):
+    """Each `crate::Name`, `crate::Type::call` is an item of that crate."""
+    for it in re.finditer(r"`(?:impl \w+ of )?(\w+)::(\w+)(?:::(\w+))?", text):
+        if it[1] not in crates:
+            if it[1][0].islower() and it[1] not in ("std", "crate"):
+                fault(path, line_of(text, it.start()), f"there is no crate {it[1]}")
+            continue
+        for name in (it[2], it[3]):
+            if name and not re.search(rf"\b(?:fn|struct|enum|trait|const|type|mod|union) {name}\b|^\s+{name}\b", source_of(it[1]), re.M):
+                fault(path, line_of(text, it.start()), f"crate {it[1]} has no {name}")
+
+
+def check_tables(path, text):
+    crate = file = None
+    for number, line in enumerate(text.split("\n"), 1):
+        if line.startswith("## "):
+            crate, file = line[3:].strip(), None
+        cells = line.strip().strip("|").split("|")
+        if not line.startswith("|") or crate not in crates or len(cells) < 3:
+            continue
+        head = cells[0].strip()
+        if head in ("File", "") and not head or set(head) <= set("-"):
+            pass
+        elif head != "File":
+            file = head.rstrip(" *")
+            if not os.path.isfile(f"crates/{crate}/specs/{file}.antt"):
+                fault(path, number, f"there is no crates/{crate}/specs/{file}.antt")
+                file = None
+        if file and head != "File":
+            for name in re.findall(r"`([^`]+)`", cells[1]):
+                for part in re.split(r"\s+to\s+", name):
+                    check_definition(path, number, crate, file, part)
+
+
+def everywhere(name):
+    return any(name in names_of(it) for it in glob.glob("crates/*/specs/*.antt"))
+
+
+def check_claims(path, text):
+    """The last field of each row of a table whose head is | Claim | Clause |."""
+    within, crate = False, None
+    for number, line in enumerate(text.split("\n"), 1):
+        if not line.startswith("|"):
+            within, crate = False, None
+            continue
+        cells = [it.strip() for it in line.strip().strip("|").split("|")]
+        if cells[-1] == "Clause":
+            within = True
+        if not within or cells[-1] == "Clause" or set(cells[-1]) <= set("-"):
+            continue
+        for name in re.findall(r"\[((?:`[^`]+`(?:, )?)+)\]", cells[-1]):
+            for one in re.findall(r"`([^`]+)`", name):
+                if not everywhere(one.split(".")[0]) or not everywhere(one.split(".")[-1]):
+                    fault(path, number, f"no specs/ state {one}")
+        for part in re.sub(r"\[[^\]]*\]", "", cells[-1]).split(";"):
+            at = part.find("`:")
+            functions, clauses = (part[: at + 1], part[at + 2 :]) if at >= 0 else (part, "")
+            functions = re.findall(r"`([^`]+)`", functions)
+            named = []
+            for word in functions:
+                words = word.split("::")
+                if not words[0].split():
+                    continue
+                if words[0].split()[-1] in crates:
+                    crate, words = words[0].split()[-1], words[1:]
+                if crate and words:
+                    named.append((crate, words[-1]))
+                elif not crate:
+                    fault(path, number, f"no crate is named before {word}")
+            for of, function in named:
+                if not re.search(rf"\b(?:fn|struct|enum|trait|const) {re.escape(function)}\b", source_of(of)):
+                    fault(path, number, f"crate {of} has no {function}")
+            for clause in re.findall(r"`([^`]+)`", clauses):
+                heads = [head for of, function in named for head in contracts_of(of, function)]
+                if not any(re.search(rf"\b(?:ensures|requires)\*? {re.escape(clause)}\b", head) for head in heads):
+                    fault(path, number, f"no contract of {', '.join(it for _, it in named)} has a clause {clause}")
+
+
+def is_within(lines, fields):
+    """Whether these lines stand among the fields, in order."""
+    rest = iter(fields)
+    return all(line in rest for line in lines)
+
+
+def check_picture(path, text, name, block):
+    fields = [it for line in block.split("\n") for it in re.split(r"\s{2,}", line.strip())]
+    for ending in ("tmig", "report"):
+        if not is_within(read(f"examples/{name}.{ending}").split("\n")[:-1], fields):
+            fault(path, line_of(text, text.index(block)), f"the picture isn't examples/{name}.{ending}")
+
+
+def check_pictures():
+    text = read("README.md")
+    for it in re.finditer(r"```\n((?:(?!```).)*)\n```\n\nThis is `examples/([\w-]+)\.tmig`", text, re.S):
+        check_picture("README.md", text, it[2], it[1])
+    text = read("docs/FORMATS.md")
+    for it in re.finditer(r"^`examples/([\w-]+)\.tmig`[^`]*```\n((?:(?!```).)*)\n```", text, re.M | re.S):
+        check_picture("docs/FORMATS.md", text, it[1], it[2])
+
+
+def check_examples():
+    text = read("README.md")
+    part = text[text.index("## Examples"):]
+    part = part[: part.index("\n## ", 5)]
+    named = set(re.findall(r"`([a-z][a-z0-9-]*)`", part))
+    there = {os.path.basename(it)[: -len(".report")] for it in glob.glob("examples/*.report")}
+    for name in sorted(named ^ there):
+        fault("README.md", line_of(text, text.index("## Examples")), f"examples/ and this part don't both have {name}")
+
+
+check_pictures()
+check_examples()
+pages = ["README.md", *sorted(glob.glob("docs/*.md"))]
+for page in pages:
+    text = read(page)
+    check_cites(page, text)
+    check_items(page, text)
+check_tables("docs/DEFINITIONS.md", read("docs/DEFINITIONS.md"))
+check_claims("README.md", read("README.md"))
+
+if "--missing" in sys.argv[1:]:
+    told = read("docs/DEFINITIONS.md")
+    for crate in crates:
+        part = re.search(rf"^## {crate}\n(.*?)(?=^## |\Z)", told, re.M | re.S)
+        for path in sorted(glob.glob(f"crates/{crate}/specs/*.antt")):
+            lacks = sorted(it for it in definitions_of(path) if f"`{it}`" not in (part[1] if part else ""))
+            if lacks:
+                print(f"{path}: {' '.join(lacks)}")
+
+faults = list(dict.fromkeys(faults))
+for it in faults:
+    print(it)
+print(f"the pages: {len(faults)} faults")
+sys.exit(1 if faults else 0)
+PYTHON
