@@ -1,0 +1,12 @@
+pub mod Changes
+pub mod Holders
+pub mod Making
+pub mod MoveStep
+pub mod Pairs
+pub mod Paths
+pub mod Queues
+pub mod Ranges
+pub mod Readings
+pub mod Rooms
+pub mod Starts
+pub mod TimerSteps

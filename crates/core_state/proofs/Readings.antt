@@ -1,0 +1,62 @@
+-- readings that an exchange makes stale
+use Rattle.std.proofs.Common.{◌≡◌, ◌≢◌, ℕ, zero, suc, ◌+◌, ◌<◌, ◌≤◌, Bool, true, false, List, [], ◌∷◌, length, refl, sym, ap, ◌∙◌, subst, arith, get_or, get_or-set_same, get_or-set_other, length-set, inl, inr}
+use Rattle.std.specs.Prelude.{slice_set}
+use Rattle.std.proofs.lemmas.Bool.{cases_eq}
+use Rattle.std.proofs.lemmas.List.{ext_get_or}
+use Rattle.tree_plan.specs.Shape.{Shape}
+use Rattle.core_world.specs.World.{CpuRecord, all_stale, no_cpu, stale, stale_if}
+
+stale_read : (t : Shape) (g n : ℕ) (ys : List CpuRecord) (d : ℕ)
+    → get_or (all_stale t g n ys) d no_cpu ≡ stale t g (n + d) (get_or ys d no_cpu)
+stale_read t g n [] d = refl
+stale_read t g n (y ∷ ys) zero = let e : n ≡ n + 0 = omega arith in ap (λ m. stale t g m y) e
+stale_read t g n (y ∷ ys) (suc d) =
+    let e : suc n + d ≡ n + suc d = omega arith in
+    stale_read t g (suc n) ys d ∙ ap (λ m. stale t g m (get_or ys d no_cpu)) e
+
+stale_length : (t : Shape) (g n : ℕ) (ys : List CpuRecord) → length (all_stale t g n ys) ≡ length ys
+stale_length t g n [] = refl
+stale_length t g n (y ∷ ys) = ap suc (stale_length t g (suc n) ys)
+
+pub if_length : (t : Shape) (exchanges : Bool) (g : ℕ) (ys : List CpuRecord)
+    → length (stale_if t exchanges g ys) ≡ length ys
+if_length t true g ys = stale_length t g 0 ys
+if_length t false g ys = refl
+
+pub same_timers : (t : Shape) (exchanges : Bool) (g : ℕ) (ys : List CpuRecord) (d : ℕ)
+    → (get_or (stale_if t exchanges g ys) d no_cpu).bases ≡ (get_or ys d no_cpu).bases
+same_timers t true g ys d = ap (λ (y : CpuRecord). y.bases) (stale_read t g 0 ys d)
+same_timers t false g ys d = refl
+
+-- where each is stale, all are
+pub each_stale : (t : Shape) (g : ℕ) (old new : List CpuRecord) → length new ≡ length old
+    → ((d : ℕ) → d < length old → get_or new d no_cpu ≡ stale t g d (get_or old d no_cpu))
+    → new ≡ stale_if t true g old
+each_stale t g old new same each =
+    let len = stale_length t g 0 old in
+    ext_get_or no_cpu new (all_stale t g 0 old) (same ∙ sym len)
+    (λ d low. (let low' : d < length old = omega (arith, same, low) in
+    let first : 0 + d ≡ d = omega arith in
+    each d low' ∙ (ap (λ m. stale t g m (get_or old d no_cpu)) (sym first) ∙ sym (stale_read t g 0 old d))))
+
+module _ (t : Shape) (g n : ℕ) (old now : List CpuRecord) (within : n < length old)
+    (same : length now ≡ length old) (here : get_or now n no_cpu ≡ get_or old n no_cpu) where
+  pub one_more : (d : ℕ) → d < suc n
+      → ((k : ℕ) → k < n → get_or now k no_cpu ≡ stale t g k (get_or old k no_cpu))
+      → get_or (slice_set now n (stale t g n (get_or now n no_cpu))) d no_cpu
+      ≡ stale t g d (get_or old d no_cpu)
+  one_more d low before = elim (cases_eq d n) [
+    | inl is ↦
+        subst (λ k. get_or (slice_set now n (stale t g n (get_or now n no_cpu))) k no_cpu ≡ stale t g k (get_or old k no_cpu)) (sym is)
+        (get_or-set_same now n (stale t g n (get_or now n no_cpu)) no_cpu (omega (arith, same, within))
+        ∙ ap (stale t g n) here)
+    | inr apart ↦
+        get_or-set_other now n d (stale t g n (get_or now n no_cpu)) no_cpu apart
+        ∙ before d (omega (arith, low, apart))
+  ]
+
+  pub the_rest : (d : ℕ) → suc n ≤ d → ((k : ℕ) → n ≤ k → get_or now k no_cpu ≡ get_or old k no_cpu)
+      → get_or (slice_set now n (stale t g n (get_or now n no_cpu))) d no_cpu ≡ get_or old d no_cpu
+  the_rest d high after =
+      get_or-set_other now n d (stale t g n (get_or now n no_cpu)) no_cpu (λ e. absurd (omega (arith, e, high)))
+      ∙ after d (omega (arith, high))

@@ -1,0 +1,105 @@
+-- the start
+use Rattle.std.proofs.Common.{◌≡◌, ℕ, zero, suc, ◌+◌, ◌<◌, ◌≤◌, false, List, [], ◌∷◌, ◌++◌, Option, Some, None, length, refl, sym, ap, ◌∙◌, subst, arith, get_or, inl, inr}
+use Rattle.std.specs.Prelude.{All, map, option_map, replicate}
+use Rattle.std.specs.List.{range_with_len}
+use Rattle.std.proofs.lemmas.Bool.{cases_lt}
+use Rattle.std.proofs.lemmas.List.{append_assoc, get_or-replicate, get_or_past, length-replicate, length-map}
+use Rattle.std.proofs.lemmas.List.Elements.{All-head}
+use Rattle.std.proofs.lemmas.List.FromFn.{length-map-range_with_len, map-range_with_len_more}
+use Rattle.std.proofs.lemmas.Option.{none-some}
+use Rattle.tm_base.specs.declared.names.CpuId.{CpuId}
+use Rattle.tree_plan.specs.Shape.{Shape, IsPlanned}
+use Rattle.tree_plan.specs.Paths.{child_count_of, cpu_count_of, group_count_of}
+use Rattle.cpu_bases.specs.CpuBases.{RoomyBases, empty_bases}
+use Rattle.walk_rules.specs.Scene.{Group, Scene}
+use Rattle.core_world.specs.Start.{start_cpu, start_group}
+use Rattle.core_world.specs.World.{CpuRecord, World, cpu_of, no_cpu, scene_of}
+use Rattle.walk_rules.specs.Stages.{forget}
+use Rattle.core_walks.specs.Fit.{WalksFit}
+use Rattle.core_state.specs.Kept.{IsHeld, IsKept, WorldFits, holds, is_queued, noted, world_of}
+
+pub one_more_group : (t : Shape) (n : ℕ) (groups : List Group) (x : Group)
+    → groups ≡ map (λ g. start_group (child_count_of t g)) (range_with_len 0 n)
+    → x ≡ start_group (child_count_of t n)
+    → groups ++ x ∷ [] ≡ map (λ g. start_group (child_count_of t g)) (range_with_len 0 (n + 1))
+one_more_group t n groups x made is =
+    (λ i. made i ++ is i ∷ [])
+    ∙ sym (map-range_with_len_more (λ g. start_group (child_count_of t g)) 0 n n (omega arith))
+
+pub made_more : (xs : List CpuRecord) (rest : List RoomyBases) (b : RoomyBases) (later : List RoomyBases)
+    (x : CpuRecord) (all : List CpuRecord) → rest ≡ b ∷ later → x ≡ start_cpu
+    → xs ++ replicate (length rest) start_cpu ≡ all
+    → (xs ++ x ∷ []) ++ replicate (length later) start_cpu ≡ all
+made_more xs rest b later x all is made so_far =
+    ap (λ y. (xs ++ y ∷ []) ++ replicate (length later) start_cpu) made
+    ∙ (append_assoc xs (start_cpu ∷ []) (replicate (length later) start_cpu)
+    ∙ (ap (λ r. xs ++ replicate (length r) start_cpu) (sym is) ∙ so_far))
+
+tail_empty : (b : RoomyBases) (later : List RoomyBases)
+    → All (λ (x : RoomyBases). x.plain ≡ empty_bases) (b ∷ later)
+    → All (λ (x : RoomyBases). x.plain ≡ empty_bases) later
+tail_empty b later all = λ k d low. all (suc k) d (omega (arith, low))
+
+pub rest_empty : (rest : List RoomyBases) (b : RoomyBases) (later : List RoomyBases) → rest ≡ b ∷ later
+    → All (λ (x : RoomyBases). x.plain ≡ empty_bases) rest
+    → All (λ (x : RoomyBases). x.plain ≡ empty_bases) later
+rest_empty rest b later is all =
+    tail_empty b later (subst (λ r. All (λ (x : RoomyBases). x.plain ≡ empty_bases) r) is all)
+
+-- no CPU has a walk, or anything queued
+start_cpus : (P : CpuRecord → Type 0) → P start_cpu → P no_cpu → (n c : ℕ)
+    → P (get_or (replicate n start_cpu) c no_cpu)
+start_cpus P here past n c = elim (cases_lt c n) [
+  | inl low ↦ subst P (sym (get_or-replicate n c start_cpu no_cpu low)) here
+  | inr high ↦
+      subst P
+      (sym (get_or_past (replicate n start_cpu) c no_cpu (let len = length-replicate n start_cpu in omega (arith, len, high))))
+      past
+]
+
+abbrev no_holder : Option CpuId
+no_holder = None
+
+no_note : (n timer : ℕ) → get_or (replicate n no_holder) timer None ≡ None
+no_note n timer = elim (cases_lt timer n) [
+  | inl low ↦ get_or-replicate n timer no_holder None low
+  | inr high ↦
+      get_or_past (replicate n no_holder) timer None
+      (let len = length-replicate n no_holder in omega (arith, len, high))
+]
+
+no_walks : (t : Shape) (s : Scene) → ((c : ℕ) → s.walk c ≡ None) → WalksFit t s
+no_walks t s none = record {
+  placed = record {
+    in_tree = λ c k is has. absurd (none-some k (sym (none c) ∙ is));
+    alone = λ c k is has. absurd (none-some k (sym (none c) ∙ is));
+  };
+  flags = λ c k is has. absurd (none-some k (sym (none c) ∙ is));
+  walkers = λ c k is. absurd (none-some k (sym (none c) ∙ is));
+}
+
+pub start_kept : (t : Shape) (timers count : ℕ) (holders : List (Option CpuId)) (groups : List Group)
+    (cpus : List CpuRecord) → IsPlanned t → count ≡ cpu_count_of t
+    → groups ≡ map (λ g. start_group (child_count_of t g)) (range_with_len 0 (group_count_of t))
+    → cpus ≡ replicate count start_cpu → holders ≡ replicate timers None
+    → IsKept (world_of t (length holders) 0 groups cpus) holders
+start_kept t timers count holders groups cpus planned sized of_groups of_cpus of_timers =
+    record {
+      fits = record {
+        planned = planned;
+        sized = record {
+          groups = ap length of_groups
+              ∙ length-map-range_with_len (λ g. start_group (child_count_of t g)) 0 (group_count_of t);
+          cpus = ap length of_cpus ∙ (length-replicate count start_cpu ∙ sized);
+        };
+        in_time = omega arith;
+        walks = no_walks t (scene_of (world_of t (length holders) 0 groups cpus))
+            (λ c. subst (λ ys. (scene_of (world_of t (length holders) 0 groups ys)).walk c ≡ None) (sym of_cpus)
+            (start_cpus (λ y. option_map forget y.walk ≡ None) refl refl count c));
+      };
+      held = λ timer c.
+          subst (λ ys. is_queued timer (get_or ys c no_cpu).bases ≡ holds (noted holders timer) c) (sym of_cpus)
+          (start_cpus (λ y. is_queued timer y.bases ≡ holds (noted holders timer) c)
+          (sym (ap (λ hs. holds (noted hs timer) c) of_timers ∙ ap (λ o. holds o c) (no_note timers timer)))
+          (sym (ap (λ hs. holds (noted hs timer) c) of_timers ∙ ap (λ o. holds o c) (no_note timers timer))) count c);
+    }

@@ -1,0 +1,25 @@
+-- what a step of a walk makes of a group
+use Rattle.std.specs.Prelude.{ℕ, ◌<◌, Option, Some, None}
+use Rattle.event_queue.specs.declared.event.Event.{Event}
+use Rattle.walk_rules.specs.Scene.{Group}
+use Rattle.walk_rules.specs.Stages.{joined_by, left_by, with_event, with_lock, with_mark}
+use Rattle.core_state.specs.declared.change.GroupChange.{GroupChange}
+use Rattle.core_state.specs.declared.change.GroupChange.TheVariants as changes
+use Rattle.core_state.specs.Status.{EventFits}
+
+abbrev pub changed : GroupChange → Group → Group
+changed (changes.Mark child) x = with_mark x child
+changed (changes.Join child) x = joined_by x child
+changed (changes.Leave child child_on) x = left_by child_on x child
+changed (changes.Lock cpu) x = with_lock x (Some cpu)
+changed changes.Free x = with_lock x None
+changed (changes.Store child event) x = with_event x child event
+
+-- a child of a group is below eight, and an event fits its slot
+abbrev pub ChangeFits : GroupChange → Type 0
+ChangeFits (changes.Mark child) = child < 8
+ChangeFits (changes.Join child) = child < 8
+ChangeFits (changes.Leave child child_on) = child < 8
+ChangeFits (changes.Lock cpu) = Unit {0}
+ChangeFits changes.Free = Unit {0}
+ChangeFits (changes.Store child event) = (child < 8) × EventFits event

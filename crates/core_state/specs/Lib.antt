@@ -1,0 +1,5 @@
+pub mod Changes
+pub mod Kept
+pub mod Moves
+pub mod Shown
+pub mod Status

@@ -1,0 +1,17 @@
+-- what a CPU shows of itself
+use Rattle.std.specs.Prelude.{ℕ, option_map}
+use Rattle.tm_base.specs.declared.names.CpuId.{CpuId}
+use Rattle.core_world.specs.World.{CpuRecord}
+use Rattle.core_state.specs.declared.shown.CpuState.{CpuState}
+
+abbrev pub as_cpu : ℕ → CpuId
+as_cpu c = record { 0 = c }
+
+abbrev pub shown_cpu : CpuRecord → CpuState
+shown_cpu y = record {
+  online = y.online;
+  idle = y.idle;
+  inside = y.inside;
+  remote = option_map as_cpu y.mark;
+  wakeup = y.wakeup;
+}

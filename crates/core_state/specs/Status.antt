@@ -1,0 +1,66 @@
+-- what a CPU is besides its timers, and its record with another one of it
+use Rattle.std.specs.Prelude.{ℕ, ◌==◌, ◌^◌, ◌<◌, Option, Some, None, false, if◌then◌else◌, min}
+use Rattle.std.specs.Prelude.{slice_set}
+use Rattle.tm_base.specs.declared.names.TheConstants.{NEVER}
+use Rattle.event_queue.specs.declared.event.Event.{Event}
+use Rattle.event_queue.specs.EventMap.{FitsWord}
+use Rattle.walk_rules.specs.declared.walk.Walk.{Walk}
+use Rattle.walk_rules.specs.declared.walk.WalkKind.{WalkKind}
+use Rattle.walk_rules.specs.declared.walk.WalkKind.TheVariants as kinds
+use Rattle.walk_rules.specs.declared.walk.Stage.TheVariants as stages
+use Rattle.walk_rules.specs.Stages.{at_stage}
+use Rattle.core_world.specs.World.{CpuRecord, World, cpu_of}
+use Rattle.core_state.specs.declared.status.CpuStatus.{CpuStatus}
+
+abbrev pub status_of : CpuRecord → CpuStatus
+status_of y = record {
+  online = y.online;
+  idle = y.idle;
+  inside = y.inside;
+  mark = y.mark;
+  wakeup = y.wakeup;
+  walk = y.walk;
+}
+
+abbrev pub with_status : CpuRecord → CpuStatus → CpuRecord
+with_status y status = record {
+  online = status.online;
+  idle = status.idle;
+  inside = status.inside;
+  mark = status.mark;
+  wakeup = status.wakeup;
+  bases = y.bases;
+  walk = status.walk;
+}
+
+-- the world where CPU c is this besides its timers
+abbrev pub with_cpu_status : World → (c : ℕ) → CpuStatus → World
+with_cpu_status w c status = record w {
+  cpus = slice_set w.cpus c (with_status (cpu_of w c) status);
+}
+
+-- what a walk writes into a slot fits there
+abbrev pub EventFits : Option Event → Type 0
+EventFits None = Unit {0}
+EventFits (Some e) = FitsWord e
+
+pub record WalkRanges (k : Walk) : Type 0 where
+  pub next : k.next < 2 ^ 48
+  pub best : EventFits k.best
+
+abbrev pub IsInRange : Option Walk → Type 0
+IsInRange None = Unit {0}
+IsInRange (Some k) = WalkRanges k
+
+-- what a walk leaves in its CPU as it ends
+abbrev pub handing_walk : Walk → Option Walk
+handing_walk k = if k.first == NEVER then None else Some (at_stage k stages.Handing)
+
+abbrev pub finished_status : CpuStatus → Walk → WalkKind → CpuStatus
+finished_status status k kinds.Activate = record status { walk = None }
+finished_status status k kinds.Deactivate =
+    record status { wakeup = min k.pin k.first; walk = None }
+finished_status status k kinds.Offline = record status { walk = handing_walk k }
+finished_status status k kinds.Reeval =
+    record status { wakeup = min k.pin k.first; inside = false; walk = None }
+finished_status status k (kinds.Remote by) = record status { mark = None; walk = None }

@@ -1,0 +1,90 @@
+//! One CPU of the core.
+
+ghost use Rattle.std.specs.Prelude.{◌≡◌, ◌^◌, ◌<◌};
+ghost use Rattle.cpu_bases.specs.CpuBases.{IsConsistent, empty_bases, events_of};
+ghost use Rattle.core_world.specs.Start.{start_cpu};
+ghost use Rattle.core_state.specs.Status.{IsInRange, status_of, with_status};
+
+use crate::status::CpuStatus;
+use cpu_bases::{Bases, NextEvents, law_bases};
+use std::marker::Model;
+use tm_base::NEVER;
+use wheel_core::TimerBase;
+
+/// What it is, and its timers.
+#[derive(Drop)]
+pub(crate) struct CoreCpu<B: TimerBase> {
+    pub(crate) status: CpuStatus,
+    pub(crate) bases: Bases<B>,
+}
+
+impl<B: TimerBase> Model for CoreCpu<B> {
+    ghost use Rattle.core_world.specs.World.{CpuRecord};
+
+    ghost Value = { CpuRecord };
+
+    ghost use Rattle.core_state.specs.Status.{IsInRange};
+
+    ghost view = { λ c.
+        record {
+          online = c.status.online;
+          idle = c.status.idle;
+          inside = c.status.inside;
+          mark = c.status.mark;
+          wakeup = c.status.wakeup;
+          bases = c.bases.plain;
+          walk = c.status.walk;
+        } };
+
+    ghost invariant = { λ c. IsInRange c.status.walk };
+}
+
+impl<B: TimerBase> CoreCpu<B> {
+    /// A CPU that is online and active, with empty bases.
+    pub(crate) fn new(bases: Bases<B>) -> CoreCpu<B>
+        requires { bases.plain ≡ empty_bases }
+        ensures { result ≡ start_cpu }
+    {
+        CoreCpu {
+            status: CpuStatus {
+                online: true,
+                idle: false,
+                inside: false,
+                mark: None,
+                wakeup: NEVER,
+                walk: None,
+            },
+            bases,
+        }
+    }
+
+    pub(crate) fn status(&self) -> CpuStatus
+        ensures status { result ≡ status_of self.now }
+        ensures in_range { IsInRange result.walk }
+    {
+        self.status
+    }
+
+    pub(crate) fn set_status(&mut self, status: CpuStatus)
+        requires { IsInRange status.walk }
+        ensures { self.new ≡ with_status self.old status }
+    {
+        self.status = status;
+    }
+
+    pub(crate) fn bases(&self) -> &Bases<B>
+        ensures { result.now.plain ≡ self.now.bases }
+    {
+        &self.bases
+    }
+
+    /// Its first events.
+    pub(crate) fn events(&self) -> NextEvents
+        ensures events { result ≡ events_of self.now.bases }
+        ensures in_range { result.next < 2 ^ 48 }
+    {
+        law_bases();
+        self.bases.journal();
+        self.bases.next()
+    }
+}

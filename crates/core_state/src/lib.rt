@@ -1,0 +1,26 @@
+//! The core's state as code: a world of CPUs with their timers and walks, groups and a clock; its
+//! start, its readers, and how it is written.
+#![tactic(auto)]
+
+mod change;
+mod cpu;
+mod due;
+mod group;
+mod laws;
+mod machine;
+mod moving;
+mod places;
+mod queueing;
+mod readers;
+mod shown;
+mod stale;
+mod start;
+mod status;
+mod timers;
+mod tree;
+
+pub use change::GroupChange;
+pub use machine::Core;
+pub use shown::CpuState;
+pub use start::new_core;
+pub use status::CpuStatus;

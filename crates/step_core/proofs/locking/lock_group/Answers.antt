@@ -1,0 +1,36 @@
+use Rattle.std.proofs.Common.{refl, sym, subst, ap, ◌∙◌, true, false, Some, None, arith, not}
+use Rattle.std.specs.Prelude.{is_none, is_some}
+use Rattle.event_queue.specs.EventMap.{event_at}
+use Rattle.walk_rules.specs.declared.walk.Stage.TheVariants as stages
+use Rattle.walk_rules.specs.Hierarchy.{group_on, side}
+use Rattle.walk_rules.specs.Scene.{Group}
+use Rattle.walk_rules.specs.Stages.{at_stage, child_next, first_next, scan_next, see_child_next, see_group_next, store_next, up_next}
+use Rattle.core_world.specs.Steps.{with_walk}
+use Rattle.core_world.specs.World.{World, cpu_of, group_of, own}
+use Rattle.core_state.specs.declared.change.GroupChange.{GroupChange}
+use Rattle.core_state.specs.declared.change.GroupChange.TheVariants as changes
+use Rattle.core_state.specs.Kept.{HasLevel, WorldFits}
+use Rattle.core_state.proofs.Making.{walk_moved}
+use Rattle.step_core.proofs.Standing.{fit, level_here, lower_level, walked_fits}
+use Rattle.step_core.proofs.locking.lock_group.Goals as goal
+
+pub walk_at-requires-clause-group : goal.walk_at-requires-clause-group
+walk_at-requires-clause-group g c =
+    c.group_on-group.ensures.in_range
+    (level_here c.args.core.now c.kept.ensures.fits c.args.cpu.0 c.args.walk stages.LockGroup c.requires.stands (λ e. cc))
+
+pub walk_at-requires-clause-fits : goal.walk_at-requires-clause-fits
+walk_at-requires-clause-fits g c =
+    subst WorldFits
+    (sym
+    (walk_moved c.args.core.now c.args.cpu.0 false _ _ _ _ _ _ c.group_on-group.ensures.group
+    (λ i. changes.Lock c.args.cpu.0)
+    (λ i. Some ((c.at_stage-next.ensures.next ∙ ap (at_stage c.args.walk) c.first_sight-stage.ensures.next) i))))
+    (walked_fits c.args.core.now c.args.cpu c.args.walk stages.LockGroup c.kept.ensures.stays c.requires.stands)
+
+pub returns : goal.returns
+returns g c =
+    c.walk_at.ensures
+    ∙ walk_moved c.args.core.now c.args.cpu.0 false _ _ _ _ _ _ c.group_on-group.ensures.group
+    (λ i. changes.Lock c.args.cpu.0)
+    (λ i. Some ((c.at_stage-next.ensures.next ∙ ap (at_stage c.args.walk) c.first_sight-stage.ensures.next) i))

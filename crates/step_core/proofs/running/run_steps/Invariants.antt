@@ -1,0 +1,6 @@
+use Rattle.std.proofs.Common.{take}
+use Rattle.step_core.specs.Runs.{RunsWhole}
+use Rattle.step_core.proofs.running.run_steps.Given as goal
+
+abbrev pub invariant-loop-index : goal.invariant-loop-index
+invariant-loop-index g l = RunsWhole (take l.index l.steps) l.fn.core l.core

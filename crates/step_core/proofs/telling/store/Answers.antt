@@ -1,0 +1,40 @@
+use Rattle.std.proofs.Common.{refl, sym, subst, ap, ◌∙◌, true, false, Some, None, arith, not}
+use Rattle.std.specs.Prelude.{is_none, is_some}
+use Rattle.event_queue.specs.EventMap.{event_at}
+use Rattle.walk_rules.specs.declared.walk.Stage.TheVariants as stages
+use Rattle.walk_rules.specs.Hierarchy.{group_on, side}
+use Rattle.walk_rules.specs.Scene.{Group}
+use Rattle.walk_rules.specs.Stages.{at_stage, child_next, first_next, scan_next, see_child_next, see_group_next, store_next, up_next}
+use Rattle.core_world.specs.Steps.{with_walk}
+use Rattle.core_world.specs.World.{World, cpu_of, group_of, own}
+use Rattle.core_state.specs.declared.change.GroupChange.{GroupChange}
+use Rattle.core_state.specs.declared.change.GroupChange.TheVariants as changes
+use Rattle.core_state.specs.Kept.{HasLevel, WorldFits}
+use Rattle.core_state.proofs.Making.{walk_moved}
+use Rattle.step_core.proofs.Standing.{fit, level_here, lower_level, walked_fits}
+use Rattle.step_core.proofs.telling.store.Goals as goal
+
+pub walk_at-requires-clause-group : goal.walk_at-requires-clause-group
+walk_at-requires-clause-group g c =
+    c.group_on-group.ensures.in_range
+    (level_here c.args.core.now c.kept.ensures.fits c.args.cpu.0 c.args.walk stages.Store c.requires.stands (λ e. cc))
+
+pub walk_at-requires-clause-fits : goal.walk_at-requires-clause-fits
+walk_at-requires-clause-fits g c =
+    subst WorldFits
+    (sym
+    (walk_moved c.args.core.now c.args.cpu.0 false _ _ _ _ _ _ c.group_on-group.ensures.group
+    (λ i. changes.Store (c.side-child.ensures.side i) (c.stored_event-event.ensures.event i))
+    (λ i. Some ((c.store_next-next.ensures.next ∙ ap (λ t. store_next t c.args.walk) c.at_top-top.ensures.top) i))))
+    (walked_fits c.args.core.now c.args.cpu c.args.walk stages.Store c.kept.ensures.stays c.requires.stands)
+
+pub returns : goal.returns
+returns g c =
+    c.walk_at.ensures
+    ∙ walk_moved c.args.core.now c.args.cpu.0 false _ _ _ _ _ _ c.group_on-group.ensures.group
+    (λ i. changes.Store (c.side-child.ensures.side i) (c.stored_event-event.ensures.event i))
+    (λ i. Some ((c.store_next-next.ensures.next ∙ ap (λ t. store_next t c.args.walk) c.at_top-top.ensures.top) i))
+
+pub at_top-top-requires-clause-level : goal.at_top-top-requires-clause-level
+at_top-top-requires-clause-level g c =
+    let low = c.kept.ensures.levels c.args.cpu.0 c.args.walk.level (level_here c.args.core.now c.kept.ensures.fits c.args.cpu.0 c.args.walk stages.Store c.requires.stands (λ e. cc)) in omega (arith, low)

@@ -1,0 +1,31 @@
+-- parts of what steps are enabled by
+use Rattle.std.specs.Prelude.{◌≡◌, ◌≢◌, ℕ, ◌<◌, Some, true, length}
+use Rattle.tm_base.specs.declared.names.Class.{Class}
+use Rattle.wheel_core.specs.declared.item.Item.{Item}
+use Rattle.wheel_core.specs.PlainBase.{NoneBehind}
+use Rattle.cpu_bases.specs.CpuBases.{base_of}
+use Rattle.tree_plan.specs.Paths.{is_placed_in}
+use Rattle.core_world.specs.Enabled.{IsReevaluating}
+use Rattle.core_world.specs.Steps.{first_moved}
+use Rattle.core_world.specs.World.{World, cpu_of}
+
+-- d is another CPU than c, placed and online
+pub record StandsIn (w : World) (c d : ℕ) : Type 0 where
+  pub another : d ≢ c
+  pub placed : is_placed_in w.tree d ≡ true
+  pub online : (cpu_of w d).online ≡ true
+
+-- a CPU inside its interrupt that may mark others
+pub record MayLook (w : World) (by : ℕ) : Type 0 where
+  pub in_range : by < length w.cpus
+  pub placed : is_placed_in w.tree by ≡ true
+  pub inside : (cpu_of w by).inside ≡ true
+  pub goes_on : IsReevaluating w by → ⊥
+
+-- the timer is the first to move from a CPU, and nothing is behind the clock where it comes to
+pub record MayGo (w : World) (from to timer : ℕ) : Type 0 where
+  pub class : Class
+  pub item : Item
+  pub first : first_moved (cpu_of w from).bases ≡ Some (class, item)
+  pub timers : item.id ≡ timer
+  pub none_behind : NoneBehind (base_of class (cpu_of w to).bases)

@@ -1,0 +1,4 @@
+pub mod Asking
+pub mod Runs
+pub mod Stands
+pub mod Wants

@@ -1,0 +1,274 @@
+//! Where steps that change what a CPU is are enabled.
+
+ghost use Rattle.std.specs.Prelude.{◌≡◌, ℕ, ◌≢◌, ◌<◌, Some, None, length, true, false};
+ghost use Rattle.tree_plan.specs.Paths.{is_placed_in};
+ghost use Rattle.core_world.specs.Enabled.{IsDueAtLeaf, IsFree, IsReevaluating, MarksNobody};
+ghost use Rattle.core_world.specs.Enabled.{MayBeMissed, MayCarry, MayComeOnline, MayEnter};
+ghost use Rattle.core_world.specs.Enabled.{MayGoOffline, MayHandOn, MayIdle, MayLeave, MayReeval};
+ghost use Rattle.core_world.specs.Enabled.{MayRelease, MayTake, MayTime, MayWake};
+ghost use Rattle.core_world.specs.World.{cpu_of, is_active};
+ghost use Rattle.step_core.specs.Asking.{MayLook, StandsIn};
+ghost use Rattle.walk_rules.specs.declared.walk.Walk.{Walk};
+ghost use Rattle.walk_rules.specs.declared.walk.WalkKind.TheVariants as kinds;
+ghost use Rattle.walk_rules.specs.declared.walk.Stage.TheVariants as stages;
+
+use core_state::{Core, CpuStatus};
+use tm_base::{CpuId, Jiffy, TIME_LIMIT};
+use walk_rules::{Stage, Walk, WalkKind};
+use wheel_core::TimerBase;
+
+/// Whether a mark names this CPU.
+pub(crate) fn names(mark: Option<u16>, cpu: CpuId) -> bool
+    ensures yes { result ≡ true → mark ≡ Some cpu.0 }
+    ensures no { mark ≡ Some cpu.0 → result ≡ true }
+{
+    match mark {
+        Some(number) => number == cpu.0,
+        None => false,
+    }
+}
+
+/// Whether a walk is a re-evaluation.
+fn is_reeval(walk: Option<Walk>) -> bool
+    ensures yes { result ≡ true → (k : Walk) × (walk ≡ Some k) × (k.kind ≡ kinds.Reeval) }
+    ensures no { (k : Walk) → walk ≡ Some k → k.kind ≡ kinds.Reeval → result ≡ true }
+{
+    match walk {
+        Some(walk) => matches!(walk.kind, WalkKind::Reeval),
+        None => false,
+    }
+}
+
+/// Whether a walk stands at Handing.
+fn is_handing(walk: Option<Walk>) -> bool
+    ensures yes { result ≡ true → (k : Walk) × (walk ≡ Some k) × (k.stage ≡ stages.Handing) }
+    ensures no { (k : Walk) → walk ≡ Some k → k.stage ≡ stages.Handing → result ≡ true }
+{
+    match walk {
+        Some(walk) => matches!(walk.stage, Stage::Handing),
+        None => false,
+    }
+}
+
+/// Whether a CPU is there and has no walk.
+pub(crate) fn is_free<B: TimerBase>(core: &Core<B>, cpu: CpuId) -> bool
+    ensures yes { result ≡ true → IsFree core.now cpu.0 }
+    ensures no { IsFree core.now cpu.0 → result ≡ true }
+{
+    if cpu.0 >= core.count() {
+        return false;
+    }
+    core.status(cpu).walk.is_none()
+}
+
+pub(crate) fn is_active<B: TimerBase>(core: &Core<B>, cpu: CpuId) -> bool
+    requires { cpu.0 < length core.now.cpus }
+    ensures { result ≡ is_active (cpu_of core.now cpu.0) }
+{
+    let status = core.status(cpu);
+    status.online && !status.idle
+}
+
+pub(crate) fn may_time<B: TimerBase>(core: &Core<B>, now: Jiffy) -> bool
+    ensures yes { result ≡ true → MayTime core.now now }
+    ensures no { MayTime core.now now → result ≡ true }
+{
+    core.now() <= now && now < TIME_LIMIT - 2
+}
+
+pub(crate) fn may_enter<B: TimerBase>(core: &Core<B>, cpu: CpuId) -> bool
+    ensures yes { result ≡ true → MayEnter core.now cpu.0 }
+    ensures no { MayEnter core.now cpu.0 → result ≡ true }
+{
+    if !is_free(core, cpu) {
+        return false;
+    }
+    let status = core.status(cpu);
+    status.online && !status.inside
+}
+
+pub(crate) fn may_wake<B: TimerBase>(core: &Core<B>, cpu: CpuId) -> bool
+    ensures yes { result ≡ true → MayWake core.now cpu.0 }
+    ensures no { MayWake core.now cpu.0 → result ≡ true }
+{
+    if !is_free(core, cpu) {
+        return false;
+    }
+    let status = core.status(cpu);
+    status.online && status.idle
+}
+
+/// Whether a CPU's mark doesn't name this one.
+fn leaves_alone<B: TimerBase>(core: &Core<B>, other: CpuId, cpu: CpuId) -> bool
+    requires { other.0 < length core.now.cpus }
+    ensures yes { result ≡ true → (cpu_of core.now other.0).mark ≡ Some cpu.0 → ⊥ }
+    ensures no { result ≡ false → (cpu_of core.now other.0).mark ≡ Some cpu.0 }
+{
+    !names(core.status(other).mark, cpu)
+}
+
+/// Whether no CPU's mark names this one.
+fn marks_nobody<B: TimerBase>(core: &Core<B>, cpu: CpuId) -> bool
+    ensures yes { result ≡ true → MarksNobody core.now cpu.0 }
+    ensures no { MarksNobody core.now cpu.0 → result ≡ true }
+{
+    for other in 0..core.count() {
+        if !leaves_alone(core, CpuId(other), cpu) {
+            return false;
+        }
+    }
+    true
+}
+
+/// Whether a CPU is another one that is placed and online.
+fn stands_in<B: TimerBase>(core: &Core<B>, other: CpuId, cpu: CpuId) -> bool
+    requires { other.0 < length core.now.cpus }
+    ensures yes { result ≡ true → StandsIn core.now cpu.0 other.0 }
+    ensures no { StandsIn core.now cpu.0 other.0 → result ≡ true }
+{
+    other.0 != cpu.0 && core.is_placed(other) && core.status(other).online
+}
+
+/// Whether the CPU is isolated, or another placed CPU is online.
+pub(crate) fn may_be_missed<B: TimerBase>(core: &Core<B>, cpu: CpuId) -> bool
+    requires { cpu.0 < length core.now.cpus }
+    ensures yes { result ≡ true → MayBeMissed core.now cpu.0 }
+    ensures no { MayBeMissed core.now cpu.0 → result ≡ true }
+{
+    if !core.is_placed(cpu) {
+        return true;
+    }
+    for other in 0..core.count() {
+        if stands_in(core, CpuId(other), cpu) {
+            return true;
+        }
+    }
+    false
+}
+
+pub(crate) fn may_leave<B: TimerBase>(core: &Core<B>, cpu: CpuId) -> bool
+    ensures yes { result ≡ true → MayLeave core.now cpu.0 }
+    ensures no { MayLeave core.now cpu.0 → result ≡ true }
+{
+    if !is_free(core, cpu) {
+        return false;
+    }
+    let status = core.status(cpu);
+    status.inside && !status.idle && marks_nobody(core, cpu)
+}
+
+pub(crate) fn may_idle<B: TimerBase>(core: &Core<B>, cpu: CpuId) -> bool
+    ensures yes { result ≡ true → MayIdle core.now cpu.0 }
+    ensures no { MayIdle core.now cpu.0 → result ≡ true }
+{
+    if !is_free(core, cpu) {
+        return false;
+    }
+    let events = core.events_of(cpu);
+    let first = events.pin.min(events.first_global);
+    core.kept();
+    is_active(core, cpu) && !core.status(cpu).inside && core.now() + 1 < first
+}
+
+pub(crate) fn may_go_offline<B: TimerBase>(core: &Core<B>, cpu: CpuId) -> bool
+    ensures yes { result ≡ true → MayGoOffline core.now cpu.0 }
+    ensures no { MayGoOffline core.now cpu.0 → result ≡ true }
+{
+    if !is_free(core, cpu) {
+        return false;
+    }
+    is_active(core, cpu) && !core.status(cpu).inside && may_be_missed(core, cpu)
+}
+
+pub(crate) fn may_come_online<B: TimerBase>(core: &Core<B>, cpu: CpuId) -> bool
+    ensures yes { result ≡ true → MayComeOnline core.now cpu.0 }
+    ensures no { MayComeOnline core.now cpu.0 → result ≡ true }
+{
+    if !is_free(core, cpu) {
+        return false;
+    }
+    !core.status(cpu).online
+}
+
+pub(crate) fn may_reevaluate<B: TimerBase>(core: &Core<B>, cpu: CpuId) -> bool
+    ensures yes { result ≡ true → MayReeval core.now cpu.0 }
+    ensures no { MayReeval core.now cpu.0 → result ≡ true }
+{
+    if !is_free(core, cpu) {
+        return false;
+    }
+    let status = core.status(cpu);
+    status.online && status.idle && status.inside && marks_nobody(core, cpu)
+}
+
+/// Whether a CPU's event in its leaf is due.
+fn is_due_at_leaf<B: TimerBase>(core: &Core<B>, cpu: CpuId) -> bool
+    requires { cpu.0 < length core.now.cpus }
+    ensures yes { result ≡ true → IsDueAtLeaf core.now cpu.0 }
+    ensures no { IsDueAtLeaf core.now cpu.0 → result ≡ true }
+{
+    if !core.has_group(cpu) {
+        return false;
+    }
+    let leaf = core.group_on(cpu, 0);
+    let child = core.side(cpu, 0);
+    match core.event_of(leaf, child) {
+        Some(event) => !event.ignored && event.expiry <= core.now(),
+        None => false,
+    }
+}
+
+/// Whether a CPU may look after others.
+pub(crate) fn may_look<B: TimerBase>(core: &Core<B>, by: CpuId) -> bool
+    ensures yes { result ≡ true → MayLook core.now by.0 }
+    ensures no { MayLook core.now by.0 → result ≡ true }
+{
+    if by.0 >= core.count() {
+        return false;
+    }
+    let status = core.status(by);
+    core.is_placed(by) && status.inside && !is_reeval(status.walk)
+}
+
+pub(crate) fn may_take<B: TimerBase>(core: &Core<B>, cpu: CpuId, by: CpuId) -> bool
+    ensures yes { result ≡ true → MayTake core.now cpu.0 by.0 }
+    ensures no { MayTake core.now cpu.0 by.0 → result ≡ true }
+{
+    if !is_free(core, cpu) || !may_look(core, by) {
+        return false;
+    }
+    let status = core.status(cpu);
+    status.online && status.idle && status.mark.is_none() && is_due_at_leaf(core, cpu)
+}
+
+pub(crate) fn may_carry<B: TimerBase>(core: &Core<B>, cpu: CpuId) -> bool
+    ensures yes { result ≡ true → MayCarry core.now cpu.0 }
+    ensures no { MayCarry core.now cpu.0 → result ≡ true }
+{
+    if !is_free(core, cpu) {
+        return false;
+    }
+    let status = core.status(cpu);
+    status.mark.is_some() && status.online && status.idle
+}
+
+pub(crate) fn may_release<B: TimerBase>(core: &Core<B>, cpu: CpuId) -> bool
+    ensures yes { result ≡ true → MayRelease core.now cpu.0 }
+    ensures no { MayRelease core.now cpu.0 → result ≡ true }
+{
+    if !is_free(core, cpu) {
+        return false;
+    }
+    let status = core.status(cpu);
+    status.mark.is_some() && (!status.online || !status.idle)
+}
+
+pub(crate) fn may_hand_on<B: TimerBase>(core: &Core<B>, cpu: CpuId, to: CpuId) -> bool
+    ensures yes { result ≡ true → MayHandOn core.now cpu.0 to.0 }
+    ensures no { MayHandOn core.now cpu.0 to.0 → result ≡ true }
+{
+    if cpu.0 >= core.count() || to.0 >= core.count() {
+        return false;
+    }
+    to.0 != cpu.0 && is_handing(core.status(cpu).walk) && core.is_placed(to) && is_active(core, to)
+}

@@ -1,0 +1,215 @@
+//! Where steps of timers and walks are enabled.
+
+ghost use Rattle.std.specs.Prelude.{◌≡◌, ◌<◌, ℕ, None, Some, length, true};
+ghost use Rattle.tm_base.specs.declared.names.Class.TheVariants.{Global};
+ghost use Rattle.wheel_core.specs.PlainBase.{NoneBehind};
+ghost use Rattle.cpu_bases.specs.CpuBases.{base_of, class_in};
+ghost use Rattle.wheel_core.specs.declared.item.Item.{Item};
+ghost use Rattle.core_world.specs.Enabled.{MayArm, MayCancel, MayGoOn, MayHand, MayMove, MayRun};
+ghost use Rattle.core_world.specs.Enabled.{MayTick, MayWalk};
+ghost use Rattle.core_world.specs.World.{cpu_of, group_of};
+ghost use Rattle.step_core.specs.Asking.{MayGo};
+
+use crate::asking::{is_active, is_free, names};
+use core_state::Core;
+use tm_base::{Class, CpuId, GroupId, Jiffy, TIME_LIMIT, TimerId};
+use walk_rules::{Stage, Walk};
+use wheel_core::{Item, TimerBase};
+
+/// Whether an item is a timer's.
+fn is_of(item: Option<Item>, timer: TimerId) -> bool
+    ensures yes { result ≡ true → (i : Item) × (item ≡ Some i) × (i.id ≡ timer.0) }
+    ensures no { (i : Item) → item ≡ Some i → i.id ≡ timer.0 → result ≡ true }
+{
+    match item {
+        Some(item) => item.id == u32::from(timer.0),
+        None => false,
+    }
+}
+
+/// Whether an id is a timer's.
+fn is_id(id: Option<u32>, timer: TimerId) -> bool
+    ensures yes { result ≡ true → id ≡ Some timer.0 }
+    ensures no { id ≡ Some timer.0 → result ≡ true }
+{
+    match id {
+        Some(id) => id == u32::from(timer.0),
+        None => false,
+    }
+}
+
+/// Whether any CPU may run timers of a class.
+fn is_global(class: Class) -> bool
+    ensures yes { result ≡ true → class ≡ Global }
+    ensures no { class ≡ Global → result ≡ true }
+{
+    matches!(class, Class::Global)
+}
+
+/// Whether a timer is queued nowhere.
+fn is_nowhere<B: TimerBase>(core: &Core<B>, timer: TimerId) -> bool
+    requires { timer.0 < core.now.timers }
+    ensures yes { result ≡ true
+        → (d : ℕ) → class_in timer.0 (cpu_of core.now d).bases ≡ None }
+    ensures no { ((d : ℕ) → class_in timer.0 (cpu_of core.now d).bases ≡ None)
+        → result ≡ true }
+{
+    core.queued_on(timer).is_none()
+}
+
+/// Whether the runner may run timers of a class of a CPU.
+fn may_run<B: TimerBase>(core: &Core<B>, cpu: CpuId, class: Class, runner: CpuId) -> bool
+    requires { cpu.0 < length core.now.cpus }
+    ensures yes { result ≡ true → MayRun core.now cpu.0 class runner.0 }
+    ensures no { MayRun core.now cpu.0 class runner.0 → result ≡ true }
+{
+    let status = core.status(cpu);
+    if runner.0 == cpu.0 && status.inside {
+        return true;
+    }
+    is_global(class) && names(status.mark, runner)
+}
+
+pub(crate) fn may_arm<B: TimerBase>(
+    core: &Core<B>,
+    cpu: CpuId,
+    timer: TimerId,
+    class: Class,
+    expires: Jiffy,
+) -> bool
+    ensures yes { result ≡ true → MayArm core.now cpu.0 timer.0 class expires }
+    ensures no { MayArm core.now cpu.0 timer.0 class expires → result ≡ true }
+{
+    if !is_free(core, cpu) || !core.knows(timer) {
+        return false;
+    }
+    let status = core.status(cpu);
+    if !status.online || (status.idle && !status.inside) {
+        return false;
+    }
+    is_nowhere(core, timer)
+        && core.now() <= expires
+        && expires < TIME_LIMIT
+        && core.none_behind(cpu, class)
+}
+
+pub(crate) fn may_cancel<B: TimerBase>(core: &Core<B>, cpu: CpuId, timer: TimerId) -> bool
+    ensures yes { result ≡ true → MayCancel core.now cpu.0 timer.0 }
+    ensures no { MayCancel core.now cpu.0 timer.0 → result ≡ true }
+{
+    if !is_free(core, cpu) {
+        return false;
+    }
+    core.class_of(cpu, timer).is_some()
+}
+
+pub(crate) fn may_hand<B: TimerBase>(
+    core: &Core<B>,
+    cpu: CpuId,
+    timer: TimerId,
+    runner: CpuId,
+) -> bool
+    ensures yes { result ≡ true → MayHand core.now cpu.0 timer.0 runner.0 }
+    ensures no { MayHand core.now cpu.0 timer.0 runner.0 → result ≡ true }
+{
+    if !is_free(core, cpu) {
+        return false;
+    }
+    let Some(class) = core.class_of(cpu, timer) else {
+        return false;
+    };
+    let next = core.next_out(cpu, class);
+    is_of(next, timer) && may_run(core, cpu, class, runner)
+}
+
+pub(crate) fn may_tick<B: TimerBase>(
+    core: &Core<B>,
+    cpu: CpuId,
+    class: Class,
+    runner: CpuId,
+) -> bool
+    ensures yes { result ≡ true → MayTick core.now cpu.0 class runner.0 }
+    ensures no { MayTick core.now cpu.0 class runner.0 → result ≡ true }
+{
+    if !is_free(core, cpu) {
+        return false;
+    }
+    let next = core.next_out(cpu, class);
+    next.is_none() && may_run(core, cpu, class, runner)
+}
+
+/// Whether a timer is the first to move from a CPU to another one.
+fn may_go<B: TimerBase>(core: &Core<B>, from: CpuId, to: CpuId, timer: TimerId) -> bool
+    requires from { from.0 < length core.now.cpus }
+    requires to { to.0 < length core.now.cpus }
+    ensures yes { result ≡ true → MayGo core.now from.0 to.0 timer.0 }
+    ensures no { MayGo core.now from.0 to.0 timer.0 → result ≡ true }
+{
+    let Some(class) = core.class_to_move(from) else {
+        return false;
+    };
+    is_id(core.oldest(from, class), timer) && core.none_behind(to, class)
+}
+
+pub(crate) fn may_move<B: TimerBase>(core: &Core<B>, from: CpuId, to: CpuId, timer: TimerId) -> bool
+    ensures yes { result ≡ true → MayMove core.now from.0 to.0 timer.0 }
+    ensures no { MayMove core.now from.0 to.0 timer.0 → result ≡ true }
+{
+    if !is_free(core, from) || !is_free(core, to) {
+        return false;
+    }
+    let taker = core.status(to);
+    !core.status(from).online
+        && core.is_placed(to)
+        && is_active(core, to)
+        && !taker.inside
+        && may_go(core, from, to, timer)
+}
+
+/// Whether a walk's step waits for no lock.
+fn may_go_on<B: TimerBase>(core: &Core<B>, cpu: CpuId, walk: Walk) -> bool
+    requires cpu { cpu.0 < length core.now.cpus }
+    requires walk { (cpu_of core.now cpu.0).walk ≡ Some walk }
+    ensures yes { result ≡ true → MayGoOn core.now cpu.0 walk walk.stage }
+    ensures no { MayGoOn core.now cpu.0 walk walk.stage → result ≡ true }
+{
+    core.kept();
+    match walk.stage {
+        Stage::LockChild => {
+            let group = core.group_below(cpu, walk.level);
+            core.is_unlocked(group)
+        },
+        Stage::LockGroup => {
+            let group = core.group_on(cpu, walk.level);
+            core.is_unlocked(group)
+        },
+        Stage::Handing => false,
+        Stage::Own
+        | Stage::Up
+        | Stage::Mark { more: _ }
+        | Stage::Read
+        | Stage::Child
+        | Stage::Swap
+        | Stage::SeeChild
+        | Stage::SeeGroup
+        | Stage::Scan { k: _ }
+        | Stage::Store
+        | Stage::First { k: _ }
+        | Stage::FreeGroup
+        | Stage::FreeChild
+        | Stage::Finish => true,
+    }
+}
+
+pub(crate) fn may_walk<B: TimerBase>(core: &Core<B>, cpu: CpuId) -> bool
+    ensures yes { result ≡ true → MayWalk core.now cpu.0 }
+    ensures no { MayWalk core.now cpu.0 → result ≡ true }
+{
+    if cpu.0 >= core.count() {
+        return false;
+    }
+    match core.status(cpu).walk {
+        Some(walk) => may_go_on(core, cpu, walk),
+        None => false,
+    }
+}

@@ -1,0 +1,36 @@
+//! Lists of steps.
+
+ghost use Rattle.std.specs.Prelude.{IfErr, OnOk};
+ghost use Rattle.step_core.specs.Runs.{RunsWhole, Stops};
+
+use crate::enabling::enabled;
+use crate::steps::apply;
+use core_state::Core;
+use core_world::Step;
+use wheel_core::TimerBase;
+
+/// Why a list of steps wasn't made whole. Both name the place of a step in the list.
+#[derive(Clone, Copy, Debug, PartialEq, Eq)]
+pub enum StepsFault {
+    /// The step isn't enabled where it stands.
+    NotEnabled { index: usize },
+    /// The step wants memory.
+    NoMemory { index: usize },
+}
+
+/// Makes steps in order. The error names the first step that isn't enabled where it stands, or that
+/// wants memory; the core then stands before that step.
+pub fn run_steps<B: TimerBase>(core: &mut Core<B>, steps: &[Step]) -> Result<(), StepsFault>
+    ensures whole { OnOk result (RunsWhole steps.now core.old core.new) }
+    ensures stops { IfErr result (λ fault. Stops fault steps.now core.old core.new) }
+{
+    for (index, step) in steps.iter().enumerate() {
+        if !enabled(core, step) {
+            return Err(StepsFault::NotEnabled { index });
+        }
+        if apply(core, *step).is_err() {
+            return Err(StepsFault::NoMemory { index });
+        }
+    }
+    Ok(())
+}

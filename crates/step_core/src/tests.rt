@@ -1,0 +1,130 @@
+ghost use Rattle.std.specs.Prelude.{◌≡◌, ◌≤◌, All, IfOk, length};
+ghost use Rattle.tm_base.specs.declared.limits.TheConstants.{MOST_NODE_CPUS};
+ghost use Rattle.cpu_bases.specs.CpuBases.{empty_bases};
+
+use super::*;
+use core_state::{Core, new_core};
+use core_world::Step;
+use cpu_bases::Bases;
+use std::alloc::Global;
+use std::process::Abort;
+use std::test::Fail;
+use tm_base::{Class, CpuId, CpuSet, GroupId, NEVER, NoMemory, TimerId};
+use tree_plan::plan;
+use walk_rules::Stage;
+use wheel_core::ListBase;
+
+fn no_timers(alloc: Global) -> Bases<ListBase>
+    ensures { result.plain ≡ empty_bases }
+{
+    Bases::with(
+        alloc,
+        ListBase::new(alloc),
+        ListBase::new(alloc),
+        ListBase::new(alloc),
+    )
+}
+
+fn new_bases(alloc: Global, count: u16) -> Result<Vec<Bases<ListBase>>, NoMemory>
+    ensures count { IfOk result (λ bases. length bases.items ≡ count) }
+    ensures empty { IfOk result (λ bases. All (λ b. b.plain ≡ empty_bases) bases.items) }
+{
+    let mut bases = Vec::new(alloc);
+    for _cpu in 0..count {
+        bases.push(no_timers(alloc))?;
+    }
+    Ok(bases)
+}
+
+/// The start of a machine of one node, with no CPU isolated.
+fn start(alloc: Global, cpus: u8, timers: u16) -> Result<Core<ListBase>, NoMemory>
+    requires some { 1 ≤ cpus }
+    requires few { cpus ≤ MOST_NODE_CPUS }
+{
+    let tree = plan(alloc, 1, cpus, &CpuSet::new())?;
+    let bases = new_bases(alloc, tree.cpu_count())?;
+    new_core(alloc, tree, bases, timers)
+}
+
+fn add_walks(steps: &mut Vec<Step>, times: u8, cpu: u16) -> Result<(), NoMemory> {
+    for _walk in 0..times {
+        steps.push(Step::Walk { cpu: CpuId(cpu) })?;
+    }
+    Ok(())
+}
+
+fn check_group(rt: &impl Abort, core: &Core<ListBase>, g: u16, active: u8, migrator: Option<u8>) {
+    assert!(rt; g < core.tree().group_count());
+    assert_eq!(rt; core.active(GroupId(g)), active, "of group {g}");
+    assert_eq!(rt; core.migrator(GroupId(g)), migrator, "of group {g}");
+}
+
+// CPU 9 idles; CPU 8 idles after it and climbs, up to its exchange at the top; CPU 9 wakes, which
+// makes that reading of the top stale; so CPU 8's exchange fails, and its next one finds its group
+// active. The row and what it leaves are those that are computed from the definitions.
+#[test]
+fn a_stale_exchange_fails(rt: HostRuntime) -> Result<(), Fail> {
+    let mut core = start(rt.alloc(), 10, 0)?;
+    let mut steps = Vec::new(rt.alloc());
+    steps.push(Step::Idle { cpu: CpuId(9) })?;
+    add_walks(&mut steps, 8, 9)?;
+    steps.push(Step::Idle { cpu: CpuId(8) })?;
+    add_walks(&mut steps, 9, 8)?;
+    steps.push(Step::Wake { cpu: CpuId(9) })?;
+    add_walks(&mut steps, 4, 9)?;
+    add_walks(&mut steps, 3, 8)?;
+    assert_eq!(&rt; run_steps(&mut core, steps.as_slice()), Ok(()));
+    check_group(&rt, &core, 1, 2, Some(1));
+    check_group(&rt, &core, 2, 3, Some(0));
+    assert!(&rt; 8 < core.tree().cpu_count());
+    assert_eq!(&rt; core.cpu(CpuId(8)).idle, true);
+    let stands = match core.walk(CpuId(8)) {
+        Some(walk) => walk.level == 1 && matches!(walk.stage, Stage::LockChild),
+        None => false,
+    };
+    assert_eq!(&rt; stands, true);
+    Ok(())
+}
+
+// An active CPU isn't woken.
+#[test]
+fn a_step_that_is_not_enabled_is_named(rt: HostRuntime) -> Result<(), Fail> {
+    let mut core = start(rt.alloc(), 10, 0)?;
+    let steps = [Step::Wake { cpu: CpuId(0) }];
+    assert_eq!(&rt;
+        run_steps(&mut core, steps.as_slice()),
+        Err(StepsFault::NotEnabled { index: 0 })
+    );
+    Ok(())
+}
+
+// A CPU goes idle with a global timer, and tells it to the other CPU of its group.
+#[test]
+fn an_idle_cpu_tells_its_timer(rt: HostRuntime) -> Result<(), Fail> {
+    let mut core = start(rt.alloc(), 2, 1)?;
+    let mut steps = Vec::new(rt.alloc());
+    steps.push(Step::Clock { now: 10 })?;
+    steps.push(Step::Arm {
+        cpu: CpuId(1),
+        timer: TimerId(0),
+        class: Class::Global,
+        expires: 60,
+        job: 0,
+        arg: 0,
+        line: 0,
+    })?;
+    steps.push(Step::Idle { cpu: CpuId(1) })?;
+    add_walks(&mut steps, 8, 1)?;
+    assert_eq!(&rt; run_steps(&mut core, steps.as_slice()), Ok(()));
+    check_group(&rt, &core, 0, 1, Some(0));
+    assert!(&rt; 1 < core.tree().cpu_count());
+    assert_eq!(&rt; core.walk(CpuId(1)).is_none(), true);
+    assert_eq!(&rt; core.cpu(CpuId(1)).wakeup, NEVER);
+    assert!(&rt; 0 < core.tree().group_count());
+    let told = match core.events(GroupId(0)).get(1) {
+        Some(event) => event.expiry == 61 && event.cpu == CpuId(1) && !event.ignored,
+        None => false,
+    };
+    assert_eq!(&rt; told, true);
+    Ok(())
+}
