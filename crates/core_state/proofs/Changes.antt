@@ -1,17 +1,17 @@
 -- for crates above: a change of one CPU, and what stays of its timers
-use Rattle.std.proofs.Common.{◌≡◌, ◌≢◌, ℕ, zero, suc, ◌<◌, Bool, true, false, List, [], ◌∷◌, Option, length, refl, sym, ap, ◌∙◌, subst, arith, inl, inr, get_or, get_or-set_other, get_or-set_same, length-set}
+use Rattle.std.proofs.Common.{◌≡◌, ℕ, ◌<◌, List, Option, length, refl, sym, ap, ◌∙◌, subst, inl, inr, get_or, get_or-set_other, get_or-set_same}
 use Rattle.std.specs.Prelude.{slice_set}
 use Rattle.std.proofs.lemmas.Bool.{cases_eq}
 use Rattle.std.proofs.lemmas.List.{get_or_default, set-get_or}
 use Rattle.tm_base.specs.declared.names.CpuId.{CpuId}
-use Rattle.walk_rules.specs.Scene.{Group, no_group}
+use Rattle.walk_rules.specs.Scene.{no_group}
 use Rattle.core_world.specs.declared.step.Step.TheVariants as steps
 use Rattle.core_world.specs.Enabled.{Enabled}
 use Rattle.walk_rules.specs.declared.walk.Walk.{Walk}
 use Rattle.walk_rules.specs.declared.walk.WalkKind.{WalkKind}
 use Rattle.walk_rules.specs.declared.walk.WalkKind.TheVariants as kinds
 use Rattle.core_world.specs.Steps.{finished}
-use Rattle.core_world.specs.World.{CpuRecord, World, cpu_of, group_of, no_cpu, own}
+use Rattle.core_world.specs.World.{CpuRecord, World, cpu_of, no_cpu, own}
 use Rattle.core_state.specs.declared.status.CpuStatus.{CpuStatus}
 use Rattle.core_state.specs.Kept.{IsHeld, IsKept, WorldFits, WorldsStayFit, is_queued}
 use Rattle.core_state.specs.Status.{finished_status, status_of, with_cpu_status, with_status}

@@ -1,5 +1,5 @@
 -- the CPU that is noted for a timer is the one on which it is queued
-use Rattle.std.proofs.Common.{◌≡◌, ◌≢◌, ℕ, ◌<◌, ◌≤◌, Bool, true, false, true≢false, List, Option, Some, None, length, refl, ap, sym, ◌∙◌, subst, arith, inl, inr, get_or, get_or-set_other, get_or-set_same}
+use Rattle.std.proofs.Common.{◌≡◌, ◌≢◌, ℕ, ◌<◌, Bool, true, false, true≢false, List, Option, Some, None, length, refl, ap, sym, ◌∙◌, subst, arith, inl, inr, get_or, get_or-set_other, get_or-set_same}
 use Rattle.std.specs.Prelude.{◌==◌, ◌&&◌, ◌||◌, not, IfSome, slice_set}
 use Rattle.std.proofs.lemmas.Bool.{cases_eq, cases_lt, eq-eqb, eqb-true, ne_eqb}
 use Rattle.std.proofs.lemmas.List.{get_or_default, get_or_past}

@@ -1,7 +1,7 @@
 -- a list in which two elements are changed, each in a part of its own
-use Rattle.std.proofs.Common.{◌≡◌, ◌≢◌, ℕ, zero, suc, ◌+◌, ◌-◌, ◌<◌, ◌≤◌, List, [], ◌∷◌, ◌++◌, length, take, drop, refl, sym, ap, ◌∙◌, subst, arith, get_or, length-set}
+use Rattle.std.proofs.Common.{◌≡◌, ◌≢◌, ℕ, zero, suc, ◌+◌, ◌<◌, List, [], ◌∷◌, ◌++◌, length, take, drop, refl, sym, ap, ◌∙◌, arith, get_or, length-set}
 use Rattle.std.specs.Prelude.{OnErr, OnOk, Result, Ok, Err, slice_set}
-use Rattle.std.proofs.lemmas.List.{get_or-drop, get_or-take, get_or_default, set-get_or, set_comm, take-append-drop}
+use Rattle.std.proofs.lemmas.List.{get_or-drop, get_or-take, get_or_default, set-get_or, set_comm}
 use Rattle.std.proofs.Math.Seq.{take-append_seam}
 use Rattle.tm_base.specs.declared.names.Class.{Class}
 use Rattle.tm_base.specs.declared.names.CpuId.{CpuId}

@@ -1,14 +1,14 @@
 -- where the path of a CPU goes, by the laws of trees
-use Rattle.std.proofs.Common.{◌≡◌, ℕ, zero, suc, ◌-◌, ◌<◌, Bool, true, false, Option, Some, None, refl, ap, sym, ◌∙◌, subst, arith, inl, inr}
+use Rattle.std.proofs.Common.{◌≡◌, ℕ, zero, suc, ◌-◌, ◌<◌, true, false, Option, Some, None, ap, sym, ◌∙◌, subst, arith, inl, inr}
 use Rattle.std.specs.Prelude.{option_map, unwrap_or}
 use Rattle.std.specs.Option.{option_map_or}
-use Rattle.std.proofs.lemmas.Option.{none-some, same_Some}
+use Rattle.std.proofs.lemmas.Option.{none-some}
 use Rattle.tm_base.specs.declared.names.GroupId.{GroupId}
 use Rattle.tm_base.specs.Children.{of_cpu, of_group}
 use Rattle.tree_plan.specs.Laws.{EdgeLaws, PathLaws}
 use Rattle.tree_plan.specs.Shape.{Shape}
 use Rattle.tree_plan.specs.Paths.{bit_in, bit_of, child_towards, group_at_of, group_count_of, is_placed_in, parent_of}
-use Rattle.walk_rules.specs.Hierarchy.{group_on, side}
+use Rattle.walk_rules.specs.Hierarchy.{side}
 use Rattle.core_state.specs.Kept.{HasLevel}
 use Rattle.core_walks.proofs.Stands.{leaf_or}
 

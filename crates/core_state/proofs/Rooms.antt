@@ -1,6 +1,6 @@
 -- how many timers a base may have, and where there is room for one more
-use Rattle.std.proofs.Common.{◌≡◌, ℕ, ◌+◌, ◌^◌, ◌<◌, ◌≤◌, Some, None, length, ap, refl, arith, subst, sym, ◌∙◌, inl, inr, List, [], ◌∷◌}
-use Rattle.std.specs.Prelude.{All, IfSome, max, Option, option_map}
+use Rattle.std.proofs.Common.{◌≡◌, ℕ, ◌+◌, ◌^◌, ◌<◌, ◌≤◌, Some, length, ap, arith, subst, sym, ◌∙◌, inl, inr, List, [], ◌∷◌}
+use Rattle.std.specs.Prelude.{All, IfSome, max, option_map}
 use Rattle.std.proofs.lemmas.List.Elements.{All-head}
 use Rattle.std.proofs.lemmas.Option.{none-some, same_Some}
 use Rattle.tm_base.specs.declared.names.Class.{Class}

@@ -1,20 +1,16 @@
 -- steps that arm and take out timers
-use Rattle.std.proofs.Common.{◌≡◌, ◌≢◌, ℕ, ◌+◌, ◌-◌, ◌^◌, ◌<◌, Bool, true, false, true≢false, List, Option, Some, None, length, refl, ap, sym, ◌∙◌, subst, arith, get_or, length-set}
-use Rattle.std.specs.Prelude.{◌==◌, ◌&&◌, ◌||◌, not, is_some, slice_set, OnErr, Result, Ok, Err}
+use Rattle.std.proofs.Common.{◌≡◌, ℕ, ◌^◌, ◌<◌, true, false, List, Option, Some, None, length, refl, ap, sym, ◌∙◌, subst, arith, get_or, length-set}
+use Rattle.std.specs.Prelude.{◌==◌, ◌&&◌, not, is_some, slice_set, OnErr, Result, Ok, Err}
 use Rattle.std.proofs.lemmas.List.{set-get_or}
-use Rattle.std.proofs.lemmas.Option.{same_Some}
 use Rattle.tm_base.specs.declared.names.Class.{Class}
 use Rattle.tm_base.specs.declared.names.CpuId.{CpuId}
 use Rattle.tm_base.specs.declared.names.TimerId.{TimerId}
-use Rattle.wheel_core.specs.declared.item.Item.{Item}
-use Rattle.wheel_core.specs.PlainBase.{next_out}
-use Rattle.cpu_bases.specs.CpuBases.{CpuBases, IsConsistent, armed, base_of, cancelled, class_in, handed_out}
-use Rattle.core_world.specs.declared.step.Step.{Step}
+use Rattle.cpu_bases.specs.CpuBases.{CpuBases, IsConsistent, armed, cancelled, class_in, handed_out}
 use Rattle.core_world.specs.declared.step.Step.TheVariants as steps
 use Rattle.core_world.specs.Enabled.{Enabled, MayArm, MayCancel, MayHand, MayTick}
 use Rattle.core_world.specs.Steps.{handed_of, stepped, with_bases}
-use Rattle.core_world.specs.World.{CpuRecord, World, cpu_of, no_cpu, own}
-use Rattle.core_state.specs.Kept.{IsHeld, IsKept, StaysFit, WorldFits, but, holds, is_queued, noted}
+use Rattle.core_world.specs.World.{CpuRecord, World, cpu_of, own}
+use Rattle.core_state.specs.Kept.{IsHeld, IsKept, StaysFit, WorldFits, but, is_queued}
 use Rattle.core_state.proofs.Changes.{cpu_read, own_is, written}
 use Rattle.core_state.proofs.Holders.{came, held_at, note_low, nowhere_noted, queued_noted, went}
 use Rattle.core_state.proofs.Queues.{arming_queues, cancelling_queues, handing_queues}
@@ -167,6 +163,11 @@ module _ (v w : World) (holders : List (Option CpuId)) (c : CpuId) (i : ℕ) (x 
   hand_low t runner may =
       note_low holders t.0 c
       (queued_noted w holders t.0 c held (is_there t.0 (cpu_of w c.0).bases may.class may.queued))
+
+  pub cancel_low : (t : TimerId) → MayCancel w c.0 t.0 → t.0 < length holders
+  cancel_low t may =
+      note_low holders t.0 c
+      (queued_noted w holders t.0 c held (is_there t.0 (cpu_of w c.0).bases may.queued.0 may.queued.1))
 
   pub tick_kept : (class : Class) (runner : CpuId) → MayTick w c.0 class runner.0
       → z ≡ with_bases x (handed_out now class runner x.bases)

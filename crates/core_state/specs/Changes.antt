@@ -1,6 +1,5 @@
 -- what a step of a walk makes of a group
-use Rattle.std.specs.Prelude.{ℕ, ◌<◌, Option, Some, None}
-use Rattle.event_queue.specs.declared.event.Event.{Event}
+use Rattle.std.specs.Prelude.{◌<◌, Some, None}
 use Rattle.walk_rules.specs.Scene.{Group}
 use Rattle.walk_rules.specs.Stages.{joined_by, left_by, with_event, with_lock, with_mark}
 use Rattle.core_state.specs.declared.change.GroupChange.{GroupChange}

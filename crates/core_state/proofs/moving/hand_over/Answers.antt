@@ -1,4 +1,4 @@
-use Rattle.std.proofs.Common.{ap, sym, ◌∙◌, subst, arith, ◌<◌, ◌^◌}
+use Rattle.std.proofs.Common.{ap, sym, ◌∙◌, subst, ◌<◌, ◌^◌}
 use Rattle.std.specs.Prelude.{IfSome}
 use Rattle.wheel_core.specs.declared.item.Item.{Item}
 use Rattle.cpu_bases.specs.CpuBases.{RoomyBases, base_of, oldest_in}

@@ -1,4 +1,4 @@
-use Rattle.std.proofs.Common.{◌<◌, ap, arith, drop, sym, take, ◌∙◌, get_or}
+use Rattle.std.proofs.Common.{ap, arith, drop, sym, take, ◌∙◌, get_or}
 use Rattle.std.specs.Prelude.{slice_set}
 use Rattle.core_world.specs.World.{no_cpu}
 use Rattle.core_state.proofs.Pairs.{err_any, high_read, left_is, low_read, ok_down, unmoved}

@@ -1,4 +1,4 @@
-use Rattle.std.proofs.Common.{ap, ◌∙◌, ◌++◌, ◌∷◌, [], arith, refl, sym}
+use Rattle.std.proofs.Common.{◌∙◌}
 use Rattle.core_state.proofs.Starts.{one_more_group}
 use Rattle.core_state.proofs.start.new_groups.Goals as goal
 

@@ -1,4 +1,4 @@
-use Rattle.std.proofs.Common.{◌≡◌, false, sym, ◌∙◌}
+use Rattle.std.proofs.Common.{sym, ◌∙◌}
 use Rattle.core_state.proofs.Paths.{unplaced_bit}
 use Rattle.core_state.proofs.tree.cpu_side.Goals as goal
 

@@ -1,4 +1,3 @@
-use Rattle.std.proofs.Common.{ap, ◌<◌, ◌^◌, sym, subst}
 use Rattle.core_state.proofs.Ranges.{next_in_range}
 use Rattle.core_state.proofs.cpu.CoreCpu.events.Goals as goal
 

@@ -1,4 +1,3 @@
-use Rattle.std.proofs.Common.{sym, subst}
 use Rattle.core_state.proofs.Ranges.{first_active}
 use Rattle.core_state.proofs.group.CoreGroup.new.Goals as goal
 

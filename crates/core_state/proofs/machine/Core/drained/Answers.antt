@@ -1,4 +1,4 @@
-use Rattle.std.proofs.Common.{refl, rules, sym, ap, ◌∙◌}
+use Rattle.std.proofs.Common.{refl}
 use Rattle.core_state.proofs.TimerSteps.{on_err, tick_kept, unchanged}
 use Rattle.core_state.proofs.machine.Core.drained.Goals as goal
 

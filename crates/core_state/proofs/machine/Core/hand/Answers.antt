@@ -1,4 +1,4 @@
-use Rattle.std.proofs.Common.{refl, rules, arith, sym, ap, ◌∙◌}
+use Rattle.std.proofs.Common.{refl, arith}
 use Rattle.core_state.proofs.TimerSteps.{hand_kept, hand_low, on_err, unchanged}
 use Rattle.core_state.proofs.machine.Core.hand.Goals as goal
 

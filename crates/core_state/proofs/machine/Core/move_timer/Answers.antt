@@ -1,4 +1,4 @@
-use Rattle.std.proofs.Common.{Some, ◌≡◌, ap, arith, length-set, refl, subst, sym, ◌∙◌}
+use Rattle.std.proofs.Common.{Some, ap, arith, length-set, refl, subst, sym, ◌∙◌}
 use Rattle.std.specs.Prelude.{option_map}
 use Rattle.std.proofs.lemmas.Option.{same_Some}
 use Rattle.core_world.specs.World.{World, cpu_of}

@@ -1,4 +1,3 @@
-use Rattle.core_state.specs.declared.status.CpuStatus.{CpuStatus}
 use Rattle.core_state.proofs.Changes.{status_fits, status_made}
 use Rattle.core_state.proofs.machine.Core.set_walk.Goals as goal
 

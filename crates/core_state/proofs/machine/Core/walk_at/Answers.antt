@@ -1,5 +1,4 @@
 use Rattle.std.proofs.Common.{subst, sym, ◌∙◌}
-use Rattle.core_state.specs.declared.status.CpuStatus.{CpuStatus}
 use Rattle.core_state.specs.Kept.{WorldFits}
 use Rattle.core_state.proofs.Making.{status_moved}
 use Rattle.core_state.proofs.machine.Core.walk_at.Goals as goal
