@@ -1,5 +1,5 @@
 -- lists of steps, one step more
-use Rattle.std.proofs.Common.{◌≡◌, ℕ, ◌+◌, ◌<◌, false, true, true≢false, List, [], ◌∷◌, ◌++◌, length, take, refl, sym, ap, ◌∙◌, subst, get_or}
+use Rattle.std.proofs.Common.{◌≡◌, ℕ, ◌+◌, ◌<◌, false, true≢false, List, [], ◌∷◌, ◌++◌, length, take, refl, sym, ap, ◌∙◌, subst, get_or}
 use Rattle.std.specs.Prelude.{OnOk, Result, Ok, Err, is_err}
 use Rattle.std.proofs.lemmas.List.{take_more}
 use Rattle.core_world.specs.declared.step.Step.{Step}

@@ -1,5 +1,5 @@
 use Rattle.std.proofs.Common.{◌≡◌, ◌+◌, ◌∷◌, [], length, length-append, ap, subst, sym, ◌∙◌}
-use Rattle.std.specs.Prelude.{All, List}
+use Rattle.std.specs.Prelude.{All}
 use Rattle.std.proofs.lemmas.List.Elements.{All-push}
 use Rattle.cpu_bases.specs.CpuBases.{RoomyBases, empty_bases}
 use Rattle.step_laws.proofs.tests.new_bases.Goals as goal
