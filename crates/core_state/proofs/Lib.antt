@@ -1,4 +1,5 @@
 pub mod Changes
+pub mod Fits
 pub mod Holders
 pub mod Making
 pub mod MoveStep

@@ -1,20 +1,19 @@
 -- the start
-use Rattle.std.proofs.Common.{◌≡◌, ℕ, suc, ◌+◌, List, [], ◌∷◌, ◌++◌, Option, None, length, refl, sym, ap, ◌∙◌, subst, arith, get_or, inl, inr}
-use Rattle.std.specs.Prelude.{All, map, option_map, replicate}
+use Rattle.std.proofs.Common.{◌≡◌, ℕ, suc, ◌+◌, ◌^◌, ◌≤◌, List, [], ◌∷◌, ◌++◌, Option, None, length, sym, ap, ◌∙◌, subst, arith, get_or, inl, inr}
+use Rattle.std.specs.Prelude.{All, map, replicate}
 use Rattle.std.specs.List.{range_with_len}
 use Rattle.std.proofs.lemmas.Bool.{cases_lt}
 use Rattle.std.proofs.lemmas.List.{append_assoc, get_or-replicate, get_or_past, length-replicate}
-use Rattle.std.proofs.lemmas.List.FromFn.{length-map-range_with_len, map-range_with_len_more}
-use Rattle.std.proofs.lemmas.Option.{none-some}
+use Rattle.std.proofs.lemmas.List.FromFn.{map-range_with_len_more}
 use Rattle.tm_base.specs.declared.names.CpuId.{CpuId}
 use Rattle.tree_plan.specs.Shape.{Shape, IsPlanned}
 use Rattle.tree_plan.specs.Paths.{child_count_of, cpu_count_of, group_count_of}
 use Rattle.cpu_bases.specs.CpuBases.{RoomyBases, empty_bases}
-use Rattle.walk_rules.specs.Scene.{Group, Scene}
-use Rattle.core_world.specs.Start.{start_cpu, start_group}
-use Rattle.core_world.specs.World.{CpuRecord, no_cpu, scene_of}
-use Rattle.walk_rules.specs.Stages.{forget}
-use Rattle.core_walks.specs.Fit.{WalksFit}
+use Rattle.walk_rules.specs.Scene.{Group}
+use Rattle.core_start.specs.Layer.{StartsLawful}
+use Rattle.core_world.specs.Lawful.{IsLawful}
+use Rattle.core_world.specs.Start.{start_cpu, start_group, start_of}
+use Rattle.core_world.specs.World.{CpuRecord, no_cpu}
 use Rattle.core_state.specs.Kept.{IsKept, holds, is_queued, noted, world_of}
 
 pub one_more_group : (t : Shape) (n : ℕ) (groups : List Group) (x : Group)
@@ -67,34 +66,23 @@ no_note n timer = elim (cases_lt timer n) [
       (let len = length-replicate n no_holder in omega (arith, len, high))
 ]
 
-no_walks : (t : Shape) (s : Scene) → ((c : ℕ) → s.walk c ≡ None) → WalksFit t s
-no_walks t s none = record {
-  placed = record {
-    in_tree = λ c k is has. absurd (none-some k (sym (none c) ∙ is));
-    alone = λ c k is has. absurd (none-some k (sym (none c) ∙ is));
-  };
-  flags = λ c k is has. absurd (none-some k (sym (none c) ∙ is));
-  walkers = λ c k is. absurd (none-some k (sym (none c) ∙ is));
-}
-
 pub start_kept : (t : Shape) (timers count : ℕ) (holders : List (Option CpuId)) (groups : List Group)
     (cpus : List CpuRecord) → IsPlanned t → count ≡ cpu_count_of t
     → groups ≡ map (λ g. start_group (child_count_of t g)) (range_with_len 0 (group_count_of t))
-    → cpus ≡ replicate count start_cpu → holders ≡ replicate timers None
+    → cpus ≡ replicate count start_cpu → holders ≡ replicate timers None → StartsLawful → timers ≤ 2 ^ 16
     → IsKept (world_of t (length holders) 0 groups cpus) holders
-start_kept t timers count holders groups cpus planned sized of_groups of_cpus of_timers =
+start_kept t timers count holders groups cpus planned sized of_groups of_cpus of_timers law few =
+    let start_is : world_of t (length holders) 0 groups cpus ≡ start_of t timers = λ i.
+        world_of t ((ap length of_timers ∙ length-replicate timers no_holder) i) 0 (of_groups i)
+        ((of_cpus ∙ ap (λ n. replicate n start_cpu) sized) i) in
     record {
       fits = record {
         planned = planned;
-        sized = record {
-          groups = ap length of_groups
-              ∙ length-map-range_with_len (λ g. start_group (child_count_of t g)) 0 (group_count_of t);
-          cpus = ap length of_cpus ∙ (length-replicate count start_cpu ∙ sized);
-        };
         in_time = omega arith;
-        walks = no_walks t (scene_of (world_of t (length holders) 0 groups cpus))
-            (λ c. subst (λ ys. (scene_of (world_of t (length holders) 0 groups ys)).walk c ≡ None) (sym of_cpus)
-            (start_cpus (λ y. option_map forget y.walk ≡ None) refl refl count c));
+        lawful =
+            subst IsLawful (sym start_is)
+            (subst (λ u. IsLawful (start_of u timers)) (sym planned.tree)
+            (law t.nodes t.cpus timers t.isolated planned.limits few));
       };
       held = λ timer c.
           subst (λ ys. is_queued timer (get_or ys c no_cpu).bases ≡ holds (noted holders timer) c) (sym of_cpus)

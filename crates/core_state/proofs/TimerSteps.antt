@@ -164,6 +164,11 @@ module _ (v w : World) (holders : List (Option CpuId)) (c : CpuId) (i : ℕ) (x 
       note_low holders t.0 c
       (queued_noted w holders t.0 c held (is_there t.0 (cpu_of w c.0).bases may.class may.queued))
 
+  pub cancel_low : (t : TimerId) → MayCancel w c.0 t.0 → t.0 < length holders
+  cancel_low t may =
+      note_low holders t.0 c
+      (queued_noted w holders t.0 c held (is_there t.0 (cpu_of w c.0).bases may.queued.0 may.queued.1))
+
   pub tick_kept : (class : Class) (runner : CpuId) → MayTick w c.0 class runner.0
       → z ≡ with_bases x (handed_out now class runner x.bases)
       → IsKept (record v { timers = length holders; cpus = slice_set v.cpus i z }) holders

@@ -9,10 +9,9 @@ use Rattle.cpu_bases.specs.CpuBases.{CpuBases, class_in}
 use Rattle.walk_rules.specs.Scene.{Group}
 use Rattle.core_world.specs.declared.step.Step.{Step}
 use Rattle.core_world.specs.Enabled.{Enabled}
-use Rattle.core_world.specs.Frames.{IsSized}
+use Rattle.core_world.specs.Lawful.{IsLawful}
 use Rattle.core_world.specs.Steps.{stepped}
-use Rattle.core_world.specs.World.{CpuRecord, World, cpu_of, scene_of}
-use Rattle.core_walks.specs.Fit.{WalksFit}
+use Rattle.core_world.specs.World.{CpuRecord, World, cpu_of}
 
 -- the world that the fields of a core are
 abbrev pub world_of : (tree : Shape) → (timers clock : ℕ) → List Group → List CpuRecord → World
@@ -28,13 +27,11 @@ world_of tree timers clock groups cpus = record {
 abbrev pub HasLevel : Shape → (c l : ℕ) → Type 0
 HasLevel t c l = (g : ℕ) × (group_at_of t c l ≡ Some g)
 
--- a planned tree with a group and a CPU for each of its numbers, a time in range, and walks that
--- stand where their kinds allow
+-- THE INVARIANT, with a planned tree and a time in range
 pub record WorldFits (w : World) : Type 0 where
   pub planned : IsPlanned w.tree
-  pub sized : IsSized w
   pub in_time : w.clock < 2 ^ 47 - 2
-  pub walks : WalksFit w.tree (scene_of w)
+  pub lawful : IsLawful w
 
 -- and after each step that is enabled
 abbrev pub StaysFit : World → Type 0

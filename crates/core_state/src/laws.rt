@@ -3,15 +3,13 @@
 
 ghost use Rattle.core_state.specs.Kept.{WorldsStayFit};
 
-use core_walks::law_walks;
+use core_laws::law_step;
 use core_world::law_sizes;
-use walk_rules::law_hierarchy;
 
 /// No step leaves what a core relies on.
 pub(crate) fn law_fits()
     ensures { WorldsStayFit }
 {
-    law_hierarchy();
     law_sizes();
-    law_walks();
+    law_step();
 }

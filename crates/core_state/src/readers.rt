@@ -2,6 +2,7 @@
 
 ghost use Rattle.std.specs.Prelude.{◌≡◌, ℕ, ◌<◌, IfNone, IfSome, length, option_map, true, false};
 ghost use Rattle.core_world.specs.Frames.{IsSized};
+ghost use Rattle.core_world.specs.Lawful.{IsLawful};
 ghost use Rattle.core_world.specs.World.{cpu_of, group_of};
 ghost use Rattle.core_state.specs.Kept.{is_queued};
 ghost use Rattle.core_state.specs.Shown.{as_cpu, shown_cpu};
@@ -23,10 +24,11 @@ impl<B: TimerBase> Core<B> {
         self.clock
     }
 
-    /// The tree of its groups.
+    /// The tree of its groups. Its contract also says that every core is lawful.
     pub fn tree(&self) -> &Tree
         ensures tree { result.now ≡ self.now.tree }
         ensures sized { IsSized self.now }
+        ensures lawful { IsLawful self.now }
     {
         &self.tree
     }

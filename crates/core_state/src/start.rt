@@ -9,6 +9,7 @@ ghost use Rattle.core_world.specs.Start.{start_cpu, start_group, start_of};
 use crate::cpu::CoreCpu;
 use crate::group::CoreGroup;
 use crate::machine::Core;
+use core_start::law_start;
 use cpu_bases::Bases;
 use std::alloc::Global;
 use tm_base::{CpuId, GroupId, NoMemory};
@@ -73,6 +74,7 @@ pub fn new_core<B: TimerBase>(
     requires empty { All (λ b. b.plain ≡ empty_bases) bases.items }
     ensures { IfOk result (λ core. core ≡ start_of tree timers) }
 {
+    law_start();
     tree.cpu_count();
     let groups = new_groups(alloc, &tree)?;
     let cpus = new_cpus(alloc, bases)?;

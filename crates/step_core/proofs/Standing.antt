@@ -15,6 +15,7 @@ use Rattle.core_world.specs.Steps.{swapped, walk_made, walked}
 use Rattle.core_world.specs.World.{World, cpu_of, scene_of}
 use Rattle.core_walks.proofs.Stands.{stage_fits, stands_in}
 use Rattle.core_state.specs.Kept.{HasLevel, StaysFit, WorldFits}
+use Rattle.core_state.proofs.Fits.{walks_fit}
 use Rattle.step_core.specs.Stands.{StandsAt}
 
 pub may_walk : (w : World) (c : ℕ) (k : Walk) (st : Stage) → StandsAt w c k st → MayWalk w c
@@ -40,10 +41,10 @@ module _ (w : World) (fits : WorldFits w) (c : ℕ) (k : Walk) (st : Stage) (wal
   seen = ap (option_map forget) walk
 
   pub level_at : (st ≡ stages.Finish → ⊥) → HasLevel w.tree c k.level
-  level_at other = stands_in w.tree (scene_of w) fits.walks c (forget k) seen (λ e. other (sym at ∙ e))
+  level_at other = stands_in w.tree (scene_of w) (walks_fit w fits) c (forget k) seen (λ e. other (sym at ∙ e))
 
   pub fit_at : (st ≡ stages.Finish → ⊥) → FitsStage w.tree c k.kind k.level st
-  fit_at other = elim (stage_fits w.tree (scene_of w) fits.walks c (forget k) seen) [
+  fit_at other = elim (stage_fits w.tree (scene_of w) (walks_fit w fits) c (forget k) seen) [
     | inl is ↦ subst (FitsStage w.tree c k.kind k.level) at is
     | inr finish ↦ absurd (other (sym at ∙ finish))
   ]

@@ -1,4 +1,3 @@
 pub mod Asking
-pub mod Runs
 pub mod Stands
 pub mod Wants

@@ -10,14 +10,9 @@ mod finishing;
 mod flags;
 mod leaving;
 mod locking;
-mod running;
 mod stages;
 mod steps;
 mod telling;
 
 pub use enabling::enabled;
-pub use running::{StepsFault, run_steps};
 pub use steps::apply;
-
-#[cfg(test)]
-mod tests;

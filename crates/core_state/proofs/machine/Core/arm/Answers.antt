@@ -1,6 +1,21 @@
-use Rattle.std.proofs.Common.{refl, rules}
-use Rattle.core_state.proofs.TimerSteps.{arm_kept, on_err, unchanged}
+use Rattle.std.proofs.Common.{refl, rules, sym, ap, subst, ◌∙◌}
+use Rattle.wheel_core.specs.PlainBase.{NoneBehind}
+use Rattle.cpu_bases.specs.CpuBases.{base_of, class_in}
+use Rattle.core_world.specs.World.{CpuRecord}
+use Rattle.core_state.proofs.TimerSteps.{arm_kept, on_err, read_bases, unchanged}
 use Rattle.core_state.proofs.machine.Core.arm.Goals as goal
+
+pub arm-requires-clause-not_queued : goal.arm-requires-clause-not_queued
+arm-requires-clause-not_queued g c =
+    ap (class_in c.args.timer.0) (sym (ap (λ (y : CpuRecord). y.bases) (read_bases _ c.args.self.now c.args.cpu.0
+    c.from.result c.index_mut.result.now c.self.view_is c.from.ensures c.requires.is_free.in_range
+    c.index_mut.ensures.value))) ∙ c.requires.not_queued c.args.cpu.0
+
+pub arm-requires-clause-none_behind : goal.arm-requires-clause-none_behind
+arm-requires-clause-none_behind g c =
+    subst (λ (y : CpuRecord). NoneBehind (base_of c.args.class y.bases)) (read_bases _ c.args.self.now c.args.cpu.0
+    c.from.result c.index_mut.result.now c.self.view_is c.from.ensures c.requires.is_free.in_range
+    c.index_mut.ensures.value) c.requires.none_behind
 
 pub returns-in_err-arm-clause-err : goal.returns-in_err-arm-clause-err
 returns-in_err-arm-clause-err g c =

@@ -1,23 +1,14 @@
 -- lists of steps
-use Rattle.std.specs.Prelude.{◌≡◌, ℕ, List, [], ◌∷◌, Some, slice_get, take}
+use Rattle.std.specs.Prelude.{◌≡◌, ℕ, List, Some, slice_get, take}
 use Rattle.core_world.specs.declared.step.Step.{Step}
 use Rattle.core_world.specs.Enabled.{Enabled}
-use Rattle.core_world.specs.Steps.{stepped}
+use Rattle.core_laws.specs.Laws.{EachEnabled, after_all}
 use Rattle.core_world.specs.World.{World}
-use Rattle.step_core.specs.declared.running.StepsFault.{StepsFault}
-use Rattle.step_core.specs.declared.running.StepsFault.TheVariants as faults
+use Rattle.step_laws.specs.declared.running.StepsFault.{StepsFault}
+use Rattle.step_laws.specs.declared.running.StepsFault.TheVariants as faults
 use Rattle.step_core.specs.Wants.{WantsMemory}
 
--- what a list of steps makes of a world
-abbrev pub after_all : World → List Step → World
-after_all w [] = w
-after_all w (step ∷ rest) = after_all (stepped w step) rest
-
--- each step is enabled where it stands
-abbrev pub EachEnabled : World → List Step → Type 0
-EachEnabled w [] = Unit {0}
-EachEnabled w (step ∷ rest) = Enabled w step × EachEnabled (stepped w step) rest
-
+-- each step was enabled where it stood, and was made
 pub record RunsWhole (steps : List Step) (before after : World) : Type 0 where
   pub enabled : EachEnabled before steps
   pub done : after ≡ after_all before steps

@@ -1,6 +1,6 @@
 use Rattle.std.proofs.Common.{sym, ◌∙◌}
-use Rattle.step_core.proofs.Lists.{one_more}
-use Rattle.step_core.proofs.running.run_steps.Goals as goal
+use Rattle.step_laws.proofs.Lists.{one_more}
+use Rattle.step_laws.proofs.running.make_each.Goals as goal
 
 pub loop-index-preserved : goal.loop-index-preserved
 loop-index-preserved g c =

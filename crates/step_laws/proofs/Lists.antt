@@ -6,7 +6,8 @@ use Rattle.core_world.specs.declared.step.Step.{Step}
 use Rattle.core_world.specs.Enabled.{Enabled}
 use Rattle.core_world.specs.Steps.{stepped}
 use Rattle.core_world.specs.World.{World}
-use Rattle.step_core.specs.Runs.{EachEnabled, RunsWhole, after_all}
+use Rattle.core_laws.specs.Laws.{EachEnabled, after_all}
+use Rattle.step_laws.specs.Runs.{RunsWhole}
 
 after_more : (w : World) (steps : List Step) (step : Step)
     → after_all w (steps ++ step ∷ []) ≡ stepped (after_all w steps) step
