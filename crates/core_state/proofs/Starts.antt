@@ -73,8 +73,8 @@ pub start_kept : (t : Shape) (timers count : ℕ) (holders : List (Option CpuId)
     → IsKept (world_of t (length holders) 0 groups cpus) holders
 start_kept t timers count holders groups cpus planned sized of_groups of_cpus of_timers law few =
     let start_is : world_of t (length holders) 0 groups cpus ≡ start_of t timers = λ i.
-        world_of t ((ap length of_timers ∙ length-replicate timers no_holder) i) 0 (of_groups i)
-        ((of_cpus ∙ ap (λ n. replicate n start_cpu) sized) i) in
+    world_of t ((ap length of_timers ∙ length-replicate timers no_holder) i) 0 (of_groups i)
+    ((of_cpus ∙ ap (λ n. replicate n start_cpu) sized) i) in
     record {
       fits = record {
         planned = planned;
