@@ -25,7 +25,8 @@ pub fn goes_on<B: TimerBase>(core: &Core<B>, cpu: CpuId) -> bool
 fn leaves_alone<B: TimerBase>(core: &Core<B>, other: CpuId, cpu: CpuId) -> bool
     requires { other.0 < length core.now.cpus }
     ensures yes { result ≡ true → other.0 ≢ cpu.0 → goes_on (cpu_of core.now other.0).walk ≡ false }
-    ensures no { (other.0 ≢ cpu.0 → goes_on (cpu_of core.now other.0).walk ≡ false) → result ≡ true }
+    ensures no { (other.0 ≢ cpu.0 → goes_on (cpu_of core.now other.0).walk ≡ false) →
+        result ≡ true }
 {
     other.0 == cpu.0 || !goes_on(core, other)
 }

@@ -1,5 +1,5 @@
-//! The headline: lists of steps of a core, in whatever order its CPUs make them, and what holds after
-//! every step.
+//! The headline: lists of steps of a core, in whatever order its CPUs make them, and what holds
+//! after every step.
 #![tactic(auto)]
 
 mod laws;
