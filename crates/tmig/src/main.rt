@@ -3,8 +3,8 @@
 #![tactic(auto)]
 
 use job_table::{Job, JobTable, Marker, OneShot, Periodic};
-use script_main::{NO_MEMORY, run_program};
-use std::alloc::{AllocError, Global};
+use script_main::{NO_MEMORY, Status, run_program};
+use std::alloc::AllocError;
 use std::process::ExitCode;
 use std::{env, io};
 use tm_base::Class;
@@ -20,8 +20,10 @@ fn words(rt: &HostRuntime) -> Result<Vec<String>, AllocError> {
     }
 }
 
-/// The jobs by their numbers: 0 is done, 1 and 2 arm again, 3 leaves a mark.
-fn jobs(alloc: Global) -> Result<JobTable, AllocError> {
+/// Runs the program with its four jobs. By their numbers: 0 is done, 1 and 2 arm again, 3 leaves a mark.
+fn run(rt: &HostRuntime) -> Result<Status, AllocError> {
+    let alloc = rt.alloc();
+    let words = words(rt)?;
     let mut jobs: Vec<Box<dyn Job + Send + Sync>> = Vec::new(alloc);
     jobs.push(Box::new(alloc, OneShot)?)?;
     jobs.push(Box::new(
@@ -37,20 +39,15 @@ fn jobs(alloc: Global) -> Result<JobTable, AllocError> {
         },
     )?)?;
     jobs.push(Box::new(alloc, Marker)?)?;
-    Ok(JobTable::new(jobs))
-}
-
-/// The words and the jobs.
-fn given(rt: &HostRuntime) -> Result<(Vec<String>, JobTable), AllocError> {
-    Ok((words(rt)?, jobs(rt.alloc())?))
+    let jobs = JobTable::new(jobs);
+    let mut source = StdSource::new(rt.reader());
+    let mut sink = StdSink::new(io::writer(rt));
+    Ok(run_program(alloc, &words, &mut source, &mut sink, &jobs))
 }
 
 fn main(rt: HostRuntime) -> ExitCode {
-    let Ok((words, jobs)) = given(&rt) else {
-        return ExitCode::from(NO_MEMORY);
-    };
-    let mut source = StdSource::new(rt.reader());
-    let mut sink = StdSink::new(io::writer(&rt));
-    let status = run_program(rt.alloc(), &words, &mut source, &mut sink, &jobs);
-    ExitCode::from(status.0)
+    match run(&rt) {
+        Ok(status) => ExitCode::from(status.0),
+        Err(AllocError) => ExitCode::from(NO_MEMORY),
+    }
 }
