@@ -1,4 +1,4 @@
--- from its leaf upwards a timer is told, until it is held, answered for at an idle top, or carried
+-- for crates above: from its leaf upwards a timer is told, until it is held, answered for at an idle top, or carried
 use Rattle.std.proofs.Common.{◌≡◌, inl, inr, ℕ, zero, suc, ◌+◌, ◌≤◌, cond, Bool, true, false}
 use Rattle.std.proofs.Common.{Option, Some, None, refl, sym, ap, ◌∙◌, subst, arith}
 use Rattle.std.specs.Prelude.{is_none, is_some, option_and_then, option_map}

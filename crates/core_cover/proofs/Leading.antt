@@ -1,4 +1,4 @@
--- where the migrators of an active group lead
+-- for crates above: where the migrators of an active group lead
 use Rattle.std.proofs.Common.{◌≡◌, ◌⊎◌, inl, inr, ℕ, zero, suc, ◌+◌, ◌<◌, ◌≤◌, Bool, true, false}
 use Rattle.std.proofs.Common.{Option, Some, None, refl, sym, ap, ◌∙◌, subst, arith}
 use Rattle.std.specs.Prelude.{◌&&◌, is_some, option_and_then, option_map, if◌then◌else◌}

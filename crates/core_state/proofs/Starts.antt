@@ -1,5 +1,5 @@
 -- the start
-use Rattle.std.proofs.Common.{◌≡◌, ℕ, suc, ◌+◌, ◌^◌, ◌≤◌, List, [], ◌∷◌, ◌++◌, Option, None, length, sym, ap, ◌∙◌, subst, arith, get_or, inl, inr}
+use Rattle.std.proofs.Common.{◌<◌, ◌≡◌, ℕ, suc, ◌+◌, ◌^◌, List, [], ◌∷◌, ◌++◌, Option, None, length, sym, ap, ◌∙◌, subst, arith, get_or, inl, inr}
 use Rattle.std.specs.Prelude.{All, map, replicate}
 use Rattle.std.specs.List.{range_with_len}
 use Rattle.std.proofs.lemmas.Bool.{cases_lt}
@@ -69,7 +69,7 @@ no_note n timer = elim (cases_lt timer n) [
 pub start_kept : (t : Shape) (timers count : ℕ) (holders : List (Option CpuId)) (groups : List Group)
     (cpus : List CpuRecord) → IsPlanned t → count ≡ cpu_count_of t
     → groups ≡ map (λ g. start_group (child_count_of t g)) (range_with_len 0 (group_count_of t))
-    → cpus ≡ replicate count start_cpu → holders ≡ replicate timers None → StartsLawful → timers ≤ 2 ^ 16
+    → cpus ≡ replicate count start_cpu → holders ≡ replicate timers None → StartsLawful → timers < 2 ^ 16
     → IsKept (world_of t (length holders) 0 groups cpus) holders
 start_kept t timers count holders groups cpus planned sized of_groups of_cpus of_timers law few =
     let start_is : world_of t (length holders) 0 groups cpus ≡ start_of t timers = λ i.
@@ -79,10 +79,13 @@ start_kept t timers count holders groups cpus planned sized of_groups of_cpus of
       fits = record {
         planned = planned;
         in_time = omega arith;
+        few =
+            let same = ap length of_timers ∙ length-replicate timers no_holder in
+            omega (arith, same, few);
         lawful =
             subst IsLawful (sym start_is)
             (subst (λ u. IsLawful (start_of u timers)) (sym planned.tree)
-            (law t.nodes t.cpus timers t.isolated planned.limits few));
+            (law t.nodes t.cpus timers t.isolated planned.limits (omega (arith, few))));
       };
       held = λ timer c.
           subst (λ ys. is_queued timer (get_or ys c no_cpu).bases ≡ holds (noted holders timer) c) (sym of_cpus)

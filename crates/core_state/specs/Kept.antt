@@ -27,10 +27,11 @@ world_of tree timers clock groups cpus = record {
 abbrev pub HasLevel : Shape → (c l : ℕ) → Type 0
 HasLevel t c l = (g : ℕ) × (group_at_of t c l ≡ Some g)
 
--- THE INVARIANT, with a planned tree and a time in range
+-- THE INVARIANT, with a planned tree, a time in range, and a number for each timer
 pub record WorldFits (w : World) : Type 0 where
   pub planned : IsPlanned w.tree
   pub in_time : w.clock < 2 ^ 47 - 2
+  pub few : w.timers < 2 ^ 16
   pub lawful : IsLawful w
 
 -- and after each step that is enabled

@@ -24,6 +24,13 @@ impl<B: TimerBase> Core<B> {
         self.clock
     }
 
+    /// How many timers there are.
+    pub fn timers(&self) -> u16
+        ensures { result ≡ self.now.timers }
+    {
+        self.holders.len() as u16
+    }
+
     /// The tree of its groups. Its contract also says that every core is lawful.
     pub fn tree(&self) -> &Tree
         ensures tree { result.now ≡ self.now.tree }

@@ -1,4 +1,4 @@
--- entries by their kind: what each leaves queued of a timer
+-- for crates above: entries by their kind: what each leaves queued of a timer
 use Rattle.std.proofs.Common.{◌≡◌, ℕ, ◌≤◌, true, false, List, [], ◌∷◌}
 use Rattle.std.proofs.Common.{◌++◌, None, refl, ap, ◌∙◌, ◌⊎◌, inl}
 use Rattle.std.proofs.Common.{inr}

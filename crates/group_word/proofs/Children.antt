@@ -1,4 +1,4 @@
--- what the exchanges do to the set of active children and to the migrator
+-- for crates above: what the exchanges do to the set of active children and to the migrator
 use Rattle.std.proofs.Common.{◌≡◌, ◌≢◌, ◌↔◌, ◌==◌, ℕ, ◌^◌, ◌*◌, ◌%◌, ◌-◌, ◌<◌, inl, inr, Option, Some, None, true, refl, sym, subst, ◌∙◌, arith, bit_or, bit_and}
 use Rattle.std.specs.Int.{bit_at, trailing_zeros, w8}
 use Rattle.std.specs.Option.{option_or}

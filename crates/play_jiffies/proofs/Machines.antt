@@ -1,4 +1,4 @@
--- what holds of each CPU of a state, as the bases of one of them change
+-- for crates above: what holds of each CPU of a state, as the bases of one of them change
 use Rattle.std.proofs.Common.{◌≡◌, ℕ, ◌+◌, ◌^◌, ◌<◌, [], true, false, Option, Some, None, refl, sym}
 use Rattle.std.proofs.Common.{ap, ◌∙◌, subst, arith, inl, inr, length}
 use Rattle.std.specs.Prelude.{is_some, option_and_then, option_map}

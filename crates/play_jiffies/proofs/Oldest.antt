@@ -1,4 +1,4 @@
--- which timer of a CPU moves first, and how many are queued on it
+-- for crates above: which timer of a CPU moves first, and how many are queued on it
 use Rattle.std.proofs.Common.{◌≡◌, ℕ, ◌+◌, ◌≤◌, List, [], ◌∷◌}
 use Rattle.std.proofs.Common.{Option, Some, None, refl, sym, ap, ◌∙◌, subst, arith, inl, inr}
 use Rattle.std.proofs.Common.{length}

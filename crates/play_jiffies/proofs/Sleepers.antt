@@ -1,4 +1,4 @@
--- whom a look finds asleep, as the times that were told change
+-- for crates above: whom a look finds asleep, as the times that were told change
 use Rattle.std.proofs.Common.{◌≡◌, ℕ, zero, suc, ◌+◌, ◌<◌, ◌≤◌, List, [], ◌∷◌, Bool, true, false}
 use Rattle.std.proofs.Common.{Option, Some, None, refl, sym, ap, ◌∙◌, arith, inl, inr, length, min}
 use Rattle.std.specs.Prelude.{◌⊎◌, ◌&&◌, ◌==◌, ◌||◌, not, filter, find, nat_le, option_and_then}

@@ -1,4 +1,4 @@
--- timers by steps: a drain, an arming and a cancelling, as Play has them
+-- for crates above: timers by steps: a drain, an arming and a cancelling, as Play has them
 use Rattle.std.proofs.Common.{◌≡◌, ◌⊎◌, ℕ, ◌+◌, ◌-◌, ◌^◌, ◌<◌, true, length, Some, None}
 use Rattle.std.proofs.Common.{sym, ap, ◌∙◌, subst, arith}
 use Rattle.std.specs.Prelude.{All}

@@ -1,4 +1,4 @@
--- the bases of a CPU: what a drain hands out, and what stays behind no clock
+-- for crates above: the bases of a CPU: what a drain hands out, and what stays behind no clock
 use Rattle.std.proofs.Common.{◌≡◌, ℕ, zero, suc, ◌+◌, ◌-◌, ◌<◌, ◌≤◌, true, false, []}
 use Rattle.std.proofs.Common.{◌∷◌, length, Option, Some, None, refl, sym, ap, ◌∙◌, subst, arith}
 use Rattle.std.proofs.Common.{inl, inr}

@@ -1,4 +1,4 @@
--- a whole drain by steps, one hand-out at a time
+-- for crates above: a whole drain by steps, one hand-out at a time
 use Rattle.std.proofs.Common.{◌≡◌, ◌⊎◌, ℕ, zero, suc, ◌≤◌, List, []}
 use Rattle.std.proofs.Common.{length, Some, None, refl, sym, ap, ◌∙◌, subst, arith, inl, inr}
 use Rattle.std.specs.Prelude.{option_map}

@@ -1,4 +1,4 @@
--- where a timer is queued, as Play looks for it
+-- for crates above: where a timer is queued, as Play looks for it
 use Rattle.std.proofs.Common.{◌≡◌, ℕ, ◌<◌, true, false, length, Option, Some, None, refl}
 use Rattle.std.proofs.Common.{sym, ap, ◌∙◌, subst, inl, inr, arith}
 use Rattle.std.specs.Prelude.{is_some, option_and_then, option_map}

@@ -1,4 +1,4 @@
--- who may go idle and offline, who hands on to whom, and who takes control
+-- for crates above: who may go idle and offline, who hands on to whom, and who takes control
 use Rattle.std.proofs.Common.{◌≡◌, ◌≢◌, ℕ, ◌+◌, ◌<◌, Bool, true, false, length, Option, Some}
 use Rattle.std.proofs.Common.{None, refl, sym, ap, ◌∙◌, subst, arith, inl, inr}
 use Rattle.std.specs.Prelude.{◌&&◌, ◌==◌, find, if◌then◌else◌, is_none, min, nat_le, nat_lt, not}

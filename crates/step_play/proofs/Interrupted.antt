@@ -1,4 +1,4 @@
--- each rule of an interrupt by steps, at its stage
+-- for crates above: each rule of an interrupt by steps, at its stage
 use Rattle.std.proofs.Common.{◌≡◌, ℕ, ◌+◌, ◌<◌, ◌≤◌, Bool, true, false, length}
 use Rattle.std.proofs.Common.{None, refl, sym, ap, ◌∙◌, subst, arith, inl, inr, max}
 use Rattle.std.specs.Prelude.{All, if◌then◌else◌, filter}

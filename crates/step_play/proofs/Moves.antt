@@ -1,4 +1,4 @@
--- a timer moves from a CPU that is offline to an active one
+-- for crates above: a timer moves from a CPU that is offline to an active one
 use Rattle.std.proofs.Common.{◌≡◌, ◌≢◌, ℕ, ◌+◌, ◌<◌, true, false, length, set}
 use Rattle.std.proofs.Common.{Option, Some, None, refl, sym, ap, ◌∙◌, subst, arith, inl, inr, ◌⊎◌}
 use Rattle.std.specs.Prelude.{not, option_map}

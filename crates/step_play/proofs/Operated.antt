@@ -1,4 +1,4 @@
--- each operation by steps, at its stage
+-- for crates above: each operation by steps, at its stage
 use Rattle.std.proofs.Common.{◌≡◌, ℕ, suc, ◌+◌, ◌^◌, ◌<◌, true, false, length, Some, None}
 use Rattle.std.proofs.Common.{refl, sym, ap, ◌∙◌, subst, arith, inl}
 use Rattle.std.specs.Prelude.{◌&&◌, if◌then◌else◌, is_some, nat_le, not}

@@ -1,4 +1,4 @@
--- a CPU enters its interrupt, takes another one there, and hands on its duty
+-- for crates above: a CPU enters its interrupt, takes another one there, and hands on its duty
 use Rattle.std.proofs.Common.{◌≡◌, ◌≢◌, ℕ, ◌<◌, ◌≤◌, true, false, length, Option, Some, None}
 use Rattle.std.proofs.Common.{refl, sym, ap, ◌∙◌, subst, arith, inl, inr}
 use Rattle.std.specs.Prelude.{◌&&◌, ◌==◌, is_none, nat_le, not}

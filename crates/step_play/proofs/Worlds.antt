@@ -1,4 +1,4 @@
--- a world of which one CPU is written, and what Play sees of it
+-- for crates above: a world of which one CPU is written, and what Play sees of it
 use Rattle.std.proofs.Common.{◌≡◌, ◌≢◌, ℕ, ◌<◌, false, length, length-set, set, Option, Some, None}
 use Rattle.std.proofs.Common.{refl, sym, ap, ◌∙◌, subst, inl, inr, arith}
 use Rattle.std.specs.Prelude.{◌&&◌}
