@@ -126,7 +126,8 @@ fn make_call<B: TimerBase>(bases: &mut Bases<B>, call: &BasesCall) -> Result<Bas
 /// journal would. The bases agree with the journal then and are its replay, from empty bases where
 /// they were that before; and where the journal was legal, each call is given a time that isn't
 /// before the last, and a CPU's pinned and deferrable timers are handed out by itself, it still is.
-/// Want of memory comes from a `reserve` or from the list of answers; the calls before it were made.
+/// Want of memory comes from a `reserve` or from the list of answers; the calls before it were
+/// made.
 pub fn make_calls<B: TimerBase>(
     alloc: Global,
     bases: &mut Bases<B>,

@@ -1,10 +1,12 @@
 -- who answers for the first global timer of an idle CPU
-use Rattle.std.specs.Prelude.{ℕ, zero, suc, ◌-◌, ◌&&◌, [], Bool, Option, Some, None, if◌then◌else◌, filter, find, is_some, nat_le, option_and_then, option_map}
+use Rattle.std.specs.Prelude.{ℕ, zero, suc, ◌-◌, ◌&&◌, [], Bool, Option, Some, None, if◌then◌else◌}
+use Rattle.std.specs.Prelude.{filter, find, is_some, nat_le, option_and_then, option_map}
 use Rattle.tm_base.specs.declared.names.Child.{Child}
 use Rattle.tm_base.specs.declared.names.Child.TheVariants.{Cpu, Group}
 use Rattle.tm_report.specs.declared.lines.ShownCover.{ShownCover}
 use Rattle.tm_report.specs.declared.lines.ShownCover.TheVariants as covers
-use Rattle.tree_plan.specs.Paths.{child_at, child_towards, is_under, level_count_of, level_of, path_of, place_of}
+use Rattle.tree_plan.specs.Paths.{child_at, child_towards, is_under, level_count_of, level_of}
+use Rattle.tree_plan.specs.Paths.{path_of, place_of}
 use Rattle.wheel_core.specs.PlainBase.{least}
 use Rattle.play_rules.specs.declared.asks.Answerer.{Answerer}
 use Rattle.play_rules.specs.State.{State, all_cpus, cpu_at, migrator_at}
@@ -34,7 +36,8 @@ by_migrator s g m = covers.Migrator (level_of s.tree g) (place_of s.tree g) (rec
 abbrev pub by_wakeup : State → (d : ℕ) → ShownCover
 by_wakeup s d = covers.Wake (record { 0 = d }) (cpu_at s d).wakeup
 
--- the least that was told below the child of the top towards the CPU, which is the CPU itself where the top is its leaf
+-- the least that was told below the child of the top towards the CPU, which is the CPU itself where
+-- the top is its leaf
 abbrev pub told_below : State → Option Child → ℕ
 told_below s None = least_told s []
 told_below s (Some m) = least_told s (filter (λ d. is_under s.tree d m) (all_cpus s))
@@ -54,8 +57,8 @@ abbrev pub cover_above : State → (c : ℕ) → Option ℕ → Option ShownCove
 cover_above s c None = option_map (by_wakeup s) (waker_by s (told_to_top s c))
 cover_above s c (Some g) = option_map (by_migrator s g) (led_to s g)
 
--- the CPU itself where its wakeup isn't past W; else the CPU to which the migrators lead from the lowest active group of
--- its path; else that waker
+-- the CPU itself where its wakeup isn't past W; else the CPU to which the migrators lead from the
+-- lowest active group of its path; else that waker
 abbrev pub cover_for : State → (c wheel : ℕ) → Option ShownCover
 cover_for s c wheel =
     if nat_le (cpu_at s c).wakeup wheel then Some (by_wakeup s c)

@@ -1,12 +1,16 @@
 -- how CPUs go idle and wake in the tree of groups, what they wake for, and whom they look after
-use Rattle.std.specs.Prelude.{ℕ, ◌&&◌, List, Bool, true, false, not, Option, Some, None, if◌then◌else◌, filter, find, map, min, nat_le, option_and_then, option_map, position, ◌==◌}
+use Rattle.std.specs.Prelude.{ℕ, ◌&&◌, List, Bool, true, false, not, Option, Some, None}
+use Rattle.std.specs.Prelude.{if◌then◌else◌, filter, find, map, min, nat_le, option_and_then}
+use Rattle.std.specs.Prelude.{option_map, position, ◌==◌}
 use Rattle.std.specs.List.{fold, list_any, range_with_len}
 use Rattle.tm_base.specs.declared.names.TheConstants.{NEVER}
 use Rattle.tm_base.specs.declared.names.Child.{Child}
 use Rattle.tree_plan.specs.Shape.{Shape}
-use Rattle.tree_plan.specs.Paths.{bit_of, child_towards, children_of, group_at_of, group_count_of, is_below, is_placed_in, is_under, level_of}
+use Rattle.tree_plan.specs.Paths.{bit_of, child_towards, children_of, group_at_of, group_count_of}
+use Rattle.tree_plan.specs.Paths.{is_below, is_placed_in, is_under, level_of}
 use Rattle.cpu_bases.specs.CpuBases.{events_of}
-use Rattle.play_rules.specs.State.{State, all_cpus, cpu_at, has_group, is_active, migrator_at, with_cpu}
+use Rattle.play_rules.specs.State.{State, all_cpus, cpu_at, has_group, is_active, migrator_at}
+use Rattle.play_rules.specs.State.{with_cpu}
 
 -- the number is there and is this one
 abbrev pub is_number : Option ℕ → ℕ → Bool
@@ -35,7 +39,8 @@ inactive_child s (Some m) = not (child_active s m)
 abbrev pub with_migrators : State → (ℕ → Option ℕ) → State
 with_migrators s rule = record s { migrators = map rule (range_with_len 0 (group_count_of s.tree)) }
 
--- WAKE: each inactive group of the path takes the child towards the CPU as its migrator; then the CPU is active
+-- WAKE: each inactive group of the path takes the child towards the CPU as its migrator; then the
+-- CPU is active
 abbrev pub woken_migrator : State → (c g : ℕ) → Option ℕ
 woken_migrator s c g =
     if is_below s.tree c g && not (group_active s g) then number_towards s.tree c g
@@ -46,11 +51,12 @@ woken s c =
     with_cpu (with_migrators s (woken_migrator s c)) c
     (record (cpu_at s c) { idle = false; wakeup = NEVER; told = NEVER })
 
--- REST: each group of the path whose migrator is the child towards the CPU, where that child is now inactive, takes its
--- lowest active child, or none
+-- REST: each group of the path whose migrator is the child towards the CPU, where that child is now
+-- inactive, takes its lowest active child, or none
 abbrev pub gives_up : State → (c g : ℕ) → Option ℕ → Bool
 gives_up s c g None = false
-gives_up s c g (Some k) = is_number (number_towards s.tree c g) k && inactive_child s (towards s.tree c g)
+gives_up s c g (Some k) =
+    is_number (number_towards s.tree c g) k && inactive_child s (towards s.tree c g)
 
 abbrev pub lowest_active_child : State → (g : ℕ) → Option ℕ
 lowest_active_child s g = position (child_active s) (children_of s.tree g)
@@ -78,8 +84,9 @@ next_of s c = (events_of (cpu_at s c).bases).next
 abbrev pub first_event : State → (c : ℕ) → ℕ
 first_event s c = min (pin_of s c) (events_of (cpu_at s c).bases).first_global
 
--- DUTY: what an idle CPU has to wake for beside its pinned timers. Where it has a group that is the least that was told,
--- as long as no placed CPU is active to answer for it; else its own first event
+-- DUTY: what an idle CPU has to wake for beside its pinned timers. Where it has a group that is the
+-- least that was told, as long as no placed CPU is active to answer for it; else its own first
+-- event
 abbrev pub least_told : State → List ℕ → ℕ
 least_told s cpus = fold (λ least c. min least (cpu_at s c).told) NEVER cpus
 
@@ -105,7 +112,8 @@ idled s c = programmed (rested s c (next_of s c)) c
 
 -- a CPU with a group tells its leaf its first event again
 abbrev pub told_again : State → (c : ℕ) → State
-told_again s c = with_cpu s c (record (cpu_at s c) { told = if has_group s c then next_of s c else NEVER })
+told_again s c =
+    with_cpu s c (record (cpu_at s c) { told = if has_group s c then next_of s c else NEVER })
 
 -- RE-EVALUATION of an idle CPU: what it tells, and then its wakeup
 abbrev pub reevaluated : State → (c : ℕ) → State
@@ -120,7 +128,8 @@ gone_offline s c =
 abbrev pub come_online : State → (c : ℕ) → State
 come_online s c = woken (with_cpu s c (record (cpu_at s c) { online = true })) c
 
--- THE LOOK: a CPU looks after its group at a level where the group has no migrator or the child towards it is the migrator
+-- THE LOOK: a CPU looks after its group at a level where the group has no migrator or the child
+-- towards it is the migrator
 abbrev pub looks_at : Shape → (c g : ℕ) → Option ℕ → Bool
 looks_at t c g None = true
 looks_at t c g (Some k) = is_number (number_towards t c g) k
@@ -132,8 +141,8 @@ looks_after_where s c (Some g) = looks_at s.tree c g (migrator_at s g)
 abbrev pub looks_after : State → (c level : ℕ) → Bool
 looks_after s c level = looks_after_where s c (group_at_of s.tree c level)
 
--- of the CPUs below the inactive children of a group that told a time which has come, the leftmost of those that told the
--- least
+-- of the CPUs below the inactive children of a group that told a time which has come, the leftmost
+-- of those that told the least
 abbrev pub is_due_sleeper : State → (g d : ℕ) → Bool
 is_due_sleeper s g d = nat_le (cpu_at s d).told s.clock && inactive_child s (towards s.tree d g)
 

@@ -1,5 +1,6 @@
 -- the shape of an interrupt, over any rules
-use Rattle.std.specs.Prelude.{ℕ, zero, suc, ◌+◌, List, [], ◌∷◌, Bool, true, false, Option, Some, None, filter, min, ◌^◌, ◌-◌}
+use Rattle.std.specs.Prelude.{ℕ, zero, suc, ◌+◌, List, [], ◌∷◌, Bool, true, false, Option, Some}
+use Rattle.std.specs.Prelude.{None, filter, min, ◌^◌, ◌-◌}
 use Rattle.std.specs.List.{range_with_len}
 use Rattle.std.specs.Ordering.{nat_cmp}
 use Rattle.std.specs.FinSet as set
@@ -42,7 +43,14 @@ having_interrupt r s = set.from_list (filter (r.has_interrupt s) (range_with_len
 -- what is armed again is the item's timer, by no line of the script; a delay has 32 bits
 abbrev pub arming_again : Item → Class → (delay : ℕ) → Arming
 arming_again item class delay =
-    record { timer = timer_id item.id; class = class; delay = min delay (2 ^ 32 - 1); job = item.job; arg = item.arg; line = 0 }
+    record {
+      timer = timer_id item.id;
+      class = class;
+      delay = min delay (2 ^ 32 - 1);
+      job = item.job;
+      arg = item.arg;
+      line = 0;
+    }
 
 module _ {S : Type 0} where
   abbrev pub replied : ShownReply → S → Replied S
@@ -52,7 +60,8 @@ module _ {S : Type 0} where
   armed_again class placed = replied (shown.Again class placed.wheel) placed.state
 
 module _ {S : Type 0} (r : Rules S) where
-  -- JOBS: a job that asks for its timer again gets it armed on the runner, unless it is queued by then
+  -- JOBS: a job that asks for its timer again gets it armed on the runner, unless it is queued by
+  -- then
   abbrev pub again : Option Queued → (runner : ℕ) → Item → Class → (delay : ℕ) → S → Replied S
   again None runner item class delay s =
       armed_again class (r.armed s runner (arming_again item class delay))
@@ -75,7 +84,11 @@ module _ {S : Type 0} (r : Rules S) where
 
   abbrev pub ran : S → (home runner : ℕ) → Item → Replied S → Played S
   ran s home runner item answer =
-      record { lines = run_line s home runner item answer.reply ∷ []; work = 1; state = answer.state }
+      record {
+        lines = run_line s home runner item answer.reply ∷ [];
+        work = 1;
+        state = answer.state;
+      }
 
 module _ {S : Type 0} (jobs : Replies) (r : Rules S) where
   abbrev pub reply_to : (runner : ℕ) → Item → S → Replied S
@@ -86,9 +99,11 @@ module _ {S : Type 0} (jobs : Replies) (r : Rules S) where
 
   unfoldable pub run_jobs : (home runner : ℕ) → List Item → S → Played S
   run_jobs home runner [] s = silent s
-  run_jobs home runner (item ∷ items) s = and_then (run_job home runner item s) (run_jobs home runner items)
+  run_jobs home runner (item ∷ items) s =
+      and_then (run_job home runner item s) (run_jobs home runner items)
 
-  -- A DRAIN: all that is due of a base of CPU `home` is taken out, and then its jobs run on CPU `runner` in that order
+  -- A DRAIN: all that is due of a base of CPU `home` is taken out, and then its jobs run on CPU
+  -- `runner` in that order
   abbrev pub run_drained : (home runner : ℕ) → Drained S → Played S
   run_drained home runner out = run_jobs home runner out.items out.state
 
@@ -104,7 +119,8 @@ module _ {S : Type 0} (jobs : Replies) (r : Rules S) where
   try c d s = try_where (r.takes s c d) c d s
 
   -- after CPU d was tried the look begins again
-  abbrev pub look_at : Option ℕ → (c : ℕ) → (set.FinSet nat_cmp → S → Played S) → set.FinSet nat_cmp → S → Played S
+  abbrev pub look_at : Option ℕ → (c : ℕ) → (set.FinSet nat_cmp → S → Played S)
+      → set.FinSet nat_cmp → S → Played S
   look_at None c rest tried s = silent s
   look_at (Some d) c rest tried s = and_then (try c d s) (rest (set.insert tried d))
 

@@ -1,5 +1,6 @@
 -- the shape of a play, over any rules: its moments, and what is told at the end
-use Rattle.std.specs.Prelude.{ℕ, zero, suc, ◌+◌, All, Bool, true, false, List, [], ◌∷◌, ◌++◌, Option, Some, None, ◌==◌, if◌then◌else◌, max, min, nat_le}
+use Rattle.std.specs.Prelude.{ℕ, zero, suc, ◌+◌, All, Bool, true, false, List, [], ◌∷◌, ◌++◌}
+use Rattle.std.specs.Prelude.{Option, Some, None, ◌==◌, if◌then◌else◌, max, min, nat_le}
 use Rattle.std.specs.List.{flat_map}
 use Rattle.std.specs.Ordering.{nat_cmp}
 use Rattle.std.specs.FinSet.{FinSet}
@@ -33,13 +34,15 @@ next_said [] end = end
 next_said (m ∷ ms) end = m.at
 
 module _ {S : Type 0} (r : Rules S) where
-  -- what the script has for a moment: its operations in line order, the timers of a CPU that went offline, the covers
+  -- what the script has for a moment: its operations in line order, the timers of a CPU that went
+  -- offline, the covers
   abbrev pub scripted : Option Moment → S → Played S
   scripted None s = silent s
   scripted (Some m) s =
       and_then (and_then (operations r m.ops s) (clear_after r (leaver m.ops))) (covers r)
 
-  -- THE NEXT MOMENT: the next interrupt, the script's next moment or the end, whatever comes first, but not this jiffy
+  -- THE NEXT MOMENT: the next interrupt, the script's next moment or the end, whatever comes first,
+  -- but not this jiffy
   abbrev pub next_moment : (end : ℕ) → List Moment → S → ℕ
   next_moment end ms s = max (r.clock s + 1) (min (r.next_interrupt s) (next_said ms end))
 
@@ -50,9 +53,11 @@ module _ {S : Type 0} where
   turn_then false rest t = t ∷ rest t.played.state
 
 module _ {S : Type 0} (jobs : Replies) (r : Rules S) where
-  -- A MOMENT: the interrupts of the CPUs that are due one, by ascending number, and what the script has for it
+  -- A MOMENT: the interrupts of the CPUs that are due one, by ascending number, and what the script
+  -- has for it
   abbrev pub moment : (due : FinSet nat_cmp) → Option Moment → S → Played S
-  moment due m s = and_then (and_then (counting s) (interrupts jobs r (r.cpus s) 0 due)) (scripted r m)
+  moment due m s =
+      and_then (and_then (counting s) (interrupts jobs r (r.cpus s) 0 due)) (scripted r m)
 
   -- the moment of the time now
   abbrev pub moment_now : List Moment → (now : ℕ) → S → Played S
@@ -61,7 +66,8 @@ module _ {S : Type 0} (jobs : Replies) (r : Rules S) where
   abbrev pub turn : List Moment → (now : ℕ) → S → Turn S
   turn ms now s = record { at = now; played = moment_now ms now (r.at_clock now s) }
 
-  -- THE MOMENTS of a play from the time now to the end, n of them at most; `ms` are the script's, from now on
+  -- THE MOMENTS of a play from the time now to the end, n of them at most; `ms` are the script's,
+  -- from now on
   unfoldable pub turns : (n end now : ℕ) → List Moment → S → List (Turn S)
   turns zero end now ms s = []
   turns (suc n) end now ms s =

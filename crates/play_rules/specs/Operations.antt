@@ -1,5 +1,7 @@
 -- the shape of the operations of a moment, over any rules
-use Rattle.std.specs.Prelude.{ℕ, zero, suc, ◌+◌, ◌-◌, length, slice_get, List, [], ◌∷◌, Bool, true, false, ◌&&◌, Option, Some, None, if◌then◌else◌, is_none, nat_le, option_map, unwrap_or}
+use Rattle.std.specs.Prelude.{ℕ, zero, suc, ◌+◌, ◌-◌, length, slice_get, List, [], ◌∷◌, Bool, true}
+use Rattle.std.specs.Prelude.{false, ◌&&◌, Option, Some, None, if◌then◌else◌, is_none, nat_le}
+use Rattle.std.specs.Prelude.{option_map, unwrap_or}
 use Rattle.std.specs.Option.{option_or}
 use Rattle.tm_base.specs.declared.names.CpuId.{CpuId}
 use Rattle.tm_base.specs.declared.names.TimerId.{TimerId}
@@ -60,7 +62,8 @@ module _ {S : Type 0} (r : Rules S) where
 
   -- no other placed CPU is online
   abbrev pub last_online : S → (c : ℕ) → Option OpFault
-  last_online s c = if r.is_placed s c && is_none (r.successor s c) then Some faults.LastOnline else None
+  last_online s c =
+      if r.is_placed s c && is_none (r.successor s c) then Some faults.LastOnline else None
 
   abbrev pub refusal : What → (c : ℕ) → S → Option OpFault
   refusal (whats.Arm timer class delay job arg) c s =
@@ -100,7 +103,8 @@ module _ {S : Type 0} (r : Rules S) where
   -- OFFLINE: where it has to hand on its duty, it hands it on to the lowest other online placed CPU
   abbrev pub hand_on_to : Option ℕ → CpuId → S → Played S
   hand_on_to None cpu s = silent s
-  hand_on_to (Some d) cpu s = printing (lines.Handed (r.clock s) cpu (cpu_id d)) (r.handed_on s cpu.0 d)
+  hand_on_to (Some d) cpu s =
+      printing (lines.Handed (r.clock s) cpu (cpu_id d)) (r.handed_on s cpu.0 d)
 
   abbrev pub hand_on_where : Bool → CpuId → S → Played S
   hand_on_where false cpu s = silent s
@@ -110,7 +114,8 @@ module _ {S : Type 0} (r : Rules S) where
   hand_on cpu s = hand_on_where (r.hands_on s cpu.0) cpu s
 
   abbrev pub offline : CpuId → S → Played S
-  offline cpu s = and_then (printing (lines.Offline (r.clock s) cpu) (r.gone_offline s cpu.0)) (hand_on cpu)
+  offline cpu s =
+      and_then (printing (lines.Offline (r.clock s) cpu) (r.gone_offline s cpu.0)) (hand_on cpu)
 
   abbrev pub wake : CpuId → S → Played S
   wake cpu s = printing (lines.Wake (r.clock s) cpu) (r.woken s cpu.0)
@@ -121,7 +126,15 @@ module _ {S : Type 0} (r : Rules S) where
   -- an operation that isn't refused
   abbrev pub done : What → (line : ℕ) → CpuId → S → Played S
   done (whats.Arm timer class delay job arg) line cpu s =
-      arm cpu (record { timer = timer; class = class; delay = delay; job = job; arg = arg; line = line }) s
+      arm cpu
+      (record {
+        timer = timer;
+        class = class;
+        delay = delay;
+        job = job;
+        arg = arg;
+        line = line;
+      }) s
   done (whats.Cancel timer) line cpu s = cancel (record { timer = timer; by = cpu; line = line }) s
   done whats.Idle line cpu s = idle cpu s
   done whats.Wake line cpu s = wake cpu s
@@ -144,7 +157,8 @@ module _ {S : Type 0} (r : Rules S) where
   move_printed from to None rest s = silent s
   move_printed from to (Some m) rest s =
       and_then
-      (printing (lines.Moved (r.clock s) m.mover.timer (cpu_id from) (cpu_id to) m.mover.wheel) m.state)
+      (printing
+      (lines.Moved (r.clock s) m.mover.timer (cpu_id from) (cpu_id to) m.mover.wheel) m.state)
       rest
 
   unfoldable pub moves : (n from to : ℕ) → S → Played S
@@ -158,7 +172,8 @@ module _ {S : Type 0} (r : Rules S) where
   abbrev pub moves_to : Option ℕ → (from : ℕ) → S → Played S
   moves_to None from s = silent s
   moves_to (Some d) from s =
-      and_then (printing (lines.Control (r.clock s) (cpu_id d)) (r.controlling s d)) (move_all from d)
+      and_then
+      (printing (lines.Control (r.clock s) (cpu_id d)) (r.controlling s d)) (move_all from d)
 
   -- where nothing is queued on the CPU nothing happens
   abbrev pub clear_where : (queued : ℕ) → (from : ℕ) → S → Played S

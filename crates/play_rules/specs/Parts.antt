@@ -5,7 +5,8 @@ use Rattle.tm_report.specs.Lines.{report_text}
 use Rattle.play_rules.specs.declared.tally.Tally.{Tally}
 use Rattle.play_rules.specs.Tallies.{tallied_all}
 
--- the lines of a part; its work, which counts moments, interrupts and timers handed out; and the state after it
+-- the lines of a part; its work, which counts moments, interrupts and timers handed out; and the
+-- state after it
 pub record Played (S : Type 0) : Type 0 where
   pub lines : List Line
   pub work : ℕ
@@ -39,13 +40,15 @@ module _ {S : Type 0} where
 abbrev pub counted : ℕ → ℕ
 counted n = min (2 ^ 32 - 1) n
 
--- what was told so far: the report's text, how many lines of each kind it has, and the work that was done for it
+-- what was told so far: the report's text, how many lines of each kind it has, and the work that
+-- was done for it
 pub record Progress : Type 0 where
   pub text : List ℕ
   pub tally : Tally
   pub work : ℕ
 
--- the report has gained the lines of this part, the work is counted, and the machine is in the state that it leaves
+-- the report has gained the lines of this part, the work is counted, and the machine is in the
+-- state that it leaves
 pub record Prints {S : Type 0} (p : Played S) (old new : Progress) (after : S) : Type 0 where
   pub text : new.text ≡ old.text ++ report_text p.lines
   pub tally : new.tally ≡ tallied_all old.tally p.lines

@@ -1,5 +1,6 @@
 -- PLAY: the shape of a play under the rules of the plain machine
-use Rattle.std.specs.Prelude.{ℕ, ◌+◌, ◌&&◌, ◌||◌, List, Bool, not, Option, if◌then◌else◌, find, min, nat_le, nat_lt, true, ◌==◌}
+use Rattle.std.specs.Prelude.{ℕ, ◌+◌, ◌&&◌, ◌||◌, List, Bool, not, Option, if◌then◌else◌, find, min}
+use Rattle.std.specs.Prelude.{nat_le, nat_lt, true, ◌==◌}
 use Rattle.std.specs.List.{fold, list_any}
 use Rattle.tm_base.specs.declared.names.TheConstants.{NEVER}
 use Rattle.tree_plan.specs.Shape.{tree_of}
@@ -8,8 +9,11 @@ use Rattle.tm_script.specs.declared.syntax.Script.{Script}
 use Rattle.tm_report.specs.Lines.{report_text}
 use Rattle.play_rules.specs.Rules.{Rules}
 use Rattle.play_rules.specs.State.{State, all_cpus, cpu_at, cpu_count, has_group, is_active, start}
-use Rattle.play_rules.specs.Hierarchy.{come_online, duty, first_event, gone_offline, idled, is_placed, looks_after, named, reevaluated, told_again, woken}
-use Rattle.play_rules.specs.Timers.{armed_on, cancelled_on, controller, controlling, count_on, drained_on, moved, queued_on}
+use Rattle.play_rules.specs.Hierarchy.{come_online, duty, first_event, gone_offline, idled}
+use Rattle.play_rules.specs.Hierarchy.{is_placed, looks_after, named, reevaluated, told_again}
+use Rattle.play_rules.specs.Hierarchy.{woken}
+use Rattle.play_rules.specs.Timers.{armed_on, cancelled_on, controller, controlling, count_on}
+use Rattle.play_rules.specs.Timers.{drained_on, moved, queued_on}
 use Rattle.play_rules.specs.Covers.{cover_of}
 use Rattle.play_rules.specs.Interrupts.{Replies}
 use Rattle.play_rules.specs.Moments.{AfterEach, Turn, spent_at, turns, whole_lines}

@@ -1,4 +1,5 @@
--- what a play asks of a machine, as functions on its state. Times are in jiffies, and CPUs, timers and levels are numbers
+-- what a play asks of a machine, as functions on its state. Times are in jiffies, and CPUs, timers
+-- and levels are numbers
 use Rattle.std.specs.Prelude.{ℕ, List, Bool, Option}
 use Rattle.std.specs.Ordering.{nat_cmp}
 use Rattle.std.specs.FinSet.{FinSet}
@@ -40,12 +41,14 @@ pub record Rules (S : Type 0) : Type 0 where
   pub at_clock : (now : ℕ) → S → S
   pub has_interrupt : S → (c : ℕ) → Bool
   pub next_interrupt : S → ℕ
-  -- TIMERS: all that is due of a base is taken out for a runner; a timer that is queued nowhere is armed
+  -- TIMERS: all that is due of a base is taken out for a runner; a timer that is queued nowhere is
+  -- armed
   pub drained : S → (home : ℕ) → Class → (runner : ℕ) → Drained S
   pub armed : S → (c : ℕ) → Arming → Placed S
   pub cancelled : S → (home : ℕ) → Cancelling → S
-  -- INTERRUPTS: CPU c begins one; it looks after its group at a level; which CPU the look names there, besides those
-  -- tried; whether that CPU is taken or left alone; it is taken, and let go; the interrupt ends
+  -- INTERRUPTS: CPU c begins one; it looks after its group at a level; which CPU the look names
+  -- there, besides those tried; whether that CPU is taken or left alone; it is taken, and let go;
+  -- the interrupt ends
   pub entered : S → (c : ℕ) → S
   pub looks_after : S → (c level : ℕ) → Bool
   pub named : S → (c level : ℕ) → (tried : FinSet nat_cmp) → Option ℕ
@@ -57,15 +60,15 @@ pub record Rules (S : Type 0) : Type 0 where
   pub first_event : S → (c : ℕ) → ℕ
   pub idled : S → (c : ℕ) → S
   pub woken : S → (c : ℕ) → S
-  -- HOTPLUG: the lowest other online placed CPU; CPU c goes offline; whether it then has to hand on its duty; it hands it
-  -- on to d; c comes online
+  -- HOTPLUG: the lowest other online placed CPU; CPU c goes offline; whether it then has to hand on
+  -- its duty; it hands it on to d; c comes online
   pub successor : S → (c : ℕ) → Option ℕ
   pub gone_offline : S → (c : ℕ) → S
   pub hands_on : S → (c : ℕ) → Bool
   pub handed_on : S → (c d : ℕ) → S
   pub come_online : S → (c : ℕ) → S
-  -- MOVING what is queued on a CPU: how many timers; the controlling CPU; it is made active; it gets the first of them,
-  -- where there is one
+  -- MOVING what is queued on a CPU: how many timers; the controlling CPU; it is made active; it
+  -- gets the first of them, where there is one
   pub queued_on : S → (c : ℕ) → ℕ
   pub controller : S → Option ℕ
   pub controlling : S → (d : ℕ) → S

@@ -1,13 +1,15 @@
 -- the machine as Play sees it: plain data, with no walks
-use Rattle.std.specs.Prelude.{ℕ, ◌&&◌, List, Bool, true, false, not, Option, Some, None, length, replicate, slice_index_or, slice_set}
+use Rattle.std.specs.Prelude.{ℕ, ◌&&◌, List, Bool, true, false, not, Option, Some, None, length}
+use Rattle.std.specs.Prelude.{replicate, slice_index_or, slice_set}
 use Rattle.std.specs.List.{range_with_len}
 use Rattle.tm_base.specs.declared.names.TheConstants.{NEVER}
 use Rattle.tree_plan.specs.Shape.{Shape}
 use Rattle.tree_plan.specs.Paths.{cpu_count_of, group_count_of, has_group_in}
 use Rattle.cpu_bases.specs.CpuBases.{CpuBases, empty_bases}
 
--- one CPU: its flags, the wakeup that it programmed, what its leaf last heard of it, and its bases with their journal.
--- Times that don't come are `NEVER`; the wakeup and what was told of an active or offline CPU are
+-- one CPU: its flags, the wakeup that it programmed, what its leaf last heard of it, and its bases
+-- with their journal. Times that don't come are `NEVER`, as are the wakeup of an active or offline
+-- CPU and what it told
 pub record Cpu : Type 0 where
   pub online : Bool
   pub idle : Bool
@@ -15,7 +17,8 @@ pub record Cpu : Type 0 where
   pub told : ℕ
   pub bases : CpuBases
 
--- the clock in jiffies, how many timers there are, the tree, the CPUs, and each group's migrator by its child number
+-- the clock in jiffies, how many timers there are, the tree, the CPUs, and each group's migrator by
+-- its child number
 pub record State : Type 0 where
   pub clock : ℕ
   pub timers : ℕ
@@ -26,7 +29,8 @@ pub record State : Type 0 where
 abbrev pub new_cpu : Cpu
 new_cpu = record { online = true; idle = false; wakeup = NEVER; told = NEVER; bases = empty_bases }
 
--- the start at jiffy 0: every CPU is online and active, nothing is queued, and each group's migrator is its child 0
+-- the start at jiffy 0: every CPU is online and active, nothing is queued, and each group's
+-- migrator is its child 0
 abbrev pub start : Shape → (timers : ℕ) → State
 start tree timers = record {
   clock = 0;

@@ -34,7 +34,8 @@ abbrev pub armed_again : ShownReply → Bool
 armed_again (shown.Again class wheel) = true
 armed_again reply = false
 
--- a run counts besides where it was on another CPU than the timer's home, and as an arming where its job armed again
+-- a run counts besides where it was on another CPU than the timer's home, and as an arming where
+-- its job armed again
 abbrev pub tallied_run : Tally → (runner home : CpuId) → ShownReply → Tally
 tallied_run t runner home reply = record t {
   runs = one_more t.runs;
@@ -51,7 +52,8 @@ tallied t (lines.Idle now cpu until) = record t { idles = one_more t.idles }
 tallied t (lines.Stay now cpu first) = record t { stays = one_more t.stays }
 tallied t (lines.Wake now cpu) = record t { wakes = one_more t.wakes }
 tallied t (lines.Refused now cpu line number) = record t { refused = one_more t.refused }
-tallied t (lines.RefusedQueued now cpu line number holder) = record t { refused = one_more t.refused }
+tallied t (lines.RefusedQueued now cpu line number holder) =
+    record t { refused = one_more t.refused }
 tallied t (lines.Left timer cpu class wheel) = record t { left = one_more t.left }
 tallied t line = t
 

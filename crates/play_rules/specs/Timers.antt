@@ -1,11 +1,13 @@
 -- where timers are queued, and what arming, cancelling, draining and moving make of the machine
-use Rattle.std.specs.Prelude.{ℕ, zero, suc, ◌+◌, ◌&&◌, not, List, [], ◌∷◌, Option, Some, None, if◌then◌else◌, find, is_some, length, option_map, option_and_then}
+use Rattle.std.specs.Prelude.{ℕ, zero, suc, ◌+◌, ◌&&◌, not, List, [], ◌∷◌, Option, Some, None}
+use Rattle.std.specs.Prelude.{if◌then◌else◌, find, is_some, length, option_map, option_and_then}
 use Rattle.std.specs.Option.{option_or}
 use Rattle.tm_base.specs.declared.names.Class.{Class}
 use Rattle.tm_base.specs.declared.names.Class.TheVariants.{Pinned, Global, Deferrable}
 use Rattle.wheel_core.specs.declared.item.Item.{Item}
 use Rattle.wheel_core.specs.PlainBase.{PlainBase, next_out, taken}
-use Rattle.cpu_bases.specs.CpuBases.{CpuBases, armed, base_of, cancelled, class_in, drained, found_in, item_queued, moved_in, moved_out, oldest_in}
+use Rattle.cpu_bases.specs.CpuBases.{CpuBases, armed, base_of, cancelled, class_in, drained}
+use Rattle.cpu_bases.specs.CpuBases.{found_in, item_queued, moved_in, moved_out, oldest_in}
 use Rattle.play_rules.specs.declared.asks.Arming.{Arming}
 use Rattle.play_rules.specs.declared.asks.Cancelling.{Cancelling}
 use Rattle.play_rules.specs.declared.asks.Queued.{Queued}
@@ -51,13 +53,16 @@ drained_on s home class runner =
 -- ARMING by CPU c: its base is forwarded to the clock, and the timer is added
 abbrev pub armed_bases : State → (c : ℕ) → Arming → CpuBases
 armed_bases s c a =
-    armed s.clock a.class a.timer.0 (s.clock + a.delay) a.job a.arg a.line (record { 0 = c }) (bases_at s c)
+    armed s.clock a.class a.timer.0 (s.clock + a.delay) a.job a.arg a.line
+    (record { 0 = c }) (bases_at s c)
 
 abbrev pub armed_item : State → (c : ℕ) → Arming → Item
-armed_item s c a = item_queued s.clock a.class a.timer.0 (s.clock + a.delay) a.job a.arg (bases_at s c)
+armed_item s c a =
+    item_queued s.clock a.class a.timer.0 (s.clock + a.delay) a.job a.arg (bases_at s c)
 
 abbrev pub armed_on : State → (c : ℕ) → Arming → Placed State
-armed_on s c a = record { wheel = (armed_item s c a).wheel; state = with_bases s c (armed_bases s c a) }
+armed_on s c a =
+    record { wheel = (armed_item s c a).wheel; state = with_bases s c (armed_bases s c a) }
 
 -- CANCELLING: the timer goes out of the base of the CPU on which it is queued
 abbrev pub cancelled_on : State → (home : ℕ) → Cancelling → State
@@ -66,7 +71,8 @@ cancelled_on s home a =
 
 -- MOVING: pinned timers first, then global ones, then deferrable ones, each class in arming order
 abbrev pub oldest_of_class : Class → CpuBases → Option (Class × Item)
-oldest_of_class class bases = option_map (λ item. (class, item)) (oldest_in (base_of class bases).items)
+oldest_of_class class bases =
+    option_map (λ item. (class, item)) (oldest_in (base_of class bases).items)
 
 abbrev pub first_to_move : CpuBases → Option (Class × Item)
 first_to_move bases =
@@ -82,10 +88,13 @@ abbrev pub moved_into : State → (to : ℕ) → Class × Item → Moved State
 moved_into s to (class, item) = record {
   mover = record {
     timer = record { 0 = item.id };
-    wheel = (item_queued (s.clock + 1) class item.id item.expires item.job item.arg (bases_at s to)).wheel;
+    wheel =
+        (item_queued (s.clock + 1) class item.id item.expires item.job item.arg
+        (bases_at s to)).wheel;
   };
   state = with_bases s to
-      (moved_in s.clock class item.id item.expires item.job item.arg (record { 0 = to }) (bases_at s to));
+      (moved_in s.clock class item.id item.expires item.job item.arg
+      (record { 0 = to }) (bases_at s to));
 }
 
 abbrev pub moved_one : State → (from to : ℕ) → Class × Item → Moved State
@@ -97,9 +106,11 @@ moved s from to = option_map (moved_one s from to) (first_to_move (bases_at s fr
 abbrev pub count_on : State → (c : ℕ) → ℕ
 count_on s c =
     length (base_of Pinned (bases_at s c)).items
-    + (length (base_of Global (bases_at s c)).items + length (base_of Deferrable (bases_at s c)).items)
+    + (length (base_of Global (bases_at s c)).items
+    + length (base_of Deferrable (bases_at s c)).items)
 
--- the controlling CPU: the lowest online active placed CPU, or the lowest online placed one, which is then activated
+-- the controlling CPU: the lowest online active placed CPU, or the lowest online placed one, which
+-- is then activated
 abbrev pub controller : State → Option ℕ
 controller s =
     option_or

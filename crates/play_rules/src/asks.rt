@@ -51,7 +51,8 @@ pub struct Answerer {
     pub cover: ShownCover,
 }
 
-/// An operation that names a job which the table hasn't: the line of the script, and the number of the job.
+/// An operation that names a job which the table hasn't: the line of the script, and the number of
+/// the job.
 #[derive(Clone, Copy)]
 pub struct UnknownJob {
     pub line: u32,

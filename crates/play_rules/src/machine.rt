@@ -4,19 +4,23 @@ use crate::asks::{Answerer, Arming, Cancelling, Mover, Queued};
 use tm_base::{Class, CpuId, CpuSet, Jiffy, NoMemory, TimerId};
 use wheel_core::Item;
 
-/// A machine that plays by rules: each call is the rule of its name, on the state that the machine is in.
+/// A machine that plays by rules: each call is the rule of its name, on the state that the machine
+/// is in.
 ///
-/// CPUs and timers are in range. Calls that arm, cancel, hand out or move timers may want memory; what the machine is
-/// after that isn't said, and it is let go. Calls that change something are made in the right place of a moment: between
-/// operations, in a CPU's interrupt, there with another CPU taken, or where a CPU that went offline has to hand on its
-/// duty. A machine may rely on that; `Fit` says when its state fits a place.
+/// CPUs and timers are in range. Calls that arm, cancel, hand out or move timers may want memory;
+/// what the machine is after that isn't said, and it is let go. Calls that change something are
+/// made in the right place of a moment: between operations, in a CPU's interrupt, there with
+/// another CPU taken, or where a CPU that went offline has to hand on its duty. A machine may rely
+/// on that; `Fit` says when its state fits a place.
 pub trait Machine: Drop {
-    ghost use Rattle.std.specs.Prelude.{◌≡◌, ◌≢◌, ◌+◌, ◌<◌, ◌≤◌, All, None, Some, false, true, IfSome, OnOk, IfOk, option_map};
+    ghost use Rattle.std.specs.Prelude.{◌≡◌, ◌≢◌, ◌+◌, ◌<◌, ◌≤◌, All, None, Some, false, true};
+    ghost use Rattle.std.specs.Prelude.{IfSome, OnOk, IfOk, option_map};
     ghost use Rattle.tm_base.specs.declared.limits.TheConstants.{CPU_SET_SIZE, SCRIPT_TIME_LIMIT};
     ghost use Rattle.play_rules.specs.Rules.{Rules};
     ghost use Rattle.play_rules.specs.Machines.{IsTimerOf, Same, SameFlags, SameOnline, after_move};
     ghost use Rattle.play_rules.specs.Operations.{last_online};
-    ghost use Rattle.play_rules.specs.Phases.{FitsSome, IsUp, MayArmIn, MayDrain, Phase, StaysFit, after_offline, handing, inside, resting, serving};
+    ghost use Rattle.play_rules.specs.Phases.{FitsSome, IsUp, MayArmIn, MayDrain, Phase, StaysFit};
+    ghost use Rattle.play_rules.specs.Phases.{after_offline, handing, inside, resting, serving};
 
     /// The states, the rules, and the state that a machine is in.
     ghost World: { Type 0 };
@@ -69,10 +73,12 @@ pub trait Machine: Drop {
     /// The CPU on which a timer is queued; None exactly where it is queued nowhere.
     fn holder(&self, timer: TimerId) -> Option<CpuId>
         requires { timer.0 < rules.timers (world self.now) }
-        ensures holder { result ≡ option_map (λ held. held.cpu) (rules.queued (world self.now) timer.0) }
+        ensures holder { result ≡
+            option_map (λ held. held.cpu) (rules.queued (world self.now) timer.0) }
         ensures in_range { IfSome result (λ cpu. cpu.0 < rules.cpus (world self.now)) };
 
-    /// Where a timer is queued, with its class and wheel expiry; None exactly where it is queued nowhere.
+    /// Where a timer is queued, with its class and wheel expiry; None exactly where it is queued
+    /// nowhere.
     fn queued(&self, timer: TimerId) -> Option<Queued>
         requires { timer.0 < rules.timers (world self.now) }
         ensures { result ≡ rules.queued (world self.now) timer.0 };
@@ -99,17 +105,21 @@ pub trait Machine: Drop {
     fn next_interrupt(&self) -> Jiffy
         ensures { result ≡ rules.next_interrupt (world self.now) };
 
-    /// Takes out all timers of a base of CPU `home` that are due at the clock, for CPU `runner` to run their jobs, in
-    /// the order of hand-out (the kernel's `__run_timers`).
+    /// Takes out all timers of a base of CPU `home` that are due at the clock, for CPU `runner` to
+    /// run their jobs, in the order of hand-out (the kernel's `__run_timers`).
     fn drain(&mut self, home: CpuId, class: Class, runner: CpuId) -> Result<Vec<Item>, NoMemory>
         requires home { home.0 < rules.cpus (world self.old) }
         requires runner { runner.0 < rules.cpus (world self.old) }
         requires fit { FitsSome Fit (λ ph. MayDrain ph home.0 class runner.0) (world self.old) }
         ensures fit { OnOk result
-            (StaysFit Fit (λ ph. MayDrain ph home.0 class runner.0) (world self.old) (world self.new)) }
-        ensures items { IfOk result (λ out. out.items ≡ (rules.drained (world self.old) home.0 class runner.0).items) }
-        ensures timers { IfOk result (λ out. All (IsTimerOf (rules.timers (world self.old))) out.items) }
-        ensures state { OnOk result (world self.new ≡ (rules.drained (world self.old) home.0 class runner.0).state) }
+            (StaysFit Fit (λ ph. MayDrain ph home.0 class runner.0)
+            (world self.old) (world self.new)) }
+        ensures items { IfOk result (λ out.
+            out.items ≡ (rules.drained (world self.old) home.0 class runner.0).items) }
+        ensures timers { IfOk result (λ out.
+            All (IsTimerOf (rules.timers (world self.old))) out.items) }
+        ensures state { OnOk result
+            (world self.new ≡ (rules.drained (world self.old) home.0 class runner.0).state) }
         ensures same { OnOk result (Same rules (world self.old) (world self.new)) }
         ensures online { OnOk result (SameOnline rules (world self.old) (world self.new)) };
 
@@ -118,11 +128,15 @@ pub trait Machine: Drop {
         requires cpu { cpu.0 < rules.cpus (world self.old) }
         requires timer { arming.timer.0 < rules.timers (world self.old) }
         requires not_queued { rules.queued (world self.old) arming.timer.0 ≡ None }
-        requires fit { FitsSome Fit (λ ph. MayArmIn rules (world self.old) ph cpu.0) (world self.old) }
+        requires fit { FitsSome Fit
+            (λ ph. MayArmIn rules (world self.old) ph cpu.0) (world self.old) }
         ensures fit { OnOk result
-            (StaysFit Fit (λ ph. MayArmIn rules (world self.old) ph cpu.0) (world self.old) (world self.new)) }
-        ensures wheel { IfOk result (λ wheel. wheel ≡ (rules.armed (world self.old) cpu.0 arming).wheel) }
-        ensures state { OnOk result (world self.new ≡ (rules.armed (world self.old) cpu.0 arming).state) }
+            (StaysFit Fit (λ ph. MayArmIn rules (world self.old) ph cpu.0)
+            (world self.old) (world self.new)) }
+        ensures wheel { IfOk result (λ wheel.
+            wheel ≡ (rules.armed (world self.old) cpu.0 arming).wheel) }
+        ensures state { OnOk result
+            (world self.new ≡ (rules.armed (world self.old) cpu.0 arming).state) }
         ensures same { OnOk result (Same rules (world self.old) (world self.new)) }
         ensures online { OnOk result (SameOnline rules (world self.old) (world self.new)) };
 
@@ -131,10 +145,12 @@ pub trait Machine: Drop {
         requires home { home.0 < rules.cpus (world self.old) }
         requires timer { cancelling.timer.0 < rules.timers (world self.old) }
         requires by { cancelling.by.0 < rules.cpus (world self.old) }
-        requires queued { option_map (λ held. held.cpu) (rules.queued (world self.old) cancelling.timer.0) ≡ Some home }
+        requires queued { option_map (λ held. held.cpu)
+            (rules.queued (world self.old) cancelling.timer.0) ≡ Some home }
         requires fit { Fit resting (world self.old) }
         ensures fit { OnOk result (Fit resting (world self.new)) }
-        ensures state { OnOk result (world self.new ≡ rules.cancelled (world self.old) home.0 cancelling) }
+        ensures state { OnOk result
+            (world self.new ≡ rules.cancelled (world self.old) home.0 cancelling) }
         ensures same { OnOk result (Same rules (world self.old) (world self.new)) };
 
     /// An online CPU begins its interrupt.
@@ -147,8 +163,8 @@ pub trait Machine: Drop {
         ensures same { Same rules (world self.old) (world self.new) }
         ensures online { SameOnline rules (world self.old) (world self.new) };
 
-    /// Whether a CPU looks after its group at a level: it has one there, and the child towards the CPU is the migrator
-    /// or there is none. It is placed then.
+    /// Whether a CPU looks after its group at a level: it has one there, and the child towards the
+    /// CPU is the migrator or there is none. It is placed then.
     fn looks_after(&self, cpu: CpuId, level: u8) -> bool
         requires cpu { cpu.0 < rules.cpus (world self.now) }
         requires fit { Fit (inside cpu.0) (world self.now) }
@@ -159,7 +175,8 @@ pub trait Machine: Drop {
     fn named(&self, cpu: CpuId, level: u8, tried: &CpuSet) -> Option<CpuId>
         requires cpu { cpu.0 < rules.cpus (world self.now) }
         requires fit { Fit (inside cpu.0) (world self.now) }
-        ensures named { option_map (λ d. d.0) result ≡ rules.named (world self.now) cpu.0 level tried.now }
+        ensures named { option_map (λ d. d.0) result ≡
+            rules.named (world self.now) cpu.0 level tried.now }
         ensures in_range { IfSome result (λ d. d.0 < rules.cpus (world self.now)) };
 
     /// Whether CPU `cpu` takes CPU `other`, which its look named, or leaves it alone.
@@ -209,7 +226,8 @@ pub trait Machine: Drop {
         requires cpu { cpu.0 < rules.cpus (world self.old) }
         requires online { rules.is_online (world self.old) cpu.0 ≡ true }
         requires active { rules.is_idle (world self.old) cpu.0 ≡ false }
-        requires later { rules.clock (world self.old) + 1 < rules.first_event (world self.old) cpu.0 }
+        requires later { rules.clock (world self.old) + 1 <
+            rules.first_event (world self.old) cpu.0 }
         requires fit { Fit resting (world self.old) }
         ensures fit { Fit resting (world self.new) }
         ensures state { world self.new ≡ rules.idled (world self.old) cpu.0 }
@@ -231,22 +249,26 @@ pub trait Machine: Drop {
         ensures successor { option_map (λ d. d.0) result ≡ rules.successor (world self.now) cpu.0 }
         ensures in_range { IfSome result (λ d. d.0 < rules.cpus (world self.now)) };
 
-    /// An active CPU goes offline (the kernel's `tmigr_cpu_offline`), which isn't the last placed one that is online.
+    /// An active CPU goes offline (the kernel's `tmigr_cpu_offline`), which isn't the last placed
+    /// one that is online.
     fn go_offline(&mut self, cpu: CpuId)
         requires cpu { cpu.0 < rules.cpus (world self.old) }
         requires online { rules.is_online (world self.old) cpu.0 ≡ true }
         requires active { rules.is_idle (world self.old) cpu.0 ≡ false }
         requires missed { last_online rules (world self.old) cpu.0 ≡ None }
         requires fit { Fit resting (world self.old) }
-        ensures fit { Fit (after_offline (rules.hands_on (world self.new) cpu.0) cpu.0) (world self.new) }
+        ensures fit { Fit
+            (after_offline (rules.hands_on (world self.new) cpu.0) cpu.0) (world self.new) }
         ensures state { world self.new ≡ rules.gone_offline (world self.old) cpu.0 }
         ensures same { Same rules (world self.old) (world self.new) }
-        ensures succeeds { rules.successor (world self.new) cpu.0 ≡ rules.successor (world self.old) cpu.0 };
+        ensures succeeds { rules.successor (world self.new) cpu.0 ≡
+            rules.successor (world self.old) cpu.0 };
 
     /// Whether a CPU that went offline has to hand on its duty; it is placed then.
     fn hands_on(&self, cpu: CpuId) -> bool
         requires cpu { cpu.0 < rules.cpus (world self.now) }
-        requires fit { Fit (after_offline (rules.hands_on (world self.now) cpu.0) cpu.0) (world self.now) }
+        requires fit { Fit
+            (after_offline (rules.hands_on (world self.now) cpu.0) cpu.0) (world self.now) }
         ensures hands { result ≡ rules.hands_on (world self.now) cpu.0 }
         ensures placed { result ≡ true → rules.is_placed (world self.now) cpu.0 ≡ true };
 
@@ -292,8 +314,9 @@ pub trait Machine: Drop {
         ensures same { Same rules (world self.old) (world self.new) }
         ensures online { SameOnline rules (world self.old) (world self.new) };
 
-    /// The first timer of CPU `from`, which is offline, moves to CPU `to`, which is active and placed (the kernel's
-    /// `timers_dead_cpu`); None, with nothing changed, exactly where nothing is queued on `from`.
+    /// The first timer of CPU `from`, which is offline, moves to CPU `to`, which is active and
+    /// placed (the kernel's `timers_dead_cpu`); None, with nothing changed, exactly where nothing
+    /// is queued on `from`.
     fn move_first(&mut self, from: CpuId, to: CpuId) -> Result<Option<Mover>, NoMemory>
         requires from { from.0 < rules.cpus (world self.old) }
         requires to { to.0 < rules.cpus (world self.old) }
@@ -303,12 +326,15 @@ pub trait Machine: Drop {
         requires active { IsUp rules (world self.old) to.0 false }
         requires fit { Fit resting (world self.old) }
         ensures fit { OnOk result (Fit resting (world self.new)) }
-        ensures moved { IfOk result (λ mover. mover ≡ option_map (λ m. m.mover) (rules.moved (world self.old) from.0 to.0)) }
-        ensures state { OnOk result (world self.new ≡ after_move (rules.moved (world self.old) from.0 to.0) (world self.old)) }
+        ensures moved { IfOk result (λ mover.
+            mover ≡ option_map (λ m. m.mover) (rules.moved (world self.old) from.0 to.0)) }
+        ensures state { OnOk result (world self.new ≡
+            after_move (rules.moved (world self.old) from.0 to.0) (world self.old)) }
         ensures same { OnOk result (Same rules (world self.old) (world self.new)) }
         ensures flags { OnOk result (SameFlags rules (world self.old) (world self.new)) };
 
-    /// What answers for the first global timer of an online idle CPU; None exactly where there is no such timer or CPU.
+    /// What answers for the first global timer of an online idle CPU; None exactly where there is
+    /// no such timer or CPU.
     fn cover_of(&self, cpu: CpuId) -> Option<Answerer>
         requires cpu { cpu.0 < rules.cpus (world self.now) }
         requires fit { Fit resting (world self.now) }

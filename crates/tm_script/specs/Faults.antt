@@ -1,5 +1,7 @@
 -- The first fault of a text: its lines are judged one by one, each by what those before it said.
-use Rattle.std.specs.Prelude.{◌≡◌, ◌↔◌, ℕ, ◌+◌, List, [], ◌∷◌, map, codes, Bool, true, false, ◌==◌, Option, Some, None, Result, Ok, Err, find, slice_index_or, if◌then◌else◌}
+use Rattle.std.specs.Prelude.{◌≡◌, ◌↔◌, ℕ, ◌+◌, List, [], ◌∷◌, map, codes, Bool, true, false, ◌==◌}
+use Rattle.std.specs.Prelude.{Option, Some, None, Result, Ok, Err, find, slice_index_or}
+use Rattle.std.specs.Prelude.{if◌then◌else◌}
 use Rattle.std.specs.Str.{bytes_eq}
 use Rattle.std.specs.FinSet.{from_list}
 use Rattle.std.specs.Ordering.{nat_cmp}
@@ -13,12 +15,17 @@ use Rattle.tm_script.specs.declared.faults.Kind.TheVariants.{BadLine, NoEnd}
 use Rattle.tm_script.specs.declared.syntax.Script.{Script}
 use Rattle.tm_script.specs.declared.syntax.What.TheVariants as what
 use Rattle.tm_script.specs.declared.known.Place.{Place}
-use Rattle.tm_script.specs.declared.known.Place.TheVariants.{VersionLine, NodesLine, CpusLine, TimersLine, IsolatedLine, Body, Over}
+use Rattle.tm_script.specs.declared.known.Place.TheVariants.{VersionLine, NodesLine, CpusLine}
+use Rattle.tm_script.specs.declared.known.Place.TheVariants.{TimersLine, IsolatedLine, Body, Over}
 use Rattle.tm_script.specs.declared.known.Command.{Command}
-use Rattle.tm_script.specs.declared.known.Command.TheVariants.{Tmig, Nodes, Cpus, Timers, Isolated, At, End, Arm, Cancel, Idle, Wake, Offline, Online}
+use Rattle.tm_script.specs.declared.known.Command.TheVariants.{Tmig, Nodes, Cpus, Timers, Isolated}
+use Rattle.tm_script.specs.declared.known.Command.TheVariants.{At, End, Arm, Cancel, Idle, Wake}
+use Rattle.tm_script.specs.declared.known.Command.TheVariants.{Offline, Online}
 use Rattle.tm_script.specs.declared.known.Known.{Known}
 use Rattle.tm_script.specs.declared.known.Said.{Said}
-use Rattle.tm_script.specs.declared.known.Said.TheVariants.{Version, NodeCount, CpuCount, TimerCount, IsolatedCpus, Opening, Operation, Ending}
+use Rattle.tm_script.specs.declared.known.Said.TheVariants.{Version, NodeCount, CpuCount}
+use Rattle.tm_script.specs.declared.known.Said.TheVariants.{TimerCount, IsolatedCpus, Opening}
+use Rattle.tm_script.specs.declared.known.Said.TheVariants.{Operation, Ending}
 use Rattle.tm_script.specs.Grammar.{is_hotplug, Spells}
 use Rattle.tm_script.specs.Judge.{word_of, kind_behind}
 

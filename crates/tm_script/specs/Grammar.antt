@@ -1,16 +1,20 @@
 -- the grammar: which scripts there are, and which bytes spell them
-use Rattle.std.specs.Prelude.{◌≡◌, ◌≢◌, ℕ, ◌+◌, ◌*◌, ◌^◌, ◌<◌, ◌≤◌, List, [], ◌∷◌, Bool, true, false, length, map, All, ◌==◌, if◌then◌else◌}
+use Rattle.std.specs.Prelude.{◌≡◌, ◌≢◌, ℕ, ◌+◌, ◌*◌, ◌^◌, ◌<◌, ◌≤◌, List, [], ◌∷◌, Bool, true}
+use Rattle.std.specs.Prelude.{false, length, map, All, ◌==◌, if◌then◌else◌}
 use Rattle.std.specs.List.Sorted.{IsStrictlyIncreasing}
 use Rattle.std.specs.FinSet.{empty, contains}
 use Rattle.tm_base.specs.CpuSet.{Contains}
 use Rattle.tm_base.specs.declared.names.Class.{Class}
 use Rattle.tm_base.specs.declared.names.Class.TheVariants.{Pinned, Global, Deferrable}
-use Rattle.tm_base.specs.declared.limits.TheConstants.{MOST_NODES, MOST_NODE_CPUS, MOST_CPUS_V1, MOST_CPUS_V2, MOST_TIMERS, MOST_OPS, MOST_LINES, SCRIPT_TIME_LIMIT}
+use Rattle.tm_base.specs.declared.limits.TheConstants.{MOST_NODES, MOST_NODE_CPUS, MOST_CPUS_V1}
+use Rattle.tm_base.specs.declared.limits.TheConstants.{MOST_CPUS_V2, MOST_TIMERS, MOST_OPS}
+use Rattle.tm_base.specs.declared.limits.TheConstants.{MOST_LINES, SCRIPT_TIME_LIMIT}
 use Rattle.tm_script.specs.declared.syntax.Script.{Script}
 use Rattle.tm_script.specs.declared.syntax.Moment.{Moment}
 use Rattle.tm_script.specs.declared.syntax.Op.{Op}
 use Rattle.tm_script.specs.declared.syntax.What.{What}
-use Rattle.tm_script.specs.declared.syntax.What.TheVariants.{Arm, Cancel, Idle, Wake, Offline, Online}
+use Rattle.tm_script.specs.declared.syntax.What.TheVariants.{Arm, Cancel, Idle, Wake, Offline}
+use Rattle.tm_script.specs.declared.syntax.What.TheVariants.{Online}
 use Rattle.tm_script.specs.Texts.{cpu_count, head_lines, script_lines, script_text}
 
 -- the most CPUs of a version

@@ -1,15 +1,22 @@
 -- Judging a line: by its place, and by what the lines before it said.
-use Rattle.std.specs.Prelude.{ℕ, ◌+◌, ◌*◌, ◌^◌, List, [], ◌∷◌, map, codes, Bool, true, false, not, ◌&&◌, ◌==◌, nat_lt, nat_le, Option, Some, None, is_some, if◌then◌else◌}
+use Rattle.std.specs.Prelude.{ℕ, ◌+◌, ◌*◌, ◌^◌, List, [], ◌∷◌, map, codes, Bool, true, false, not}
+use Rattle.std.specs.Prelude.{◌&&◌, ◌==◌, nat_lt, nat_le, Option, Some, None, is_some}
+use Rattle.std.specs.Prelude.{if◌then◌else◌}
 use Rattle.std.specs.List.{list_any, range_with_len}
 use Rattle.std.specs.Str.{bytes_eq}
 use Rattle.text_words.specs.Numbers.{is_number, value_of}
-use Rattle.tm_base.specs.declared.limits.TheConstants.{MOST_NODES, MOST_NODE_CPUS, MOST_TIMERS, MOST_OPS, MOST_LINES, SCRIPT_TIME_LIMIT}
+use Rattle.tm_base.specs.declared.limits.TheConstants.{MOST_NODES, MOST_NODE_CPUS, MOST_TIMERS}
+use Rattle.tm_base.specs.declared.limits.TheConstants.{MOST_OPS, MOST_LINES, SCRIPT_TIME_LIMIT}
 use Rattle.tm_script.specs.declared.faults.Kind.{Kind}
-use Rattle.tm_script.specs.declared.faults.Kind.TheVariants.{BadLine, BadNumber, OutOfRange, OutOfOrder, TooManyLines}
+use Rattle.tm_script.specs.declared.faults.Kind.TheVariants.{BadLine, BadNumber, OutOfRange}
+use Rattle.tm_script.specs.declared.faults.Kind.TheVariants.{OutOfOrder, TooManyLines}
 use Rattle.tm_script.specs.declared.known.Place.{Place}
-use Rattle.tm_script.specs.declared.known.Place.TheVariants.{VersionLine, NodesLine, CpusLine, TimersLine, IsolatedLine, Body}
+use Rattle.tm_script.specs.declared.known.Place.TheVariants.{VersionLine, NodesLine, CpusLine}
+use Rattle.tm_script.specs.declared.known.Place.TheVariants.{TimersLine, IsolatedLine, Body}
 use Rattle.tm_script.specs.declared.known.Command.{Command}
-use Rattle.tm_script.specs.declared.known.Command.TheVariants.{Tmig, Nodes, Cpus, Timers, Isolated, At, End, Arm, Cancel, Idle, Wake, Offline, Online}
+use Rattle.tm_script.specs.declared.known.Command.TheVariants.{Tmig, Nodes, Cpus, Timers, Isolated}
+use Rattle.tm_script.specs.declared.known.Command.TheVariants.{At, End, Arm, Cancel, Idle, Wake}
+use Rattle.tm_script.specs.declared.known.Command.TheVariants.{Offline, Online}
 use Rattle.tm_script.specs.declared.known.Known.{Known}
 use Rattle.tm_script.specs.Grammar.{most_cpus}
 
@@ -160,11 +167,13 @@ is_in_room k command =
 -- words behind it has
 unfoldable pub kind_behind : Known → Command → List (List ℕ) → Option Kind
 kind_behind k command words =
-    if not (may_stand k.place (is_some k.last) command && all_pass is_choice (slots k command words) words)
+    if not (may_stand k.place (is_some k.last) command
+    && all_pass is_choice (slots k command words) words)
     then Some BadLine
     else if not (all_pass is_spelled (slots k command words) words)
     then Some BadNumber
-    else if not (all_pass is_within (slots k command words) words && is_machine k command (map value_of words))
+    else if not (all_pass is_within (slots k command words) words
+    && is_machine k command (map value_of words))
     then Some OutOfRange
     else if not (is_in_order k command (map value_of words))
     then Some OutOfOrder

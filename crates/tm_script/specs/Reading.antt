@@ -1,5 +1,7 @@
 -- reading a script as the code does it; no public clause speaks of this
-use Rattle.std.specs.Prelude.{◌≡◌, ℕ, ◌+◌, ◌*◌, ◌^◌, List, [], ◌∷◌, ◌++◌, codes, Bool, true, false, not, ◌&&◌, ◌||◌, ◌==◌, nat_lt, nat_le, Option, Some, None, is_some, find, Result, Ok, Err, if◌then◌else◌}
+use Rattle.std.specs.Prelude.{◌≡◌, ℕ, ◌+◌, ◌*◌, ◌^◌, List, [], ◌∷◌, ◌++◌, codes, Bool, true, false}
+use Rattle.std.specs.Prelude.{not, ◌&&◌, ◌||◌, ◌==◌, nat_lt, nat_le, Option, Some, None, is_some}
+use Rattle.std.specs.Prelude.{find, Result, Ok, Err, if◌then◌else◌}
 use Rattle.std.specs.List.{list_any, range_with_len}
 use Rattle.std.specs.Str.{bytes_eq}
 use Rattle.std.specs.FinSet.{empty, insert, contains}
@@ -9,9 +11,11 @@ use Rattle.tm_base.specs.CpuSet.{Cpus as CpuNumbers}
 use Rattle.tm_base.specs.declared.names.CpuId.{CpuId}
 use Rattle.tm_base.specs.declared.names.Class.{Class}
 use Rattle.tm_base.specs.declared.names.Class.TheVariants.{Pinned, Global, Deferrable}
-use Rattle.tm_base.specs.declared.limits.TheConstants.{MOST_NODES, MOST_NODE_CPUS, MOST_TIMERS, MOST_OPS, MOST_LINES, SCRIPT_TIME_LIMIT}
+use Rattle.tm_base.specs.declared.limits.TheConstants.{MOST_NODES, MOST_NODE_CPUS, MOST_TIMERS}
+use Rattle.tm_base.specs.declared.limits.TheConstants.{MOST_OPS, MOST_LINES, SCRIPT_TIME_LIMIT}
 use Rattle.tm_script.specs.declared.faults.Kind.{Kind}
-use Rattle.tm_script.specs.declared.faults.Kind.TheVariants.{BadLine, BadNumber, OutOfRange, OutOfOrder, NoEnd, TooManyLines}
+use Rattle.tm_script.specs.declared.faults.Kind.TheVariants.{BadLine, BadNumber, OutOfRange}
+use Rattle.tm_script.specs.declared.faults.Kind.TheVariants.{OutOfOrder, NoEnd, TooManyLines}
 use Rattle.tm_script.specs.declared.faults.ScriptFault.{ScriptFault}
 use Rattle.tm_script.specs.declared.faults.ReadScript.{ReadScript}
 use Rattle.tm_script.specs.declared.faults.ReadScript.TheVariants.{Refused, NoMemory}
@@ -21,10 +25,14 @@ use Rattle.tm_script.specs.declared.syntax.Op.{Op}
 use Rattle.tm_script.specs.declared.syntax.What.{What}
 use Rattle.tm_script.specs.declared.syntax.What.TheVariants as what
 use Rattle.tm_script.specs.declared.known.Command.{Command}
-use Rattle.tm_script.specs.declared.known.Command.TheVariants.{Tmig, Nodes, Cpus, Timers, Isolated, At, End, Arm, Cancel, Idle, Wake, Offline, Online}
+use Rattle.tm_script.specs.declared.known.Command.TheVariants.{Tmig, Nodes, Cpus, Timers, Isolated}
+use Rattle.tm_script.specs.declared.known.Command.TheVariants.{At, End, Arm, Cancel, Idle, Wake}
+use Rattle.tm_script.specs.declared.known.Command.TheVariants.{Offline, Online}
 use Rattle.tm_script.specs.declared.known.Known.{Known}
 use Rattle.tm_script.specs.declared.known.Said.{Said}
-use Rattle.tm_script.specs.declared.known.Said.TheVariants.{Version, NodeCount, CpuCount, TimerCount, IsolatedCpus, Opening, Operation, Ending}
+use Rattle.tm_script.specs.declared.known.Said.TheVariants.{Version, NodeCount, CpuCount}
+use Rattle.tm_script.specs.declared.known.Said.TheVariants.{TimerCount, IsolatedCpus, Opening}
+use Rattle.tm_script.specs.declared.known.Said.TheVariants.{Operation, Ending}
 use Rattle.tm_script.specs.declared.isolated.Named.{Named}
 use Rattle.tm_script.specs.declared.draft.Draft.{Draft}
 use Rattle.tm_script.specs.Grammar.{most_cpus}

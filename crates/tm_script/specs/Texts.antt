@@ -10,7 +10,8 @@ use Rattle.tm_script.specs.declared.syntax.Script.{Script}
 use Rattle.tm_script.specs.declared.syntax.Moment.{Moment}
 use Rattle.tm_script.specs.declared.syntax.Op.{Op}
 use Rattle.tm_script.specs.declared.syntax.What.{What}
-use Rattle.tm_script.specs.declared.syntax.What.TheVariants.{Arm, Cancel, Idle, Wake, Offline, Online}
+use Rattle.tm_script.specs.declared.syntax.What.TheVariants.{Arm, Cancel, Idle, Wake, Offline}
+use Rattle.tm_script.specs.declared.syntax.What.TheVariants.{Online}
 
 -- the line of what a CPU does
 abbrev pub what_line : ℕ → What → List ℕ

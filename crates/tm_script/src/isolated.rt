@@ -2,7 +2,8 @@
 
 ghost use Rattle.std.specs.Prelude.{◌≡◌, ◌≤◌, Ok, IfOk};
 ghost use Rattle.std.specs.Option.{option_copied};
-ghost use Rattle.tm_script.specs.Reading.{words_behind, with_number, no_numbers, spares, isolated_by, isolated_from};
+ghost use Rattle.tm_script.specs.Reading.{words_behind, with_number, no_numbers, spares};
+ghost use Rattle.tm_script.specs.Reading.{isolated_by, isolated_from};
 
 use crate::faults::Kind;
 use crate::words::{first_word, number};

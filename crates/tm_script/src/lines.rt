@@ -4,7 +4,9 @@ ghost use Rattle.std.specs.Prelude.{◌≡◌, ◌*◌, ◌+◌, ◌<◌, ◌≤
 ghost use Rattle.std.specs.Option.{option_copied};
 ghost use Rattle.tm_script.specs.Judge.{may_stand};
 ghost use Rattle.tm_script.specs.Faults.{heard};
-ghost use Rattle.tm_script.specs.Reading.{words_behind, count_in, arm_parts, arm_in, cancel_in, field_in, cpus_in, cpu_in, words_in, in_order, in_room, line_in};
+ghost use Rattle.tm_script.specs.Reading.{words_behind, count_in, arm_parts, arm_in, cancel_in};
+ghost use Rattle.tm_script.specs.Reading.{field_in, cpus_in, cpu_in, words_in, in_order, in_room};
+ghost use Rattle.tm_script.specs.Reading.{line_in};
 ghost use Rattle.text_words.specs.Words.{words_of};
 
 use crate::faults::Kind;

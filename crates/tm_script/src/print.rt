@@ -1,10 +1,12 @@
 //! Writing the text of a script.
 
-ghost use Rattle.std.specs.Prelude.{◌≡◌, ◌*◌, ◌+◌, ◌≤◌, [], ◌∷◌, ◌++◌, map, filter, codes, OnOk, IfOk};
+ghost use Rattle.std.specs.Prelude.{◌≡◌, ◌*◌, ◌+◌, ◌≤◌, [], ◌∷◌, ◌++◌, map, filter, codes, OnOk};
+ghost use Rattle.std.specs.Prelude.{IfOk};
 ghost use Rattle.std.specs.Fmt.{decimal};
 ghost use Rattle.std.specs.List.{flat_map};
 ghost use Rattle.text_words.specs.Words.{ended};
-ghost use Rattle.tm_script.specs.Texts.{number_line, what_line, op_line, moment_lines, isolated_line, head_lines, script_text};
+ghost use Rattle.tm_script.specs.Texts.{number_line, what_line, op_line, moment_lines};
+ghost use Rattle.tm_script.specs.Texts.{isolated_line, head_lines, script_text};
 ghost use Rattle.tm_base.specs.Classes.{class_text};
 ghost use Rattle.tm_script.specs.Grammar.{IsScript};
 

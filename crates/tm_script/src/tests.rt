@@ -12,7 +12,8 @@ const ONE: &[u8] = b"tmig 1\nnodes 1\ncpus 1\ntimers 1\n";
 /// A script of each line and class, with the largest numbers, as the grammar spells it.
 const EVERYTHING: &[u8] = b"tmig 2\nnodes 8\ncpus 64\ntimers 4096\nisolated 0 7 511\nat 0\n\
 arm 511 4095 deferrable 4294967295 255 4294967295\narm 0 0 pinned 0 0 0\n\
-arm 1 1 global 62 3 7\ncancel 2 0\nidle 3\nwake 4\noffline 5\nat 1099511627774\nonline 5\nend 1099511627775\n";
+arm 1 1 global 62 3 7\ncancel 2 0\nidle 3\nwake 4\noffline 5\nat 1099511627774\nonline 5\n\
+end 1099511627775\n";
 
 /// The bytes of several pieces, one behind the other.
 fn joined(alloc: Global, pieces: &[&[u8]]) -> Result<Vec<u8>, Fail> {

@@ -1,9 +1,11 @@
 //! The words of a line, and what single words say.
 
-ghost use Rattle.std.specs.Prelude.{◌≡◌, ◌+◌, ◌<◌, ◌^◌, ◌∷◌, length, Ok, Err, IfOk, IfSome, MatchResult};
+ghost use Rattle.std.specs.Prelude.{◌≡◌, ◌+◌, ◌<◌, ◌^◌, ◌∷◌, length, Ok, Err, IfOk, IfSome};
+ghost use Rattle.std.specs.Prelude.{MatchResult};
 ghost use Rattle.std.specs.Option.{option_copied};
 ghost use Rattle.text_words.specs.Words.{words_of};
-ghost use Rattle.tm_script.specs.Reading.{words_behind, only, front, number_in, version_in, class_in, within, operation_of};
+ghost use Rattle.tm_script.specs.Reading.{words_behind, only, front, number_in, version_in};
+ghost use Rattle.tm_script.specs.Reading.{class_in, within, operation_of};
 ghost use Rattle.tm_script.specs.Faults.{command_of};
 
 use crate::faults::Kind;
