@@ -62,7 +62,10 @@ module _ (w : World) (home : ℕ) (class : Class) (runner : ℕ) (low : home < l
   }
   drains_in (serving r d) other i = record {
     free = free_in (serving r d) w home (bare (serving r d) w i) refl low;
-    may = inr (other.1, i.marks home ∙ (cond-true (home == d) (Some r) None
-        (eq-eqb home d other.0) ∙ ap (λ n. Some n) (sym other.2)));
+    may = inr (
+      other.1,
+      i.marks home ∙ (cond-true (home == d) (Some r) None
+          (eq-eqb home d other.0) ∙ ap (λ n. Some n) (sym other.2)),
+    );
   }
   drains_in (handing h) none i = absurd none
