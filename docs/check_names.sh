@@ -8,7 +8,8 @@
 #                                         behind a name stands for the file cited last
 # - | File | `name`, `name` | ..          in docs/DEFINITIONS.md below a heading '## crate': the same of that crate; an
 #                                         empty first field stands for the file above
-# - `crate::function`: `clause`, ..       in README.md: the function stands in that crate's src/, and its contract has
+# - `crate::function`: `clause`, ..       in README.md and docs/PROOFS.md, in the last field of a table whose head ends
+#                                         with | Clause |: the function stands in that crate's src/, and its contract has
 #                                         each of these clauses. `function` alone is of the crate named last in that
 #                                         table; [`name`] is a definition, and is looked for in the specs of any crate
 # - `crate::Name` ..                      in any page: the crate's src/ has an item of that name
@@ -227,7 +228,8 @@ for page in pages:
     check_cites(page, text)
     check_items(page, text)
 check_tables("docs/DEFINITIONS.md", read("docs/DEFINITIONS.md"))
-check_claims("README.md", read("README.md"))
+for page in ("README.md", "docs/PROOFS.md"):
+    check_claims(page, read(page))
 
 if "--missing" in sys.argv[1:]:
     told = read("docs/DEFINITIONS.md")
