@@ -30,8 +30,10 @@ after_taking now class by from to =
 
 abbrev pub after_moving : (now : ℕ) → Class → (from to : CpuId) → List CpuRecord → List CpuRecord
 after_moving now class from to cpus =
-    slice_set (slice_set cpus from.0 (after_giving now class to (slice_index_or cpus from.0 no_cpu))) to.0
-    (after_taking now class to (slice_index_or cpus from.0 no_cpu) (slice_index_or cpus to.0 no_cpu))
+    slice_set (slice_set cpus from.0
+    (after_giving now class to (slice_index_or cpus from.0 no_cpu))) to.0
+    (after_taking now class to (slice_index_or cpus from.0 no_cpu)
+    (slice_index_or cpus to.0 no_cpu))
 
 -- WHEEL EXPIRIES: that of a timer which comes to these bases, for which the base of its class is
 -- forwarded to the next jiffy
