@@ -4,7 +4,7 @@ use Rattle.std.proofs.Common.{inl, inr, refl}
 use Rattle.std.specs.Prelude.{◌==◌}
 use Rattle.std.proofs.lemmas.Bool.{both_ways, cases_Bool, cond-true, eq-eqb}
 use Rattle.tm_base.specs.declared.names.Class.{Class}
-use Rattle.play_rules.specs.Phases.{FitsSome, MayArmIn, MayDrain, Phase, handing, inside, resting}
+use Rattle.play_rules.specs.Phases.{MayArmIn, MayDrain, Phase, handing, inside, resting}
 use Rattle.play_rules.specs.Phases.{serving}
 use Rattle.core_world.specs.Enabled.{IsFree}
 use Rattle.core_world.specs.World.{World, cpu_of, is_active}
@@ -62,7 +62,10 @@ module _ (w : World) (home : ℕ) (class : Class) (runner : ℕ) (low : home < l
   }
   drains_in (serving r d) other i = record {
     free = free_in (serving r d) w home (bare (serving r d) w i) refl low;
-    may = inr (other.1, i.marks home ∙ (cond-true (home == d) (Some r) None
-        (eq-eqb home d other.0) ∙ ap (λ n. Some n) (sym other.2)));
+    may = inr (
+      other.1,
+      i.marks home ∙ (cond-true (home == d) (Some r) None
+          (eq-eqb home d other.0) ∙ ap (λ n. Some n) (sym other.2)),
+    );
   }
   drains_in (handing h) none i = absurd none

@@ -15,11 +15,7 @@ use wheel_core::TimerBase;
 
 /// Arms a timer that is queued nowhere, and answers its wheel expiry, in jiffies. Want of memory
 /// leaves all as before.
-pub fn arm<B: TimerBase>(
-    core: &mut Core<B>,
-    cpu: CpuId,
-    arming: Arming,
-) -> Result<Jiffy, NoMemory>
+pub fn arm<B: TimerBase>(core: &mut Core<B>, cpu: CpuId, arming: Arming) -> Result<Jiffy, NoMemory>
     requires cpu { cpu.0 < step_rules.cpus core.old }
     requires timer { arming.timer.0 < step_rules.timers core.old }
     requires not_queued { step_rules.queued core.old arming.timer.0 ≡ None }
@@ -57,8 +53,7 @@ pub fn cancel<B: TimerBase>(
     requires home { home.0 < step_rules.cpus core.old }
     requires timer { cancelling.timer.0 < step_rules.timers core.old }
     requires by { cancelling.by.0 < step_rules.cpus core.old }
-    requires queued {
-        option_map (λ held. held.cpu) (step_rules.queued core.old cancelling.timer.0) ≡ Some home }
+    requires queued { option_map (λ held. held.cpu) (step_rules.queued core.old cancelling.timer.0) ≡ Some home }
     requires fit { InPlay resting core.old }
     ensures fit { OnOk result (InPlay resting core.new) }
     ensures state { OnOk result (core.new ≡ step_rules.cancelled core.old home.0 cancelling) }

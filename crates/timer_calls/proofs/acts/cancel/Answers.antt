@@ -6,7 +6,7 @@ use Rattle.timer_calls.proofs.acts.cancel.Goals as goal
 pub cancel-requires : goal.cancel-requires
 cancel-requires g c = (
   cancel_enabled c.law_step.ensures c.args.core.now c.args.home c.args.cancelling c.requires.home
-  c.requires.by c.requires.queued c.requires.fit,
+      c.requires.by c.requires.queued c.requires.fit,
   c.requires.by,
 )
 
