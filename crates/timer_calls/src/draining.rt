@@ -38,6 +38,7 @@ fn hand_next<B: TimerBase>(
         (OneFewer (base_of class (cpu_of core.old home.0).bases)
         (base_of class (cpu_of core.new home.0).bases))) }
     ensures drains { OnOk result (Drains core.new home.0 class runner.0) }
+    ensures clock { core.new.clock ≡ core.old.clock }
 {
     law_step();
     core.tree();
@@ -63,6 +64,7 @@ fn hand_all<B: TimerBase>(
     ensures none { OnOk result (next_out core.new.clock
         (base_of class (cpu_of core.new home.0).bases) ≡ None) }
     ensures drains { OnOk result (Drains core.new home.0 class runner.0) }
+    ensures clock { core.new.clock ≡ core.old.clock }
 {
     let mut items = Vec::new(alloc);
     while let Some(item) = hand_next(core, home, class, runner)? {
@@ -94,6 +96,7 @@ pub fn drain<B: TimerBase>(
         (core.new ≡ (step_rules.drained core.old home.0 class runner.0).state) }
     ensures same { OnOk result (Same step_rules core.old core.new) }
     ensures online { OnOk result (SameOnline step_rules core.old core.new) }
+    ensures clock { step_rules.clock core.new ≡ step_rules.clock core.old }
 {
     law_step();
     core.tree();
