@@ -6,3 +6,4 @@ pub mod RangesRead
 pub mod HandingRead
 pub mod PlacesRead
 pub mod ToldRead
+pub mod ReachRead

@@ -5,3 +5,4 @@ pub mod Ranges
 pub mod Handing
 pub mod Places
 pub mod Told
+pub mod Reach

@@ -7,8 +7,11 @@ ghost use Rattle.core_facts.specs.Holders.{EachLockIsHeld};
 ghost use Rattle.core_facts.specs.Marked.{EachMarkFits};
 ghost use Rattle.core_facts.specs.Places.{EachPlaceFits};
 ghost use Rattle.core_facts.specs.Ranges.{EachInRange};
+ghost use Rattle.core_facts.specs.Reach.{EachKeeps};
 ghost use Rattle.core_facts.specs.Told.{EachHasToldOwn};
 ghost use Rattle.core_facts.specs.Walkers.{EachWalkerIs};
+
+use core_world::law_sizes;
 
 /// A CPU with a walk is active exactly where the walk is an activation; the other kinds are made by
 /// online idle CPUs, or by a CPU that goes offline.
@@ -52,3 +55,11 @@ pub fn law_place()
 pub fn law_own_event()
     ensures { EachHasToldOwn }
 {}
+
+/// A step changes the data of its own CPU, of another one for a timer that moves, and of a group
+/// for a walk; journals only grow, and the clock never falls.
+pub fn law_frame()
+    ensures { EachKeeps }
+{
+    law_sizes();
+}
