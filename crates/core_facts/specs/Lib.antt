@@ -1,8 +1,9 @@
-pub mod Walkers
+pub mod Exchanges
+pub mod Handing
 pub mod Holders
 pub mod Marked
-pub mod Ranges
-pub mod Handing
 pub mod Places
-pub mod Told
+pub mod Ranges
 pub mod Reach
+pub mod Told
+pub mod Walkers

@@ -1,5 +1,5 @@
 -- what each step may change, and that it leaves all else as it was
-use Rattle.std.specs.Prelude.{◌≡◌, ◌≢◌, ℕ, ◌≤◌, ◌==◌, ◌||◌, ◌++◌, Bool, true, false, List, Option}
+use Rattle.std.specs.Prelude.{◌≡◌, ◌≢◌, ℕ, ◌≤◌, ◌==◌, ◌||◌, ◌++◌, Bool, true, false, List}
 use Rattle.std.specs.Prelude.{length, option_map}
 use Rattle.std.specs.Option.{option_map_or}
 use Rattle.cpu_bases.specs.declared.entry.Entry.{Entry}

@@ -2,6 +2,7 @@
 //! marks, and the ranges of numbers. The functions do nothing: what they say are their contracts.
 #![tactic(auto)]
 
+ghost use Rattle.core_facts.specs.Exchanges.{EachGoesOn, EachStaysPast, NoneIsPast};
 ghost use Rattle.core_facts.specs.Handing.{EachHandsOn, EachHasPlaced};
 ghost use Rattle.core_facts.specs.Holders.{EachLockIsHeld};
 ghost use Rattle.core_facts.specs.Marked.{EachMarkFits};
@@ -62,4 +63,14 @@ pub fn law_frame()
     ensures { EachKeeps }
 {
     law_sizes();
+}
+
+/// A walk goes on from stage to stage and level to level but where an exchange fails, and makes at
+/// most one exchange at each level.
+pub fn law_once_a_level()
+    ensures goes_on { EachGoesOn }
+    ensures stays_past { EachStaysPast }
+    ensures none_past { NoneIsPast }
+{
+    law_frame();
 }
