@@ -78,8 +78,10 @@ rest_none (Some x) p none = absurd (none-some x (sym none))
 pub none_queued : (b : CpuBases) → first_to_move b ≡ None → count_in b ≡ 0
 none_queued b none =
     let more = rest_none (oldest_of_class Pinned b) _ none in
-    let p = no_items Pinned (base_of Pinned b).items (first_none (oldest_of_class Pinned b) _ none) in
-    let g = no_items Global (base_of Global b).items (first_none (oldest_of_class Global b) _ more) in
+    let p = no_items Pinned (base_of Pinned b).items
+    (first_none (oldest_of_class Pinned b) _ none) in
+    let g = no_items Global (base_of Global b).items
+    (first_none (oldest_of_class Global b) _ more) in
     let d = no_items Deferrable (base_of Deferrable b).items
     (rest_none (oldest_of_class Global b) _ more) in
     omega (arith, p, g, d)

@@ -11,3 +11,6 @@ pub use dead::move_dead;
 pub use offline::go_offline;
 pub use online::go_online;
 pub use whole::is_whole;
+
+#[cfg(test)]
+mod tests;

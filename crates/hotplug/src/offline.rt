@@ -1,6 +1,7 @@
 //! A CPU leaves.
 
-ghost use Rattle.std.specs.Prelude.{◌≡◌, ◌≢◌, ◌<◌, IfOk, MatchResult, None, OnErr, OnOk, Some, length, true};
+ghost use Rattle.std.specs.Prelude.{◌≡◌, ◌≢◌, ◌<◌, IfOk, MatchResult, None, OnErr, OnOk, Some};
+ghost use Rattle.std.specs.Prelude.{length, true};
 ghost use Rattle.tree_plan.specs.Paths.{is_placed_in};
 ghost use Rattle.core_world.specs.Covered.{IsSettled};
 ghost use Rattle.step_rules.specs.StepRules.{handed_on_by_steps};
