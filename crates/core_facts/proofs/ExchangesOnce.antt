@@ -110,7 +110,7 @@ module _ (w : World) (c level : ℕ) (k j : Walk) (is : (cpu_of w c).walk ≡ So
     | inr apart ↦
         let beside = (((frame w step e).cpu c).others apart).walk in
         let same : Some (forget j) ≡ Some (forget k) =
-            sym (ap (option_map forget) becomes) ∙ (beside ∙ ap (option_map forget) is) in
+        sym (ap (option_map forget) becomes) ∙ (beside ∙ ap (option_map forget) is) in
         same_place level k j (same_Some _ _ same) past
   ]
 

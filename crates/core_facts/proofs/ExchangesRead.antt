@@ -106,18 +106,21 @@ store_late true = omega arith
 store_late false = omega arith
 
 see_goes : (k : Walk) (on : Bool) → Goes k stages.SeeChild (see_child_next on k)
-see_goes k true = comes_past k stages.SeeChild (see_child_next true k) refl refl (omega arith) (omega arith)
+see_goes k true =
+    comes_past k stages.SeeChild (see_child_next true k) refl refl (omega arith) (omega arith)
 see_goes k false =
     comes_past k stages.SeeChild (see_child_next false k) refl refl (omega arith) (omega arith)
 
-freed_goes : (k : Walk) (at : Stage) (over : Bool) → place_of at < 29 → Goes k at (freed_next over k)
+freed_goes : (k : Walk) (at : Stage) (over : Bool) → place_of at < 29
+    → Goes k at (freed_next over k)
 freed_goes k at true low = comes_past k at (at_stage k stages.Finish) refl refl low (omega arith)
 freed_goes k at false low = up_higher k at (first_stage k.kind)
 
 free_goes : (k : Walk) (level : ℕ) → Goes k stages.FreeGroup (free_group_next level k)
 free_goes k zero = freed_goes k stages.FreeGroup k.over (omega arith)
 free_goes k (suc l) =
-    comes_past k stages.FreeGroup (at_stage k stages.FreeChild) refl refl (omega arith) (omega arith)
+    comes_past k stages.FreeGroup (at_stage k stages.FreeChild) refl refl (omega arith)
+    (omega arith)
 
 handing_goes : (k j : Walk) (never : Bool)
     → cond never None (Some (at_stage k stages.Handing)) ≡ Some j → Goes k stages.Finish j
@@ -150,7 +153,8 @@ module _ (w : World) (c : ℕ) (k j : Walk) (low : c < length w.cpus) where
   swap_goes true same is =
       let late = lock_late k.level in
       to_it stages.Swap _ (is_next w _ c _ true j low is)
-      (comes_past k stages.Swap (swap_next true k) refl refl (omega (arith, late)) (omega (arith, late)))
+      (comes_past k stages.Swap (swap_next true k) refl refl (omega (arith, late))
+      (omega (arith, late)))
   swap_goes false same is =
       to_it stages.Swap _ (is_next w 0 c _ false j low is) (record {
         kind = refl;

@@ -20,8 +20,9 @@ use Rattle.core_world.specs.Steps.{taker}
 use Rattle.core_world.specs.World.{CpuRecord, World, cpu_of, no_cpu, own}
 use Rattle.core_facts.specs.Reach.{CpuKeeps, EachKeeps, Grows, Keeps, Reach, only, reach_of}
 use Rattle.core_facts.specs.Reach.{with_timers}
-use Rattle.core_facts.proofs.Reaches.{Here, cancel_grows, drained_same, hand_grows, handed_grows, itself_reached, made_keeps, no_step}
-use Rattle.core_facts.proofs.Reaches.{one_more, out_grows, own_keeps, quiet, reached, same_grows, still, timed}
+use Rattle.core_facts.proofs.Reaches.{Here, cancel_grows, drained_same, hand_grows, handed_grows}
+use Rattle.core_facts.proofs.Reaches.{itself_reached, made_keeps, no_step, one_more, out_grows}
+use Rattle.core_facts.proofs.Reaches.{own_keeps, quiet, reached, same_grows, still, timed}
 
 -- two CPUs change, and no group
 abbrev by_two : (from to : ℕ) → Reach
@@ -72,12 +73,13 @@ module _ (w : World) (from to : ℕ) (a b : CpuRecord) (low : from < length w.cp
   two_keep : (d : ℕ) → CpuKeeps (by_two from to) d (cpu_of w d) (get_or new_cpus d no_cpu)
   two_keep d = elim (cases_eq d to) [
     | inl same ↦
-        subst (λ n. CpuKeeps (by_two from to) n (cpu_of w n) (get_or new_cpus n no_cpu)) (sym same) to_keeps
+        subst (λ n. CpuKeeps (by_two from to) n (cpu_of w n) (get_or new_cpus n no_cpu))
+        (sym same) to_keeps
     | inr other ↦ elim (cases_eq d from) [
       | inl same ↦
           let apart : from ≢ to = λ e. other (same ∙ e) in
-          subst (λ n. CpuKeeps (by_two from to) n (cpu_of w n) (get_or new_cpus n no_cpu)) (sym same)
-          (from_keeps apart)
+          subst (λ n. CpuKeeps (by_two from to) n (cpu_of w n) (get_or new_cpus n no_cpu))
+          (sym same) (from_keeps apart)
       | inr another ↦
           subst (CpuKeeps (by_two from to) d (cpu_of w d)) (sym (at_else d other another))
           (still (by_two from to) d (cpu_of w d))
@@ -137,7 +139,8 @@ own_plugged w c y size low same =
 own_ticked : (w : World) (c : ℕ) (class : Class) (runner : CpuId)
     → SameSize w (stepped w (steps.Ticked (record { 0 = c }) class runner)) → c < length w.cpus
     → next_out w.clock (base_of class (cpu_of w c).bases) ≡ None
-    → Keeps (record (only c) { journals = true }) w (stepped w (steps.Ticked (record { 0 = c }) class runner))
+    → Keeps (record (only c) { journals = true }) w
+    (stepped w (steps.Ticked (record { 0 = c }) class runner))
 own_ticked w c class runner size low none =
     own_keeps (record (only c) { journals = true }) w c _ size low (itself_reached c) (record {
       journal =
@@ -145,8 +148,8 @@ own_ticked w c class runner size low none =
           (cpu_of w c).bases;
       unwritten = λ e. cc;
       queues =
-          λ _. drained_same (next_out w.clock (base_of class (cpu_of w c).bases)) w.clock class runner
-          (cpu_of w c).bases none;
+          λ _. drained_same (next_out w.clock (base_of class (cpu_of w c).bases)) w.clock class
+          runner (cpu_of w c).bases none;
       online = λ _. refl;
     })
 

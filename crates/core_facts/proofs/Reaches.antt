@@ -10,7 +10,8 @@ use Rattle.tm_base.specs.declared.names.CpuId.{CpuId}
 use Rattle.wheel_core.specs.declared.item.Item.{Item}
 use Rattle.wheel_core.specs.PlainBase.{next_out}
 use Rattle.cpu_bases.specs.declared.entry.Entry.{Entry}
-use Rattle.cpu_bases.specs.CpuBases.{CpuBases, after_cancel, after_hand_out, after_move_out, base_of}
+use Rattle.cpu_bases.specs.CpuBases.{CpuBases, after_cancel, after_hand_out, after_move_out}
+use Rattle.cpu_bases.specs.CpuBases.{base_of}
 use Rattle.tree_plan.specs.Shape.{Shape}
 use Rattle.walk_rules.specs.declared.walk.Walk.{Walk}
 use Rattle.walk_rules.specs.declared.walk.WalkKind.{WalkKind}
@@ -29,7 +30,11 @@ use Rattle.core_facts.specs.Reach.{with_timers}
 
 -- JOURNALS
 pub none_more : (journal : List Entry) → Grows journal journal
-none_more journal = record { more = []; written = sym (append-nil journal); at_most_one = omega arith }
+none_more journal = record {
+  more = [];
+  written = sym (append-nil journal);
+  at_most_one = omega arith;
+}
 
 pub one_more : (journal : List Entry) (entry : Entry) → Grows journal (journal ++ entry ∷ [])
 one_more journal entry = record {
@@ -144,7 +149,7 @@ module _ (r : Reach) (w : World) (g : ℕ) (x : Group) (c : ℕ) (y : CpuRecord)
       let new = cpu_of (moved w g x c y q) d in
       let is = cpu_else w g x c y q d apart in
       let same : new.bases ≡ (cpu_of w d).bases =
-          ap (λ (z : CpuRecord). z.bases) is ∙ beside_bases w.tree q g d (cpu_of w d) in
+      ap (λ (z : CpuRecord). z.bases) is ∙ beside_bases w.tree q g d (cpu_of w d) in
       let laws = (moved_laws w g x c y q).changes in
       record {
         journal = same_grows (cpu_of w d).bases new.bases same;
@@ -186,7 +191,8 @@ module _ (r : Reach) (w : World) (g : ℕ) (x : Group) (c : ℕ) (y : CpuRecord)
 pub own_keeps : (r : Reach) (w : World) (c : ℕ) (y : CpuRecord) → SameSize w (own w c y)
     → c < length w.cpus → r.cpu c ≡ true → Here r (cpu_of w c) y → Keeps r w (own w c y)
 own_keeps r w c y size low reaches here =
-    keeps r w 0 (group_of w 0) c y false low reaches (λ _. refl) here size (λ _ h. own_group w c y h)
+    keeps r w 0 (group_of w 0) c y false low reaches (λ _. refl) here size
+    (λ _ h. own_group w c y h)
 
 pub itself_reached : (c : ℕ) → (c == c) ≡ true
 itself_reached c = eq-eqb c c refl
@@ -219,7 +225,8 @@ finished_bases y k kinds.Offline = refl
 finished_bases y k kinds.Reeval = refl
 finished_bases y k (kinds.Remote by) = refl
 
-finished_online : (y : CpuRecord) (k : Walk) (kind : WalkKind) → (finished y k kind).online ≡ y.online
+finished_online : (y : CpuRecord) (k : Walk) (kind : WalkKind)
+    → (finished y k kind).online ≡ y.online
 finished_online y k kinds.Activate = refl
 finished_online y k kinds.Deactivate = refl
 finished_online y k kinds.Offline = refl
