@@ -5,3 +5,6 @@ mod machine;
 mod player;
 
 pub use player::Player;
+
+#[cfg(test)]
+mod tests;
