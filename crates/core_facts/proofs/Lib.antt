@@ -4,6 +4,7 @@ pub mod HandingRead
 pub mod HoldersRead
 pub mod MarkedRead
 pub mod PlacesRead
+pub mod PlayedRead
 pub mod RangesRead
 pub mod ReachRead
 pub mod Reaches

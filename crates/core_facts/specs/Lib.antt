@@ -3,6 +3,7 @@ pub mod Handing
 pub mod Holders
 pub mod Marked
 pub mod Places
+pub mod Played
 pub mod Ranges
 pub mod Reach
 pub mod Told

@@ -7,12 +7,14 @@ ghost use Rattle.core_facts.specs.Handing.{EachHandsOn, EachHasPlaced};
 ghost use Rattle.core_facts.specs.Holders.{EachLockIsHeld};
 ghost use Rattle.core_facts.specs.Marked.{EachMarkFits};
 ghost use Rattle.core_facts.specs.Places.{EachPlaceFits};
+ghost use Rattle.core_facts.specs.Played.{EachAddsReplay, StartsPlayed, StaysPlayed};
 ghost use Rattle.core_facts.specs.Ranges.{EachInRange};
 ghost use Rattle.core_facts.specs.Reach.{EachKeeps};
 ghost use Rattle.core_facts.specs.Told.{EachHasToldOwn};
 ghost use Rattle.core_facts.specs.Walkers.{EachWalkerIs};
 
 use core_world::law_sizes;
+use cpu_bases::{law_bases, law_calls};
 
 /// A CPU with a walk is active exactly where the walk is an activation; the other kinds are made by
 /// online idle CPUs, or by a CPU that goes offline.
@@ -72,5 +74,17 @@ pub fn law_once_a_level()
     ensures stays_past { EachStaysPast }
     ensures none_past { NoneIsPast }
 {
+    law_frame();
+}
+
+/// A CPU's bases are what its journal makes when it is played again from empty ones: so they begin,
+/// and each step keeps it, since what it makes of them its entries tell.
+pub fn law_replay()
+    ensures starts { StartsPlayed }
+    ensures adds { EachAddsReplay }
+    ensures stays { StaysPlayed }
+{
+    law_bases();
+    law_calls();
     law_frame();
 }
