@@ -110,17 +110,21 @@ module _ (calls : Calls) (w : World) (l : IsLawful w) where
       (l.timers.consistent from)).1.replay)
       (record { more = _ ∷ []; grows = refl; bases = refl; says = (refl, tt) }) d
 
+  stays_adds : EachKeeps → (step : Step) → Enabled w step → (d : ℕ)
+      → (reach_of step).journals ≡ false → (reach_of step).queues ≡ false
+      → AddsReplay (cpu_of w d).bases (cpu_of (stepped w step) d).bases
+  stays_adds frame step e d =
+      quiet_adds (reach_of step) d (cpu_of w d) (cpu_of (stepped w step) d)
+      ((frame w step e).cpu d)
+
   step_adds : EachKeeps → (step : Step) → Enabled w step → (d : ℕ)
       → AddsReplay (cpu_of w d).bases (cpu_of (stepped w step) d).bases
   step_adds frame (steps.Clock now) e d =
-      quiet_adds (reach_of (steps.Clock now)) d (cpu_of w d) (cpu_of (stepped w (steps.Clock now)) d)
-      ((frame w (steps.Clock now) e).cpu d) refl refl
+      stays_adds frame (steps.Clock now) e d refl refl
   step_adds frame (steps.Enter cpu) e d =
-      quiet_adds (reach_of (steps.Enter cpu)) d (cpu_of w d) (cpu_of (stepped w (steps.Enter cpu)) d)
-      ((frame w (steps.Enter cpu) e).cpu d) refl refl
+      stays_adds frame (steps.Enter cpu) e d refl refl
   step_adds frame (steps.Leave cpu) e d =
-      quiet_adds (reach_of (steps.Leave cpu)) d (cpu_of w d) (cpu_of (stepped w (steps.Leave cpu)) d)
-      ((frame w (steps.Leave cpu) e).cpu d) refl refl
+      stays_adds frame (steps.Leave cpu) e d refl refl
   step_adds frame (steps.Arm cpu timer class expires job arg line) e d =
       own_adds w cpu.0
       (with_bases (cpu_of w cpu.0)
@@ -140,35 +144,25 @@ module _ (calls : Calls) (w : World) (l : IsLawful w) where
       move_adds from.0 to.0 (first_moved (cpu_of w from.0).bases) e.from_free.in_range
       e.to_free.in_range d
   step_adds frame (steps.Idle cpu) e d =
-      quiet_adds (reach_of (steps.Idle cpu)) d (cpu_of w d) (cpu_of (stepped w (steps.Idle cpu)) d)
-      ((frame w (steps.Idle cpu) e).cpu d) refl refl
+      stays_adds frame (steps.Idle cpu) e d refl refl
   step_adds frame (steps.Wake cpu) e d =
-      quiet_adds (reach_of (steps.Wake cpu)) d (cpu_of w d) (cpu_of (stepped w (steps.Wake cpu)) d)
-      ((frame w (steps.Wake cpu) e).cpu d) refl refl
+      stays_adds frame (steps.Wake cpu) e d refl refl
   step_adds frame (steps.Offline cpu) e d =
-      quiet_adds (reach_of (steps.Offline cpu)) d (cpu_of w d) (cpu_of (stepped w (steps.Offline cpu)) d)
-      ((frame w (steps.Offline cpu) e).cpu d) refl refl
+      stays_adds frame (steps.Offline cpu) e d refl refl
   step_adds frame (steps.Online cpu) e d =
-      quiet_adds (reach_of (steps.Online cpu)) d (cpu_of w d) (cpu_of (stepped w (steps.Online cpu)) d)
-      ((frame w (steps.Online cpu) e).cpu d) refl refl
+      stays_adds frame (steps.Online cpu) e d refl refl
   step_adds frame (steps.Reeval cpu) e d =
-      quiet_adds (reach_of (steps.Reeval cpu)) d (cpu_of w d) (cpu_of (stepped w (steps.Reeval cpu)) d)
-      ((frame w (steps.Reeval cpu) e).cpu d) refl refl
+      stays_adds frame (steps.Reeval cpu) e d refl refl
   step_adds frame (steps.Take cpu by) e d =
-      quiet_adds (reach_of (steps.Take cpu by)) d (cpu_of w d) (cpu_of (stepped w (steps.Take cpu by)) d)
-      ((frame w (steps.Take cpu by) e).cpu d) refl refl
+      stays_adds frame (steps.Take cpu by) e d refl refl
   step_adds frame (steps.Carry cpu) e d =
-      quiet_adds (reach_of (steps.Carry cpu)) d (cpu_of w d) (cpu_of (stepped w (steps.Carry cpu)) d)
-      ((frame w (steps.Carry cpu) e).cpu d) refl refl
+      stays_adds frame (steps.Carry cpu) e d refl refl
   step_adds frame (steps.Release cpu) e d =
-      quiet_adds (reach_of (steps.Release cpu)) d (cpu_of w d) (cpu_of (stepped w (steps.Release cpu)) d)
-      ((frame w (steps.Release cpu) e).cpu d) refl refl
+      stays_adds frame (steps.Release cpu) e d refl refl
   step_adds frame (steps.Walk cpu) e d =
-      quiet_adds (reach_of (steps.Walk cpu)) d (cpu_of w d) (cpu_of (stepped w (steps.Walk cpu)) d)
-      ((frame w (steps.Walk cpu) e).cpu d) refl refl
+      stays_adds frame (steps.Walk cpu) e d refl refl
   step_adds frame (steps.HandOn cpu to) e d =
-      quiet_adds (reach_of (steps.HandOn cpu to)) d (cpu_of w d) (cpu_of (stepped w (steps.HandOn cpu to)) d)
-      ((frame w (steps.HandOn cpu to) e).cpu d) refl refl
+      stays_adds frame (steps.HandOn cpu to) e d refl refl
 
 pub each_adds : EachKeeps → CancellingKeeps → HandingOutKeeps → MovingOutKeeps → EachAddsReplay
 each_adds frame cancelling handing moving w step l e d =

@@ -6,5 +6,6 @@ pub mod Places
 pub mod Played
 pub mod Ranges
 pub mod Reach
+pub mod Stepping
 pub mod Told
 pub mod Walkers

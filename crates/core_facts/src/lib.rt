@@ -10,9 +10,11 @@ ghost use Rattle.core_facts.specs.Places.{EachPlaceFits};
 ghost use Rattle.core_facts.specs.Played.{EachAddsReplay, StartsPlayed, StaysPlayed};
 ghost use Rattle.core_facts.specs.Ranges.{EachInRange};
 ghost use Rattle.core_facts.specs.Reach.{EachKeeps};
+ghost use Rattle.core_facts.specs.Stepping.{EachStageLawful};
 ghost use Rattle.core_facts.specs.Told.{EachHasToldOwn};
 ghost use Rattle.core_facts.specs.Walkers.{EachWalkerIs};
 
+use core_laws::law_step;
 use core_world::law_sizes;
 use cpu_bases::{law_bases, law_calls};
 
@@ -87,4 +89,11 @@ pub fn law_replay()
     law_bases();
     law_calls();
     law_frame();
+}
+
+/// What a walk's step at a stage makes of a lawful world is lawful.
+pub fn law_stage()
+    ensures { EachStageLawful }
+{
+    law_step();
 }
