@@ -53,7 +53,8 @@ pub fn cancel<B: TimerBase>(
     requires home { home.0 < step_rules.cpus core.old }
     requires timer { cancelling.timer.0 < step_rules.timers core.old }
     requires by { cancelling.by.0 < step_rules.cpus core.old }
-    requires queued { option_map (λ held. held.cpu) (step_rules.queued core.old cancelling.timer.0) ≡ Some home }
+    requires queued { option_map (λ held. held.cpu)
+        (step_rules.queued core.old cancelling.timer.0) ≡ Some home }
     requires fit { InPlay resting core.old }
     ensures fit { OnOk result (InPlay resting core.new) }
     ensures state { OnOk result (core.new ≡ step_rules.cancelled core.old home.0 cancelling) }
