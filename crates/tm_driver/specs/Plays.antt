@@ -7,7 +7,8 @@ use Rattle.play_rules.specs.Moments.{last_state, whole_lines}
 use Rattle.play_rules.specs.Parts.{counted}
 use Rattle.play_jiffies.specs.Jiffies.{EachHasEnded, InItsJiffy}
 use Rattle.play_laws.specs.Settled.{IsSettled}
-use Rattle.play_rules.specs.Play.{AfterEachMoment, plain_rules, play_spent, play_start, play_text, play_turns}
+use Rattle.play_rules.specs.Play.{AfterEachMoment, plain_rules, play_spent, play_start, play_text}
+use Rattle.play_rules.specs.Play.{play_turns}
 use Rattle.play_rules.specs.Tallies.{no_lines, tallied_all}
 use Rattle.play_rules.specs.declared.tally.Tally.{Tally}
 use Rattle.core_world.specs.World.{World}
@@ -25,8 +26,8 @@ pub record CanPlay (jobs : Replies) (table : ℕ) (script : Script) : Type 0 whe
 
 -- the report has gained the text of the script's play; the core is the one that the last moment of
 -- the play made of steps leaves, and what Play sees of it is the state that Play's last moment
--- leaves; after each moment each global timer that is queued on an idle CPU is held or woken for, and
--- each pinned or global timer whose wheel expiry has come has its end, in its jiffy
+-- leaves; after each moment each global timer that is queued on an idle CPU is held or woken for,
+-- and each pinned or global timer whose wheel expiry has come has its end, in its jiffy
 pub record Plays (jobs : Replies) (table : ℕ) (script : Script) (old new : List ℕ) (core : World)
     : Type 0 where
   pub text : new ≡ old ++ play_text jobs script
