@@ -34,11 +34,11 @@ finished_seen limit work (t ∷ ts) =
     let more = work + t.played.work in
     elim (nat_le limit more)
     as (λ b.
-        turn_lines
-        (if b then turn_seen t ∷ [] else turn_seen t ∷ finished limit more (map turn_seen ts))
-        ≡ turn_lines (if b then t ∷ [] else t ∷ finished limit more ts))
-    [ true ↦ refl
-    | false ↦ ap (λ ls. t.played.lines ++ ls) (finished_seen limit more ts)
+    turn_lines
+    (if b then turn_seen t ∷ [] else turn_seen t ∷ finished limit more (map turn_seen ts))
+    ≡ turn_lines (if b then t ∷ [] else t ∷ finished limit more ts)) [
+      | true ↦ refl
+      | false ↦ ap (λ ls. t.played.lines ++ ls) (finished_seen limit more ts)
     ]
 
 -- AT REST a core in play is settled, so its own law answers for each of its timers

@@ -16,9 +16,9 @@ returns-clause-whole g c =
     let jobs = g.J.Jobs.replies c.args.jobs.now in
     IfOk-weaker c.play_on.result _ _
     (λ counts.
-        whole_seen jobs c.args.script.now
-        (c.law_steps_are_play.ensures jobs c.args.script.now c.requires.script)
-        (g.J.Jobs.count c.args.jobs.now) c.args.player.now c.requires.start _ _ counts _)
+    whole_seen jobs c.args.script.now
+    (c.law_steps_are_play.ensures jobs c.args.script.now c.requires.script)
+    (g.J.Jobs.count c.args.jobs.now) c.args.player.now c.requires.start _ _ counts _)
     c.play_on.ensures.whole
 
 pub returns-clause-by_steps : goal.returns-clause-by_steps
@@ -33,7 +33,7 @@ returns-clause-fault g c =
     let jobs = g.J.Jobs.replies c.args.jobs.now in
     IfErr-weaker c.play_on.result _ _
     (λ fault.
-        fault_seen jobs c.args.script.now
-        (c.law_steps_are_play.ensures jobs c.args.script.now c.requires.script)
-        (g.J.Jobs.count c.args.jobs.now) c.args.player.now c.requires.start fault _ _)
+    fault_seen jobs c.args.script.now
+    (c.law_steps_are_play.ensures jobs c.args.script.now c.requires.script)
+    (g.J.Jobs.count c.args.jobs.now) c.args.player.now c.requires.start fault _ _)
     c.play_on.ensures.fault
