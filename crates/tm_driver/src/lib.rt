@@ -14,6 +14,7 @@ mod operations;
 mod outcomes;
 mod playing;
 mod plays;
+mod starting;
 mod telling;
 
 pub use moments::next_moment;
@@ -21,3 +22,4 @@ pub use numbers::Summary;
 pub use outcomes::{Counts, DriveFault};
 pub use playing::play_on;
 pub use plays::{play, summary};
+pub use starting::start_core;
