@@ -13,6 +13,7 @@ use Rattle.play_rules.specs.Machines.{Same, SameOnline}
 use Rattle.play_rules.specs.Phases.{FitsSome, MayArmIn, StaysFit}
 use Rattle.play_rules.specs.Timers.{queued_on}
 use Rattle.core_world.specs.Enabled.{IsFree, MayArm, MayCancel}
+use Rattle.core_world.specs.declared.step.Step.{Step}
 use Rattle.core_world.specs.declared.step.Step.TheVariants as steps
 use Rattle.core_world.specs.Steps.{stepped}
 use Rattle.core_world.specs.World.{World, cpu_of}
@@ -57,13 +58,12 @@ module _ (law : StepsStayLawful) (w : World) (c : ℕ) (a : Arming) (low : c < l
       (sym (bases_seen w c low)))
 
   -- what the step leaves
-  module _ (v : World)
-      (made : v ≡ stepped w (steps.Arm (record { 0 = c }) a.timer a.class n a.job a.arg a.line))
-      where
+  abbrev pub arming_at : ℕ → Step
+  arming_at e = steps.Arm (record { 0 = c }) a.timer a.class e a.job a.arg a.line
+
+  module _ (v : World) (made : v ≡ stepped w (arming_at n)) where
     pub arm_state : v ≡ (armed_by_steps w c a).state
-    arm_state =
-        made
-        ∙ ap (λ e. stepped w (steps.Arm (record { 0 = c }) a.timer a.class e a.job a.arg a.line)) at
+    arm_state = made ∙ ap (λ e. stepped w (arming_at e)) at
 
     pub arm_fits : StaysFit InPlay (λ ph. MayArmIn step_rules w ph c) w v
     arm_fits ph allowed i =
