@@ -24,7 +24,7 @@ use Rattle.step_play.proofs.Hotplug.{runs}
 use Rattle.step_play.proofs.Worlds.{own_is, put_all}
 use Rattle.walk_alone.proofs.Calm.{handing}
 use Rattle.hotplug.specs.Frames.{Activated, Framed, MayActivate, Waits}
-use Rattle.hotplug.specs.Settled.{gone_whole, heir_at, offline_fault}
+use Rattle.hotplug.specs.Settled.{AllWhole, IsWhole, gone_whole, heir_at, offline_fault}
 use Rattle.hotplug.proofs.Frames.{begun_framed}
 use Rattle.hotplug.proofs.Settling.{online_free, settled_lone}
 
@@ -113,6 +113,18 @@ module _ (w : World) (c to : ℕ) (waits : Waits w c to) where
         (λ e z. (z.walk ≡ None) × (z.inside ≡ false))
         (refl, ap (λ (y : CpuRecord). y.inside) back ∙ waits.outside c) rests d)
 
+    pub handed_bases : AllWhole w → AllWhole last
+    handed_bases all d =
+        subst (λ u. IsWhole (cpu_of u d).bases) (sym (own_is v c (with_walk (cpu_of v c) None)))
+        (put_all v c (with_walk (cpu_of v c) None) within (λ e z. IsWhole z.bases)
+        (subst (λ (y : CpuRecord). IsWhole y.bases) (sym back) (all c))
+        (λ e ne. elim (cases_eq e to) [
+          | inl same ↦ subst (λ n. IsWhole (cpu_of v n).bases) (sym same)
+              (subst IsWhole (sym active.bases) (all to))
+          | inr other ↦
+              subst (λ (y : CpuRecord). IsWhole y.bases) (sym (active.others e other)) (all e)
+        ]) d)
+
     pub handed_settled : IsSettled last
     handed_settled = record { free = λ d. (each d).0; outside = λ d. (each d).1 }
 
@@ -164,6 +176,13 @@ module _ (w : World) (c to : ℕ) (low : c < length w.cpus) (to_low : to < lengt
       | inl same ↦
           ap (λ n. (cpu_of v n).inside) same ∙ f.itself.outside (settled.outside c)
       | inr ne ↦ ap (λ (y : CpuRecord). y.inside) (f.others d ne) ∙ settled.outside d
+    ]
+
+    pub leaves_bases : AllWhole w → AllWhole v
+    leaves_bases all d = elim (cases_eq d c) [
+      | inl same ↦ subst (λ n. IsWhole (cpu_of v n).bases) (sym same)
+          (subst IsWhole (sym f.itself.bases) (all c))
+      | inr ne ↦ subst (λ (y : CpuRecord). IsWhole y.bases) (sym (f.others d ne)) (all d)
     ]
 
     others : (d : ℕ) → d ≢ c → (cpu_of v d).walk ≡ None
@@ -244,6 +263,13 @@ module _ (w : World) (c : ℕ) (low : c < length w.cpus) (settled : IsSettled w)
     framed : Framed w c come v
     framed =
         subst (Framed w c come) (sym is) (begun_framed w c come low (settled_lone w c settled))
+
+    pub come_bases : AllWhole w → AllWhole v
+    come_bases all d = elim (cases_eq d c) [
+      | inl same ↦ subst (λ n. IsWhole (cpu_of v n).bases) (sym same)
+          (subst IsWhole (sym framed.itself.bases) (all c))
+      | inr ne ↦ subst (λ (y : CpuRecord). IsWhole y.bases) (sym (framed.others d ne)) (all d)
+    ]
 
     pub come_settled : IsSettled v
     come_settled = record {

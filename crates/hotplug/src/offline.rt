@@ -6,7 +6,7 @@ ghost use Rattle.tree_plan.specs.Paths.{is_placed_in};
 ghost use Rattle.core_world.specs.Covered.{IsSettled};
 ghost use Rattle.step_rules.specs.StepRules.{handed_on_by_steps};
 ghost use Rattle.hotplug.specs.Frames.{Waits};
-ghost use Rattle.hotplug.specs.Settled.{gone_whole, heir_at, offline_fault};
+ghost use Rattle.hotplug.specs.Settled.{AllWhole, gone_whole, heir_at, offline_fault};
 
 use crate::activation::make_active;
 use core_state::Core;
@@ -38,6 +38,7 @@ fn hand_on<B: TimerBase>(core: &mut Core<B>, cpu: CpuId, to: CpuId)
     requires { Waits core.old cpu.0 to.0 }
     ensures handed { core.new ≡ handed_on_by_steps core.old cpu.0 to.0 }
     ensures settled { IsSettled core.new }
+    ensures whole { AllWhole core.old → AllWhole core.new }
 {
     make_active(core, to);
     make(core, Step::HandOn { cpu, to });
@@ -54,6 +55,7 @@ fn leave<B: TimerBase>(core: &mut Core<B>, cpu: CpuId, to: CpuId) -> Option<CpuI
     ensures gone { core.new ≡ gone_whole core.old cpu.0 to.0 }
     ensures heir { result ≡ heir_at core.old cpu.0 to }
     ensures settled { IsSettled core.new }
+    ensures whole { AllWhole core.old → AllWhole core.new }
 {
     step_calls::go_offline(core, cpu);
     if core.walk(cpu).is_none() {
@@ -84,6 +86,7 @@ pub fn go_offline<B: TimerBase>(
     ensures gone { OnOk result (core.new ≡ gone_whole core.old cpu.0 to.0) }
     ensures heir { IfOk result (λ heir. heir ≡ heir_at core.old cpu.0 to) }
     ensures settled { IsSettled core.new }
+    ensures whole { AllWhole core.old → AllWhole core.new }
 {
     if let Some(fault) = offline_fault(core, cpu, to) {
         return Err(fault);

@@ -3,7 +3,7 @@
 ghost use Rattle.std.specs.Prelude.{◌≡◌, ◌<◌, MatchResult, None, OnErr, OnOk, Some, length};
 ghost use Rattle.core_world.specs.Covered.{IsSettled};
 ghost use Rattle.step_rules.specs.StepRules.{come_by_steps};
-ghost use Rattle.hotplug.specs.Settled.{online_fault};
+ghost use Rattle.hotplug.specs.Settled.{AllWhole, online_fault};
 
 use core_state::Core;
 use step_calls::come_online;
@@ -21,6 +21,7 @@ pub fn go_online<B: TimerBase>(core: &mut Core<B>, cpu: CpuId) -> Result<(), OpF
     ensures err { OnErr result (core.new ≡ core.old) }
     ensures come { OnOk result (core.new ≡ come_by_steps core.old cpu.0) }
     ensures settled { IsSettled core.new }
+    ensures whole { AllWhole core.old → AllWhole core.new }
 {
     if core.status(cpu).online {
         return Err(OpFault::AlreadyOnline);

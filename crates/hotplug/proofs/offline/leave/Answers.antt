@@ -1,7 +1,7 @@
 use Rattle.std.proofs.Common.{false, None, rules, ◌≡◌}
 use Rattle.std.specs.Prelude.{is_none}
 use Rattle.core_world.specs.World.{cpu_of}
-use Rattle.hotplug.proofs.Leaving.{leaves_low, leaves_settled, leaves_waits}
+use Rattle.hotplug.proofs.Leaving.{leaves_bases, leaves_low, leaves_settled, leaves_waits}
 use Rattle.hotplug.proofs.offline.leave.Goals as goal
 
 pub walk-requires : goal.walk-requires
@@ -23,3 +23,16 @@ hand_on-requires g c =
     leaves_waits c.args.core.now c.args.cpu.0 c.args.to.0 c.requires.cpu c.requires.to
     c.requires.another c.requires.placed c.requires.settled c.requires.allowed
     c.go_offline.new.core c.go_offline.ensures.walked some c.go_offline.ensures.ends
+
+pub returns-then-is_none-clause-whole : goal.returns-then-is_none-clause-whole
+returns-then-is_none-clause-whole g c =
+    leaves_bases c.args.core.now c.args.cpu.0 c.args.to.0 c.requires.cpu c.requires.to
+    c.requires.another c.requires.placed c.requires.settled c.requires.allowed
+    c.go_offline.new.core c.go_offline.ensures.walked
+
+pub returns-clause-whole : goal.returns-clause-whole
+returns-clause-whole g c = λ all.
+    c.hand_on.ensures.whole
+    (leaves_bases c.args.core.now c.args.cpu.0 c.args.to.0 c.requires.cpu c.requires.to
+    c.requires.another c.requires.placed c.requires.settled c.requires.allowed
+    c.go_offline.new.core c.go_offline.ensures.walked all)
