@@ -1,5 +1,6 @@
 -- for crates above: a change of one CPU, and what stays of its timers
-use Rattle.std.proofs.Common.{◌≡◌, ℕ, ◌<◌, List, Option, length, refl, sym, ap, ◌∙◌, subst, inl, inr, get_or, get_or-set_other, get_or-set_same}
+use Rattle.std.proofs.Common.{◌≡◌, ℕ, ◌<◌, List, Option, length, refl, sym, ap, ◌∙◌, subst, inl}
+use Rattle.std.proofs.Common.{inr, get_or, get_or-set_other, get_or-set_same}
 use Rattle.std.specs.Prelude.{slice_set}
 use Rattle.std.proofs.lemmas.Bool.{cases_eq}
 use Rattle.std.proofs.lemmas.List.{get_or_default, set-get_or}
@@ -43,7 +44,8 @@ pub same_bases : (w : World) (c : ℕ) (f : CpuRecord → CpuRecord)
 same_bases w c f leaves low d = elim (cases_eq d c) [
   | inl is ↦
       subst (λ k. (cpu_of (with_change w c f) k).bases ≡ (cpu_of w k).bases) (sym is)
-      (ap (λ (y : CpuRecord). y.bases) (get_or-set_same w.cpus c (f (cpu_of w c)) no_cpu low) ∙ leaves (cpu_of w c))
+      (ap (λ (y : CpuRecord). y.bases) (get_or-set_same w.cpus c (f (cpu_of w c)) no_cpu low)
+      ∙ leaves (cpu_of w c))
   | inr apart ↦
       ap (λ (y : CpuRecord). y.bases) (get_or-set_other w.cpus c d (f (cpu_of w c)) no_cpu apart)
 ]
@@ -69,13 +71,16 @@ set_kept v w holders c i x z status seen kept same low is made fits =
     })
 
 -- a step that changes no group
-pub own_is : (w : World) (c : ℕ) (y : CpuRecord) → own w c y ≡ record w { cpus = slice_set w.cpus c y }
-own_is w c y = ap (λ gs. record w { groups = gs; cpus = slice_set w.cpus c y }) (set-get_or w.groups 0 no_group)
+pub own_is : (w : World) (c : ℕ) (y : CpuRecord)
+    → own w c y ≡ record w { cpus = slice_set w.cpus c y }
+own_is w c y = ap (λ gs. record w { groups = gs; cpus = slice_set w.cpus c y })
+    (set-get_or w.groups 0 no_group)
 
 pub status_fits : (w : World) (c : ℕ) (status wanted : CpuStatus) → status ≡ wanted
     → WorldFits (own w c (with_status (cpu_of w c) wanted)) → WorldFits (with_cpu_status w c status)
 status_fits w c status wanted is fits =
-    subst WorldFits (own_is w c (with_status (cpu_of w c) wanted) ∙ ap (with_cpu_status w c) (sym is)) fits
+    subst WorldFits
+    (own_is w c (with_status (cpu_of w c) wanted) ∙ ap (with_cpu_status w c) (sym is)) fits
 
 pub status_made : (w after : World) (c : ℕ) (status wanted : CpuStatus) → status ≡ wanted
     → after ≡ with_cpu_status w c status → after ≡ own w c (with_status (cpu_of w c) wanted)
@@ -86,7 +91,8 @@ status_made w after c status wanted is made =
 pub clock_kept : (v w : World) (holders : List (Option CpuId)) (now : ℕ) → v ≡ w → WorldsStayFit
     → IsKept v holders → Enabled w (steps.Clock now) → IsKept (record v { clock = now }) holders
 clock_kept v w holders now seen law kept enabled = record {
-  fits = law v kept.fits (steps.Clock now) (subst (λ u. Enabled u (steps.Clock now)) (sym seen) enabled);
+  fits = law v kept.fits (steps.Clock now)
+      (subst (λ u. Enabled u (steps.Clock now)) (sym seen) enabled);
   held = kept.held;
 }
 

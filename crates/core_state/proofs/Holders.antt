@@ -1,5 +1,7 @@
 -- the CPU that is noted for a timer is the one on which it is queued
-use Rattle.std.proofs.Common.{◌≡◌, ◌≢◌, ℕ, ◌<◌, Bool, true, false, true≢false, List, Option, Some, None, length, refl, ap, sym, ◌∙◌, subst, arith, inl, inr, get_or, get_or-set_other, get_or-set_same}
+use Rattle.std.proofs.Common.{◌≡◌, ◌≢◌, ℕ, ◌<◌, Bool, true, false, true≢false, List, Option, Some}
+use Rattle.std.proofs.Common.{None, length, refl, ap, sym, ◌∙◌, subst, arith, inl, inr, get_or}
+use Rattle.std.proofs.Common.{get_or-set_other, get_or-set_same}
 use Rattle.std.specs.Prelude.{◌==◌, ◌&&◌, ◌||◌, not, IfSome, slice_set}
 use Rattle.std.proofs.lemmas.Bool.{cases_eq, cases_lt, eq-eqb, eqb-true, ne_eqb}
 use Rattle.std.proofs.lemmas.List.{get_or_default, get_or_past}
@@ -18,13 +20,15 @@ or_no true = refl
 or_no false = refl
 
 -- past the last CPU nothing is queued
-pub queued_low : (w : World) (timer d : ℕ) → is_queued timer (cpu_of w d).bases ≡ true → d < length w.cpus
+pub queued_low : (w : World) (timer d : ℕ) → is_queued timer (cpu_of w d).bases ≡ true
+    → d < length w.cpus
 queued_low w timer d there = elim (cases_lt d (length w.cpus)) [
   | inl low ↦ low
   | inr past ↦
       absurd
       (true≢false
-      (sym there ∙ ap (λ (y : CpuRecord). is_queued timer y.bases) (get_or_past w.cpus d no_cpu past)))
+      (sym there ∙ ap (λ (y : CpuRecord). is_queued timer y.bases)
+      (get_or_past w.cpus d no_cpu past)))
 ]
 
 pub note_read : (holders : List (Option CpuId)) (timer i : ℕ) (x : Option CpuId) → i ≡ timer
@@ -32,18 +36,23 @@ pub note_read : (holders : List (Option CpuId)) (timer i : ℕ) (x : Option CpuI
 note_read holders timer i x same low is =
     get_or_default holders timer None x low ∙ (ap (λ k. get_or holders k x) (sym same) ∙ sym is)
 
-pub noted_there : (w : World) (holders : List (Option CpuId)) (timer : ℕ) (d : CpuId) → IsHeld w holders
+pub noted_there : (w : World) (holders : List (Option CpuId)) (timer : ℕ) (d : CpuId)
+    → IsHeld w holders
     → noted holders timer ≡ Some d → is_queued timer (cpu_of w d.0).bases ≡ true
 noted_there w holders timer d held is =
     held timer d.0 ∙ (ap (λ o. holds o d.0) is ∙ eq-eqb d.0 d.0 refl)
 
-noted_low : (w : World) (holders : List (Option CpuId)) (timer : ℕ) (o : Option CpuId) → IsHeld w holders
+noted_low : (w : World) (holders : List (Option CpuId)) (timer : ℕ) (o : Option CpuId)
+    → IsHeld w holders
     → noted holders timer ≡ o → IfSome o (λ d. d.0 < length w.cpus)
 noted_low w holders timer None held is = tt
-noted_low w holders timer (Some d) held is = queued_low w timer d.0 (noted_there w holders timer d held is)
+noted_low w holders timer (Some d) held is =
+    queued_low w timer d.0 (noted_there w holders timer d held is)
 
-pub read_low : (v w : World) (holders : List (Option CpuId)) (timer i : ℕ) (x : Option CpuId) → v ≡ w
-    → v.timers ≡ length holders → IsHeld v holders → i ≡ timer → timer < w.timers → x ≡ get_or holders i x
+pub read_low : (v w : World) (holders : List (Option CpuId)) (timer i : ℕ) (x : Option CpuId)
+    → v ≡ w
+    → v.timers ≡ length holders → IsHeld v holders → i ≡ timer → timer < w.timers
+    → x ≡ get_or holders i x
     → IfSome x (λ d. d.0 < length w.cpus)
 read_low v w holders timer i x seen count held same low is =
     let number = ap (λ (u : World). u.timers) seen in
@@ -66,12 +75,14 @@ noted_this : (o : Option CpuId) (c : CpuId) → holds o c.0 ≡ true → o ≡ S
 noted_this None c is = absurd (true≢false (sym is))
 noted_this (Some d) c is = let same = eqb-true d.0 c.0 is in λ k. Some (record { 0 = same k })
 
-pub queued_noted : (w : World) (holders : List (Option CpuId)) (timer : ℕ) (c : CpuId) → IsHeld w holders
+pub queued_noted : (w : World) (holders : List (Option CpuId)) (timer : ℕ) (c : CpuId)
+    → IsHeld w holders
     → is_queued timer (cpu_of w c.0).bases ≡ true → noted holders timer ≡ Some c
 queued_noted w holders timer c held there =
     noted_this (noted holders timer) c (sym (held timer c.0) ∙ there)
 
-pub note_low : (holders : List (Option CpuId)) (timer : ℕ) (c : CpuId) → noted holders timer ≡ Some c
+pub note_low : (holders : List (Option CpuId)) (timer : ℕ) (c : CpuId)
+    → noted holders timer ≡ Some c
     → timer < length holders
 note_low holders timer c is = elim (cases_lt timer (length holders)) [
   | inl low ↦ low
@@ -79,8 +90,8 @@ note_low holders timer c is = elim (cases_lt timer (length holders)) [
 ]
 
 -- a change of the bases of one CPU, with what is noted beside it
-module _ (w : World) (holders : List (Option CpuId)) (c : ℕ) (y : CpuRecord) (held : IsHeld w holders)
-    (low : c < length w.cpus) where
+module _ (w : World) (holders : List (Option CpuId)) (c : ℕ) (y : CpuRecord)
+    (held : IsHeld w holders) (low : c < length w.cpus) where
   pub held_at : (after : List (Option CpuId))
       → ((timer : ℕ) → is_queued timer y.bases ≡ holds (noted after timer) c)
       → ((timer d : ℕ) → d ≢ c → holds (noted after timer) d ≡ holds (noted holders timer) d)
@@ -88,10 +99,12 @@ module _ (w : World) (holders : List (Option CpuId)) (c : ℕ) (y : CpuRecord) (
   held_at after here others = λ timer d.
       elim (cases_eq d c) [
         | inl is ↦
-            subst (λ k. is_queued timer (cpu_of (own w c y) k).bases ≡ holds (noted after timer) k) (sym is)
-            (ap (λ (z : CpuRecord). is_queued timer z.bases) (get_or-set_same w.cpus c y no_cpu low) ∙ here timer)
+            subst (λ k. is_queued timer (cpu_of (own w c y) k).bases ≡ holds (noted after timer) k)
+            (sym is) (ap (λ (z : CpuRecord). is_queued timer z.bases)
+            (get_or-set_same w.cpus c y no_cpu low) ∙ here timer)
         | inr apart ↦
-            ap (λ (z : CpuRecord). is_queued timer z.bases) (get_or-set_other w.cpus c d y no_cpu apart)
+            ap (λ (z : CpuRecord). is_queued timer z.bases)
+            (get_or-set_other w.cpus c d y no_cpu apart)
             ∙ (held timer d ∙ sym (others timer d apart))
       ]
 
@@ -107,12 +120,16 @@ module _ (w : World) (holders : List (Option CpuId)) (c : ℕ) (y : CpuRecord) (
             queues timer
             ∙ (or_true (is_queued timer (cpu_of w c).bases) (t == timer) (eq-eqb t timer (sym at))
             ∙ sym (ap (λ k. holds (noted (slice_set holders t (Some by)) k) c) at
-            ∙ (ap (λ o. holds o c) (get_or-set_same holders t (Some by) None within) ∙ eq-eqb by.0 c is_c)))
+            ∙ (ap (λ o. holds o c) (get_or-set_same holders t (Some by) None within)
+            ∙ eq-eqb by.0 c is_c)))
         | inr apart ↦
             queues timer
-            ∙ (ap (λ b. is_queued timer (cpu_of w c).bases || b) (ne_eqb t timer (λ e. apart (sym e)))
+            ∙ (ap (λ b. is_queued timer (cpu_of w c).bases || b)
+            (ne_eqb t timer (λ e. apart (sym e)))
             ∙ (or_no (is_queued timer (cpu_of w c).bases)
-            ∙ (held timer c ∙ sym (ap (λ o. holds o c) (get_or-set_other holders t timer (Some by) None apart)))))
+            ∙ (held timer c
+            ∙ sym (ap (λ o. holds o c)
+            (get_or-set_other holders t timer (Some by) None apart)))))
       ])
       (λ timer d away.
       elim (cases_eq timer t) [
@@ -126,7 +143,8 @@ module _ (w : World) (holders : List (Option CpuId)) (c : ℕ) (y : CpuRecord) (
 
   -- a timer goes from this CPU
   pub went : (t : ℕ) (by : CpuId) → by.0 ≡ c → noted holders t ≡ Some by
-      → ((timer : ℕ) → is_queued timer y.bases ≡ (is_queued timer (cpu_of w c).bases && not (t == timer)))
+      → ((timer : ℕ)
+      → is_queued timer y.bases ≡ (is_queued timer (cpu_of w c).bases && not (t == timer)))
       → IsHeld (own w c y) (slice_set holders t None)
   went t by is_c was queues =
       let within = note_low holders t by was in
@@ -141,9 +159,11 @@ module _ (w : World) (holders : List (Option CpuId)) (c : ℕ) (y : CpuRecord) (
             ∙ ap (λ o. holds o c) (get_or-set_same holders t None None within))))
         | inr apart ↦
             queues timer
-            ∙ (ap (λ b. is_queued timer (cpu_of w c).bases && not b) (ne_eqb t timer (λ e. apart (sym e)))
+            ∙ (ap (λ b. is_queued timer (cpu_of w c).bases && not b)
+            (ne_eqb t timer (λ e. apart (sym e)))
             ∙ (and_true (is_queued timer (cpu_of w c).bases)
-            ∙ (held timer c ∙ sym (ap (λ o. holds o c) (get_or-set_other holders t timer None None apart)))))
+            ∙ (held timer c
+            ∙ sym (ap (λ o. holds o c) (get_or-set_other holders t timer None None apart)))))
       ])
       (λ timer d away.
       elim (cases_eq timer t) [

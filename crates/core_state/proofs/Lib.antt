@@ -11,3 +11,4 @@ pub mod Readings
 pub mod Rooms
 pub mod Starts
 pub mod TimerSteps
+pub mod Under

@@ -1,5 +1,6 @@
 -- for crates above: a step of a walk, as the code makes it
-use Rattle.std.proofs.Common.{◌≡◌, ℕ, ◌<◌, Bool, List, Option, length, sym, ap, ◌∙◌, subst, arith, inl, inr, get_or, get_or-set_other, get_or-set_same}
+use Rattle.std.proofs.Common.{◌≡◌, ℕ, ◌<◌, Bool, List, Option, length, sym, ap, ◌∙◌, subst, arith}
+use Rattle.std.proofs.Common.{inl, inr, get_or, get_or-set_other, get_or-set_same}
 use Rattle.std.specs.Prelude.{slice_set}
 use Rattle.std.proofs.lemmas.Bool.{cases_eq}
 use Rattle.std.proofs.lemmas.List.{get_or_default}
@@ -21,10 +22,11 @@ group_read : (groups : List Group) (g i : ℕ) (x : Group) → i ≡ g → g < l
 group_read groups g i x same low is =
     get_or_default groups g no_group x low ∙ (ap (λ k. get_or groups k x) (sym same) ∙ sym is)
 
-module _ (v w : World) (g i c j : ℕ) (x y : Group) (cs : List CpuRecord) (a b : CpuRecord) (change : GroupChange)
-    (status : CpuStatus) (exchanges : Bool) (seen : v ≡ w) (at_g : i ≡ g) (g_low : g < length w.groups)
-    (read_g : x ≡ get_or v.groups i x) (made_g : y ≡ changed change x) (are : cs ≡ stale_if v.tree exchanges g v.cpus)
-    (at_c : j ≡ c) (c_low : c < length w.cpus) (read_c : a ≡ get_or cs j a) (made_c : b ≡ with_status a status) where
+module _ (v w : World) (g i c j : ℕ) (x y : Group) (cs : List CpuRecord) (a b : CpuRecord)
+    (change : GroupChange) (status : CpuStatus) (exchanges : Bool) (seen : v ≡ w) (at_g : i ≡ g)
+    (g_low : g < length w.groups) (read_g : x ≡ get_or v.groups i x) (made_g : y ≡ changed change x)
+    (are : cs ≡ stale_if v.tree exchanges g v.cpus) (at_c : j ≡ c) (c_low : c < length w.cpus)
+    (read_c : a ≡ get_or cs j a) (made_c : b ≡ with_status a status) where
   abbrev pub after : World
   after = moved w g (changed change (group_of w g)) c (with_status (cpu_of w c) status) exchanges
 
@@ -60,7 +62,8 @@ module _ (v w : World) (g i c j : ℕ) (x y : Group) (cs : List CpuRecord) (a b 
         groups = slice_set v.groups (at_g k) (sym group_made k);
         cpus = slice_set (are k) (at_c k) (sym cpu_made k);
       })
-      ∙ ap (λ (u : World). moved u g (changed change (group_of u g)) c (with_status (cpu_of u c) status) exchanges) seen
+      ∙ ap (λ (u : World). moved u g (changed change (group_of u g)) c
+      (with_status (cpu_of u c) status) exchanges) seen
 
   same_after : (d : ℕ) → (cpu_of after d).bases ≡ (cpu_of w d).bases
   same_after d =
@@ -70,7 +73,8 @@ module _ (v w : World) (g i c j : ℕ) (x y : Group) (cs : List CpuRecord) (a b 
       elim (cases_eq d c) [
         | inl is ↦
             subst (λ k. (cpu_of after k).bases ≡ (cpu_of w k).bases) (sym is)
-            (ap (λ (u : CpuRecord). u.bases) (get_or-set_same cs' c z no_cpu (omega (arith, c_low, len))))
+            (ap (λ (u : CpuRecord). u.bases)
+            (get_or-set_same cs' c z no_cpu (omega (arith, c_low, len))))
         | inr apart ↦
             ap (λ (u : CpuRecord). u.bases) (get_or-set_other cs' c d z no_cpu apart)
             ∙ same_timers w.tree exchanges g w.cpus d
@@ -98,4 +102,5 @@ pub walk_moved : (w : World) (c : ℕ) (exchanges : Bool) (g h : ℕ) (change wa
     → moved w g (changed change (group_of w g)) c (with_walk (cpu_of w c) k) exchanges
     ≡ moved w h (changed wanted (group_of w h)) c (with_walk (cpu_of w c) j) exchanges
 walk_moved w c exchanges g h change wanted k j at is walk =
-    λ i. moved w (at i) (changed (is i) (group_of w (at i))) c (with_walk (cpu_of w c) (walk i)) exchanges
+    λ i. moved w (at i) (changed (is i) (group_of w (at i))) c (with_walk (cpu_of w c) (walk i))
+    exchanges

@@ -16,7 +16,7 @@ use Rattle.core_world.specs.Enabled.{MayMove}
 use Rattle.core_world.specs.Steps.{first_moved, moved_with, stepped, with_bases}
 use Rattle.core_world.specs.World.{CpuRecord, World, cpu_of, is_active, no_cpu, own}
 use Rattle.core_state.specs.Kept.{IsHeld, IsKept, StaysFit, WorldFits, but, holds, is_queued, noted}
-use Rattle.core_state.specs.Moves.{MayTakeIn, after_moving, taken_in}
+use Rattle.core_state.specs.Moves.{MayTakeIn, after_moving, taken_in, wheel_in, wheel_moved, wheel_taken}
 use Rattle.core_state.proofs.Holders.{came, note_low, queued_noted, went}
 use Rattle.core_state.proofs.Queues.{moving_in_queues, moving_out_queues, some_or_none}
 use Rattle.core_state.proofs.Rooms.{oldest_in_time, oldest_narrow}
@@ -165,6 +165,18 @@ module _ (w : World) (holders : List (Option CpuId)) (from to : CpuId) (t : Time
       (sym (ap (moved_with w from.0 to.0) may.first))
       (subst (λ hs. IsHeld (own (own w from.0 given) to.0 taken) hs)
       (twice holders t.0 None (Some to)) both)
+
+  -- what the code answers
+  pub move_wheel : (v : World) (class : Class) (now : ℕ) → v ≡ w → class ≡ may.class → now ≡ w.clock
+      → (wheel : Option ℕ)
+      → wheel ≡ wheel_taken now class (cpu_of v from.0).bases (cpu_of v to.0).bases
+      → wheel ≡ wheel_moved w from.0 to.0
+  move_wheel v class now seen is time wheel told =
+      told
+      ∙ ((λ i. wheel_taken (time i) (is i) (cpu_of (seen i) from.0).bases (cpu_of (seen i) to.0).bases)
+      ∙ (ap (option_map (wheel_in w.clock may.class (cpu_of w to.0).bases)) oldest
+      ∙ sym (ap (option_map (λ (found : Class × Item).
+      wheel_in w.clock found.0 (cpu_of w to.0).bases found.1)) may.first)))
 
   -- what the code leaves
   module _ (v : World) (ys : List CpuRecord) (class : Class) (now n : ℕ) (seen : v ≡ w) (is : class ≡ may.class)

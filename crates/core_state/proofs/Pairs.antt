@@ -67,7 +67,7 @@ module _ (xs front back : List CpuRecord) (len i m : ℕ) (x y a b : CpuRecord) 
       ∙ (ap (λ ys. slice_set ys m (get_or xs m no_cpu)) (set-get_or xs i no_cpu) ∙ set-get_or xs m no_cpu)
 
 module _ (xs : List CpuRecord) (now : ℕ) (class : Class) (from to : CpuId) where
-  pub ok_up : {E : Type 0} (r : Result Unit E) (ys : List CpuRecord) (a b x y : CpuRecord)
+  pub ok_up : {A E : Type 0} (r : Result A E) (ys : List CpuRecord) (a b x y : CpuRecord)
       → ys ≡ slice_set (slice_set xs from.0 a) to.0 b → x ≡ get_or xs from.0 no_cpu → y ≡ get_or xs to.0 no_cpu
       → OnOk r (a ≡ after_giving now class to x) → OnOk r (b ≡ after_taking now class to x y)
       → OnOk r (ys ≡ after_moving now class from to xs)
@@ -77,7 +77,7 @@ module _ (xs : List CpuRecord) (now : ℕ) (class : Class) (from to : CpuId) whe
       ∙ (λ k. slice_set (slice_set xs from.0 ((given ∙ ap (after_giving now class to) read_x) k)) to.0
       ((taken ∙ (λ j. after_taking now class to (read_x j) (read_y j))) k)))
 
-  pub ok_down : {E : Type 0} (r : Result Unit E) (ys : List CpuRecord) (a b x y : CpuRecord)
+  pub ok_down : {A E : Type 0} (r : Result A E) (ys : List CpuRecord) (a b x y : CpuRecord)
       → ys ≡ slice_set (slice_set xs to.0 b) from.0 a → from.0 ≢ to.0 → x ≡ get_or xs from.0 no_cpu
       → y ≡ get_or xs to.0 no_cpu
       → OnOk r (a ≡ after_giving now class to x) → OnOk r (b ≡ after_taking now class to x y)
@@ -85,6 +85,6 @@ module _ (xs : List CpuRecord) (now : ℕ) (class : Class) (from to : CpuId) whe
   ok_down r ys a b x y is apart read_x read_y =
       ok_up r ys a b x y (is ∙ set_comm xs to.0 from.0 b a (λ e. apart (sym e))) read_x read_y
 
-  pub err_any : {E : Type 0} (r : Result Unit E) (ys : List CpuRecord) (P Q : Type 0)
+  pub err_any : {A E : Type 0} (r : Result A E) (ys : List CpuRecord) (P Q : Type 0)
       → (P → Q → ys ≡ xs) → OnErr r P → OnErr r Q → OnErr r (ys ≡ xs)
   err_any r ys P Q f = on_err_both r P Q (ys ≡ xs) f

@@ -1,5 +1,6 @@
 -- where the path of a CPU goes, by the laws of trees
-use Rattle.std.proofs.Common.{◌≡◌, ℕ, zero, suc, ◌-◌, ◌<◌, true, false, Option, Some, None, ap, sym, ◌∙◌, subst, arith, inl, inr}
+use Rattle.std.proofs.Common.{◌≡◌, ℕ, zero, suc, ◌-◌, ◌<◌, true, false, Option, Some, None, ap, sym}
+use Rattle.std.proofs.Common.{◌∙◌, subst, arith, inl, inr}
 use Rattle.std.specs.Prelude.{option_map, unwrap_or}
 use Rattle.std.specs.Option.{option_map_or}
 use Rattle.std.proofs.lemmas.Option.{none-some}
@@ -7,7 +8,8 @@ use Rattle.tm_base.specs.declared.names.GroupId.{GroupId}
 use Rattle.tm_base.specs.Children.{of_cpu, of_group}
 use Rattle.tree_plan.specs.Laws.{EdgeLaws, PathLaws}
 use Rattle.tree_plan.specs.Shape.{Shape}
-use Rattle.tree_plan.specs.Paths.{bit_in, bit_of, child_towards, group_at_of, group_count_of, is_placed_in, parent_of}
+use Rattle.tree_plan.specs.Paths.{bit_in, bit_of, child_towards, group_at_of, group_count_of}
+use Rattle.tree_plan.specs.Paths.{is_placed_in, parent_of}
 use Rattle.walk_rules.specs.Hierarchy.{side}
 use Rattle.core_state.specs.Kept.{HasLevel}
 use Rattle.core_walks.proofs.Stands.{leaf_or}
@@ -21,7 +23,8 @@ on_in_range t c l (Some g) r laws read is has =
     subst (λ (x : GroupId). x.0 < group_count_of t) (sym is) (laws.group_within c l g.0 (sym read))
 
 -- a CPU that isn't placed has no number
-pub unplaced_bit : (t : Shape) (c : ℕ) → EdgeLaws t → is_placed_in t c ≡ false → bit_of t (of_cpu c) ≡ 0
+pub unplaced_bit : (t : Shape) (c : ℕ) → EdgeLaws t → is_placed_in t c ≡ false
+    → bit_of t (of_cpu c) ≡ 0
 unfolding bit_of bit_in
 unplaced_bit t c laws out =
     elim (leaf_or (parent_of t (of_cpu c))) [
@@ -39,7 +42,9 @@ unfolding child_towards
 side_above t c zero o high at = absurd (omega arith)
 side_above t c (suc l) None high at =
     let same : suc l - 1 ≡ l = omega arith in
-    ap (λ m. option_map_or (bit_of t) (option_map of_group m) 0) (ap (group_at_of t c) (sym same) ∙ at)
+    ap (λ m. option_map_or (bit_of t) (option_map of_group m) 0)
+    (ap (group_at_of t c) (sym same) ∙ at)
 side_above t c (suc l) (Some g) high at =
     let same : suc l - 1 ≡ l = omega arith in
-    ap (λ m. option_map_or (bit_of t) (option_map of_group m) 0) (ap (group_at_of t c) (sym same) ∙ at)
+    ap (λ m. option_map_or (bit_of t) (option_map of_group m) 0)
+    (ap (group_at_of t c) (sym same) ∙ at)

@@ -1,5 +1,6 @@
 -- which timers are queued after each call on a CPU's bases
-use Rattle.std.proofs.Common.{◌≡◌, ℕ, ◌-◌, ◌<◌, Bool, true, false, List, [], ◌∷◌, ◌++◌, Option, Some, None, refl, ap, sym, ◌∙◌, ◌⊎◌, inl, inr}
+use Rattle.std.proofs.Common.{◌≡◌, ℕ, ◌-◌, ◌<◌, Bool, true, false, List, [], ◌∷◌, ◌++◌, Option}
+use Rattle.std.proofs.Common.{Some, None, refl, ap, sym, ◌∙◌, ◌⊎◌, inl, inr}
 use Rattle.std.specs.Prelude.{◌==◌, ◌&&◌, ◌||◌, not, is_some, find, option_map, if◌then◌else◌}
 use Rattle.std.proofs.lemmas.Bool.{cases_Bool, cond-true, cond-false, eqb-true}
 use Rattle.std.proofs.lemmas.Option.{none-some}
@@ -11,10 +12,14 @@ use Rattle.wheel_core.specs.PlainBase.{next_out}
 use Rattle.cpu_bases.specs.declared.entry.Act.TheVariants as acts
 use Rattle.cpu_bases.specs.declared.entry.Entry.{Entry}
 use Rattle.cpu_bases.specs.Journals.{arming_of, ended, queued_after, queued_by}
-use Rattle.cpu_bases.specs.CpuBases.{CpuBases, IsConsistent, after_cancel, after_hand_out, after_move_out, armed, base_of, cancelled, class_in, entry_of, found_in, handed_out, moved_in, moved_out, oldest_in, ticked_entry}
+use Rattle.cpu_bases.specs.CpuBases.{CpuBases, IsConsistent, after_cancel, after_hand_out}
+use Rattle.cpu_bases.specs.CpuBases.{after_move_out, armed, base_of, cancelled, class_in, entry_of}
+use Rattle.cpu_bases.specs.CpuBases.{found_in, handed_out, moved_in, moved_out, oldest_in}
+use Rattle.cpu_bases.specs.CpuBases.{ticked_entry}
 use Rattle.cpu_bases.specs.Laws.{MayQueue}
 use Rattle.cpu_bases.proofs.Consistent.{not_queued}
-use Rattle.cpu_bases.proofs.Keeping.{arming_keeps, cancelling_keeps, found_at, handing_out_keeps, moving_in_keeps, moving_out_keeps, nowhere}
+use Rattle.cpu_bases.proofs.Keeping.{arming_keeps, cancelling_keeps, found_at, handing_out_keeps}
+use Rattle.cpu_bases.proofs.Keeping.{moving_in_keeps, moving_out_keeps, nowhere}
 use Rattle.cpu_bases.proofs.Keyed.{none_dropped}
 use Rattle.cpu_bases.proofs.Legal.{distinct_from, ended_is, queued_push}
 use Rattle.core_state.specs.Kept.{but, is_queued}
@@ -39,7 +44,8 @@ queued_armed t cpu consistent =
       | inl none ↦ ap is_some (nowhere t cpu consistent none) ∙ sym (ap is_some none)
       | inr there ↦
           elim (some_or_none (class_in t cpu)) [
-            | inl none ↦ absurd (none-some there.0 (sym (not_queued cpu t consistent none) ∙ there.1))
+            | inl none ↦
+                absurd (none-some there.0 (sym (not_queued cpu t consistent none) ∙ there.1))
             | inr found ↦ ap is_some found.1 ∙ sym (ap is_some there.1)
           ]
     ]
@@ -69,7 +75,8 @@ ended_other t id (entry ∷ queued) other =
           ∙ sym (cond-false (entry.timer.0 == t) (Some entry) (arming_of t queued) apart)
       | inr there ↦
           ap (arming_of t) (cond-false (entry.timer.0 == id) queued (entry ∷ ended id queued) there)
-          ∙ ap (λ rest. if entry.timer.0 == t then Some entry else rest) (ended_other t id queued other)
+          ∙ ap (λ rest. if entry.timer.0 == t then Some entry else rest)
+          (ended_other t id queued other)
     ]
 
 gone : (t id : ℕ) (cpu : CpuBases) → IsConsistent cpu
@@ -115,16 +122,20 @@ dropped t e old new was stands is after =
     ∙ (gone t e.timer.0 old was
     ∙ ap (λ b. b && not (e.timer.0 == t)) (sym (queued_armed t old was)))))
 
-pub arming_queues : (now : ℕ) (class : Class) (timer expires job arg line : ℕ) (by : CpuId) (cpu : CpuBases)
+pub arming_queues : (now : ℕ) (class : Class) (timer expires job arg line : ℕ) (by : CpuId)
+    (cpu : CpuBases)
     → IsConsistent cpu → MayQueue now class timer expires cpu → (t : ℕ)
-    → is_queued t (armed now class timer expires job arg line by cpu) ≡ (is_queued t cpu || timer == t)
+    → is_queued t (armed now class timer expires job arg line by cpu)
+    ≡ (is_queued t cpu || timer == t)
 arming_queues now class timer expires job arg line by cpu consistent may t =
     pushed t _ cpu (armed now class timer expires job arg line by cpu) consistent
     (arming_keeps now class timer expires job arg line by cpu consistent may).0 refl refl
 
-pub moving_in_queues : (now : ℕ) (class : Class) (timer expires job arg : ℕ) (by : CpuId) (cpu : CpuBases)
+pub moving_in_queues : (now : ℕ) (class : Class) (timer expires job arg : ℕ) (by : CpuId)
+    (cpu : CpuBases)
     → IsConsistent cpu → MayQueue now class timer expires cpu → (t : ℕ)
-    → is_queued t (moved_in now class timer expires job arg by cpu) ≡ (is_queued t cpu || timer == t)
+    → is_queued t (moved_in now class timer expires job arg by cpu)
+    ≡ (is_queued t cpu || timer == t)
 moving_in_queues now class timer expires job arg by cpu consistent may t =
     pushed t _ cpu (moved_in now class timer expires job arg by cpu) consistent
     (moving_in_keeps now class timer expires job arg by cpu consistent may).0 refl refl
@@ -135,13 +146,17 @@ not_there timer t cpu none =
     elim (cases_Bool (timer == t)) [
       | inl same ↦
           let is : is_queued t cpu ≡ false =
-          ap (λ k. is_queued k cpu) (sym (eqb-true timer t same)) ∙ ap (λ f. is_some (option_map (λ found. found.0) f)) none in
+          ap (λ k. is_queued k cpu) (sym (eqb-true timer t same))
+          ∙ ap (λ f. is_some (option_map (λ found. found.0) f)) none in
           is ∙ ap (λ b. b && not (timer == t)) (sym is)
-      | inr other ↦ sym (and_true (is_queued t cpu)) ∙ ap (λ b. is_queued t cpu && not b) (sym other)
+      | inr other ↦ sym (and_true (is_queued t cpu))
+          ∙ ap (λ b. is_queued t cpu && not b) (sym other)
     ]
 
-cancelled_queues : (now timer line : ℕ) (by : CpuId) (cpu : CpuBases) (found : Option (Class × Item))
-    → found_in timer cpu ≡ found → IsConsistent cpu → IsConsistent (after_cancel found now line by cpu) → (t : ℕ)
+cancelled_queues : (now timer line : ℕ) (by : CpuId) (cpu : CpuBases)
+    (found : Option (Class × Item))
+    → found_in timer cpu ≡ found → IsConsistent cpu
+    → IsConsistent (after_cancel found now line by cpu) → (t : ℕ)
     → is_queued t (after_cancel found now line by cpu) ≡ (is_queued t cpu && not (timer == t))
 cancelled_queues now timer line by cpu None is was stands t = not_there timer t cpu is
 cancelled_queues now timer line by cpu (Some (class, item)) is was stands t =
@@ -149,7 +164,8 @@ cancelled_queues now timer line by cpu (Some (class, item)) is was stands t =
     (after_cancel (Some (class, item)) now line by cpu) was stands refl refl
     ∙ ap (λ id. is_queued t cpu && not (id == t)) (found_at timer class item cpu is).same
 
-pub cancelling_queues : (now timer line : ℕ) (by : CpuId) (cpu : CpuBases) → IsConsistent cpu → (t : ℕ)
+pub cancelling_queues : (now timer line : ℕ) (by : CpuId) (cpu : CpuBases) → IsConsistent cpu
+    → (t : ℕ)
     → is_queued t (cancelled now timer line by cpu) ≡ (is_queued t cpu && not (timer == t))
 cancelling_queues now timer line by cpu consistent t =
     cancelled_queues now timer line by cpu (found_in timer cpu) refl consistent
@@ -163,8 +179,10 @@ out_queues now class by cpu (Some item) was stands t =
     dropped t (entry_of acts.MovedOut 0 now class item by) cpu
     (after_move_out (Some item) now class by cpu) was stands refl refl
 
-pub moving_out_queues : (now : ℕ) (class : Class) (by : CpuId) (cpu : CpuBases) → IsConsistent cpu → (t : ℕ)
-    → is_queued t (moved_out now class by cpu) ≡ but (is_queued t cpu) (oldest_in (base_of class cpu).items) t
+pub moving_out_queues : (now : ℕ) (class : Class) (by : CpuId) (cpu : CpuBases) → IsConsistent cpu
+    → (t : ℕ)
+    → is_queued t (moved_out now class by cpu) ≡ but (is_queued t cpu)
+    (oldest_in (base_of class cpu).items) t
 moving_out_queues now class by cpu consistent t =
     out_queues now class by cpu (oldest_in (base_of class cpu).items) consistent
     (moving_out_keeps now class by cpu consistent).0 t
@@ -182,7 +200,8 @@ handed_queues now class by cpu (Some item) was stands t =
 
 pub handing_queues : (now : ℕ) (class : Class) (by : CpuId) (cpu : CpuBases) → now < TIME_LIMIT - 1
     → IsConsistent cpu → (t : ℕ)
-    → is_queued t (handed_out now class by cpu) ≡ but (is_queued t cpu) (next_out now (base_of class cpu)) t
+    → is_queued t (handed_out now class by cpu) ≡ but (is_queued t cpu)
+    (next_out now (base_of class cpu)) t
 handing_queues now class by cpu in_time consistent t =
     handed_queues now class by cpu (next_out now (base_of class cpu)) consistent
     (handing_out_keeps now class by cpu in_time consistent).0 t

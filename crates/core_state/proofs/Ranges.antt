@@ -1,5 +1,6 @@
 -- numbers that are in range
-use Rattle.std.proofs.Common.{inl, inr, ℕ, zero, suc, ◌-◌, ◌^◌, ◌<◌, ◌≤◌, Bool, true, false, refl, arith}
+use Rattle.std.proofs.Common.{inl, inr, ℕ, zero, suc, ◌-◌, ◌^◌, ◌<◌, ◌≤◌, Bool, true, false, refl}
+use Rattle.std.proofs.Common.{arith}
 use Rattle.std.specs.Prelude.{if◌then◌else◌}
 use Rattle.std.proofs.lemmas.List.Elements.{All-contains}
 use Rattle.tm_base.specs.declared.names.TheConstants.{NEVER, TIME_LIMIT}
@@ -13,7 +14,8 @@ first_in_range : FirstWasArmed → (cpu : CpuBases) → IsConsistent cpu → fir
 first_in_range law cpu consistent = elim (law cpu Global consistent) [
   | inl never ↦ omega (arith, never)
   | inr armed ↦
-      let at = All-contains (λ (e : Entry). e.wheel ≤ TIME_LIMIT) cpu.journal armed.0 consistent.in_time armed.1 in
+      let at = All-contains (λ (e : Entry). e.wheel ≤ TIME_LIMIT) cpu.journal armed.0
+      consistent.in_time armed.1 in
       let same = armed.4 in
       omega (arith, at, same)
 ]
@@ -23,7 +25,8 @@ either true first low = low
 either false first low = omega arith
 
 -- what a CPU tells its leaf
-pub next_in_range : FirstWasArmed → (cpu : CpuBases) → IsConsistent cpu → (events_of cpu).next < 2 ^ 48
+pub next_in_range : FirstWasArmed → (cpu : CpuBases) → IsConsistent cpu
+    → (events_of cpu).next < 2 ^ 48
 next_in_range law cpu consistent = either _ _ (first_in_range law cpu consistent)
 
 -- of one child or more, the first is there

@@ -1,9 +1,11 @@
 -- readings that an exchange makes stale
 use Rattle.std.proofs.Common.{◌≡◌, ℕ, zero, suc, ◌+◌, ◌<◌, ◌≤◌, Bool, true, false, List, [], ◌∷◌, length, refl, sym, ap, ◌∙◌, subst, arith, get_or, get_or-set_same, get_or-set_other, inl, inr}
-use Rattle.std.specs.Prelude.{slice_set}
-use Rattle.std.proofs.lemmas.Bool.{cases_eq}
+use Rattle.std.specs.Prelude.{nat_le, slice_set}
+use Rattle.std.proofs.lemmas.Bool.{cases_eq, cases_Bool, leb-false, leb-true}
 use Rattle.std.proofs.lemmas.List.{ext_get_or}
 use Rattle.tree_plan.specs.Shape.{Shape}
+use Rattle.tree_plan.specs.Paths.{IsBelow}
+use Rattle.core_state.proofs.Under.{untouched}
 use Rattle.core_world.specs.World.{CpuRecord, all_stale, no_cpu, stale, stale_if}
 
 stale_read : (t : Shape) (g n : ℕ) (ys : List CpuRecord) (d : ℕ)
@@ -60,3 +62,20 @@ module _ (t : Shape) (g n : ℕ) (old now : List CpuRecord) (within : n < length
   the_rest d high after =
       get_or-set_other now n d (stale t g n (get_or now n no_cpu)) no_cpu (λ e. absurd (omega (arith, e, high)))
       ∙ after d (omega (arith, high))
+
+-- CPUs that aren't below the group may be left out
+pub each_below : (t : Shape) (g behind : ℕ) (old new : List CpuRecord)
+    → length new ≡ length old
+    → ((d : ℕ) → IsBelow t d g → d < behind)
+    → ((d : ℕ) → d < behind → get_or new d no_cpu ≡ stale t g d (get_or old d no_cpu))
+    → ((d : ℕ) → behind ≤ d → get_or new d no_cpu ≡ get_or old d no_cpu)
+    → new ≡ stale_if t true g old
+each_below t g behind old new same none before after =
+    each_stale t g old new same
+    (λ d low. elim (cases_Bool (nat_le behind d)) [
+      | inl is ↦
+          let high = leb-true behind d is in
+          let apart : IsBelow t d g → ⊥ = λ it. (let under = none d it in omega arith) in
+          after d high ∙ sym (untouched t g d (get_or old d no_cpu) apart)
+      | inr other ↦ before d (leb-false behind d other)
+    ])

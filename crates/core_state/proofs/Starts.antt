@@ -1,5 +1,6 @@
 -- the start
-use Rattle.std.proofs.Common.{◌<◌, ◌≡◌, ℕ, suc, ◌+◌, ◌^◌, List, [], ◌∷◌, ◌++◌, Option, None, length, sym, ap, ◌∙◌, subst, arith, get_or, inl, inr}
+use Rattle.std.proofs.Common.{◌<◌, ◌≡◌, ℕ, suc, ◌+◌, ◌^◌, List, [], ◌∷◌, ◌++◌, Option, None, length}
+use Rattle.std.proofs.Common.{sym, ap, ◌∙◌, subst, arith, get_or, inl, inr}
 use Rattle.std.specs.Prelude.{All, map, replicate}
 use Rattle.std.specs.List.{range_with_len}
 use Rattle.std.proofs.lemmas.Bool.{cases_lt}
@@ -24,8 +25,9 @@ one_more_group t n groups x made is =
     (λ i. made i ++ is i ∷ [])
     ∙ sym (map-range_with_len_more (λ g. start_group (child_count_of t g)) 0 n n (omega arith))
 
-pub made_more : (xs : List CpuRecord) (rest : List RoomyBases) (b : RoomyBases) (later : List RoomyBases)
-    (x : CpuRecord) (all : List CpuRecord) → rest ≡ b ∷ later → x ≡ start_cpu
+pub made_more : (xs : List CpuRecord) (rest : List RoomyBases) (b : RoomyBases)
+    (later : List RoomyBases) (x : CpuRecord) (all : List CpuRecord) → rest ≡ b ∷ later
+    → x ≡ start_cpu
     → xs ++ replicate (length rest) start_cpu ≡ all
     → (xs ++ x ∷ []) ++ replicate (length later) start_cpu ≡ all
 made_more xs rest b later x all is made so_far =
@@ -38,7 +40,8 @@ tail_empty : (b : RoomyBases) (later : List RoomyBases)
     → All (λ (x : RoomyBases). x.plain ≡ empty_bases) later
 tail_empty b later all = λ k d low. all (suc k) d (omega (arith, low))
 
-pub rest_empty : (rest : List RoomyBases) (b : RoomyBases) (later : List RoomyBases) → rest ≡ b ∷ later
+pub rest_empty : (rest : List RoomyBases) (b : RoomyBases) (later : List RoomyBases)
+    → rest ≡ b ∷ later
     → All (λ (x : RoomyBases). x.plain ≡ empty_bases) rest
     → All (λ (x : RoomyBases). x.plain ≡ empty_bases) later
 rest_empty rest b later is all =
@@ -51,7 +54,8 @@ start_cpus P here past n c = elim (cases_lt c n) [
   | inl low ↦ subst P (sym (get_or-replicate n c start_cpu no_cpu low)) here
   | inr high ↦
       subst P
-      (sym (get_or_past (replicate n start_cpu) c no_cpu (let len = length-replicate n start_cpu in omega (arith, len, high))))
+      (sym (get_or_past (replicate n start_cpu) c no_cpu
+      (let len = length-replicate n start_cpu in omega (arith, len, high))))
       past
 ]
 
@@ -66,10 +70,11 @@ no_note n timer = elim (cases_lt timer n) [
       (let len = length-replicate n no_holder in omega (arith, len, high))
 ]
 
-pub start_kept : (t : Shape) (timers count : ℕ) (holders : List (Option CpuId)) (groups : List Group)
-    (cpus : List CpuRecord) → IsPlanned t → count ≡ cpu_count_of t
+pub start_kept : (t : Shape) (timers count : ℕ) (holders : List (Option CpuId))
+    (groups : List Group) (cpus : List CpuRecord) → IsPlanned t → count ≡ cpu_count_of t
     → groups ≡ map (λ g. start_group (child_count_of t g)) (range_with_len 0 (group_count_of t))
-    → cpus ≡ replicate count start_cpu → holders ≡ replicate timers None → StartsLawful → timers < 2 ^ 16
+    → cpus ≡ replicate count start_cpu → holders ≡ replicate timers None → StartsLawful
+    → timers < 2 ^ 16
     → IsKept (world_of t (length holders) 0 groups cpus) holders
 start_kept t timers count holders groups cpus planned sized of_groups of_cpus of_timers law few =
     let start_is : world_of t (length holders) 0 groups cpus ≡ start_of t timers = λ i.
@@ -88,8 +93,10 @@ start_kept t timers count holders groups cpus planned sized of_groups of_cpus of
             (law t.nodes t.cpus timers t.isolated planned.limits (omega (arith, few))));
       };
       held = λ timer c.
-          subst (λ ys. is_queued timer (get_or ys c no_cpu).bases ≡ holds (noted holders timer) c) (sym of_cpus)
-          (start_cpus (λ y. is_queued timer y.bases ≡ holds (noted holders timer) c)
-          (sym (ap (λ hs. holds (noted hs timer) c) of_timers ∙ ap (λ o. holds o c) (no_note timers timer)))
-          (sym (ap (λ hs. holds (noted hs timer) c) of_timers ∙ ap (λ o. holds o c) (no_note timers timer))) count c);
+          subst (λ ys. is_queued timer (get_or ys c no_cpu).bases ≡ holds (noted holders timer) c)
+          (sym of_cpus) (start_cpus (λ y. is_queued timer y.bases ≡ holds (noted holders timer) c)
+          (sym (ap (λ hs. holds (noted hs timer) c) of_timers
+          ∙ ap (λ o. holds o c) (no_note timers timer)))
+          (sym (ap (λ hs. holds (noted hs timer) c) of_timers
+          ∙ ap (λ o. holds o c) (no_note timers timer))) count c);
     }

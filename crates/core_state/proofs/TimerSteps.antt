@@ -1,5 +1,6 @@
 -- steps that arm and take out timers
-use Rattle.std.proofs.Common.{◌≡◌, ℕ, ◌^◌, ◌<◌, true, false, List, Option, Some, None, length, refl, ap, sym, ◌∙◌, subst, arith, get_or, length-set}
+use Rattle.std.proofs.Common.{◌≡◌, ℕ, ◌^◌, ◌<◌, true, false, List, Option, Some, None, length, refl}
+use Rattle.std.proofs.Common.{ap, sym, ◌∙◌, subst, arith, get_or, length-set}
 use Rattle.std.specs.Prelude.{◌==◌, ◌&&◌, not, is_some, slice_set, OnErr, Result, Ok, Err}
 use Rattle.std.proofs.lemmas.List.{set-get_or}
 use Rattle.tm_base.specs.declared.names.Class.{Class}
@@ -16,9 +17,10 @@ use Rattle.core_state.proofs.Holders.{came, held_at, note_low, nowhere_noted, qu
 use Rattle.core_state.proofs.Queues.{arming_queues, cancelling_queues, handing_queues}
 
 -- what the code writes into a CPU's bases, and beside them
-module _ (v w : World) (c i : ℕ) (x z : CpuRecord) (F : ℕ → CpuBases → CpuBases) (now : ℕ) (seen : v ≡ w)
-    (at : i ≡ c) (low : c < length w.cpus) (read : x ≡ get_or v.cpus i x) (time : now ≡ w.clock)
-    (made : z ≡ with_bases x (F now x.bases)) (n : ℕ) (same_timers : n ≡ v.timers) where
+module _ (v w : World) (c i : ℕ) (x z : CpuRecord) (F : ℕ → CpuBases → CpuBases) (now : ℕ)
+    (seen : v ≡ w) (at : i ≡ c) (low : c < length w.cpus) (read : x ≡ get_or v.cpus i x)
+    (time : now ≡ w.clock) (made : z ≡ with_bases x (F now x.bases)) (n : ℕ)
+    (same_timers : n ≡ v.timers) where
   abbrev pub done : World
   done = own w c (with_bases (cpu_of w c) (F w.clock (cpu_of w c).bases))
 
@@ -26,7 +28,8 @@ module _ (v w : World) (c i : ℕ) (x z : CpuRecord) (F : ℕ → CpuBases → C
   done_is =
       ap (λ m. record v { timers = m; cpus = slice_set v.cpus i z }) same_timers
       ∙ (written v w c i x z (λ y. with_bases y (F now y.bases)) seen at low read made
-      ∙ (ap (λ t. record w { cpus = slice_set w.cpus c (with_bases (cpu_of w c) (F t (cpu_of w c).bases)) }) time
+      ∙ (ap (λ t. record w
+      { cpus = slice_set w.cpus c (with_bases (cpu_of w c) (F t (cpu_of w c).bases)) }) time
       ∙ sym (own_is w c (with_bases (cpu_of w c) (F w.clock (cpu_of w c).bases)))))
 
   pub done_kept : (after : List (Option CpuId)) → WorldFits done → IsHeld done after
@@ -47,11 +50,12 @@ pub is_there : (timer : ℕ) (cpu : CpuBases) (class : Class) → class_in timer
     → is_queued timer cpu ≡ true
 is_there timer cpu class found = ap is_some found
 
-module _ (w : World) (holders : List (Option CpuId)) (c : CpuId) (held : IsHeld w holders) (fits : WorldFits w)
-    (consistent : IsConsistent (cpu_of w c.0).bases) where
+module _ (w : World) (holders : List (Option CpuId)) (c : CpuId) (held : IsHeld w holders)
+    (fits : WorldFits w) (consistent : IsConsistent (cpu_of w c.0).bases) where
   pub arm_held : (t : TimerId) (class : Class) (expires job arg line : ℕ) → t.0 < 2 ^ 16
       → w.timers ≡ length holders → MayArm w c.0 t.0 class expires
-      → IsHeld (stepped w (steps.Arm c t class expires job arg line)) (slice_set holders t.0 (Some c))
+      → IsHeld (stepped w (steps.Arm c t class expires job arg line))
+      (slice_set holders t.0 (Some c))
   arm_held t class expires job arg line narrow count may =
       let in_time = fits.in_time in
       let known = may.known in
@@ -70,11 +74,13 @@ module _ (w : World) (holders : List (Option CpuId)) (c : CpuId) (held : IsHeld 
       → IsHeld (stepped w (steps.Cancel c t by line)) (slice_set holders t.0 None)
   cancel_held t by line may =
       went w holders c.0 _ held may.is_free.in_range t.0 c refl
-      (queued_noted w holders t.0 c held (is_there t.0 (cpu_of w c.0).bases may.queued.0 may.queued.1))
+      (queued_noted w holders t.0 c held
+      (is_there t.0 (cpu_of w c.0).bases may.queued.0 may.queued.1))
       (cancelling_queues w.clock t.0 line by (cpu_of w c.0).bases consistent)
 
   handed_is : (t : TimerId) (runner : CpuId) (may : MayHand w c.0 t.0 runner.0) (timer : ℕ)
-      → is_queued timer (handed_of w.clock (class_in t.0 (cpu_of w c.0).bases) runner (cpu_of w c.0).bases)
+      → is_queued timer
+      (handed_of w.clock (class_in t.0 (cpu_of w c.0).bases) runner (cpu_of w c.0).bases)
       ≡ (is_queued timer (cpu_of w c.0).bases && not (t.0 == timer))
   handed_is t runner may timer =
       let in_time = fits.in_time in
@@ -97,9 +103,10 @@ module _ (w : World) (holders : List (Option CpuId)) (c : CpuId) (held : IsHeld 
       let in_time = fits.in_time in
       held_at w holders c.0 _ held may.is_free.in_range holders
       (λ timer.
-      handing_queues w.clock class runner (cpu_of w c.0).bases (omega (arith, in_time)) consistent timer
-      ∙ (ap (λ o. but (is_queued timer (cpu_of w c.0).bases) o timer) may.none_due ∙ held timer c.0))
-      (λ timer d apart. refl)
+      handing_queues w.clock class runner (cpu_of w c.0).bases (omega (arith, in_time)) consistent
+      timer
+      ∙ (ap (λ o. but (is_queued timer (cpu_of w c.0).bases) o timer) may.none_due
+      ∙ held timer c.0)) (λ timer d apart. refl)
 
 pub on_err : {A E : Type 0} (r : Result A E) (P : Type 0) → P → OnErr r P
 on_err (Ok x) P p = tt
@@ -112,10 +119,10 @@ unchanged v w i x z seen read same =
     ap (λ y. record v { cpus = slice_set v.cpus i y }) (same ∙ read)
     ∙ (ap (λ ys. record v { cpus = ys }) (set-get_or v.cpus i x) ∙ seen)
 
-module _ (v w : World) (holders : List (Option CpuId)) (c : CpuId) (i : ℕ) (x z : CpuRecord) (now : ℕ) (seen : v ≡ w)
-    (kept : IsKept v holders) (count : v.timers ≡ length holders) (stays : StaysFit w)
-    (consistent : IsConsistent (cpu_of w c.0).bases) (at : i ≡ c.0) (read : x ≡ get_or v.cpus i x)
-    (time : now ≡ w.clock) where
+module _ (v w : World) (holders : List (Option CpuId)) (c : CpuId) (i : ℕ) (x z : CpuRecord)
+    (now : ℕ) (seen : v ≡ w) (kept : IsKept v holders) (count : v.timers ≡ length holders)
+    (stays : StaysFit w) (consistent : IsConsistent (cpu_of w c.0).bases) (at : i ≡ c.0)
+    (read : x ≡ get_or v.cpus i x) (time : now ≡ w.clock) where
   fits : WorldFits w
   fits = subst WorldFits seen kept.fits
 
@@ -128,36 +135,53 @@ module _ (v w : World) (holders : List (Option CpuId)) (c : CpuId) (i : ℕ) (x 
   pub arm_kept : (t : TimerId) (class : Class) (expires job arg line j : ℕ) → t.0 < 2 ^ 16 → j ≡ t.0
       → MayArm w c.0 t.0 class expires
       → z ≡ with_bases x (armed now class t.0 expires job arg line c x.bases)
-      → IsKept (record v { timers = length (slice_set holders j (Some c)); cpus = slice_set v.cpus i z })
+      → IsKept (record v {
+        timers = length (slice_set holders j (Some c));
+        cpus =
+            slice_set v.cpus i z;
+      })
       (slice_set holders j (Some c))
   arm_kept t class expires job arg line j narrow at_t may made =
-      done_kept v w c.0 i x z (λ n b. armed n class t.0 expires job arg line c b) now seen at may.is_free.in_range read
-      time made (length (slice_set holders j (Some c))) (length-set holders j (Some c) ∙ sym count)
-      (slice_set holders j (Some c)) (stays (steps.Arm c t class expires job arg line) may)
-      (subst (λ k. IsHeld (stepped w (steps.Arm c t class expires job arg line)) (slice_set holders k (Some c))) (sym at_t)
-      (arm_held w holders c held fits consistent t class expires job arg line narrow counted may))
+      done_kept v w c.0 i x z (λ n b. armed n class t.0 expires job arg line c b) now seen at
+      may.is_free.in_range read time made (length (slice_set holders j (Some c)))
+      (length-set holders j (Some c) ∙ sym count) (slice_set holders j (Some c))
+      (stays (steps.Arm c t class expires job arg line) may)
+      (subst (λ k. IsHeld (stepped w (steps.Arm c t class expires job arg line))
+      (slice_set holders k (Some c))) (sym at_t)
+      (arm_held w holders c held fits consistent t class expires job arg line narrow counted
+      may))
 
-  pub cancel_kept : (t : TimerId) (by : CpuId) (line j : ℕ) → j ≡ t.0 → Enabled w (steps.Cancel c t by line)
+  pub cancel_kept : (t : TimerId) (by : CpuId) (line j : ℕ) → j ≡ t.0
+      → Enabled w (steps.Cancel c t by line)
       → z ≡ with_bases x (cancelled now t.0 line by x.bases)
-      → IsKept (record v { timers = length (slice_set holders j None); cpus = slice_set v.cpus i z })
+      → IsKept (record v {
+        timers = length (slice_set holders j None);
+        cpus =
+            slice_set v.cpus i z;
+      })
       (slice_set holders j None)
   cancel_kept t by line j at_t may made =
-      done_kept v w c.0 i x z (λ n b. cancelled n t.0 line by b) now seen at may.0.is_free.in_range read time made
-      (length (slice_set holders j None)) (length-set holders j None ∙ sym count) (slice_set holders j None)
-      (stays (steps.Cancel c t by line) may)
-      (subst (λ k. IsHeld (stepped w (steps.Cancel c t by line)) (slice_set holders k None)) (sym at_t)
-      (cancel_held w holders c held fits consistent t by line may.0))
+      done_kept v w c.0 i x z (λ n b. cancelled n t.0 line by b) now seen at may.0.is_free.in_range
+      read time made (length (slice_set holders j None)) (length-set holders j None ∙ sym count)
+      (slice_set holders j None) (stays (steps.Cancel c t by line) may)
+      (subst (λ k. IsHeld (stepped w (steps.Cancel c t by line)) (slice_set holders k None))
+      (sym at_t) (cancel_held w holders c held fits consistent t by line may.0))
 
   pub hand_kept : (t : TimerId) (runner : CpuId) (j : ℕ) → j ≡ t.0 → MayHand w c.0 t.0 runner.0
       → z ≡ with_bases x (handed_of now (class_in t.0 x.bases) runner x.bases)
-      → IsKept (record v { timers = length (slice_set holders j None); cpus = slice_set v.cpus i z })
+      → IsKept (record v {
+        timers = length (slice_set holders j None);
+        cpus =
+            slice_set v.cpus i z;
+      })
       (slice_set holders j None)
   hand_kept t runner j at_t may made =
-      done_kept v w c.0 i x z (λ n b. handed_of n (class_in t.0 b) runner b) now seen at may.is_free.in_range read time
-      made (length (slice_set holders j None)) (length-set holders j None ∙ sym count) (slice_set holders j None)
+      done_kept v w c.0 i x z (λ n b. handed_of n (class_in t.0 b) runner b) now seen at
+      may.is_free.in_range read time made (length (slice_set holders j None))
+      (length-set holders j None ∙ sym count) (slice_set holders j None)
       (stays (steps.Hand c t runner) may)
-      (subst (λ k. IsHeld (stepped w (steps.Hand c t runner)) (slice_set holders k None)) (sym at_t)
-      (hand_held w holders c held fits consistent t runner may))
+      (subst (λ k. IsHeld (stepped w (steps.Hand c t runner)) (slice_set holders k None))
+      (sym at_t) (hand_held w holders c held fits consistent t runner may))
 
   pub hand_low : (t : TimerId) (runner : CpuId) → MayHand w c.0 t.0 runner.0 → t.0 < length holders
   hand_low t runner may =
@@ -167,12 +191,13 @@ module _ (v w : World) (holders : List (Option CpuId)) (c : CpuId) (i : ℕ) (x 
   pub cancel_low : (t : TimerId) → MayCancel w c.0 t.0 → t.0 < length holders
   cancel_low t may =
       note_low holders t.0 c
-      (queued_noted w holders t.0 c held (is_there t.0 (cpu_of w c.0).bases may.queued.0 may.queued.1))
+      (queued_noted w holders t.0 c held
+      (is_there t.0 (cpu_of w c.0).bases may.queued.0 may.queued.1))
 
   pub tick_kept : (class : Class) (runner : CpuId) → MayTick w c.0 class runner.0
       → z ≡ with_bases x (handed_out now class runner x.bases)
       → IsKept (record v { timers = length holders; cpus = slice_set v.cpus i z }) holders
   tick_kept class runner may made =
-      done_kept v w c.0 i x z (λ n b. handed_out n class runner b) now seen at may.is_free.in_range read time made
-      (length holders) (sym count) holders (stays (steps.Ticked c class runner) may)
+      done_kept v w c.0 i x z (λ n b. handed_out n class runner b) now seen at may.is_free.in_range
+      read time made (length holders) (sym count) holders (stays (steps.Ticked c class runner) may)
       (tick_held w holders c held fits consistent class runner may)

@@ -1,10 +1,14 @@
 //! One CPU of the core.
 
-ghost use Rattle.std.specs.Prelude.{◌≡◌, ◌^◌, ◌<◌};
+ghost use Rattle.std.specs.Prelude.{◌≡◌, ◌^◌, ◌<◌, false};
+ghost use Rattle.std.specs.Option.{option_map_or};
 ghost use Rattle.cpu_bases.specs.CpuBases.{IsConsistent, empty_bases, events_of};
+ghost use Rattle.walk_rules.specs.declared.walk.Walk.{Walk};
 ghost use Rattle.core_world.specs.Start.{start_cpu};
+ghost use Rattle.core_world.specs.World.{is_reading};
 ghost use Rattle.core_state.specs.Status.{IsInRange, status_of, with_status};
 
+use crate::stale::is_reading;
 use crate::status::CpuStatus;
 use cpu_bases::{Bases, NextEvents, law_bases};
 use std::marker::Model;
@@ -63,6 +67,16 @@ impl<B: TimerBase> CoreCpu<B> {
         ensures in_range { IsInRange result.walk }
     {
         self.status
+    }
+
+    /// Whether its walk has read a group's word and is going to exchange it.
+    pub(crate) fn reads(&self) -> bool
+        ensures { result ≡ option_map_or (λ (k : Walk). is_reading k.stage) self.now.walk false }
+    {
+        match self.status.walk {
+            Some(walk) => is_reading(walk.stage),
+            None => false,
+        }
     }
 
     pub(crate) fn set_status(&mut self, status: CpuStatus)

@@ -2,6 +2,7 @@
 //! start, its readers, and how it is written.
 #![tactic(auto)]
 
+mod below;
 mod change;
 mod cpu;
 mod due;

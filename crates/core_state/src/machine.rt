@@ -1,6 +1,7 @@
 //! The core, and how its fields are read and written.
 
-ghost use Rattle.std.specs.Prelude.{◌≡◌, ◌<◌, length};
+ghost use Rattle.std.specs.Prelude.{◌≡◌, ◌<◌, length, true};
+ghost use Rattle.tree_plan.specs.Paths.{IsBelow};
 ghost use Rattle.core_world.specs.declared.step.Step.TheVariants as steps;
 ghost use Rattle.core_world.specs.Enabled.{Enabled};
 ghost use Rattle.core_world.specs.Steps.{stepped};
@@ -82,8 +83,8 @@ impl<B: TimerBase> Core<B> {
         &self.groups[usize::from(group.0)]
     }
 
-    /// A step of a CPU's walk: it changes a group and the CPU, and where it exchanges the group's
-    /// word it makes the readings of others stale.
+    /// A step of a CPU's walk: it changes a group and the CPU, and where it exchanges the word of a
+    /// group that it is below it makes the readings of others stale.
     pub fn make(
         &mut self,
         group: GroupId,
@@ -95,6 +96,7 @@ impl<B: TimerBase> Core<B> {
         requires group { group.0 < length self.old.groups }
         requires change { ChangeFits change }
         requires cpu { cpu.0 < length self.old.cpus }
+        requires below { exchanges ≡ true → IsBelow self.old.tree cpu.0 group.0 }
         requires in_range { IsInRange status.walk }
         requires fits { WorldFits (moved self.old group.0
             (changed change (group_of self.old group.0)) cpu.0
@@ -103,7 +105,7 @@ impl<B: TimerBase> Core<B> {
             cpu.0 (with_status (cpu_of self.old cpu.0) status) exchanges }
     {
         self.groups[usize::from(group.0)].change(change);
-        if_exchanged(&self.tree, &mut self.cpus, group, exchanges);
+        if_exchanged(&self.tree, &mut self.cpus, cpu, group, exchanges);
         self.cpus[usize::from(cpu.0)].set_status(status);
     }
 

@@ -1,11 +1,12 @@
 //! A timer moves from one CPU to another.
 
-ghost use Rattle.std.specs.Prelude.{◌≡◌, ◌≢◌, ◌-◌, ◌^◌, ◌<◌, OnErr, OnOk, option_map};
+ghost use Rattle.std.specs.Prelude.{◌≡◌, ◌≢◌, ◌-◌, ◌^◌, ◌<◌, IfOk, OnErr, OnOk, option_map};
 ghost use Rattle.std.specs.Prelude.{slice_index_or, vec_len};
 ghost use Rattle.tm_base.specs.declared.names.TheConstants.{TIME_LIMIT};
 ghost use Rattle.core_world.specs.Steps.{first_moved};
 ghost use Rattle.core_world.specs.World.{no_cpu};
 ghost use Rattle.core_state.specs.Moves.{MayTakeIn, after_giving, after_moving, after_taking};
+ghost use Rattle.core_state.specs.Moves.{wheel_taken};
 
 use crate::cpu::CoreCpu;
 use tm_base::{Class, CpuId, Jiffy, NoMemory, TIME_LIMIT, TimerId};
@@ -36,16 +37,19 @@ fn timer_of(item: &Item) -> TimerId
     TimerId(item.id as u16)
 }
 
-/// The first timer of a class goes from one CPU to another. Want of memory leaves both as before.
+/// The first timer of a class goes from one CPU to another; answers its wheel expiry there, in
+/// jiffies. Want of memory leaves both as before.
 fn hand_over<B: TimerBase>(
     from: &mut CoreCpu<B>,
     to: &mut CoreCpu<B>,
     now: Jiffy,
     class: Class,
     by: CpuId,
-) -> Result<(), NoMemory>
+) -> Result<Option<Jiffy>, NoMemory>
     requires now_in_time { now < TIME_LIMIT - 1 }
     requires may { MayTakeIn class from.old.bases to.old.bases }
+    ensures wheel { IfOk result (λ wheel. wheel
+        ≡ wheel_taken now class from.old.bases to.old.bases) }
     ensures given { OnOk result (from.new ≡ after_giving now class by from.old) }
     ensures taken { OnOk result (to.new ≡ after_taking now class by from.old to.old) }
     ensures err_from { OnErr result (from.new ≡ from.old) }
@@ -56,12 +60,13 @@ fn hand_over<B: TimerBase>(
     from.bases.reserve(0, 1)?;
     to.bases.reserve(1, 1)?;
     let Some(item) = from.bases.move_out(now, class, by) else {
-        return Ok(());
+        return Ok(None);
     };
     let timer = timer_of(&item);
-    to.bases
+    let wheel = to
+        .bases
         .move_in(now, class, timer, item.expires, item.job, item.arg, by);
-    Ok(())
+    Ok(Some(wheel))
 }
 
 /// The same with the CPU that takes first.
@@ -71,9 +76,11 @@ fn take_over<B: TimerBase>(
     now: Jiffy,
     class: Class,
     by: CpuId,
-) -> Result<(), NoMemory>
+) -> Result<Option<Jiffy>, NoMemory>
     requires now_in_time { now < TIME_LIMIT - 1 }
     requires may { MayTakeIn class from.old.bases to.old.bases }
+    ensures wheel { IfOk result (λ wheel. wheel
+        ≡ wheel_taken now class from.old.bases to.old.bases) }
     ensures given { OnOk result (from.new ≡ after_giving now class by from.old) }
     ensures taken { OnOk result (to.new ≡ after_taking now class by from.old to.old) }
     ensures err_from { OnErr result (from.new ≡ from.old) }
@@ -89,13 +96,16 @@ fn move_up<B: TimerBase>(
     to: CpuId,
     now: Jiffy,
     class: Class,
-) -> Result<(), NoMemory>
+) -> Result<Option<Jiffy>, NoMemory>
     requires now_in_time { now < TIME_LIMIT - 1 }
     requires from { from.0 < vec_len cpus.old }
     requires to { to.0 < vec_len cpus.old }
     requires above { from.0 < to.0 }
     requires may { MayTakeIn class (slice_index_or cpus.old.items from.0 no_cpu).bases
         (slice_index_or cpus.old.items to.0 no_cpu).bases }
+    ensures wheel { IfOk result (λ wheel. wheel ≡ wheel_taken now class
+        (slice_index_or cpus.old.items from.0 no_cpu).bases
+        (slice_index_or cpus.old.items to.0 no_cpu).bases) }
     ensures ok { OnOk result (cpus.new.items ≡ after_moving now class from to cpus.old.items) }
     ensures err { OnErr result (cpus.new.items ≡ cpus.old.items) }
 {
@@ -113,13 +123,16 @@ fn move_down<B: TimerBase>(
     to: CpuId,
     now: Jiffy,
     class: Class,
-) -> Result<(), NoMemory>
+) -> Result<Option<Jiffy>, NoMemory>
     requires now_in_time { now < TIME_LIMIT - 1 }
     requires from { from.0 < vec_len cpus.old }
     requires to { to.0 < vec_len cpus.old }
     requires below { to.0 < from.0 }
     requires may { MayTakeIn class (slice_index_or cpus.old.items from.0 no_cpu).bases
         (slice_index_or cpus.old.items to.0 no_cpu).bases }
+    ensures wheel { IfOk result (λ wheel. wheel ≡ wheel_taken now class
+        (slice_index_or cpus.old.items from.0 no_cpu).bases
+        (slice_index_or cpus.old.items to.0 no_cpu).bases) }
     ensures ok { OnOk result (cpus.new.items ≡ after_moving now class from to cpus.old.items) }
     ensures err { OnErr result (cpus.new.items ≡ cpus.old.items) }
 {
@@ -137,13 +150,16 @@ pub(crate) fn move_between<B: TimerBase>(
     to: CpuId,
     now: Jiffy,
     class: Class,
-) -> Result<(), NoMemory>
+) -> Result<Option<Jiffy>, NoMemory>
     requires now_in_time { now < TIME_LIMIT - 1 }
     requires from { from.0 < vec_len cpus.old }
     requires to { to.0 < vec_len cpus.old }
     requires apart { from.0 ≢ to.0 }
     requires may { MayTakeIn class (slice_index_or cpus.old.items from.0 no_cpu).bases
         (slice_index_or cpus.old.items to.0 no_cpu).bases }
+    ensures wheel { IfOk result (λ wheel. wheel ≡ wheel_taken now class
+        (slice_index_or cpus.old.items from.0 no_cpu).bases
+        (slice_index_or cpus.old.items to.0 no_cpu).bases) }
     ensures ok { OnOk result (cpus.new.items ≡ after_moving now class from to cpus.old.items) }
     ensures err { OnErr result (cpus.new.items ≡ cpus.old.items) }
 {

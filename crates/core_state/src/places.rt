@@ -1,7 +1,7 @@
 //! What a step of a walk reads.
 
 ghost use Rattle.std.specs.Prelude.{◌≡◌, ℕ, ◌-◌, ◌^◌, ◌<◌, None, is_none, is_some, length, true};
-ghost use Rattle.tree_plan.specs.Paths.{group_at_of, is_placed_in};
+ghost use Rattle.tree_plan.specs.Paths.{IsBelow, group_at_of, is_placed_in};
 ghost use Rattle.cpu_bases.specs.CpuBases.{events_of};
 ghost use Rattle.event_queue.specs.EventMap.{event_at};
 ghost use Rattle.walk_rules.specs.Hierarchy.{IsHierarchy, at_top, group_on, side};
@@ -138,6 +138,7 @@ impl<B: TimerBase> Core<B> {
         requires group { group.0 < length self.old.groups }
         requires change { ChangeFits change }
         requires cpu { cpu.0 < length self.old.cpus }
+        requires below { exchanges ≡ true → IsBelow self.old.tree cpu.0 group.0 }
         requires in_range { IsInRange walk }
         requires fits { WorldFits (moved self.old group.0
             (changed change (group_of self.old group.0)) cpu.0

@@ -1,16 +1,17 @@
 //! Steps that arm and take out timers.
 
-ghost use Rattle.std.specs.Prelude.{◌≡◌, ◌<◌, OnErr, OnOk, length, option_map};
-ghost use Rattle.cpu_bases.specs.CpuBases.{IsConsistent};
+ghost use Rattle.std.specs.Prelude.{◌≡◌, ◌<◌, IfOk, OnErr, OnOk, length, option_map};
+ghost use Rattle.cpu_bases.specs.CpuBases.{IsConsistent, item_queued};
 ghost use Rattle.core_world.specs.declared.step.Step.TheVariants as steps;
 ghost use Rattle.core_world.specs.Enabled.{Enabled};
 ghost use Rattle.core_world.specs.Steps.{first_moved, stepped};
 ghost use Rattle.core_world.specs.World.{cpu_of};
+ghost use Rattle.core_state.specs.Moves.{wheel_moved};
 
 use crate::machine::Core;
 use crate::moving::move_between;
 use cpu_bases::law_bases;
-use tm_base::{Class, CpuId, NoMemory, TimerId};
+use tm_base::{Class, CpuId, Jiffy, NoMemory, TimerId};
 use wheel_core::TimerBase;
 
 impl<B: TimerBase> Core<B> {
@@ -22,7 +23,7 @@ impl<B: TimerBase> Core<B> {
         self.cpus[usize::from(cpu.0)].kept();
     }
 
-    /// A timer is armed on a CPU.
+    /// A timer is armed on a CPU; answers its wheel expiry, in jiffies.
     pub fn arm(
         &mut self,
         cpu: CpuId,
@@ -32,8 +33,10 @@ impl<B: TimerBase> Core<B> {
         job: u8,
         arg: u32,
         line: u32,
-    ) -> Result<(), NoMemory>
+    ) -> Result<Jiffy, NoMemory>
         requires { Enabled self.old (steps.Arm cpu timer class expires job arg line) }
+        ensures wheel { IfOk result (λ wheel. wheel ≡ (item_queued self.old.clock class timer.0
+            expires job arg (cpu_of self.old cpu.0).bases).wheel) }
         ensures ok { OnOk result
             (self.new ≡ stepped self.old (steps.Arm cpu timer class expires job arg line)) }
         ensures err { OnErr result (self.new ≡ self.old) }
@@ -41,9 +44,11 @@ impl<B: TimerBase> Core<B> {
         self.kept();
         self.timers_kept(cpu);
         let now = self.now();
-        self.cpus[usize::from(cpu.0)].arm(now, class, timer, expires, job, arg, line, cpu)?;
+        let wheel = self.cpus[usize::from(cpu.0)].arm(
+            now, class, timer, expires, job, arg, line, cpu,
+        )?;
         self.holders[usize::from(timer.0)] = Some(cpu);
-        Ok(())
+        Ok(wheel)
     }
 
     /// A timer that is queued on a CPU is cancelled.
@@ -103,9 +108,16 @@ impl<B: TimerBase> Core<B> {
         self.cpus[usize::from(cpu.0)].class_to_move()
     }
 
-    /// The first timer of an offline CPU moves to another one.
-    pub fn move_timer(&mut self, from: CpuId, to: CpuId, timer: TimerId) -> Result<(), NoMemory>
+    /// The first timer of an offline CPU moves to another one; answers its wheel expiry there, in
+    /// jiffies.
+    pub fn move_timer(
+        &mut self,
+        from: CpuId,
+        to: CpuId,
+        timer: TimerId,
+    ) -> Result<Option<Jiffy>, NoMemory>
         requires { Enabled self.old (steps.Move from to timer) }
+        ensures wheel { IfOk result (λ wheel. wheel ≡ wheel_moved self.old from.0 to.0) }
         ensures ok { OnOk result (self.new ≡ stepped self.old (steps.Move from to timer)) }
         ensures err { OnErr result (self.new ≡ self.old) }
     {
@@ -115,10 +127,10 @@ impl<B: TimerBase> Core<B> {
         self.timers_kept(to);
         let now = self.now();
         let Some(class) = self.class_to_move(from) else {
-            return Ok(());
+            return Ok(None);
         };
-        move_between(&mut self.cpus, from, to, now, class)?;
+        let wheel = move_between(&mut self.cpus, from, to, now, class)?;
         self.holders[usize::from(timer.0)] = Some(to);
-        Ok(())
+        Ok(wheel)
     }
 }

@@ -3,19 +3,20 @@
 ghost use Rattle.std.specs.Prelude.{◌≡◌, ◌<◌, option_map, slice_set, vec_len};
 ghost use Rattle.std.specs.Prelude.{◌==◌, false, slice_index_or, true};
 ghost use Rattle.std.specs.Option.{option_map_or};
-ghost use Rattle.tree_plan.specs.Paths.{cpu_count_of, group_at_of};
+ghost use Rattle.tree_plan.specs.Paths.{IsBelow, cpu_count_of, group_at_of};
 ghost use Rattle.core_world.specs.World.{is_reading, no_cpu, stale, stale_if, stale_walk};
 ghost use Rattle.core_state.specs.Status.{IsInRange, WalkRanges};
 
+use crate::below::{behind_below, first_below};
 use crate::cpu::CoreCpu;
 use crate::status::CpuStatus;
 use tm_base::{CpuId, GroupId};
-use tree_plan::Tree;
+use tree_plan::{Tree, law_paths};
 use walk_rules::{Stage, Walk};
 use wheel_core::TimerBase;
 
 /// Whether a walk has read the group's word and is going to exchange it.
-fn is_reading(stage: Stage) -> bool
+pub(crate) fn is_reading(stage: Stage) -> bool
     ensures { result ≡ is_reading stage }
 {
     matches!(stage, Stage::Child | Stage::Swap)
@@ -60,25 +61,33 @@ fn walk_after(tree: &Tree, cpu: CpuId, group: GroupId, walk: Option<Walk>) -> Op
     }
 }
 
-/// A CPU after another one's exchange.
+/// A CPU after another one's exchange. One without a reading is left as it is.
 fn make_stale<B: TimerBase>(tree: &Tree, cpus: &mut Vec<CoreCpu<B>>, cpu: CpuId, group: GroupId)
     requires cpu { cpu.0 < vec_len cpus.old }
     requires in_tree { cpu.0 < cpu_count_of tree.now }
     ensures { cpus.new.items ≡ slice_set cpus.old.items cpu.0
         (stale tree.now group.0 cpu.0 (slice_index_or cpus.old.items cpu.0 no_cpu)) }
 {
-    let status = cpus[usize::from(cpu.0)].status();
-    let walk = walk_after(tree, cpu, group, status.walk);
-    cpus[usize::from(cpu.0)].set_status(CpuStatus { walk, ..status });
+    if cpus[usize::from(cpu.0)].reads() {
+        let status = cpus[usize::from(cpu.0)].status();
+        let walk = walk_after(tree, cpu, group, status.walk);
+        cpus[usize::from(cpu.0)].set_status(CpuStatus { walk, ..status });
+    }
 }
 
-/// Each CPU after an exchange, the one that makes it too.
-fn make_all_stale<B: TimerBase>(tree: &Tree, cpus: &mut Vec<CoreCpu<B>>, group: GroupId)
-    requires { vec_len cpus.old ≡ cpu_count_of tree.now }
+/// Each CPU after an exchange by one of those below the group, the one that makes it too. It goes
+/// over the CPUs that may be below the group.
+fn make_all_stale<B: TimerBase>(tree: &Tree, cpus: &mut Vec<CoreCpu<B>>, cpu: CpuId, group: GroupId)
+    requires each_cpu { vec_len cpus.old ≡ cpu_count_of tree.now }
+    requires below { IsBelow tree.now cpu.0 group.0 }
     ensures { cpus.new.items ≡ stale_if tree.now true group.0 cpus.old.items }
 {
-    for cpu in 0..tree.cpu_count() {
-        make_stale(tree, cpus, CpuId(cpu), group);
+    law_paths();
+    tree.cpu_count();
+    let first = first_below(tree, cpu, group);
+    let behind = behind_below(tree, cpu, group);
+    for below in first..behind {
+        make_stale(tree, cpus, CpuId(below), group);
     }
 }
 
@@ -86,13 +95,15 @@ fn make_all_stale<B: TimerBase>(tree: &Tree, cpus: &mut Vec<CoreCpu<B>>, group: 
 pub(crate) fn if_exchanged<B: TimerBase>(
     tree: &Tree,
     cpus: &mut Vec<CoreCpu<B>>,
+    cpu: CpuId,
     group: GroupId,
     exchanges: bool,
 )
-    requires { vec_len cpus.old ≡ cpu_count_of tree.now }
+    requires each_cpu { vec_len cpus.old ≡ cpu_count_of tree.now }
+    requires below { exchanges ≡ true → IsBelow tree.now cpu.0 group.0 }
     ensures { cpus.new.items ≡ stale_if tree.now exchanges group.0 cpus.old.items }
 {
     if exchanges {
-        make_all_stale(tree, cpus, group);
+        make_all_stale(tree, cpus, cpu, group);
     }
 }

@@ -1,10 +1,10 @@
 //! The timers of one CPU of the core.
 
-ghost use Rattle.std.specs.Prelude.{◌≡◌, ◌-◌, ◌<◌, None, OnErr, OnOk};
+ghost use Rattle.std.specs.Prelude.{◌≡◌, ◌-◌, ◌<◌, None, IfOk, OnErr, OnOk};
 ghost use Rattle.tm_base.specs.declared.names.TheConstants.{TIME_LIMIT};
 ghost use Rattle.wheel_core.specs.PlainBase.{NoneBehind};
 ghost use Rattle.cpu_bases.specs.CpuBases.{IsConsistent, armed, base_of, cancelled, class_in};
-ghost use Rattle.cpu_bases.specs.CpuBases.{handed_out};
+ghost use Rattle.cpu_bases.specs.CpuBases.{handed_out, item_queued};
 ghost use Rattle.core_world.specs.Steps.{handed_of, with_bases};
 
 use crate::cpu::CoreCpu;
@@ -19,8 +19,8 @@ impl<B: TimerBase> CoreCpu<B> {
         self.bases.journal();
     }
 
-    /// Arms a timer that isn't queued on it at `now`, in jiffies. Want of memory leaves all as
-    /// before.
+    /// Arms a timer that isn't queued on it at `now`, and answers its wheel expiry, both in
+    /// jiffies. Want of memory leaves all as before.
     pub(crate) fn arm(
         &mut self,
         now: Jiffy,
@@ -31,20 +31,23 @@ impl<B: TimerBase> CoreCpu<B> {
         arg: u32,
         line: u32,
         by: CpuId,
-    ) -> Result<(), NoMemory>
+    ) -> Result<Jiffy, NoMemory>
         requires now_in_time { now < TIME_LIMIT - 1 }
         requires expires_in_time { expires < TIME_LIMIT }
         requires not_queued { class_in timer.0 self.old.bases ≡ None }
         requires none_behind { NoneBehind (base_of class self.old.bases) }
+        ensures wheel { IfOk result (λ wheel.
+            wheel ≡ (item_queued now class timer.0 expires job arg self.old.bases).wheel) }
         ensures ok { OnOk result (self.new ≡ with_bases self.old
             (armed now class timer.0 expires job arg line by self.old.bases)) }
         ensures err { OnErr result (self.new ≡ self.old) }
     {
         self.bases.journal();
         self.bases.reserve(1, 1)?;
-        self.bases
+        let wheel = self
+            .bases
             .arm(now, class, timer, expires, job, arg, line, by);
-        Ok(())
+        Ok(wheel)
     }
 
     /// Cancels a timer at `now`, in jiffies. Want of memory leaves all as before.

@@ -1,12 +1,13 @@
 -- where a walk stands as it makes a step, and that the world fits after it
 use Rattle.std.proofs.Common.{◌≡◌, inl, inr, ℕ, zero, suc, ◌-◌, ◌<◌, Bool, Some, sym, ap, ◌∙◌, subst, arith}
-use Rattle.std.specs.Prelude.{option_map}
+use Rattle.std.specs.Prelude.{option_map, unwrap_or}
 use Rattle.tm_base.specs.declared.names.CpuId.{CpuId}
 use Rattle.tree_plan.specs.Shape.{Shape}
+use Rattle.tree_plan.specs.Paths.{IsBelow}
 use Rattle.walk_rules.specs.declared.walk.Walk.{Walk}
 use Rattle.walk_rules.specs.declared.walk.Stage.{Stage}
 use Rattle.walk_rules.specs.declared.walk.Stage.TheVariants as stages
-use Rattle.walk_rules.specs.Hierarchy.{IsHierarchy}
+use Rattle.walk_rules.specs.Hierarchy.{IsHierarchy, group_on}
 use Rattle.walk_rules.specs.Stages.{forget}
 use Rattle.walk_rules.specs.Standing.{FitsStage}
 use Rattle.core_world.specs.declared.step.Step.TheVariants as steps
@@ -55,6 +56,11 @@ module _ (w : World) (fits : WorldFits w) (c : ℕ) (k : Walk) (st : Stage) (sta
 
   pub fit : (st ≡ stages.Finish → ⊥) → FitsStage w.tree c k.kind k.level st
   fit = fit_at w fits c k st stands.walk stands.stage
+
+-- it is below the group of its level
+pub below_here : (t : Shape) (c l r : ℕ) → HasLevel t c l → r ≡ group_on t c l → IsBelow t c r
+below_here t c l r has is =
+    (l, has.1 ∙ ap Some (sym (is ∙ ap (λ o. unwrap_or o 0) has.1)))
 
 -- the level below
 pub lower_level : (t : Shape) (c l : ℕ) → IsHierarchy t → 0 < l → HasLevel t c l → HasLevel t c (l - 1)

@@ -2,9 +2,11 @@
 
 ghost use Rattle.std.specs.Prelude.{◌≡◌, ◌^◌, ◌<◌, Some, suc};
 ghost use Rattle.event_queue.specs.EventMap.{FitsWord};
-ghost use Rattle.walk_rules.specs.Stages.{after_sight, at_stage, best_event, child_next, first_lock};
+ghost use Rattle.walk_rules.specs.Stages.{after_sight, at_stage, best_event, child_next};
+ghost use Rattle.walk_rules.specs.Stages.{first_lock};
 ghost use Rattle.walk_rules.specs.Stages.{first_next, first_of, first_sight, first_stage};
-ghost use Rattle.walk_rules.specs.Stages.{free_group_next, freed_next, higher, is_remote, leaf_event};
+ghost use Rattle.walk_rules.specs.Stages.{free_group_next, freed_next, higher, is_remote};
+ghost use Rattle.walk_rules.specs.Stages.{leaf_event};
 ghost use Rattle.walk_rules.specs.Stages.{mark_next, read_next, scan_next, see_child_next};
 ghost use Rattle.walk_rules.specs.Stages.{see_group_next, sooner_event, store_next, stored_event};
 ghost use Rattle.walk_rules.specs.Stages.{swap_next, up_next};

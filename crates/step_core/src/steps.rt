@@ -31,7 +31,9 @@ pub fn apply<B: TimerBase>(core: &mut Core<B>, step: Step) -> Result<(), NoMemor
             job,
             arg,
             line,
-        } => return core.arm(cpu, timer, class, expires, job, arg, line),
+        } => {
+            core.arm(cpu, timer, class, expires, job, arg, line)?;
+        },
         Step::Cancel {
             cpu,
             timer,
@@ -40,7 +42,9 @@ pub fn apply<B: TimerBase>(core: &mut Core<B>, step: Step) -> Result<(), NoMemor
         } => return core.cancel(cpu, timer, by, line),
         Step::Hand { cpu, timer, runner } => return core.hand(cpu, timer, runner),
         Step::Ticked { cpu, class, runner } => return core.drained(cpu, class, runner),
-        Step::Move { from, to, timer } => return core.move_timer(from, to, timer),
+        Step::Move { from, to, timer } => {
+            core.move_timer(from, to, timer)?;
+        },
         Step::Clock { now } => core.bring_to(now),
         Step::Enter { cpu } => enter(core, cpu),
         Step::Leave { cpu } => leave(core, cpu),

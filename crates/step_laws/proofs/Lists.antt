@@ -1,5 +1,6 @@
 -- lists of steps, one step more
-use Rattle.std.proofs.Common.{◌≡◌, ℕ, ◌+◌, ◌<◌, false, true≢false, List, [], ◌∷◌, ◌++◌, length, take, refl, sym, ap, ◌∙◌, subst, get_or}
+use Rattle.std.proofs.Common.{◌≡◌, ℕ, ◌+◌, ◌<◌, false, true≢false, List, [], ◌∷◌, ◌++◌, length}
+use Rattle.std.proofs.Common.{take, refl, sym, ap, ◌∙◌, subst, get_or}
 use Rattle.std.specs.Prelude.{OnOk, Result, Ok, Err, is_err}
 use Rattle.std.proofs.lemmas.List.{take_more}
 use Rattle.core_world.specs.declared.step.Step.{Step}
@@ -24,9 +25,11 @@ of_ok : {A E : Type 0} (r : Result A E) (P : Type 0) → is_err r ≡ false → 
 of_ok (Ok x) P is p = p
 of_ok (Err e) P is p = absurd (true≢false is)
 
-pub one_more : {A E : Type 0} (r : Result A E) (steps : List Step) (i : ℕ) (d : Step) (w v u : World)
+pub one_more : {A E : Type 0} (r : Result A E) (steps : List Step) (i : ℕ) (d : Step)
+    (w v u : World)
     → i < length steps → RunsWhole (take i steps) w v → Enabled v (get_or steps i d)
-    → is_err r ≡ false → OnOk r (u ≡ stepped v (get_or steps i d)) → RunsWhole (take (i + 1) steps) w u
+    → is_err r ≡ false → OnOk r (u ≡ stepped v (get_or steps i d))
+    → RunsWhole (take (i + 1) steps) w u
 one_more r steps i d w v u low runs enabled fine made =
     subst (λ ss. RunsWhole ss w u) (sym (take_more steps i d low))
     (record {

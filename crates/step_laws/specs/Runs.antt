@@ -14,7 +14,8 @@ pub record RunsWhole (steps : List Step) (before after : World) : Type 0 where
   pub done : after ≡ after_all before steps
 
 -- the steps before this one were made, and it is not
-pub record StopsBefore (steps : List Step) (index : ℕ) (Why : Step → Type 0) (before after : World) :
+pub record StopsBefore
+    (steps : List Step) (index : ℕ) (Why : Step → Type 0) (before after : World) :
     Type 0 where
   pub step : Step
   pub there : slice_get steps index ≡ Some step

@@ -17,7 +17,7 @@ use Rattle.play_rules.specs.State.{State}
 use Rattle.play_rules.specs.Timers.{armed_on, cancelled_on, drained_on, due_items}
 use Rattle.play_rules.specs.Timers.{queued_on}
 use Rattle.core_world.specs.declared.step.Step.TheVariants as steps
-use Rattle.core_world.specs.Enabled.{IsFree, MayRun}
+use Rattle.core_world.specs.Enabled.{IsFree, MayArm, MayCancel, MayRun}
 use Rattle.core_world.specs.Steps.{with_bases}
 use Rattle.core_world.specs.World.{CpuRecord, World, cpu_of, is_active}
 use Rattle.core_laws.specs.Laws.{StepsStayLawful}
@@ -56,16 +56,16 @@ module _ (law : StepsStayLawful) (ph : Phase) (w : World) (i : InPlay ph w) wher
   -- A DRAIN
   module _ (home : ℕ) (class : Class) (runner : ℕ) (free : IsFree w home)
       (may : MayRun w home class runner) where
-    abbrev many : ℕ
+    abbrev pub many : ℕ
     many = length (base_of class (cpu_of w home).bases).items
 
-    abbrev left : CpuBases
+    abbrev pub left : CpuBases
     left = drained many w.clock class (cpu_id runner) (cpu_of w home).bases
 
     in_time : w.clock < 2 ^ 47 - 1
     in_time = let clock = i.lawful.times.clock in omega (arith, clock)
 
-    drain_is : Rebases w home left (drained_by_steps w home class runner).state
+    pub drain_is : Rebases w home left (drained_by_steps w home class runner).state
     drain_is = drains law home runner class many w i.lawful free may (omega arith)
 
     pub drain_plays : Plays ph (drained_by_steps w home class runner).state
@@ -112,23 +112,26 @@ module _ (law : StepsStayLawful) (ph : Phase) (w : World) (i : InPlay ph w) wher
       (known : a.timer.0 < w.timers) (short : a.delay < 2 ^ 32)
       (early : w.clock < SCRIPT_TIME_LIMIT)
       (none : queued_on (state_of w) a.timer.0 ≡ None) where
-    abbrev filled : CpuBases
+    abbrev pub filled : CpuBases
     filled = armed w.clock a.class a.timer.0 (w.clock + a.delay) a.job a.arg a.line (cpu_id c)
         (cpu_of w c).bases
 
-    arm_is : Rebases w c filled (armed_by_steps w c a).state
+    pub may_arm : MayArm w c a.timer.0 a.class (w.clock + a.delay)
+    may_arm = record {
+      is_free = free;
+      online = online;
+      may_run = may;
+      known = known;
+      not_queued = nowhere w a.timer.0 none;
+      to_come = omega arith;
+      in_time = omega (arith, early, short);
+      none_behind = i.whole c a.class;
+    }
+
+    pub arm_is : Rebases w c filled (armed_by_steps w c a).state
     arm_is = record {
       lawful = law w (steps.Arm (cpu_id c) a.timer a.class (w.clock + a.delay) a.job a.arg a.line)
-          i.lawful (record {
-            is_free = free;
-            online = online;
-            may_run = may;
-            known = known;
-            not_queued = nowhere w a.timer.0 none;
-            to_come = omega arith;
-            in_time = omega (arith, early, short);
-            none_behind = i.whole c a.class;
-          });
+          i.lawful may_arm;
       is = own_is w c _;
     }
 
@@ -163,16 +166,19 @@ module _ (law : StepsStayLawful) (ph : Phase) (w : World) (i : InPlay ph w) wher
   -- A CANCELLING
   module _ (a : Cancelling) (held : Queued) (is : queued_on (state_of w) a.timer.0 ≡ Some held)
       (free : IsFree w held.cpu.0) (by : a.by.0 < length w.cpus) where
-    abbrev less : CpuBases
+    abbrev pub less : CpuBases
     less = cancelled w.clock a.timer.0 a.line a.by (cpu_of w held.cpu.0).bases
 
-    cancel_is : Rebases w held.cpu.0 less (cancelled_by_steps w held.cpu.0 a)
+    pub may_cancel : MayCancel w held.cpu.0 a.timer.0
+    may_cancel = record {
+      is_free = free;
+      queued = (held.class, held_class w a.timer.0 held is free.in_range);
+    }
+
+    pub cancel_is : Rebases w held.cpu.0 less (cancelled_by_steps w held.cpu.0 a)
     cancel_is = record {
       lawful = law w (steps.Cancel (cpu_id held.cpu.0) a.timer a.by a.line) i.lawful (
-        record {
-          is_free = free;
-          queued = (held.class, held_class w a.timer.0 held is free.in_range);
-        },
+        may_cancel,
         by,
       );
       is = own_is w held.cpu.0 _;

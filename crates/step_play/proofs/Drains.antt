@@ -15,7 +15,7 @@ use Rattle.play_rules.specs.Interrupts.{cpu_id, timer_id}
 use Rattle.play_rules.specs.Timers.{due_items}
 use Rattle.core_world.specs.declared.step.Step.{Step}
 use Rattle.core_world.specs.declared.step.Step.TheVariants as steps
-use Rattle.core_world.specs.Enabled.{IsFree, MayRun}
+use Rattle.core_world.specs.Enabled.{IsFree, MayHand, MayRun}
 use Rattle.core_world.specs.Lawful.{IsLawful}
 use Rattle.core_world.specs.Steps.{handed_of, stepped, with_bases}
 use Rattle.core_world.specs.World.{CpuRecord, World, cpu_of}
@@ -37,10 +37,10 @@ pub record Rebases (w : World) (c : ℕ) (b : CpuBases) (v : World) : Type 0 whe
 
 module _ (law : StepsStayLawful) (home runner : ℕ) (class : Class) where
   -- what is due, and what is left
-  abbrev after : ℕ → World → CpuBases
+  abbrev pub after : ℕ → World → CpuBases
   after n w = drained n w.clock class (cpu_id runner) (cpu_of w home).bases
 
-  abbrev base_at : World → PlainBase
+  abbrev pub base_at : World → PlainBase
   base_at w = base_of class (cpu_of w home).bases
 
   -- nothing more is due
@@ -74,60 +74,62 @@ module _ (law : StepsStayLawful) (home runner : ℕ) (class : Class) where
     consistent : IsConsistent (cpu_of w home).bases
     consistent = lawful.timers.consistent home
 
-    is_due : IsDue w.clock (base_at w).items item
+    pub is_due : IsDue w.clock (base_at w).items item
     is_due = subst (OutIsDue w.clock (base_at w).items) out
         (due_out w.clock (base_at w) (consistent.fits class).sound)
 
-    queued_here : class_in item.id (cpu_of w home).bases ≡ Some class
+    pub queued_here : class_in item.id (cpu_of w home).bases ≡ Some class
     queued_here = ap (option_map (λ found. found.0))
         (queued_once (cpu_of w home).bases item.id class item consistent is_due.queued)
 
-    abbrev left : CpuBases
+    abbrev pub left : CpuBases
     left = handed_out w.clock class (cpu_id runner) (cpu_of w home).bases
 
-    abbrev hand : Step
+    abbrev pub hand : Step
     hand = steps.Hand (cpu_id home) (timer_id item.id) (cpu_id runner)
 
-    hand_is : stepped w hand ≡ rebased w home left
+    pub hand_is : stepped w hand ≡ rebased w home left
     hand_is =
         own_is w home _
         ∙ ap (λ o. rebased w home (handed_of w.clock o (cpu_id runner) (cpu_of w home).bases))
         queued_here
 
+    pub may_hand : MayHand w home item.id runner
+    may_hand = record {
+      is_free = free;
+      class = class;
+      item = item;
+      queued = queued_here;
+      due = out;
+      timers = refl;
+      may_run = may;
+    }
+
     hand_lawful : IsLawful (rebased w home left)
-    hand_lawful =
-        subst IsLawful hand_is (law w hand lawful (record {
-          is_free = free;
-          class = class;
-          item = item;
-          queued = queued_here;
-          due = out;
-          timers = refl;
-          may_run = may;
-        }))
+    hand_lawful = subst IsLawful hand_is (law w hand lawful may_hand)
 
     here : cpu_of (rebased w home left) home ≡ with_bases (cpu_of w home) left
     here = put_same w home (with_bases (cpu_of w home) left) free.in_range
 
-    free_after : IsFree (rebased w home left) home
+    pub free_after : IsFree (rebased w home left) home
     free_after = record {
       in_range = (let low = free.in_range in
           omega (arith, low, put_count w home (with_bases (cpu_of w home) left) low));
       free = ap (λ (y : CpuRecord). y.walk) here ∙ free.free;
     }
 
-    may_after : MayRun (rebased w home left) home class runner
+    pub may_after : MayRun (rebased w home left) home class runner
     may_after = elim may [
       | inl mine ↦ inl (mine.0, ap (λ (y : CpuRecord). y.inside) here ∙ mine.1)
       | inr marked ↦ inr (marked.0, ap (λ (y : CpuRecord). y.mark) here ∙ marked.1)
     ]
 
-    base_after : base_at (rebased w home left) ≡ taken w.clock (base_at w)
+    pub base_after : base_at (rebased w home left) ≡ taken w.clock (base_at w)
     base_after =
         ap (λ (y : CpuRecord). base_of class y.bases) here
         ∙ handed_base w.clock class (cpu_id runner) (cpu_of w home).bases item out
 
-    fewer : (n : ℕ) → length (base_at w).items ≤ suc n →
+    pub fewer : (n : ℕ) → length (base_at w).items ≤ suc n →
         length (base_at (rebased w home left)).items ≤ n
     fewer n few =
         let less = one_fewer w.clock class (cpu_id runner) (cpu_of w home).bases item consistent out

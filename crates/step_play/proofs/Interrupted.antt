@@ -27,12 +27,12 @@ use Rattle.play_shape.proofs.Alike.{drained_seen}
 use Rattle.play_shape.proofs.Shape.{Keeps, MayRunAgain, Stage, begun, between, looked}
 use Rattle.play_shape.proofs.Shape.{nth_class, own}
 use Rattle.core_world.specs.declared.step.Step.TheVariants as steps
-use Rattle.core_world.specs.Enabled.{IsFree}
+use Rattle.core_world.specs.Enabled.{IsFree, MayTime}
 use Rattle.core_world.specs.Steps.{stepped}
 use Rattle.core_world.specs.World.{World, cpu_of}
 use Rattle.core_laws.specs.Laws.{StepsStayLawful}
 use Rattle.step_rules.specs.Alike.{Plays}
-use Rattle.step_rules.specs.Seen.{Phase, inside, resting, state_of}
+use Rattle.step_rules.specs.Seen.{InPlay, Phase, inside, resting, state_of}
 use Rattle.step_rules.specs.StepRules.{armed_by_steps, drained_by_steps}
 use Rattle.step_rules.specs.StepRules.{ended_by_steps, items_due}
 use Rattle.step_rules.specs.StepRules.{step_rules}
@@ -66,6 +66,24 @@ pub next_late : (now : ℕ) (b : CpuBases) → now < NEVER → NoneDue now (base
 next_late now b low late =
     let far = first_late now Global b low late in grind (arith, nat_tests, far)
 
+-- time goes on
+module _ (law : StepsStayLawful) (now : ℕ) (w : World) (i : InPlay resting w)
+    (not_back : w.clock ≤ now) (in_time : now < SCRIPT_TIME_LIMIT) where
+  pub may_time : MayTime w now
+  may_time = record { not_back = not_back; in_time = omega (arith, in_time) }
+
+  pub time_goes : InPlay resting (stepped w (steps.Clock now))
+  time_goes = record {
+    lawful = law w (steps.Clock now) i.lawful may_time;
+    planned = i.planned;
+    exact = i.exact;
+    told = i.told;
+    whole = i.whole;
+    inside = i.inside;
+    marks = i.marks;
+    walks = i.walks;
+  }
+
 module _ (law : StepsStayLawful) (walks : Walks) (t : Shape) (timers end : ℕ)
     (in_time : end < SCRIPT_TIME_LIMIT) where
   abbrev plain : Keeps plain_rules (cpu_count_of t) timers (level_count_of t) end
@@ -86,19 +104,8 @@ module _ (law : StepsStayLawful) (walks : Walks) (t : Shape) (timers end : ℕ)
         clock = refl;
         many = was.many;
         early = omega (arith, by_end, in_time);
-        in_play = record {
-          lawful = law w (steps.Clock next) i.lawful (record {
-            not_back = omega (arith, is, later);
-            in_time = omega (arith, by_end, in_time);
-          });
-          planned = i.planned;
-          exact = i.exact;
-          told = i.told;
-          whole = i.whole;
-          inside = i.inside;
-          marks = i.marks;
-          walks = i.walks;
-        };
+        in_play = time_goes law next w i (omega (arith, is, later))
+            (omega (arith, by_end, in_time));
         settles = subst (λ due. Settles t next (begun due 0) (state_of v)) (sym (having_seen v))
             (plain.comes now next (state_of w) was.settles later by_end no_later);
       }

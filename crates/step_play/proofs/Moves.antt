@@ -12,7 +12,7 @@ use Rattle.wheel_core.specs.declared.item.Item.{Item}
 use Rattle.wheel_core.specs.PlainBase.{IsPlaced}
 use Rattle.wheel_core.proofs.Ids.{item_holds}
 use Rattle.cpu_bases.specs.CpuBases.{CpuBases, IsConsistent, base_of, found_or, moved_in}
-use Rattle.cpu_bases.specs.CpuBases.{moved_out, oldest_in}
+use Rattle.cpu_bases.specs.CpuBases.{item_queued, moved_out, oldest_in}
 use Rattle.cpu_bases.proofs.Keeping.{oldest_found}
 use Rattle.tree_plan.specs.Paths.{is_placed_in}
 use Rattle.play_rules.specs.Interrupts.{cpu_id, timer_id}
@@ -23,6 +23,7 @@ use Rattle.play_rules.specs.Timers.{bases_at, first_to_move, moved, moved_into, 
 use Rattle.play_rules.specs.Timers.{moved_out_of}
 use Rattle.play_shape.proofs.Alike.{moved_seen}
 use Rattle.core_world.specs.declared.step.Step.TheVariants as steps
+use Rattle.core_world.specs.Enabled.{MayMove}
 use Rattle.core_world.specs.Lawful.{IsLawful}
 use Rattle.core_world.specs.Steps.{first_moved, moved_with, stepped, with_bases}
 use Rattle.core_world.specs.World.{CpuRecord, World, cpu_of, is_active}
@@ -147,8 +148,8 @@ module _ (law : StepsStayLawful) (w : World) (i : InPlay resting w) (from to : �
       MovedIn 0 w.clock (w.clock + 1) class item.id item.expires item.job item.arg (cpu_id to)
       (omega (arith, clock)) (omega (arith, fits))))
 
-  lawful : IsLawful (stepped w (steps.Move (cpu_id from) (cpu_id to) (timer_id item.id)))
-  lawful = law w (steps.Move (cpu_id from) (cpu_id to) (timer_id item.id)) i.lawful (record {
+  pub may_move : MayMove w from to item.id
+  may_move = record {
     from_free = free_in resting w from (bare resting w i) refl low;
     from_offline = offline;
     to_free = free_in resting w to (bare resting w i) refl to_low;
@@ -160,7 +161,10 @@ module _ (law : StepsStayLawful) (w : World) (i : InPlay resting w) (from to : �
     first = first_alike (cpu_of w from).bases ∙ first;
     timers = refl;
     none_behind = i.whole to class;
-  })
+  }
+
+  lawful : IsLawful (stepped w (steps.Move (cpu_id from) (cpu_id to) (timer_id item.id)))
+  lawful = law w (steps.Move (cpu_id from) (cpu_id to) (timer_id item.id)) i.lawful may_move
 
   -- and what Play sees
   out_seen : state_of mid ≡ moved_out_of (state_of w) from to class
@@ -183,7 +187,24 @@ module _ (law : StepsStayLawful) (w : World) (i : InPlay resting w) (from to : �
     state = ap state_of step_is ∙ in_seen;
   }
 
-  -- who is online stays
+  -- the wheel expiry that it gets there
+  pub move_wheel : (moved_by_steps w from to (class, item)).mover.wheel
+      ≡ (item_queued (w.clock + 1) class item.id item.expires item.job item.arg
+      (cpu_of w to).bases).wheel
+  move_wheel =
+      ap (λ b. (item_queued (w.clock + 1) class item.id item.expires item.job item.arg b).wheel)
+      (ap (λ s. bases_at s to) (sym out_seen)
+      ∙ (bases_seen mid to mid_low ∙ ap (λ (y : CpuRecord). y.bases) mid_to))
+
+  -- who is online and idle stays
+  pub move_idle : (d : ℕ) →
+      (cpu_of (moved_by_steps w from to (class, item)).state d).idle ≡ (cpu_of w d).idle
+  move_idle d =
+      ap (λ u. (cpu_of u d).idle) step_is
+      ∙ (put_field mid to (with_bases (cpu_of mid to) (got (cpu_of mid to).bases)) mid_low
+      (λ y. y.idle) refl d
+      ∙ put_field w from (with_bases (cpu_of w from) given) low (λ y. y.idle) refl d)
+
   pub move_online : (d : ℕ) →
       (cpu_of (moved_by_steps w from to (class, item)).state d).online ≡ (cpu_of w d).online
   move_online d =

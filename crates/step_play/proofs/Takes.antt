@@ -13,7 +13,7 @@ use Rattle.walk_rules.specs.declared.walk.Walk.{Walk}
 use Rattle.walk_rules.specs.Hierarchy.{side}
 use Rattle.play_rules.specs.Interrupts.{cpu_id}
 use Rattle.core_world.specs.declared.step.Step.TheVariants as steps
-use Rattle.core_world.specs.Enabled.{IsDueAtLeaf, MayHandOn}
+use Rattle.core_world.specs.Enabled.{IsDueAtLeaf, MayEnter, MayHandOn, MayTake}
 use Rattle.core_world.specs.Steps.{stepped, with_walk}
 use Rattle.core_world.specs.World.{CpuRecord, World, cpu_of, group_of, is_active}
 use Rattle.core_laws.specs.Laws.{StepsStayLawful}
@@ -88,6 +88,53 @@ takeable w d is =
       come = leb-true (told_by w d) w.clock e.1;
     }
 
+-- WHAT MAY BE
+module _ (w : World) where
+  pub may_enter : (c : ℕ) → InPlay resting w → (cpu_of w c).online ≡ true → MayEnter w c
+  may_enter c i online = record {
+    is_free = free_in resting w c (bare resting w i) refl (there w c online);
+    online = online;
+    outside = i.inside c;
+  }
+
+  pub may_take : (c d : ℕ) → InPlay (inside c) w → is_placed_in w.tree c ≡ true →
+      c < length w.cpus → can_be_taken w d ≡ true → MayTake w d c
+  may_take c d i placed low_c can =
+      let t = takeable w d can in
+      let b = bare (inside c) w i in
+      let free = free_in (inside c) w c b refl low_c in
+      record {
+        by_in_range = low_c;
+        by_placed = placed;
+        by_inside = i.inside c ∙ eq-eqb c c refl;
+        by_goes_on = λ made. none-some made.made (sym free.free ∙ made.walk);
+        is_free = free_in (inside c) w d b refl (there w d t.online);
+        online = t.online;
+        idle = t.idle;
+        unmarked = t.unmarked;
+        due = due_at_leaf w d (let clock = i.lawful.times.clock in omega (arith, clock)) t.come;
+      }
+
+  module _ (c d : ℕ) (i : InPlay (handing c) w) (low_c : c < length w.cpus)
+      (another : d ≢ c) (placed : is_placed_in w.tree d ≡ true)
+      (active : is_active (cpu_of w d) ≡ true) where
+    may_hand : (m : Option Walk) → (cpu_of w c).walk ≡ m → WalkFits (handing c) c m →
+        MayHandOn w c d
+    may_hand None is fits = absurd (both_ways (c == c) fits (eq-eqb c c refl))
+    may_hand (Some k) is fits = record {
+      in_range = low_c;
+      made = k;
+      walk = is;
+      handing = fits.1;
+      to_in_range = there w d (and_parts (cpu_of w d).online (not (cpu_of w d).idle) active).0;
+      another = another;
+      to_placed = placed;
+      to_active = active;
+    }
+
+    pub may_hand_on : MayHandOn w c d
+    may_hand_on = may_hand (cpu_of w c).walk refl (i.walks c)
+
 module _ (law : StepsStayLawful) (w : World) where
   -- ENTER
   pub enter_plays : (c : ℕ) → InPlay resting w → (cpu_of w c).online ≡ true →
@@ -96,11 +143,7 @@ module _ (law : StepsStayLawful) (w : World) where
       let low = there w c online in
       let y = record (cpu_of w c) { inside = true } in
       let v = stepped w (steps.Enter (cpu_id c)) in
-      let lawful = law w (steps.Enter (cpu_id c)) i.lawful (record {
-        is_free = free_in resting w c (bare resting w i) refl low;
-        online = online;
-        outside = i.inside c;
-      }) in
+      let lawful = law w (steps.Enter (cpu_id c)) i.lawful (may_enter w c i online) in
       let fits : Fits resting (inside c) w c y = record {
         online = refl;
         idle = refl;
@@ -127,19 +170,8 @@ module _ (law : StepsStayLawful) (w : World) where
       let low = there w d t.online in
       let y = record (cpu_of w d) { mark = Some c } in
       let v = stepped w (steps.Take (cpu_id d) (cpu_id c)) in
-      let b = bare (inside c) w i in
-      let free = free_in (inside c) w c b refl low_c in
-      let lawful = law w (steps.Take (cpu_id d) (cpu_id c)) i.lawful (record {
-        by_in_range = low_c;
-        by_placed = placed;
-        by_inside = i.inside c ∙ eq-eqb c c refl;
-        by_goes_on = λ made. none-some made.made (sym free.free ∙ made.walk);
-        is_free = free_in (inside c) w d b refl low;
-        online = t.online;
-        idle = t.idle;
-        unmarked = t.unmarked;
-        due = due_at_leaf w d (let clock = i.lawful.times.clock in omega (arith, clock)) t.come;
-      }) in
+      let lawful = law w (steps.Take (cpu_id d) (cpu_id c)) i.lawful
+      (may_take w c d i placed low_c can) in
       let fits : Fits (inside c) (serving c d) w d y = record {
         online = refl;
         idle = refl;
@@ -153,7 +185,7 @@ module _ (law : StepsStayLawful) (w : World) where
       } in
       record {
         in_play = dressed (serving c d) v (subst (Bare (serving c d)) (sym (own_is w d y))
-            (put_bare (inside c) (serving c d) w d y low b fits)) lawful;
+            (put_bare (inside c) (serving c d) w d y low (bare (inside c) w i) fits)) lawful;
         state = ap state_of (own_is w d y) ∙ put_hidden w d y low refl;
       }
 
@@ -161,26 +193,12 @@ module _ (law : StepsStayLawful) (w : World) where
   module _ (c d : ℕ) (i : InPlay (handing c) w) (low_c : c < length w.cpus)
       (another : d ≢ c) (placed : is_placed_in w.tree d ≡ true)
       (active : is_active (cpu_of w d) ≡ true) where
-    may_hand : (m : Option Walk) → (cpu_of w c).walk ≡ m → WalkFits (handing c) c m →
-        MayHandOn w c d
-    may_hand None is fits = absurd (both_ways (c == c) fits (eq-eqb c c refl))
-    may_hand (Some k) is fits = record {
-      in_range = low_c;
-      made = k;
-      walk = is;
-      handing = fits.1;
-      to_in_range = there w d (and_parts (cpu_of w d).online (not (cpu_of w d).idle) active).0;
-      another = another;
-      to_placed = placed;
-      to_active = active;
-    }
-
     pub hand_plays : Plays resting (stepped w (steps.HandOn (cpu_id c) (cpu_id d))) (state_of w)
     hand_plays =
         let y = with_walk (cpu_of w c) None in
         let v = stepped w (steps.HandOn (cpu_id c) (cpu_id d)) in
         let lawful = law w (steps.HandOn (cpu_id c) (cpu_id d)) i.lawful
-        (may_hand (cpu_of w c).walk refl (i.walks c)) in
+        (may_hand_on w c d i low_c another placed active) in
         let fits : Fits (handing c) resting w c y = record {
           online = refl;
           idle = refl;

@@ -1,6 +1,6 @@
--- what the rules of steps owe Play: in a core in play each leaves a core in play, and Play's state of
--- it is what Play's rule makes of Play's state. Laws on walks, each begun by a step and made to its
--- end
+-- what the rules of steps owe Play: in a core in play each leaves a core in play, and Play's state
+-- of it is what Play's rule makes of Play's state. Laws on walks, each begun by a step and made to
+-- its end
 use Rattle.std.specs.Prelude.{◌≡◌, ℕ, true, if◌then◌else◌}
 use Rattle.play_rules.specs.Hierarchy.{come_online, gone_offline, idled, told_again, woken}
 use Rattle.play_rules.specs.Phases.{Phase, handing, inside, resting, serving}

@@ -1,5 +1,6 @@
 -- what Play sees in a core, and when a core is one that play comes to
-use Rattle.std.specs.Prelude.{◌≡◌, ℕ, ◌==◌, ◌&&◌, Bool, true, false, Option, Some, None, if◌then◌else◌, length, map}
+use Rattle.std.specs.Prelude.{◌≡◌, ℕ, ◌==◌, ◌&&◌, Bool, true, false, Option, Some, None}
+use Rattle.std.specs.Prelude.{if◌then◌else◌, length, map}
 use Rattle.std.specs.List.{range_with_len}
 use Rattle.tm_base.specs.declared.names.TheConstants.{NEVER}
 use Rattle.tm_base.specs.declared.names.Class.{Class}
@@ -57,8 +58,9 @@ abbrev pub WalkFits : Phase → ℕ → Option Walk → Type 0
 WalkFits ph c None = hands_in ph c ≡ false
 WalkFits ph c (Some k) = (hands_in ph c ≡ true) × (k.stage ≡ stages.Handing)
 
--- A CORE IN PLAY: lawful, its tree planned, each group's event exact, nothing told by a CPU that is active or
--- offline, nothing behind a base's clock, and no walk, interrupt or mark but those of the phase
+-- A CORE IN PLAY: lawful, its tree planned, each group's event exact, nothing told by a CPU that is
+-- active or offline, nothing behind a base's clock, and no walk, interrupt or mark but those of the
+-- phase
 pub record InPlay (ph : Phase) (w : World) : Type 0 where
   pub lawful : IsLawful w
   pub planned : IsPlanned w.tree

@@ -1,5 +1,7 @@
 -- THE RULES OF STEPS: what a play asks of a core, each change a list of steps
-use Rattle.std.specs.Prelude.{ℕ, ◌+◌, ◌-◌, ◌&&◌, not, Bool, false, List, [], ◌∷◌, ◌++◌, Option, Some, None, if◌then◌else◌, is_none, length, map, nat_le, option_and_then, option_map}
+use Rattle.std.specs.Prelude.{ℕ, ◌+◌, ◌-◌, ◌&&◌, not, Bool, false, List, [], ◌∷◌, ◌++◌, Option}
+use Rattle.std.specs.Prelude.{Some, None, if◌then◌else◌, is_none, length, map, nat_le}
+use Rattle.std.specs.Prelude.{option_and_then, option_map}
 use Rattle.std.specs.FinSet.{FinSet}
 use Rattle.std.specs.Ordering.{nat_cmp}
 use Rattle.tm_base.specs.declared.names.Class.{Class}
@@ -15,9 +17,11 @@ use Rattle.play_rules.specs.declared.asks.Arming.{Arming}
 use Rattle.play_rules.specs.declared.asks.Cancelling.{Cancelling}
 use Rattle.play_rules.specs.Rules.{Drained, Moved, Placed, Rules}
 use Rattle.play_rules.specs.Hierarchy.{first_event, looks_after}
-use Rattle.play_rules.specs.Timers.{armed_item, controller, count_on, due_items, first_to_move, moved_one, queued_on}
+use Rattle.play_rules.specs.Timers.{armed_item, controller, count_on, due_items, first_to_move}
+use Rattle.play_rules.specs.Timers.{moved_one, queued_on}
 use Rattle.play_rules.specs.Play.{has_interrupt, next_interrupt, successor}
-use Rattle.play_rules.specs.Covers.{answerer, by_migrator, by_wakeup, led_to, lowest_active_group, waker_by}
+use Rattle.play_rules.specs.Covers.{answerer, by_migrator, by_wakeup, led_to, lowest_active_group}
+use Rattle.play_rules.specs.Covers.{waker_by}
 use Rattle.walk_rules.specs.Hierarchy.{side}
 use Rattle.core_world.specs.declared.step.Step.{Step}
 use Rattle.core_world.specs.declared.step.Step.TheVariants as steps
@@ -121,8 +125,8 @@ moved_by_steps w from to found = record {
 }
 
 -- COVER: the CPU itself where its wakeup isn't past W; else the CPU to which the migrators lead
--- from the lowest active group of its path; else the lowest placed CPU that wakes by the top's event
--- towards the CPU
+-- from the lowest active group of its path; else the lowest placed CPU that wakes by the top's
+-- event towards the CPU
 abbrev pub event_at_top : World → (c : ℕ) → Option ℕ → ℕ
 event_at_top w c None = expiry_of None
 event_at_top w c (Some top) = expiry_of (live w top (side w.tree c (level_count_of w.tree - 1)))

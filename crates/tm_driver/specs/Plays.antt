@@ -8,7 +8,8 @@ use Rattle.play_rules.specs.Moments.{last_state, whole_lines}
 use Rattle.play_rules.specs.Parts.{counted}
 use Rattle.play_jiffies.specs.Jiffies.{EachHasEnded, InItsJiffy}
 use Rattle.play_laws.specs.Settled.{IsSettled}
-use Rattle.play_rules.specs.Play.{AfterEachMoment, plain_rules, play_spent, play_start, play_text, play_turns}
+use Rattle.play_rules.specs.Play.{AfterEachMoment, plain_rules, play_spent, play_start, play_text}
+use Rattle.play_rules.specs.Play.{play_turns}
 use Rattle.play_rules.specs.Tallies.{no_lines, tallied_all}
 use Rattle.play_rules.specs.declared.tally.Tally.{Tally}
 use Rattle.tm_driver.specs.Outcomes.{SaysFault, work_limit}

@@ -2,7 +2,8 @@
 
 ghost use Rattle.std.specs.Prelude.{◌≡◌, ◌<◌, true, OnOk};
 ghost use Rattle.std.specs.FinSet as set;
-ghost use Rattle.play_rules.specs.Interrupts.{drains, having_interrupt, interrupt, interrupt_where, interrupts, look, looks, try};
+ghost use Rattle.play_rules.specs.Interrupts.{drains, having_interrupt, interrupt, interrupt_where};
+ghost use Rattle.play_rules.specs.Interrupts.{interrupts, look, looks, try};
 ghost use Rattle.play_rules.specs.Machines.{Same, SameOnline};
 ghost use Rattle.play_rules.specs.Parts.{Gains, Prints};
 ghost use Rattle.play_rules.specs.Phases.{inside, resting};
@@ -43,7 +44,8 @@ fn try_one<M: Machine, J: Jobs>(
     Ok(())
 }
 
-/// The look of a CPU at its group of a level: it tries one CPU after the other, as long as one is named.
+/// The look of a CPU at its group of a level: it tries one CPU after the other, as long as one is
+/// named.
 fn look<M: Machine, J: Jobs>(
     machine: &mut M,
     jobs: &J,
@@ -56,7 +58,8 @@ fn look<M: Machine, J: Jobs>(
     requires fit { M.Fit (inside cpu.0) (M.world machine.old) }
     ensures prints { OnOk result
         (Prints
-        (look (J.replies jobs.now) M.rules (M.rules.cpus (M.world machine.old)) cpu.0 level set.empty
+        (look (J.replies jobs.now) M.rules
+        (M.rules.cpus (M.world machine.old)) cpu.0 level set.empty
         (M.world machine.old))
         telling.old telling.new (M.world machine.new)) }
     ensures same { OnOk result (Same M.rules (M.world machine.old) (M.world machine.new)) }

@@ -25,7 +25,8 @@ fn arm_again<M: Machine>(
     requires timer { IsTimerOf (M.rules.timers (M.world machine.old)) item }
     requires fit { FitsSome M.Fit (λ ph. MayRunIn ph runner.0) (M.world machine.old) }
     ensures reply { IfOk result (λ shown.
-        shown ≡ (again M.rules (M.rules.queued (M.world machine.old) item.id) runner.0 item class delay
+        shown ≡ (again M.rules
+        (M.rules.queued (M.world machine.old) item.id) runner.0 item class delay
         (M.world machine.old)).reply) }
     ensures state { OnOk result (M.world machine.new ≡
         (again M.rules (M.rules.queued (M.world machine.old) item.id) runner.0 item class delay
@@ -117,7 +118,8 @@ fn run_job<M: Machine, J: Jobs>(
     })
 }
 
-/// The jobs of the items that were taken out of a base of CPU `home` run on CPU `runner`, in that order.
+/// The jobs of the items that were taken out of a base of CPU `home` run on CPU `runner`, in that
+/// order.
 fn run_jobs<M: Machine, J: Jobs>(
     machine: &mut M,
     jobs: &J,
@@ -130,7 +132,8 @@ fn run_jobs<M: Machine, J: Jobs>(
     requires timers { All (IsTimerOf (M.rules.timers (M.world machine.old))) items.now }
     requires fit { FitsSome M.Fit (λ ph. MayRunIn ph runner.0) (M.world machine.old) }
     ensures prints { OnOk result
-        (Prints (run_jobs (J.replies jobs.now) M.rules home.0 runner.0 items.now (M.world machine.old))
+        (Prints (run_jobs (J.replies jobs.now) M.rules home.0 runner.0 items.now
+        (M.world machine.old))
         telling.old telling.new (M.world machine.new)) }
     ensures same { OnOk result (Same M.rules (M.world machine.old) (M.world machine.new)) }
     ensures fit { OnOk result
@@ -161,7 +164,8 @@ pub(crate) fn drain<M: Machine, J: Jobs>(
         telling.old telling.new (M.world machine.new)) }
     ensures same { OnOk result (Same M.rules (M.world machine.old) (M.world machine.new)) }
     ensures fit { OnOk result
-        (StaysFit M.Fit (λ ph. MayDrain ph home.0 class runner.0) (M.world machine.old) (M.world machine.new)) }
+        (StaysFit M.Fit (λ ph. MayDrain ph home.0 class runner.0)
+        (M.world machine.old) (M.world machine.new)) }
     ensures online { OnOk result (SameOnline M.rules (M.world machine.old) (M.world machine.new)) }
     ensures gains { Gains telling.old.text telling.new.text }
 {

@@ -1,7 +1,8 @@
 //! Playing a script: moment by moment, into a report.
 //!
-//! The driver is generic over a `Machine`, and its contracts name the rules of any machine: `interrupts` plays the
-//! interrupts of a moment, `operations` what the script has for it, `moments` the moments to the end.
+//! The driver is generic over a `Machine`, and its contracts name the rules of any machine:
+//! `interrupts` plays the interrupts of a moment, `operations` what the script has for it,
+//! `moments` the moments to the end.
 #![tactic(auto)]
 
 mod closing;

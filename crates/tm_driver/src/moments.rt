@@ -3,7 +3,8 @@
 ghost use Rattle.std.specs.Prelude.{◌≡◌, ◌<◌, ◌≤◌, All, IfErr, IfOk, OnOk, length};
 ghost use Rattle.std.specs.Option.{ForSome, option_copied};
 ghost use Rattle.play_rules.specs.Machines.{Same, SameBuild};
-ghost use Rattle.play_rules.specs.Moments.{moment, moment_at, moment_now, moments_after, next_moment, next_said, scripted, turn, turns};
+ghost use Rattle.play_rules.specs.Moments.{moment, moment_at, moment_now, moments_after};
+ghost use Rattle.play_rules.specs.Moments.{next_moment, next_said, scripted, turn, turns};
 ghost use Rattle.play_rules.specs.Parts.{Gains, Prints, counted};
 ghost use Rattle.play_rules.specs.Phases.{resting};
 ghost use Rattle.tm_base.specs.declared.limits.TheConstants.{SCRIPT_TIME_LIMIT};
@@ -20,14 +21,16 @@ use play_rules::Machine;
 use tm_base::{CpuSet, Jiffy, NoMemory, WORK_LIMIT_V1, WORK_LIMIT_V2};
 use tm_script::{Moment, Script};
 
-/// What the script has for a moment: its operations, the timers of a CPU that went offline, and the covers.
+/// What the script has for a moment: its operations, the timers of a CPU that went offline, and the
+/// covers.
 fn scripted<M: Machine>(
     machine: &mut M,
     due: Option<&Moment>,
     telling: &mut Telling,
 ) -> Result<(), NoMemory>
     requires in_range { ForSome (option_copied due)
-        (IsMomentInRange (M.rules.cpus (M.world machine.old)) (M.rules.timers (M.world machine.old))) }
+        (IsMomentInRange
+        (M.rules.cpus (M.world machine.old)) (M.rules.timers (M.world machine.old))) }
     requires fit { M.Fit resting (M.world machine.old) }
     ensures prints { OnOk result
         (Prints (scripted M.rules (option_copied due.entry) (M.world machine.old))
@@ -44,7 +47,8 @@ fn scripted<M: Machine>(
     covers(machine, telling)
 }
 
-/// One moment, of which the CPUs that have an interrupt are known: it may be handed others than those of the clock.
+/// One moment, of which the CPUs that have an interrupt are known: it may be handed others than
+/// those of the clock.
 fn moment<M: Machine, J: Jobs>(
     machine: &mut M,
     jobs: &J,
@@ -53,7 +57,8 @@ fn moment<M: Machine, J: Jobs>(
     telling: &mut Telling,
 ) -> Result<(), NoMemory>
     requires in_range { ForSome (option_copied due)
-        (IsMomentInRange (M.rules.cpus (M.world machine.old)) (M.rules.timers (M.world machine.old))) }
+        (IsMomentInRange
+        (M.rules.cpus (M.world machine.old)) (M.rules.timers (M.world machine.old))) }
     requires online { AreOnline M.rules (M.world machine.old) interrupted.now }
     requires fit { M.Fit resting (M.world machine.old) }
     ensures prints { OnOk result
@@ -101,7 +106,8 @@ fn turn<M: Machine, J: Jobs>(
     requires not_back { M.rules.clock (M.world machine.old) ≤ now }
     requires in_time { now < SCRIPT_TIME_LIMIT }
     requires in_range { All
-        (IsMomentInRange (M.rules.cpus (M.world machine.old)) (M.rules.timers (M.world machine.old))) left.now }
+        (IsMomentInRange
+        (M.rules.cpus (M.world machine.old)) (M.rules.timers (M.world machine.old))) left.now }
     requires fit { M.Fit resting (M.world machine.old) }
     ensures prints { OnOk result
         (Prints (turn (J.replies jobs.now) M.rules left.now now (M.world machine.old)).played
@@ -128,8 +134,9 @@ pub fn next_moment<M: Machine>(machine: &M, left: &[Moment], end: Jiffy) -> Jiff
     machine.next_interrupt().min(said).max(machine.clock() + 1)
 }
 
-/// The moments of a script from jiffy 0 to its end, and how many they are. Where the work has reached the limit after a moment that isn't the
-/// last, the play is broken off there with that count.
+/// The moments of a script from jiffy 0 to its end, and how many they are. Where the work has
+/// reached the limit after a moment that isn't the last, the play is broken off there with that
+/// count.
 pub(crate) fn moments<M: Machine, J: Jobs>(
     machine: &mut M,
     jobs: &J,
@@ -137,12 +144,14 @@ pub(crate) fn moments<M: Machine, J: Jobs>(
     telling: &mut Telling,
 ) -> Result<u32, DriveFault>
     requires start { M.rules.clock (M.world machine.old) ≡ 0 }
-    requires playable { IsPlayable (M.rules.cpus (M.world machine.old)) (M.rules.timers (M.world machine.old)) script.now }
+    requires playable { IsPlayable
+        (M.rules.cpus (M.world machine.old)) (M.rules.timers (M.world machine.old)) script.now }
     requires no_work { telling.old.work ≡ 0 }
     requires fit { M.Fit resting (M.world machine.old) }
     ensures whole { OnOk result
         (PlaysOut (work_limit script.now.version)
-        (script_turns (J.replies jobs.now) M.rules script.now (M.world machine.old)) (M.world machine.old)
+        (script_turns (J.replies jobs.now) M.rules script.now (M.world machine.old))
+        (M.world machine.old)
         telling.old telling.new (M.world machine.new)) }
     ensures count { IfOk result (λ count. count ≡ counted (length
         (script_turns (J.replies jobs.now) M.rules script.now (M.world machine.old)))) }

@@ -1,8 +1,10 @@
 //! The timers of a CPU that went offline, and the covers.
 
-ghost use Rattle.std.specs.Prelude.{◌≡◌, ◌≢◌, ◌<◌, Some, All, IfSome, OnOk, false, true, option_map};
+ghost use Rattle.std.specs.Prelude.{◌≡◌, ◌≢◌, ◌<◌, Some, All, IfSome, OnOk, false, true};
+ghost use Rattle.std.specs.Prelude.{option_map};
 ghost use Rattle.play_rules.specs.Machines.{Same};
-ghost use Rattle.play_rules.specs.Operations.{clear, clear_after, covers, leaver, leaving, move_all};
+ghost use Rattle.play_rules.specs.Operations.{clear, clear_after, covers, leaver, leaving};
+ghost use Rattle.play_rules.specs.Operations.{move_all};
 ghost use Rattle.play_rules.specs.Parts.{Gains, Prints};
 ghost use Rattle.play_rules.specs.Phases.{IsUp, resting};
 ghost use Rattle.tm_report.specs.Lines.{report_text};
@@ -29,7 +31,8 @@ fn moves<M: Machine>(
     requires active { IsUp M.rules (M.world machine.old) to.0 false }
     requires fit { M.Fit resting (M.world machine.old) }
     ensures prints { OnOk result
-        (Prints (move_all M.rules from.0 to.0 (M.world machine.old)) telling.old telling.new (M.world machine.new)) }
+        (Prints (move_all M.rules from.0 to.0 (M.world machine.old))
+        telling.old telling.new (M.world machine.new)) }
     ensures same { OnOk result (Same M.rules (M.world machine.old) (M.world machine.new)) }
     ensures fit { OnOk result (M.Fit resting (M.world machine.new)) }
     ensures gains { Gains telling.old.text telling.new.text }
@@ -55,7 +58,8 @@ fn clear<M: Machine>(machine: &mut M, from: CpuId, telling: &mut Telling) -> Res
     requires from { from.0 < M.rules.cpus (M.world machine.old) }
     requires fit { M.Fit resting (M.world machine.old) }
     ensures prints { OnOk result
-        (Prints (clear M.rules from.0 (M.world machine.old)) telling.old telling.new (M.world machine.new)) }
+        (Prints (clear M.rules from.0 (M.world machine.old))
+        telling.old telling.new (M.world machine.new)) }
     ensures same { OnOk result (Same M.rules (M.world machine.old) (M.world machine.new)) }
     ensures fit { OnOk result (M.Fit resting (M.world machine.new)) }
     ensures gains { Gains telling.old.text telling.new.text }
@@ -101,7 +105,8 @@ pub(crate) fn clear_after<M: Machine>(
     ops: &[Op],
     telling: &mut Telling,
 ) -> Result<(), NoMemory>
-    requires in_range { All (IsOpInRange (M.rules.cpus (M.world machine.old)) (M.rules.timers (M.world machine.old))) ops.now }
+    requires in_range { All (IsOpInRange
+        (M.rules.cpus (M.world machine.old)) (M.rules.timers (M.world machine.old))) ops.now }
     requires fit { M.Fit resting (M.world machine.old) }
     ensures prints { OnOk result
         (Prints (clear_after M.rules (leaver ops.now) (M.world machine.old))
@@ -120,7 +125,8 @@ pub(crate) fn clear_after<M: Machine>(
 pub(crate) fn covers<M: Machine>(machine: &M, telling: &mut Telling) -> Result<(), NoMemory>
     requires fit { M.Fit resting (M.world machine.now) }
     ensures prints { OnOk result
-        (Prints (covers M.rules (M.world machine.now)) telling.old telling.new (M.world machine.now)) }
+        (Prints (covers M.rules (M.world machine.now))
+        telling.old telling.new (M.world machine.now)) }
     ensures gains { Gains telling.old.text telling.new.text }
 {
     let now = machine.clock();

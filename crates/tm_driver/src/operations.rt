@@ -1,9 +1,13 @@
-//! The operations of a moment, and what comes behind them: the timers of a CPU that went offline, and the covers.
+//! The operations of a moment, and what comes behind them: the timers of a CPU that went offline,
+//! and the covers.
 
 ghost use Rattle.std.specs.Prelude.{◌≡◌, ◌≢◌, ◌<◌, None, All, OnOk, false};
 ghost use Rattle.std.specs.Option.{option_copied};
 ghost use Rattle.play_rules.specs.Machines.{Same};
-ghost use Rattle.play_rules.specs.Operations.{arm, cancel, clear, clear_after, covers, done, done_unless, hand_on, idle, last_online, leaver, moves, not_active, not_idle, offline, online, operation, operations, refusal, refused_line, wake};
+ghost use Rattle.play_rules.specs.Operations.{arm, cancel, clear, clear_after, covers, done};
+ghost use Rattle.play_rules.specs.Operations.{done_unless, hand_on, idle, last_online, leaver};
+ghost use Rattle.play_rules.specs.Operations.{moves, not_active, not_idle, offline, online};
+ghost use Rattle.play_rules.specs.Operations.{operation, operations, refusal, refused_line, wake};
 ghost use Rattle.play_rules.specs.Parts.{Gains, Prints};
 ghost use Rattle.play_rules.specs.Phases.{after_offline, resting};
 ghost use Rattle.tm_driver.specs.Conditions.{IsOpInRange};
@@ -56,7 +60,8 @@ fn last_online<M: Machine>(machine: &M, cpu: CpuId) -> Option<OpFault>
 
 /// The first refusal that applies to an operation.
 fn refusal<M: Machine>(machine: &M, op: &Op) -> Option<OpFault>
-    requires { IsOpInRange (M.rules.cpus (M.world machine.now)) (M.rules.timers (M.world machine.now)) op.now }
+    requires { IsOpInRange
+        (M.rules.cpus (M.world machine.now)) (M.rules.timers (M.world machine.now)) op.now }
     ensures { result ≡ refusal M.rules op.now.what op.now.cpu.0 (M.world machine.now) }
 {
     let cpu = op.cpu;
@@ -119,7 +124,8 @@ fn arm<M: Machine>(
     requires allowed { not_active M.rules (M.world machine.old) cpu.0 ≡ None }
     requires fit { M.Fit resting (M.world machine.old) }
     ensures prints { OnOk result
-        (Prints (arm M.rules cpu arming (M.world machine.old)) telling.old telling.new (M.world machine.new)) }
+        (Prints (arm M.rules cpu arming (M.world machine.old))
+        telling.old telling.new (M.world machine.new)) }
     ensures same { OnOk result (Same M.rules (M.world machine.old) (M.world machine.new)) }
     ensures fit { OnOk result (M.Fit resting (M.world machine.new)) }
     ensures gains { Gains telling.old.text telling.new.text }
@@ -173,7 +179,8 @@ fn idle<M: Machine>(machine: &mut M, cpu: CpuId, telling: &mut Telling) -> Resul
     requires allowed { not_active M.rules (M.world machine.old) cpu.0 ≡ None }
     requires fit { M.Fit resting (M.world machine.old) }
     ensures prints { OnOk result
-        (Prints (idle M.rules cpu (M.world machine.old)) telling.old telling.new (M.world machine.new)) }
+        (Prints (idle M.rules cpu (M.world machine.old))
+        telling.old telling.new (M.world machine.new)) }
     ensures same { OnOk result (Same M.rules (M.world machine.old) (M.world machine.new)) }
     ensures fit { OnOk result (M.Fit resting (M.world machine.new)) }
     ensures gains { Gains telling.old.text telling.new.text }
@@ -194,7 +201,8 @@ fn wake<M: Machine>(machine: &mut M, cpu: CpuId, telling: &mut Telling) -> Resul
     requires allowed { not_idle M.rules (M.world machine.old) cpu.0 ≡ None }
     requires fit { M.Fit resting (M.world machine.old) }
     ensures prints { OnOk result
-        (Prints (wake M.rules cpu (M.world machine.old)) telling.old telling.new (M.world machine.new)) }
+        (Prints (wake M.rules cpu (M.world machine.old))
+        telling.old telling.new (M.world machine.new)) }
     ensures same { OnOk result (Same M.rules (M.world machine.old) (M.world machine.new)) }
     ensures fit { OnOk result (M.Fit resting (M.world machine.new)) }
     ensures gains { Gains telling.old.text telling.new.text }
@@ -210,7 +218,8 @@ fn online<M: Machine>(machine: &mut M, cpu: CpuId, telling: &mut Telling) -> Res
     requires offline { M.rules.is_online (M.world machine.old) cpu.0 ≡ false }
     requires fit { M.Fit resting (M.world machine.old) }
     ensures prints { OnOk result
-        (Prints (online M.rules cpu (M.world machine.old)) telling.old telling.new (M.world machine.new)) }
+        (Prints (online M.rules cpu (M.world machine.old))
+        telling.old telling.new (M.world machine.new)) }
     ensures same { OnOk result (Same M.rules (M.world machine.old) (M.world machine.new)) }
     ensures fit { OnOk result (M.Fit resting (M.world machine.new)) }
     ensures gains { Gains telling.old.text telling.new.text }
@@ -224,9 +233,11 @@ fn online<M: Machine>(machine: &mut M, cpu: CpuId, telling: &mut Telling) -> Res
 fn hand_on<M: Machine>(machine: &mut M, cpu: CpuId, telling: &mut Telling) -> Result<(), NoMemory>
     requires cpu { cpu.0 < M.rules.cpus (M.world machine.old) }
     requires missed { last_online M.rules (M.world machine.old) cpu.0 ≡ None }
-    requires fit { M.Fit (after_offline (M.rules.hands_on (M.world machine.old) cpu.0) cpu.0) (M.world machine.old) }
+    requires fit { M.Fit
+        (after_offline (M.rules.hands_on (M.world machine.old) cpu.0) cpu.0) (M.world machine.old) }
     ensures prints { OnOk result
-        (Prints (hand_on M.rules cpu (M.world machine.old)) telling.old telling.new (M.world machine.new)) }
+        (Prints (hand_on M.rules cpu (M.world machine.old))
+        telling.old telling.new (M.world machine.new)) }
     ensures same { OnOk result (Same M.rules (M.world machine.old) (M.world machine.new)) }
     ensures fit { OnOk result (M.Fit resting (M.world machine.new)) }
     ensures gains { Gains telling.old.text telling.new.text }
@@ -249,7 +260,8 @@ fn offline<M: Machine>(machine: &mut M, cpu: CpuId, telling: &mut Telling) -> Re
     requires missed { last_online M.rules (M.world machine.old) cpu.0 ≡ None }
     requires fit { M.Fit resting (M.world machine.old) }
     ensures prints { OnOk result
-        (Prints (offline M.rules cpu (M.world machine.old)) telling.old telling.new (M.world machine.new)) }
+        (Prints (offline M.rules cpu (M.world machine.old))
+        telling.old telling.new (M.world machine.new)) }
     ensures same { OnOk result (Same M.rules (M.world machine.old) (M.world machine.new)) }
     ensures fit { OnOk result (M.Fit resting (M.world machine.new)) }
     ensures gains { Gains telling.old.text telling.new.text }
@@ -262,7 +274,8 @@ fn offline<M: Machine>(machine: &mut M, cpu: CpuId, telling: &mut Telling) -> Re
 
 /// An operation that isn't refused.
 fn done<M: Machine>(machine: &mut M, op: &Op, telling: &mut Telling) -> Result<(), NoMemory>
-    requires in_range { IsOpInRange (M.rules.cpus (M.world machine.old)) (M.rules.timers (M.world machine.old)) op.now }
+    requires in_range { IsOpInRange
+        (M.rules.cpus (M.world machine.old)) (M.rules.timers (M.world machine.old)) op.now }
     requires allowed { refusal M.rules op.now.what op.now.cpu.0 (M.world machine.old) ≡ None }
     requires fit { M.Fit resting (M.world machine.old) }
     ensures prints { OnOk result
@@ -312,10 +325,12 @@ fn done<M: Machine>(machine: &mut M, op: &Op, telling: &mut Telling) -> Result<(
 
 /// One operation of a script: it is done, or refused.
 fn operation<M: Machine>(machine: &mut M, op: &Op, telling: &mut Telling) -> Result<(), NoMemory>
-    requires in_range { IsOpInRange (M.rules.cpus (M.world machine.old)) (M.rules.timers (M.world machine.old)) op.now }
+    requires in_range { IsOpInRange
+        (M.rules.cpus (M.world machine.old)) (M.rules.timers (M.world machine.old)) op.now }
     requires fit { M.Fit resting (M.world machine.old) }
     ensures prints { OnOk result
-        (Prints (operation M.rules op.now (M.world machine.old)) telling.old telling.new (M.world machine.new)) }
+        (Prints (operation M.rules op.now (M.world machine.old))
+        telling.old telling.new (M.world machine.new)) }
     ensures same { OnOk result (Same M.rules (M.world machine.old) (M.world machine.new)) }
     ensures fit { OnOk result (M.Fit resting (M.world machine.new)) }
     ensures gains { Gains telling.old.text telling.new.text }
@@ -332,10 +347,12 @@ pub(crate) fn operations<M: Machine>(
     ops: &[Op],
     telling: &mut Telling,
 ) -> Result<(), NoMemory>
-    requires in_range { All (IsOpInRange (M.rules.cpus (M.world machine.old)) (M.rules.timers (M.world machine.old))) ops.now }
+    requires in_range { All (IsOpInRange
+        (M.rules.cpus (M.world machine.old)) (M.rules.timers (M.world machine.old))) ops.now }
     requires fit { M.Fit resting (M.world machine.old) }
     ensures prints { OnOk result
-        (Prints (operations M.rules ops.now (M.world machine.old)) telling.old telling.new (M.world machine.new)) }
+        (Prints (operations M.rules ops.now (M.world machine.old))
+        telling.old telling.new (M.world machine.new)) }
     ensures same { OnOk result (Same M.rules (M.world machine.old) (M.world machine.new)) }
     ensures fit { OnOk result (M.Fit resting (M.world machine.new)) }
     ensures gains { Gains telling.old.text telling.new.text }

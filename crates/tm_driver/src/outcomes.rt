@@ -3,7 +3,8 @@
 use play_rules::Tally;
 use tm_base::NoMemory;
 
-/// What was counted in a whole play: its moments, and its lines by kind. Each count stands still at 2^32 - 1.
+/// What was counted in a whole play: its moments, and its lines by kind. Each count stands still at
+/// 2^32 - 1.
 #[derive(Clone, Copy)]
 pub struct Counts {
     pub moments: u32,
@@ -13,10 +14,11 @@ pub struct Counts {
 /// Why a script wasn't played to its end.
 #[derive(Clone, Copy, Debug, PartialEq, Eq)]
 pub enum DriveFault {
-    /// An `arm` line of the script names a job that the table hasn't; it is the first, and nothing was played.
+    /// An `arm` line of the script names a job that the table hasn't; it is the first, and nothing
+    /// was played.
     BadJob { line: u32, job: u8 },
-    /// Moments finished, interrupts made and timers handed out together were as many as may be, or more, after a moment
-    /// that isn't the last.
+    /// Moments finished, interrupts made and timers handed out together were as many as may be, or
+    /// more, after a moment that isn't the last.
     WorkSpent { count: u32 },
     /// Want of memory.
     NoMemory,

@@ -5,7 +5,8 @@ ghost use Rattle.play_rules.specs.Jobs.{first_unknown_job, unknown_in_ops, unkno
 ghost use Rattle.play_rules.specs.Parts.{Gains, counted};
 ghost use Rattle.play_rules.specs.Phases.{resting};
 ghost use Rattle.tm_driver.specs.Conditions.{IsPlayable};
-ghost use Rattle.tm_driver.specs.Outcomes.{EndsEarly, PlaysWhole, SaysFault, TellsAll, script_turns, work_limit};
+ghost use Rattle.tm_driver.specs.Outcomes.{EndsEarly, PlaysWhole, SaysFault, TellsAll};
+ghost use Rattle.tm_driver.specs.Outcomes.{script_turns, work_limit};
 
 use crate::closing::close;
 use crate::moments::moments;
@@ -63,7 +64,8 @@ fn play_known<M: Machine, J: Jobs>(
     telling: &mut Telling,
 ) -> Result<u32, DriveFault>
     requires start { M.rules.clock (M.world machine.old) ≡ 0 }
-    requires playable { IsPlayable (M.rules.cpus (M.world machine.old)) (M.rules.timers (M.world machine.old)) script.now }
+    requires playable { IsPlayable
+        (M.rules.cpus (M.world machine.old)) (M.rules.timers (M.world machine.old)) script.now }
     requires no_work { telling.old.work ≡ 0 }
     requires fit { M.Fit resting (M.world machine.old) }
     ensures whole { OnOk result
@@ -83,8 +85,9 @@ fn play_known<M: Machine, J: Jobs>(
     Ok(count)
 }
 
-/// Plays a script on a machine that stands at its start, into a report, and answers how many moments and lines there were. After
-/// `BadJob` and want of memory the report is as it was; after `WorkSpent` it has gained the lines of the finished moments.
+/// Plays a script on a machine that stands at its start, into a report, and answers how many
+/// moments and lines there were. After `BadJob` and want of memory the report is as it was; after
+/// `WorkSpent` it has gained the lines of the finished moments.
 pub fn play_on<M: Machine, J: Jobs>(
     alloc: Global,
     machine: &mut M,
@@ -93,13 +96,15 @@ pub fn play_on<M: Machine, J: Jobs>(
     report: &mut Report,
 ) -> Result<Counts, DriveFault>
     requires start { M.rules.clock (M.world machine.old) ≡ 0 }
-    requires playable { IsPlayable (M.rules.cpus (M.world machine.old)) (M.rules.timers (M.world machine.old)) script.now }
+    requires playable { IsPlayable
+        (M.rules.cpus (M.world machine.old)) (M.rules.timers (M.world machine.old)) script.now }
     requires fit { M.Fit resting (M.world machine.old) }
     ensures whole { IfOk result (λ counts.
         PlaysWhole M.rules (J.replies jobs.now) (J.count jobs.now) script.now (M.world machine.old)
         report.old report.new counts (M.world machine.new)) }
     ensures fault { IfErr result (λ fault.
-        SaysFault M.rules (J.replies jobs.now) (J.count jobs.now) script.now (M.world machine.old) fault
+        SaysFault M.rules (J.replies jobs.now) (J.count jobs.now) script.now
+        (M.world machine.old) fault
         report.old report.new) }
     ensures fit { OnOk result (M.Fit resting (M.world machine.new)) }
 {

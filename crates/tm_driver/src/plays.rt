@@ -28,12 +28,13 @@ fn started(alloc: Global, script: &Script) -> Result<Quiet, NoMemory>
     Quiet::new(alloc, tree, script.timers)
 }
 
-/// Plays a script from its start into a report, and answers the machine that its last moment leaves.
+/// Plays a script from its start into a report, and answers the machine that its last moment
+/// leaves.
 ///
-/// `BadJob` comes exactly where an `arm` line names a job that the table hasn't, before anything is played. `WorkSpent`
-/// comes where the moments finished, interrupts made and timers handed out together have reached the limit of the
-/// script's version after a moment that isn't the last; the report has gained the lines of the finished moments then.
-/// After the others it is as it was.
+/// `BadJob` comes exactly where an `arm` line names a job that the table hasn't, before anything is
+/// played. `WorkSpent` comes where the moments finished, interrupts made and timers handed out
+/// together have reached the limit of the script's version after a moment that isn't the last; the
+/// report has gained the lines of the finished moments then. After the others it is as it was.
 pub fn play<J: Jobs>(
     alloc: Global,
     script: &Script,

@@ -10,7 +10,8 @@ use std::marker::Model;
 use tm_base::{CpuId, NoMemory};
 use tm_report::{Line, Report, ShownReply};
 
-/// A report with the tally of its lines and the count of work, both in numbers that stand still at 2^32 - 1.
+/// A report with the tally of its lines and the count of work, both in numbers that stand still at
+/// 2^32 - 1.
 #[derive(Drop)]
 pub(crate) struct Telling {
     report: Report,

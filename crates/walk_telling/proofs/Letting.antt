@@ -1,4 +1,4 @@
--- a CPU that was taken is let go
+-- for crates above: a CPU that was taken is let go
 use Rattle.std.proofs.Common.{◌≡◌, inl, inr, ℕ, ◌<◌, true, true≢false, cond, Some, None}
 use Rattle.std.proofs.Common.{length, refl, sym, ap, ◌∙◌, subst, arith}
 use Rattle.std.specs.Prelude.{◌&&◌, ◌==◌, is_some}
@@ -44,8 +44,8 @@ module _ (laws : StepsStayLawful) (w : World) (r c : ℕ) (i : InPlay (serving r
   abbrev v : World
   v = walked_out c (own w c z)
 
-  may : MayCarry w c
-  may = record {
+  pub may_carry : MayCarry w c
+  may_carry = record {
     is_free = record {
       in_range = low;
       free = no_walk (serving r c) c (cpu_of w c).walk refl (i.walks c);
@@ -58,7 +58,7 @@ module _ (laws : StepsStayLawful) (w : World) (r c : ℕ) (i : InPlay (serving r
   e : IsDone w c z kind v
   e =
       let events = events_of (cpu_of w c).bases in
-      let began = laws w (steps.Carry (record { 0 = c })) i.lawful may in
+      let began = laws w (steps.Carry (record { 0 = c })) i.lawful may_carry in
       done i (λ d. refl) laws c low z began kind (λ act. cc) stages.LockGroup (inr refl) events.pin
       events.next refl
 

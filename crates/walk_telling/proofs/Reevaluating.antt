@@ -1,4 +1,4 @@
--- an interrupt ends, and where its CPU is idle it re-evaluates
+-- for crates above: an interrupt ends, and where its CPU is idle it re-evaluates
 use Rattle.std.proofs.Common.{◌≡◌, ◌≢◌, inl, inr, ℕ, ◌<◌, Bool, true, false, true≢false, cond}
 use Rattle.std.proofs.Common.{length, map, refl, sym, ap, ◌∙◌, subst}
 use Rattle.std.specs.Prelude.{◌&&◌, is_some}
@@ -70,8 +70,8 @@ module _ (laws : StepsStayLawful) (w : World) (c : ℕ) (i : InPlay (inside c) w
     abbrev v : World
     v = walked_out c (own w c z)
 
-    may : MayReeval w c
-    may = record {
+    pub may_reevaluate : MayReeval w c
+    may_reevaluate = record {
       is_free = is_free;
       online = online;
       idle = idle;
@@ -82,7 +82,7 @@ module _ (laws : StepsStayLawful) (w : World) (c : ℕ) (i : InPlay (inside c) w
     e : IsDone w c z kinds.Reeval v
     e =
         let events = events_of (cpu_of w c).bases in
-        let began = laws w (steps.Reeval (record { 0 = c })) i.lawful may in
+        let began = laws w (steps.Reeval (record { 0 = c })) i.lawful may_reevaluate in
         done i (λ d. refl) laws c low z began kinds.Reeval (λ act. cc) stages.LockGroup (inr refl)
         events.pin events.next refl
 
@@ -130,7 +130,7 @@ module _ (laws : StepsStayLawful) (w : World) (c : ℕ) (i : InPlay (inside c) w
     abbrev u : World
     u = own w c x
 
-    may_leave : MayLeave w c
+    pub may_leave : MayLeave w c
     may_leave =
         record { is_free = is_free; inside = in_it; busy = busy; marks_nobody = no_marks }
 

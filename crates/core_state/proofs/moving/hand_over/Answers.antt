@@ -13,8 +13,8 @@ timer_of-timer-requires g c =
     (oldest_narrow c.from.inside.bases.plain c.args.class c.journal.ensures.consistent) in
     low
 
-pub move_in-requires-clause-expires_in_time : goal.move_in-requires-clause-expires_in_time
-move_in-requires-clause-expires_in_time g c =
+pub move_in-wheel-requires-clause-expires_in_time : goal.move_in-wheel-requires-clause-expires_in_time
+move_in-wheel-requires-clause-expires_in_time g c =
     let is = c.in-Some.ensures.item
     ∙ ap (λ (b : RoomyBases). oldest_in (base_of c.args.class b.plain).items) c.in_ok-reserve.ensures.ok in
     subst (λ o. IfSome o (λ (item : Item). item.expires < 2 ^ 47)) (sym is)

@@ -8,9 +8,13 @@ pub loop-of_cpu-preserved : goal.loop-of_cpu-preserved
 loop-of_cpu-preserved g c =
     let steps = c.in-Some.ensures.steps.0 in
     record {
-      made = ap (λ xs. xs ++ replicate (length c.next.new.self.rest.items) start_cpu) c.in_ok-push.ensures.items
-          ∙ made_more c.loop-of_cpu.cpus.items c.loop-of_cpu.of_cpu-iterator.rest.items c.in-Some.of_cpu
-          c.next.new.self.rest.items c.new.result _ steps c.new.ensures c.loop-of_cpu.invariant.made;
-      empty = rest_empty c.loop-of_cpu.of_cpu-iterator.rest.items c.in-Some.of_cpu c.next.new.self.rest.items steps
+      made = ap (λ xs. xs ++ replicate (length c.next.new.self.rest.items) start_cpu)
+          c.in_ok-push.ensures.items
+          ∙ made_more c.loop-of_cpu.cpus.items c.loop-of_cpu.of_cpu-iterator.rest.items
+          c.in-Some.of_cpu
+          c.next.new.self.rest.items c.new.result _ steps c.new.ensures
+          c.loop-of_cpu.invariant.made;
+      empty = rest_empty c.loop-of_cpu.of_cpu-iterator.rest.items c.in-Some.of_cpu
+          c.next.new.self.rest.items steps
           c.loop-of_cpu.invariant.empty;
     }

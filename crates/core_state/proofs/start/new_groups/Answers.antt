@@ -5,4 +5,5 @@ use Rattle.core_state.proofs.start.new_groups.Goals as goal
 pub loop-group-preserved : goal.loop-group-preserved
 loop-group-preserved c =
     c.in_ok-push.ensures.items
-    ∙ one_more_group c.args.tree.now c.loop-group.group c.loop-group.groups.items c.new_group.result c.loop-group.invariant c.new_group.ensures
+    ∙ one_more_group c.args.tree.now c.loop-group.group c.loop-group.groups.items c.new_group.result
+    c.loop-group.invariant c.new_group.ensures

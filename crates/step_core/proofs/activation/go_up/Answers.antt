@@ -6,7 +6,7 @@ use Rattle.core_world.specs.World.{group_of}
 use Rattle.core_state.specs.declared.change.GroupChange.TheVariants as changes
 use Rattle.core_state.specs.Kept.{WorldFits}
 use Rattle.core_state.proofs.Making.{walk_moved}
-use Rattle.step_core.proofs.Standing.{level_here, walked_fits}
+use Rattle.step_core.proofs.Standing.{below_here, level_here, walked_fits}
 use Rattle.step_core.proofs.activation.go_up.Goals as goal
 
 pub walk_at-requires-clause-group : goal.walk_at-requires-clause-group
@@ -37,3 +37,9 @@ at_top-top-requires-clause-level g c =
 pub is_off-more-requires : goal.is_off-more-requires
 is_off-more-requires g c =
     c.group_on-group.ensures.in_range (level_here c.args.core.now c.kept.ensures.fits c.args.cpu.0 c.args.walk stages.Up c.requires.stands (λ e. cc))
+
+pub walk_at-requires-clause-below : goal.walk_at-requires-clause-below
+walk_at-requires-clause-below g c made =
+    below_here c.args.core.now.tree c.args.cpu.0 c.args.walk.level c.group_on-group.result.0
+    (level_here c.args.core.now c.kept.ensures.fits c.args.cpu.0 c.args.walk stages.Up c.requires.stands (λ e. cc))
+    c.group_on-group.ensures.group

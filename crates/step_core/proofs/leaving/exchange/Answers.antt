@@ -3,7 +3,7 @@ use Rattle.walk_rules.specs.declared.walk.Stage.TheVariants as stages
 use Rattle.core_state.specs.declared.change.GroupChange.TheVariants as changes
 use Rattle.core_state.specs.Kept.{WorldFits}
 use Rattle.core_state.proofs.Making.{walk_moved}
-use Rattle.step_core.proofs.Standing.{level_here}
+use Rattle.step_core.proofs.Standing.{below_here, level_here}
 use Rattle.step_core.proofs.Standing.{exchange_fits}
 use Rattle.step_core.proofs.leaving.exchange.Goals as goal
 
@@ -27,3 +27,9 @@ returns g c =
     ∙ walk_moved c.args.core.now c.args.cpu.0 true _ _ _ _ _ _ c.group_on-group.ensures.group
     (λ i. changes.Leave (c.side-child.ensures.side i) c.args.walk.child_on)
     (λ i. Some (c.swap_next-next.ensures.next i))
+
+pub walk_at-requires-clause-below : goal.walk_at-requires-clause-below
+walk_at-requires-clause-below g c made =
+    below_here c.args.core.now.tree c.args.cpu.0 c.args.walk.level c.group_on-group.result.0
+    (level_here c.args.core.now c.kept.ensures.fits c.args.cpu.0 c.args.walk stages.Swap c.requires.stands (λ e. cc))
+    c.group_on-group.ensures.group

@@ -17,11 +17,11 @@ arm-requires-clause-none_behind g c =
     c.from.result c.index_mut.result.now c.self.view_is c.from.ensures c.requires.is_free.in_range
     c.index_mut.ensures.value) c.requires.none_behind
 
-pub returns-in_err-arm-clause-err : goal.returns-in_err-arm-clause-err
-returns-in_err-arm-clause-err g c =
+pub returns-in_err-wheel-clause-err : goal.returns-in_err-wheel-clause-err
+returns-in_err-wheel-clause-err g c =
     on_err c.from_residual.result _
     (unchanged _ c.args.self.now c.from.result c.index_mut.result.now c.arm.new.self c.self.view_is
-    c.index_mut.ensures.value c.in_err-arm.ensures.err)
+    c.index_mut.ensures.value c.in_err-wheel.ensures.err)
 
 pub invariant_of-self-2 : goal.invariant_of-self-2
 invariant_of-self-2 g c =
@@ -29,4 +29,4 @@ invariant_of-self-2 g c =
     c.now-now.result c.self.view_is c.self.invariant refl c.kept.ensures.stays c.timers_kept.ensures c.from.ensures
     c.index_mut.ensures.value c.now-now.ensures
     c.args.timer c.args.class c.args.expires c.args.job c.args.arg c.args.line c.from-2.result (search rules)
-    c.from-2.ensures c.requires c.in_ok-arm.ensures.ok
+    c.from-2.ensures c.requires c.in_ok-wheel.ensures.ok

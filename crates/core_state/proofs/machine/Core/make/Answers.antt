@@ -1,3 +1,6 @@
+use Rattle.std.proofs.Common.{◌≡◌, true, sym, subst}
+use Rattle.tree_plan.specs.Paths.{IsBelow}
+use Rattle.core_world.specs.World.{World}
 use Rattle.core_state.proofs.Making.{made, made_kept}
 use Rattle.core_state.proofs.machine.Core.make.Goals as goal
 
@@ -16,3 +19,8 @@ returns g c =
     c.args.status c.args.exchanges c.self.view_is c.from.ensures c.requires.group c.index_mut.ensures.value
     c.change.ensures c.if_exchanged.ensures c.from-2.ensures c.requires.cpu c.index_mut-2.ensures.value
     c.set_status.ensures
+
+pub if_exchanged-requires-clause-below : goal.if_exchanged-requires-clause-below
+if_exchanged-requires-clause-below g c =
+    subst (λ (w : World). c.args.exchanges ≡ true → IsBelow w.tree c.args.cpu.0 c.args.group.0) (sym c.self.view_is)
+    c.requires.below

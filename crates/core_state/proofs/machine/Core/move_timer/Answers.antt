@@ -5,7 +5,7 @@ use Rattle.core_world.specs.World.{World, cpu_of}
 use Rattle.core_state.specs.Kept.{IsHeld}
 use Rattle.core_state.specs.Moves.{MayTakeIn}
 use Rattle.core_state.proofs.Holders.{note_low}
-use Rattle.core_state.proofs.MoveStep.{may_take_in, move_done, move_kept, noted_here}
+use Rattle.core_state.proofs.MoveStep.{may_take_in, move_done, move_kept, move_wheel, noted_here}
 use Rattle.core_state.proofs.machine.Core.move_timer.Goals as goal
 
 pub move_between-requires-clause-may : goal.move_between-requires-clause-may
@@ -33,7 +33,7 @@ invariant_of-self-2 g c =
     (subst (λ u. IsHeld u c.self.inside.holders.items) c.self.view_is c.self.invariant.held) c.kept.ensures.fits
     c.law_bases.ensures.queued_once c.timers_kept.ensures c.timers_kept-2.ensures c.requires _
     c.move_between.new.cpus.items c.in-Some.class c.now-now.result _ c.self.view_is is c.now-now.ensures
-    c.in_ok-move_between.ensures.ok (length-set c.self.inside.holders.items c.from.result (Some c.args.to))
+    c.in_ok-wheel.ensures.ok (length-set c.self.inside.holders.items c.from.result (Some c.args.to))
     c.from.result c.from.ensures c.kept.ensures.stays refl
 
 pub returns-clause-ok : goal.returns-clause-ok
@@ -43,4 +43,12 @@ returns-clause-ok g c =
     (subst (λ u. IsHeld u c.self.inside.holders.items) c.self.view_is c.self.invariant.held) c.kept.ensures.fits
     c.law_bases.ensures.queued_once c.timers_kept.ensures c.timers_kept-2.ensures c.requires _
     c.move_between.new.cpus.items c.in-Some.class c.now-now.result _ c.self.view_is is c.now-now.ensures
-    c.in_ok-move_between.ensures.ok (length-set c.self.inside.holders.items c.from.result (Some c.args.to))
+    c.in_ok-wheel.ensures.ok (length-set c.self.inside.holders.items c.from.result (Some c.args.to))
+
+pub returns-clause-wheel : goal.returns-clause-wheel
+returns-clause-wheel g c =
+    let is = same_Some _ _ (c.in-Some.ensures.class ∙ ap (option_map (λ first. first.0)) c.requires.first) in
+    move_wheel c.args.self.now c.self.inside.holders.items c.args.from c.args.to c.args.timer
+    (subst (λ u. IsHeld u c.self.inside.holders.items) c.self.view_is c.self.invariant.held) c.kept.ensures.fits
+    c.law_bases.ensures.queued_once c.timers_kept.ensures c.timers_kept-2.ensures c.requires _
+    c.in-Some.class c.now-now.result c.self.view_is is c.now-now.ensures _ c.in_ok-wheel.ensures.wheel
