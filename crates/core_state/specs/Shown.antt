@@ -1,8 +1,8 @@
 -- what a CPU shows of itself
 use Rattle.std.specs.Prelude.{ℕ, option_map}
 use Rattle.tm_base.specs.declared.names.CpuId.{CpuId}
+use Rattle.cpu_word.specs.declared.state.CpuState.{CpuState}
 use Rattle.core_world.specs.World.{CpuRecord}
-use Rattle.core_state.specs.declared.shown.CpuState.{CpuState}
 
 abbrev pub as_cpu : ℕ → CpuId
 as_cpu c = record { 0 = c }

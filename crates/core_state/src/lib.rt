@@ -22,6 +22,5 @@ mod tree;
 
 pub use change::GroupChange;
 pub use machine::Core;
-pub use shown::CpuState;
 pub use start::new_core;
 pub use status::CpuStatus;

@@ -8,8 +8,9 @@ ghost use Rattle.core_state.specs.Kept.{is_queued};
 ghost use Rattle.core_state.specs.Shown.{as_cpu, shown_cpu};
 
 use crate::machine::Core;
-use crate::shown::{CpuState, cpu_number};
+use crate::shown::cpu_number;
 use cpu_bases::Bases;
+use cpu_word::CpuState;
 use event_queue::Events;
 use tm_base::{CpuId, GroupId, Jiffy, TimerId};
 use tree_plan::Tree;

@@ -1,5 +1,6 @@
 -- for crates above: a walk that alone goes on comes to its end, wherever it stands
-use Rattle.std.proofs.Common.{◌≡◌, inl, inr, ℕ, zero, suc, ◌+◌, ◌*◌, ◌-◌, ◌<◌, ◌≤◌, cond, Bool, true, false, true≢false}
+use Rattle.std.proofs.Common.{◌≡◌, inl, inr, ℕ, zero, suc, ◌+◌, ◌*◌, ◌-◌, ◌<◌, ◌≤◌, cond, Bool}
+use Rattle.std.proofs.Common.{true, false, true≢false}
 use Rattle.std.proofs.Common.{Option, Some, None, length, refl, sym, ap, ◌∙◌, subst, arith}
 use Rattle.std.specs.Prelude.{◌==◌, option_map}
 use Rattle.std.proofs.lemmas.Bool.{cases_Bool, cases_lt}
@@ -15,7 +16,9 @@ use Rattle.walk_rules.specs.declared.walk.Stage.{Stage}
 use Rattle.walk_rules.specs.declared.walk.Stage.TheVariants as stages
 use Rattle.walk_rules.specs.Hierarchy.{at_top}
 use Rattle.walk_rules.specs.Scene.{Group, no_group}
-use Rattle.walk_rules.specs.Stages.{after_sight, at_stage, first_lock, first_sight, first_stage, forget, free_group_next, freed_next, mark_next, see_child_next, up_next}
+use Rattle.walk_rules.specs.Stages.{after_sight, at_stage, first_lock, first_sight, first_stage}
+use Rattle.walk_rules.specs.Stages.{forget, free_group_next, freed_next, mark_next, see_child_next}
+use Rattle.walk_rules.specs.Stages.{up_next}
 use Rattle.walk_rules.specs.Standing.{FitsStage, FlagsAt}
 use Rattle.core_world.specs.declared.step.Step.TheVariants as steps
 use Rattle.core_world.specs.Frames.{SizesStay}
@@ -106,7 +109,8 @@ module _ (levels : ℕ) (k : Walk) where
   up_falls true more = tt
   up_falls false more = omega arith
 
-  mark_falls : (more : Bool) → suc k.level < levels → Falls levels (suc (rest + 0)) (mark_next more k)
+  mark_falls : (more : Bool) → suc k.level < levels
+      → Falls levels (suc (rest + 0)) (mark_next more k)
   mark_falls true low = omega (arith, low)
   mark_falls false low = tt
 
@@ -149,7 +153,8 @@ module _ (levels : ℕ) (k : Walk) where
   free_falls zero low = more_falls k.over low
   free_falls (suc n) low = omega arith
 
-  end_falls : (y : CpuRecord) (kind : WalkKind) → Falls levels (suc (rest + 0)) (finished y k kind).walk
+  end_falls : (y : CpuRecord) (kind : WalkKind)
+      → Falls levels (suc (rest + 0)) (finished y k kind).walk
   end_falls y kinds.Activate = tt
   end_falls y kinds.Deactivate = tt
   end_falls y kinds.Offline = by_found (k.first == NEVER)
@@ -229,7 +234,8 @@ module _ (w : World) (c : ℕ) (k : Walk) (low : c < length w.cpus) (lawful : Is
 
   swap_falls : (b : Bool) → Falls levels (left levels k.level stages.Swap b)
       (cpu_of (swapped w c k b) c).walk
-  swap_falls true = written (here w c k) no_group _ true _ (lock_falls levels k.level k.level k.fresh)
+  swap_falls true = written (here w c k) no_group _ true _
+      (lock_falls levels k.level k.level k.fresh)
   swap_falls false = written 0 no_group _ false _ (omega arith)
 
   falls : (st : Stage) → k.stage ≡ st → is_handing st ≡ false →
@@ -243,9 +249,11 @@ module _ (w : World) (c : ℕ) (k : Walk) (low : c < length w.cpus) (lawful : Is
   falls stages.Child at on = written 0 no_group _ false _ (child_falls levels k k.fresh)
   falls stages.Swap at on = swap_falls k.fresh
   falls stages.LockChild at on = written 0 no_group _ false _ (omega arith)
-  falls stages.LockGroup at on = written 0 no_group _ false _ (sight_falls levels k.level k.level k.fresh)
+  falls stages.LockGroup at on = written 0 no_group _ false _
+      (sight_falls levels k.level k.level k.fresh)
   falls stages.SeeChild at on = written 0 no_group _ false _ (see_falls levels k _)
-  falls stages.SeeGroup at on = written 0 no_group _ false _ (after_falls levels k.level k.level k.fresh)
+  falls stages.SeeGroup at on = written 0 no_group _ false _
+      (after_falls levels k.level k.level k.fresh)
   falls (stages.Scan j) at on =
       let fit = fits (stages.Scan j) at (λ e. cc) in
       written 0 no_group _ false _ (scan_falls levels k j (j == 7) fit.2)
@@ -312,7 +320,8 @@ module _ (laws : StepsStayLawful) (sizes : SizesStay) (old : World) (c : ℕ)
       Falls (level_count_of w.tree) (suc n) (cpu_of (onwards c w) c).walk
   next_left n w r on = by_walk (cpu_of w c).walk refl on r.left
     where
-      fewer : (levels a : ℕ) (m : Option Walk) → Falls levels a m → a ≤ suc n → Falls levels (suc n) m
+      fewer : (levels a : ℕ) (m : Option Walk) → Falls levels a m → a ≤ suc n
+          → Falls levels (suc n) m
       fewer levels a None less few = tt
       fewer levels a (Some j) less few = omega (arith, less, few)
 

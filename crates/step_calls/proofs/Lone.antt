@@ -1,5 +1,7 @@
--- for crates above: a walk that alone goes on makes its next step: no lock that it waits for is held
-use Rattle.std.proofs.Common.{◌≡◌, ◌≢◌, ◌⊎◌, inl, inr, ℕ, zero, suc, ◌+◌, ◌*◌, ◌-◌, ◌<◌, ◌≤◌, cond, Bool, true, false}
+-- for crates above: a walk that alone goes on makes its next step: no lock that it waits for is
+-- held
+use Rattle.std.proofs.Common.{◌≡◌, ◌≢◌, ◌⊎◌, inl, inr, ℕ, zero, suc, ◌+◌, ◌*◌, ◌-◌, ◌<◌, ◌≤◌, cond}
+use Rattle.std.proofs.Common.{Bool, true, false}
 use Rattle.std.proofs.Common.{Option, Some, None, length, refl, sym, ap, ◌∙◌, subst, arith}
 use Rattle.std.specs.Prelude.{option_map, unwrap_or}
 use Rattle.std.proofs.lemmas.Bool.{cases_eq, cases_lt}
@@ -18,7 +20,8 @@ use Rattle.core_world.specs.declared.step.Step.TheVariants as steps
 use Rattle.core_world.specs.Enabled.{MayGoOn, MayWalk}
 use Rattle.core_world.specs.Lawful.{IsLawful}
 use Rattle.core_world.specs.Steps.{child_here, here, stepped, swapped, walk_made, walked}
-use Rattle.core_world.specs.World.{CpuRecord, World, cpu_of, group_of, moved, no_cpu, reads_at, scene_of, stale_walk}
+use Rattle.core_world.specs.World.{CpuRecord, World, cpu_of, group_of, moved, no_cpu, reads_at}
+use Rattle.core_world.specs.World.{scene_of, stale_walk}
 use Rattle.core_world.proofs.Moves.{beside, cpu_else}
 use Rattle.core_walks.proofs.Stands.{stands_in}
 use Rattle.step_rules.specs.Alone.{goes_on, is_handing, most_steps, walk_steps}
@@ -111,7 +114,8 @@ on_unless true e = cc
 on_unless false e = refl
 
 -- ENABLED
-module _ (w : World) (c : ℕ) (low : c < length w.cpus) (lawful : IsLawful w) (lone : IsLone w c) where
+module _ (w : World) (c : ℕ) (low : c < length w.cpus) (lawful : IsLawful w)
+    (lone : IsLone w c) where
   may_by : (m : Option Walk) → (cpu_of w c).walk ≡ m → goes_on m ≡ true → MayWalk w c
   may_by None is go = cc
   may_by (Some k) is go = record {
@@ -178,7 +182,8 @@ pub play_lone : (ph : Phase) (w : World) (c : ℕ) → InPlay ph w → IsLone w 
 play_lone ph w c i d ne = play_calm ph w i d
 
 -- HOW FAR the loop of a walk has come
-pub walked_more : (n i c : ℕ) (v w : World) (whole : World) → walk_steps (n - i) c v ≡ whole → i < n →
+pub walked_more : (n i c : ℕ) (v w : World) (whole : World) → walk_steps (n - i) c v ≡ whole → i < n
+    →
     goes_on (cpu_of v c).walk ≡ true → w ≡ stepped v (steps.Walk (record { 0 = c })) →
     walk_steps (n - (i + 1)) c w ≡ whole
 walked_more n i c v w whole so_far low on is =

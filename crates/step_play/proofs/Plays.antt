@@ -27,7 +27,7 @@ use Rattle.step_play.proofs.AlikeRules.{steps_alike}
 use Rattle.step_play.proofs.Interrupted.{having_seen}
 use Rattle.step_play.proofs.Kept.{steps_keep}
 use Rattle.step_play.proofs.Stages.{At, MayArm, Stands}
-use Rattle.step_play.proofs.Starts.{start_in_play, start_seen}
+use Rattle.step_play.proofs.Starts.{core_starts, start_seen}
 
 module _ (law : StepsStayLawful) (starts : StartsLawful) (walks : Walks)
     (jobs : Replies) (script : Script) (is : IsScript script) where
@@ -41,10 +41,7 @@ module _ (law : StepsStayLawful) (starts : StartsLawful) (walks : Walks)
   seen = start_seen t script.timers
 
   in_play : InPlay resting w
-  in_play =
-      start_in_play t script.timers
-      (starts script.nodes script.cpus script.timers script.isolated (planned_for script is).limits
-      (let few = is.few_timers in omega (arith, few))) (planned_for script is)
+  in_play = core_starts starts script is
 
   first : At t script.timers 0 (begun (having_interrupt step_rules (step_rules.at_clock 0 w)) 0)
       resting (step_rules.at_clock 0 w)

@@ -1,4 +1,4 @@
--- the core at the start of a play
+-- for crates above: the core at the start of a play
 use Rattle.std.proofs.Common.{◌≡◌, ℕ, ◌<◌, ◌≤◌, Bool, true, false, length, replicate, Option, Some}
 use Rattle.std.proofs.Common.{None, refl, sym, ap, ◌∙◌, subst, inl, inr, arith}
 use Rattle.std.specs.Prelude.{is_none, if◌then◌else◌}
@@ -18,11 +18,16 @@ use Rattle.tree_plan.specs.Shape.{IsPlanned, Shape}
 use Rattle.tree_plan.specs.Paths.{child_count_of, cpu_count_of, group_at_of, group_count_of}
 use Rattle.play_rules.specs.State.{new_cpu, start}
 use Rattle.walk_rules.specs.Scene.{Group, no_group}
+use Rattle.tm_script.specs.declared.syntax.Script.{Script}
+use Rattle.tm_script.specs.Grammar.{IsScript}
+use Rattle.play_laws.proofs.Scripts.{planned_for, tree_for}
+use Rattle.core_start.specs.Layer.{StartsLawful}
 use Rattle.core_world.specs.Lawful.{IsLawful}
 use Rattle.core_world.specs.Start.{start_cpu, start_group, start_of}
 use Rattle.core_world.specs.World.{CpuRecord, World, cpu_of, group_of, no_cpu}
 use Rattle.step_rules.specs.Live.{counting, expiry_of, first_in, live, told_by, told_in}
 use Rattle.step_rules.specs.Seen.{InPlay, WalkFits, cpu_seen, resting, state_of}
+use Rattle.step_play.specs.SamePlay.{core_start}
 
 module _ (t : Shape) (timers : ℕ) where
   abbrev w : World
@@ -147,3 +152,11 @@ module _ (t : Shape) (timers : ℕ) where
         get_or-replicate (group_count_of t) g (Some 0) None within
         ∙ sym (ap (λ (z : Group). z.migrator) (group_there g within)))) i;
   }
+
+-- THE START of every script is in play
+pub core_starts : StartsLawful → (script : Script) → IsScript script →
+    InPlay resting (core_start script)
+core_starts starts script is =
+    start_in_play (tree_for script) script.timers
+    (starts script.nodes script.cpus script.timers script.isolated (planned_for script is).limits
+    (let few = is.few_timers in omega (arith, few))) (planned_for script is)

@@ -19,7 +19,7 @@ use Rattle.core_world.specs.World.{World, cpu_of}
 use Rattle.core_laws.specs.Laws.{StepsStayLawful}
 use Rattle.step_rules.specs.Seen.{InPlay, resting, state_of}
 use Rattle.step_rules.specs.StepRules.{armed_by_steps, cancelled_by_steps, step_rules}
-use Rattle.step_play.proofs.Acts.{arm_is, arm_plays, cancel_is, cancel_plays, filled, less}
+use Rattle.step_play.proofs.Acts.{arm_is, arm_plays, cancel_is, cancel_plays, filled}
 use Rattle.step_play.proofs.Acts.{may_arm, may_cancel}
 use Rattle.step_play.proofs.Drains.{Rebases}
 use Rattle.step_play.proofs.Held.{bases_seen}
@@ -27,16 +27,11 @@ use Rattle.step_play.proofs.Worlds.{bare, free_in}
 use Rattle.timer_calls.proofs.Enabling.{Arms, arms_in}
 use Rattle.timer_calls.proofs.Sames.{rebased_online, rebased_same}
 
-pub arm_state : (w : World) (c : ℕ) (a : Arming) (n : ℕ) → n ≡ w.clock + a.delay →
-    stepped w (steps.Arm (record { 0 = c }) a.timer a.class n a.job a.arg a.line)
-    ≡ (armed_by_steps w c a).state
-arm_state w c a n at =
-    ap (λ e. stepped w (steps.Arm (record { 0 = c }) a.timer a.class e a.job a.arg a.line)) at
-
 module _ (law : StepsStayLawful) (w : World) (c : ℕ) (a : Arming) (low : c < length w.cpus)
     (known : a.timer.0 < w.timers) (short : a.delay < 2 ^ 32)
     (early : w.clock < SCRIPT_TIME_LIMIT) (none : queued_on (state_of w) a.timer.0 ≡ None)
-    (fits : FitsSome InPlay (λ ph. MayArmIn step_rules w ph c) w) where
+    (fits : FitsSome InPlay (λ ph. MayArmIn step_rules w ph c) w)
+    (n : ℕ) (at : n ≡ w.clock + a.delay) where
   here : Arms w c
   here = arms_in w c low fits.phase fits.allowed fits.fit
 
@@ -45,29 +40,39 @@ module _ (law : StepsStayLawful) (w : World) (c : ℕ) (a : Arming) (low : c < l
       (armed_by_steps w c a).state
   is = arm_is law fits.phase w fits.fit c a here.free here.online here.may known short early none
 
-  pub arm_enabled : (n : ℕ) → n ≡ w.clock + a.delay → MayArm w c a.timer.0 a.class n
-  arm_enabled n at =
+  pub arm_enabled : MayArm w c a.timer.0 a.class n
+  arm_enabled =
       subst (MayArm w c a.timer.0 a.class) (sym at)
       (may_arm law fits.phase w fits.fit c a here.free here.online here.may known short early none)
 
-  pub arm_fits : StaysFit InPlay (λ ph. MayArmIn step_rules w ph c) w (armed_by_steps w c a).state
-  arm_fits ph allowed i =
-      (arm_plays law ph w i c a here.free here.online here.may known short early none).in_play
-
-  pub arm_same : Same step_rules w (armed_by_steps w c a).state
-  arm_same = rebased_same w c _ (armed_by_steps w c a).state low is
-
-  pub arm_online : SameOnline step_rules w (armed_by_steps w c a).state
-  arm_online = rebased_online w c _ (armed_by_steps w c a).state low is
-
-  pub arm_wheel : (n : ℕ) → n ≡ w.clock + a.delay →
-      (item_queued w.clock a.class a.timer.0 n a.job a.arg (cpu_of w c).bases).wheel
-      ≡ (armed_by_steps w c a).wheel
-  arm_wheel n at =
-      ap (λ e. (item_queued w.clock a.class a.timer.0 e a.job a.arg (cpu_of w c).bases).wheel) at
+  pub arm_wheel : (wheel : ℕ) →
+      wheel ≡ (item_queued w.clock a.class a.timer.0 n a.job a.arg (cpu_of w c).bases).wheel →
+      wheel ≡ (armed_by_steps w c a).wheel
+  arm_wheel wheel told =
+      told
+      ∙ (ap (λ e. (item_queued w.clock a.class a.timer.0 e a.job a.arg (cpu_of w c).bases).wheel)
+      at
       ∙ ap (λ b.
       (item_queued w.clock a.class a.timer.0 (w.clock + a.delay) a.job a.arg b).wheel)
-      (sym (bases_seen w c low))
+      (sym (bases_seen w c low)))
+
+  -- what the step leaves
+  module _ (v : World)
+      (made : v ≡ stepped w (steps.Arm (record { 0 = c }) a.timer a.class n a.job a.arg a.line)) where
+    pub arm_state : v ≡ (armed_by_steps w c a).state
+    arm_state =
+        made
+        ∙ ap (λ e. stepped w (steps.Arm (record { 0 = c }) a.timer a.class e a.job a.arg a.line)) at
+
+    pub arm_fits : StaysFit InPlay (λ ph. MayArmIn step_rules w ph c) w v
+    arm_fits ph allowed i =
+        subst (InPlay ph) (sym arm_state)
+        (arm_plays law ph w i c a here.free here.online here.may known short early none).in_play
+
+    pub arm_online : SameOnline step_rules w v
+    arm_online =
+        subst (SameOnline step_rules w) (sym arm_state)
+        (rebased_online w c _ (armed_by_steps w c a).state low is)
 
 -- CANCELLING
 held_by : (o : Option Queued) (home : CpuId) → option_map (λ (held : Queued). held.cpu) o ≡ Some home →

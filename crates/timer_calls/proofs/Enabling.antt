@@ -4,7 +4,7 @@ use Rattle.std.proofs.Common.{inl, inr, refl}
 use Rattle.std.specs.Prelude.{◌==◌}
 use Rattle.std.proofs.lemmas.Bool.{both_ways, cases_Bool, cond-true, eq-eqb}
 use Rattle.tm_base.specs.declared.names.Class.{Class}
-use Rattle.play_rules.specs.Phases.{FitsSome, MayArmIn, MayDrain, Phase, handing, inside, resting}
+use Rattle.play_rules.specs.Phases.{MayArmIn, MayDrain, Phase, handing, inside, resting}
 use Rattle.play_rules.specs.Phases.{serving}
 use Rattle.core_world.specs.Enabled.{IsFree}
 use Rattle.core_world.specs.World.{World, cpu_of, is_active}

@@ -1,4 +1,4 @@
--- the first timer of a CPU moves in a core in play
+-- for crates above: the first timer of a CPU, and its move in a core in play
 use Rattle.std.proofs.Common.{◌≡◌, ℕ, ◌<◌, false, true, length, Option, Some, None, refl, sym, ap}
 use Rattle.std.proofs.Common.{◌∙◌, subst}
 use Rattle.std.specs.Prelude.{option_map}
@@ -6,7 +6,6 @@ use Rattle.std.proofs.lemmas.Option.{none-some, same_Some}
 use Rattle.tm_base.specs.declared.names.Class.{Class}
 use Rattle.tm_base.specs.declared.names.TimerId.{TimerId}
 use Rattle.wheel_core.specs.declared.item.Item.{Item}
-use Rattle.play_rules.specs.declared.asks.Mover.{Mover}
 use Rattle.play_rules.specs.Machines.{Same, SameFlags}
 use Rattle.play_rules.specs.Phases.{IsUp}
 use Rattle.play_rules.specs.Rules.{Moved}
@@ -26,15 +25,9 @@ use Rattle.step_play.proofs.Moves.{move_wheel}
 use Rattle.timer_calls.specs.Turns.{mover_at, timer_of}
 use Rattle.timer_calls.proofs.Sames.{moved_same}
 
-module _ (law : StepsStayLawful) (w : World) (i : InPlay resting w) (from to : ℕ)
-    (low : from < length w.cpus) (offline : (cpu_of w from).online ≡ false)
-    (placed : is_placed_in w.tree to ≡ true) (up : IsUp step_rules w to false) (t : TimerId)
-    (is : Some t ≡ option_map timer_of (first_to_move (cpu_of w from).bases)) where
-  active : is_active (cpu_of w to) ≡ true
-  active = runs w to up.online up.idles
-
-  -- what was found
-  record Found : Type 0 where
+-- what was found first, where its timer was
+module _ (w : World) (from : ℕ) (t : TimerId) where
+  pub record Found : Type 0 where
     pub found : Class × Item
     pub first : first_to_move (cpu_of w from).bases ≡ Some found
     pub timer : t ≡ timer_of found
@@ -48,8 +41,18 @@ module _ (law : StepsStayLawful) (w : World) (i : InPlay resting w) (from to : �
     timer = same_Some t (timer_of found) same;
   }
 
-  f : Found
-  f = found_by (first_to_move (cpu_of w from).bases) refl is
+  pub found_first : Some t ≡ option_map timer_of (first_to_move (cpu_of w from).bases) → Found
+  found_first is = found_by (first_to_move (cpu_of w from).bases) refl is
+
+module _ (law : StepsStayLawful) (w : World) (i : InPlay resting w) (from to : ℕ)
+    (low : from < length w.cpus) (offline : (cpu_of w from).online ≡ false)
+    (placed : is_placed_in w.tree to ≡ true) (up : IsUp step_rules w to false) (t : TimerId)
+    (is : Some t ≡ option_map timer_of (first_to_move (cpu_of w from).bases)) where
+  active : is_active (cpu_of w to) ≡ true
+  active = runs w to up.online up.idles
+
+  f : Found w from t
+  f = found_first w from t is
 
   pub move_enabled : MayMove w from to t.0
   move_enabled =

@@ -1,5 +1,5 @@
 -- for crates above: what stays of a core where bases alone are written
-use Rattle.std.proofs.Common.{◌≡◌, ℕ, ◌<◌, length, length-set, Option, Some, None, refl, sym, ◌∙◌}
+use Rattle.std.proofs.Common.{ℕ, ◌<◌, length, length-set, Option, Some, None, refl, sym, ◌∙◌}
 use Rattle.std.proofs.Common.{subst}
 use Rattle.tm_base.specs.declared.names.Class.{Class}
 use Rattle.wheel_core.specs.declared.item.Item.{Item}

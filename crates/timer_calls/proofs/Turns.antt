@@ -1,6 +1,6 @@
 -- the turns of a drain
-use Rattle.std.proofs.Common.{◌≡◌, ℕ, ◌+◌, ◌^◌, ◌<◌, List, [], ◌∷◌, ◌++◌, length, Option, Some, None}
-use Rattle.std.proofs.Common.{suc, refl, sym, ap, ◌∙◌, subst, arith, append-nil, append_assoc}
+use Rattle.std.proofs.Common.{◌≡◌, ℕ, ◌+◌, ◌^◌, ◌<◌, List, [], ◌∷◌, ◌++◌, length, Some, None}
+use Rattle.std.proofs.Common.{suc, sym, ap, ◌∙◌, subst, arith, append-nil, append_assoc}
 use Rattle.tm_base.specs.declared.names.Class.{Class}
 use Rattle.wheel_core.specs.declared.item.Item.{Item}
 use Rattle.wheel_core.specs.PlainBase.{OneFewer, PlainBase, next_out, taken}

@@ -3,10 +3,9 @@ use Rattle.std.proofs.Common.{ℕ, ◌<◌, length, arith}
 use Rattle.std.specs.Prelude.{All}
 use Rattle.std.proofs.lemmas.List.Elements.{All-weaker}
 use Rattle.tm_base.specs.declared.names.Class.{Class}
-use Rattle.wheel_core.specs.declared.item.Item.{Item}
 use Rattle.play_rules.specs.Machines.{IsTimerOf, Same, SameOnline}
 use Rattle.play_rules.specs.Phases.{FitsSome, MayDrain, StaysFit}
-use Rattle.core_world.specs.World.{World, cpu_of}
+use Rattle.core_world.specs.World.{World}
 use Rattle.core_laws.specs.Laws.{StepsStayLawful}
 use Rattle.step_rules.specs.Seen.{InPlay}
 use Rattle.step_rules.specs.StepRules.{drained_by_steps, items_due, step_rules}

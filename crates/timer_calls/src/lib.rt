@@ -7,4 +7,4 @@ mod moving;
 
 pub use acts::{arm, cancel};
 pub use draining::drain;
-pub use moving::move_first;
+pub use moving::{first_timer, move_first};

@@ -19,7 +19,7 @@ use wheel_core::TimerBase;
 
 /// The first timer to move from a CPU: pinned ones come first, then global, then deferrable ones,
 /// each class in arming order.
-fn first_timer<B: TimerBase>(core: &Core<B>, from: CpuId) -> Option<TimerId>
+pub fn first_timer<B: TimerBase>(core: &Core<B>, from: CpuId) -> Option<TimerId>
     requires { from.0 < length core.now.cpus }
     ensures { result ≡ option_map timer_of (first_to_move (cpu_of core.now from.0).bases) }
 {

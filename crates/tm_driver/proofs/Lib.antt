@@ -1,3 +1,4 @@
+mod BySteps
 mod Onlines
 mod Scripts
 mod Turns

@@ -1,3 +1,4 @@
 pub mod Conditions
+pub mod OnCore
 pub mod Outcomes
 pub mod Plays

@@ -32,7 +32,7 @@ not_stale : (t : Shape) (g d : ℕ) (m : Option Walk) → goes_on m ≡ false �
 not_stale t g d None e = refl
 not_stale t g d (Some k) e = ap Some (unread t g d k (ap is_reading (handing k e)))
 
-beside_still : (t : Shape) (r : Bool) (g d : ℕ) (z : CpuRecord) → goes_on z.walk ≡ false →
+pub beside_still : (t : Shape) (r : Bool) (g d : ℕ) (z : CpuRecord) → goes_on z.walk ≡ false →
     beside t r g d z ≡ z
 beside_still t true g d z e = λ i. record z { walk = not_stale t g d z.walk e i }
 beside_still t false g d z e = refl

@@ -5,5 +5,6 @@ use Rattle.step_calls.proofs.alone.is_alone.Goals as goal
 pub returns-clause-yes : goal.returns-clause-yes
 returns-clause-yes g c = λ yes.
     none_else c.args.core.now c.args.cpu.0 c.loop-other.other
-    (let count = c.count-other-end.ensures in let end = c.loop-other-test.false in omega (arith, count, end))
+    (let count = c.count-other-end.ensures in let end = c.loop-other-test.false in
+    omega (arith, count, end))
     c.loop-other.invariant

@@ -7,7 +7,8 @@ use Rattle.step_calls.proofs.finishing.walk_alone.Goals as goal
 
 pub walk_on-requires : goal.walk_on-requires
 walk_on-requires g c =
-    may_walk c.args.core.now c.args.cpu.0 c.requires.cpu c.tree.ensures.lawful c.requires.lone c.requires.goes_on
+    may_walk c.args.core.now c.args.cpu.0 c.requires.cpu c.tree.ensures.lawful c.requires.lone
+    c.requires.goes_on
 
 pub returns-clause-cpus : goal.returns-clause-cpus
 returns-clause-cpus g c =
@@ -17,4 +18,5 @@ returns-clause-cpus g c =
 pub returns-clause-lone : goal.returns-clause-lone
 returns-clause-lone g c =
     subst (λ w. IsLone w c.args.cpu.0) (sym c.walk_on.ensures)
-    (lone_made c.args.core.now c.args.cpu.0 c.requires.lone (cpu_of c.args.core.now c.args.cpu.0).walk)
+    (lone_made c.args.core.now c.args.cpu.0 c.requires.lone
+    (cpu_of c.args.core.now c.args.cpu.0).walk)

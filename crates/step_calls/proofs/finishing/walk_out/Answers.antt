@@ -10,10 +10,11 @@ pub loop-step-preserved : goal.loop-step-preserved
 loop-step-preserved g c = record {
   low = search rules;
   lone = c.walk_alone.ensures.lone;
-  rest = walked_more _ c.loop-step._step c.args.cpu.0 c.loop-step.core _ _ c.loop-step.invariant.rest
+  rest = walked_more _ c.loop-step._step c.args.cpu.0 c.loop-step.core _ _
+      c.loop-step.invariant.rest
       (search rules) (search rules) c.walk_alone.ensures.step;
 }
 
 pub returns : goal.returns
-returns g c = walked_all _ c.loop-step._step c.args.cpu.0 c.loop-step.core _ c.loop-step.invariant.rest
-    (omega (arith, c.loop-step-test.false))
+returns g c = walked_all _ c.loop-step._step c.args.cpu.0 c.loop-step.core _
+    c.loop-step.invariant.rest (omega (arith, c.loop-step-test.false))

@@ -9,6 +9,10 @@ plan-requires c = record {
   few_nodes = omega arith;
   some_cpu = c.requires.some;
   few_cpus = c.requires.few;
-  some_placed =
-      (0, (let some = c.requires.some in omega (arith, some)), ap (λ s. contains s 0) c.new.ensures ∙ contains-empty nat_cmp 0);
+  some_placed = (
+    0,
+    (let some = c.requires.some in omega (arith, some)),
+    ap (λ s. contains s 0) c.new.ensures
+        ∙ contains-empty nat_cmp 0,
+  );
 }

@@ -1,9 +1,5 @@
-use Rattle.std.proofs.Common.{◌+◌, ◌^◌, ◌<◌, ◌∙◌, rules, subst, sym}
-use Rattle.play_rules.specs.Machines.{SameOnline}
-use Rattle.play_rules.specs.Phases.{MayArmIn, StaysFit}
-use Rattle.step_rules.specs.Seen.{InPlay}
-use Rattle.step_rules.specs.StepRules.{step_rules}
-use Rattle.timer_calls.proofs.ArmCancel.{arm_enabled, arm_fits, arm_online, arm_state, arm_wheel}
+use Rattle.std.proofs.Common.{◌+◌, ◌^◌, ◌<◌, rules}
+use Rattle.timer_calls.proofs.ArmCancel.{arm_enabled, arm_fits, arm_online, arm_wheel}
 use Rattle.timer_calls.proofs.acts.arm.Goals as goal
 
 pub arm-requires : goal.arm-requires
@@ -16,25 +12,23 @@ arm-requires g c =
 pub returns-clause-fit : goal.returns-clause-fit
 returns-clause-fit g c =
     let short : c.args.arming.delay < 2 ^ 32 = search rules in
-    subst (StaysFit InPlay (λ ph. MayArmIn step_rules c.args.core.now ph c.args.cpu.0) c.args.core.now)
-    (sym (c.in_ok-wheel.ensures.ok ∙ arm_state c.args.core.now c.args.cpu.0 c.args.arming
-    (c.now.result + c.from.result) (λ j. c.now.ensures j + c.from.ensures j)))
-    (arm_fits c.law_step.ensures c.args.core.now c.args.cpu.0 c.args.arming c.requires.cpu
-    c.requires.timer short c.requires.in_time c.requires.not_queued c.requires.fit)
+    arm_fits c.law_step.ensures c.args.core.now c.args.cpu.0 c.args.arming c.requires.cpu
+    c.requires.timer short c.requires.in_time c.requires.not_queued c.requires.fit
+    (c.now.result + c.from.result) (λ j. c.now.ensures j + c.from.ensures j)
+    c.arm.new.self c.in_ok-wheel.ensures.ok
 
 pub returns-clause-wheel : goal.returns-clause-wheel
 returns-clause-wheel g c =
     let short : c.args.arming.delay < 2 ^ 32 = search rules in
-    c.in_ok-wheel.ensures.wheel
-    ∙ arm_wheel c.law_step.ensures c.args.core.now c.args.cpu.0 c.args.arming c.requires.cpu
+    arm_wheel c.law_step.ensures c.args.core.now c.args.cpu.0 c.args.arming c.requires.cpu
     c.requires.timer short c.requires.in_time c.requires.not_queued c.requires.fit
     (c.now.result + c.from.result) (λ j. c.now.ensures j + c.from.ensures j)
+    c.in_ok-wheel.wheel c.in_ok-wheel.ensures.wheel
 
 pub returns-clause-online : goal.returns-clause-online
 returns-clause-online g c =
     let short : c.args.arming.delay < 2 ^ 32 = search rules in
-    subst (SameOnline step_rules c.args.core.now)
-    (sym (c.in_ok-wheel.ensures.ok ∙ arm_state c.args.core.now c.args.cpu.0 c.args.arming
-    (c.now.result + c.from.result) (λ j. c.now.ensures j + c.from.ensures j)))
-    (arm_online c.law_step.ensures c.args.core.now c.args.cpu.0 c.args.arming c.requires.cpu
-    c.requires.timer short c.requires.in_time c.requires.not_queued c.requires.fit)
+    arm_online c.law_step.ensures c.args.core.now c.args.cpu.0 c.args.arming c.requires.cpu
+    c.requires.timer short c.requires.in_time c.requires.not_queued c.requires.fit
+    (c.now.result + c.from.result) (λ j. c.now.ensures j + c.from.ensures j)
+    c.arm.new.self c.in_ok-wheel.ensures.ok

@@ -1,0 +1,95 @@
+-- what playing by the rules of steps does, as Play has it
+use Rattle.std.proofs.Common.{◌≡◌, ℕ, ◌+◌, ◌++◌, List, [], ◌∷◌, length, map, true, false, Option}
+use Rattle.std.proofs.Common.{Some, None, refl, sym, ap, ◌∙◌}
+use Rattle.std.specs.Prelude.{if◌then◌else◌, nat_le, option_map}
+use Rattle.std.proofs.lemmas.Bool.{both_ways}
+use Rattle.std.proofs.lemmas.List.{length-map}
+use Rattle.std.proofs.lemmas.List.Elements.{All-weaker}
+use Rattle.tm_report.specs.Lines.{report_text}
+use Rattle.tm_script.specs.declared.syntax.Script.{Script}
+use Rattle.walk_rules.specs.declared.walk.Walk.{Walk}
+use Rattle.play_rules.specs.Interrupts.{Replies}
+use Rattle.play_rules.specs.Moments.{Turn, finished, turn_lines}
+use Rattle.play_rules.specs.Parts.{counted}
+use Rattle.play_rules.specs.Play.{plain_rules, play_start}
+use Rattle.play_rules.specs.Tallies.{no_lines, tallied_all}
+use Rattle.core_world.specs.Covered.{IsSettled}
+use Rattle.core_world.specs.World.{World, cpu_of}
+use Rattle.core_cover.specs.Headline.{EachSettled}
+use Rattle.step_rules.specs.Seen.{InPlay, WalkFits, resting, state_of}
+use Rattle.step_rules.specs.StepRules.{step_rules}
+use Rattle.step_play.specs.SamePlay.{IsPlayOfSteps, core_start, step_turns, turn_seen}
+use Rattle.tm_driver.specs.declared.outcomes.Counts.{Counts}
+use Rattle.tm_driver.specs.declared.outcomes.DriveFault.{DriveFault}
+use Rattle.tm_driver.specs.declared.outcomes.DriveFault.TheVariants.{BadJob, NoMemory, WorkSpent}
+use Rattle.tm_driver.specs.OnCore.{EachIsAnsweredFor, IsPlayedBySteps}
+use Rattle.tm_driver.specs.Outcomes.{PlaysWhole, SaysFault, work_limit}
+
+-- the moments that are finished by a count of work have the same lines
+finished_seen : (limit work : ℕ) (ts : List (Turn World)) →
+    turn_lines (finished limit work (map turn_seen ts)) ≡ turn_lines (finished limit work ts)
+finished_seen limit work [] = refl
+finished_seen limit work (t ∷ ts) =
+    let more = work + t.played.work in
+    elim (nat_le limit more)
+    as (λ b.
+        turn_lines
+        (if b then turn_seen t ∷ [] else turn_seen t ∷ finished limit more (map turn_seen ts))
+        ≡ turn_lines (if b then t ∷ [] else t ∷ finished limit more ts))
+    [ true ↦ refl
+    | false ↦ ap (λ ls. t.played.lines ++ ls) (finished_seen limit more ts)
+    ]
+
+-- AT REST a core in play is settled, so its own law answers for each of its timers
+no_walk : (c : ℕ) (o : Option Walk) → WalkFits resting c o → o ≡ None
+no_walk c None fits = refl
+no_walk c (Some k) fits = absurd (both_ways false refl fits.0)
+
+at_rest : (w : World) → InPlay resting w → IsSettled w
+at_rest w play = record {
+  free = λ c. no_walk c (cpu_of w c).walk (play.walks c);
+  outside = play.inside;
+}
+
+module _ (jobs : Replies) (script : Script) (is : IsPlayOfSteps jobs script) where
+  pub by_steps : EachSettled → IsPlayedBySteps jobs script
+  by_steps law = record {
+    is_play = is;
+    answered =
+        All-weaker (λ (t : Turn World). InPlay resting t.played.state)
+        (λ t. EachIsAnsweredFor t.played.state)
+        (λ t play. law t.played.state play.lawful (at_rest t.played.state play))
+        (step_turns jobs script) is.in_play;
+  }
+
+  -- THE WHOLE play
+  pub whole_seen : (table : ℕ) (old new : List ℕ) (counts : Counts) (last : World) →
+      PlaysWhole step_rules jobs table script (core_start script) old new counts last →
+      PlaysWhole plain_rules jobs table script (play_start script) old new counts (state_of last)
+  whole_seen table old new counts last whole = record {
+    text = whole.text ∙ ap (λ ls. old ++ report_text ls) is.lines;
+    moments = whole.moments
+        ∙ ap counted (sym (length-map (step_turns jobs script) turn_seen) ∙ ap length is.turns);
+    lines = whole.lines ∙ ap (tallied_all no_lines) is.lines;
+    state = ap state_of whole.state ∙ is.last;
+    known = whole.known;
+    within = sym (is.spent (work_limit script.version)) ∙ whole.within;
+  }
+
+  -- and where it is broken off
+  pub fault_seen : (table : ℕ) (fault : DriveFault) (old new : List ℕ) →
+      SaysFault step_rules jobs table script (core_start script) fault old new →
+      SaysFault plain_rules jobs table script (play_start script) fault old new
+  fault_seen table (BadJob line job) old new says = says
+  fault_seen table (WorkSpent count) old new says =
+      let limit = work_limit script.version in (
+        says.0,
+        record {
+          spent = ap (option_map counted) (sym (is.spent limit)) ∙ says.1.spent;
+          text = says.1.text
+              ∙ ap (λ ls. old ++ report_text ls)
+              (sym (finished_seen limit 0 (step_turns jobs script))
+              ∙ ap (λ ts. turn_lines (finished limit 0 ts)) is.turns);
+        },
+      )
+  fault_seen table NoMemory old new says = says
