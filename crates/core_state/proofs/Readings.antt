@@ -1,5 +1,7 @@
 -- readings that an exchange makes stale
-use Rattle.std.proofs.Common.{◌≡◌, ℕ, zero, suc, ◌+◌, ◌<◌, ◌≤◌, Bool, true, false, List, [], ◌∷◌, length, refl, sym, ap, ◌∙◌, subst, arith, get_or, get_or-set_same, get_or-set_other, inl, inr}
+use Rattle.std.proofs.Common.{◌≡◌, ℕ, zero, suc, ◌+◌, ◌<◌, ◌≤◌, Bool, true, false, List, [], ◌∷◌}
+use Rattle.std.proofs.Common.{length, refl, sym, ap, ◌∙◌, subst, arith, get_or, get_or-set_same}
+use Rattle.std.proofs.Common.{get_or-set_other, inl, inr}
 use Rattle.std.specs.Prelude.{nat_le, slice_set}
 use Rattle.std.proofs.lemmas.Bool.{cases_eq, cases_Bool, leb-false, leb-true}
 use Rattle.std.proofs.lemmas.List.{ext_get_or}
@@ -39,7 +41,8 @@ each_stale t g old new same each =
     ext_get_or no_cpu new (all_stale t g 0 old) (same ∙ sym len)
     (λ d low. (let low' : d < length old = omega (arith, same, low) in
     let first : 0 + d ≡ d = omega arith in
-    each d low' ∙ (ap (λ m. stale t g m (get_or old d no_cpu)) (sym first) ∙ sym (stale_read t g 0 old d))))
+    each d low'
+    ∙ (ap (λ m. stale t g m (get_or old d no_cpu)) (sym first) ∙ sym (stale_read t g 0 old d))))
 
 module _ (t : Shape) (g n : ℕ) (old now : List CpuRecord) (within : n < length old)
     (same : length now ≡ length old) (here : get_or now n no_cpu ≡ get_or old n no_cpu) where
@@ -49,8 +52,10 @@ module _ (t : Shape) (g n : ℕ) (old now : List CpuRecord) (within : n < length
       ≡ stale t g d (get_or old d no_cpu)
   one_more d low before = elim (cases_eq d n) [
     | inl is ↦
-        subst (λ k. get_or (slice_set now n (stale t g n (get_or now n no_cpu))) k no_cpu ≡ stale t g k (get_or old k no_cpu)) (sym is)
-        (get_or-set_same now n (stale t g n (get_or now n no_cpu)) no_cpu (omega (arith, same, within))
+        subst (λ k. get_or (slice_set now n (stale t g n (get_or now n no_cpu))) k no_cpu
+        ≡ stale t g k (get_or old k no_cpu)) (sym is)
+        (get_or-set_same now n (stale t g n (get_or now n no_cpu)) no_cpu
+        (omega (arith, same, within))
         ∙ ap (stale t g n) here)
     | inr apart ↦
         get_or-set_other now n d (stale t g n (get_or now n no_cpu)) no_cpu apart
@@ -60,7 +65,8 @@ module _ (t : Shape) (g n : ℕ) (old now : List CpuRecord) (within : n < length
   pub the_rest : (d : ℕ) → suc n ≤ d → ((k : ℕ) → n ≤ k → get_or now k no_cpu ≡ get_or old k no_cpu)
       → get_or (slice_set now n (stale t g n (get_or now n no_cpu))) d no_cpu ≡ get_or old d no_cpu
   the_rest d high after =
-      get_or-set_other now n d (stale t g n (get_or now n no_cpu)) no_cpu (λ e. absurd (omega (arith, e, high)))
+      get_or-set_other now n d (stale t g n (get_or now n no_cpu)) no_cpu
+      (λ e. absurd (omega (arith, e, high)))
       ∙ after d (omega (arith, high))
 
 -- CPUs that aren't below the group may be left out

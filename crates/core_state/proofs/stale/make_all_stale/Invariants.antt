@@ -8,5 +8,6 @@ invariant-loop-below g l =
       same_length : length l.cpus.items ≡ length l.fn.cpus.items;
       before : (d : ℕ) → d < l.below → get_or l.cpus.items d no_cpu
           ≡ stale l.tree l.group.0 d (get_or l.fn.cpus.items d no_cpu);
-      after : (d : ℕ) → l.below ≤ d → get_or l.cpus.items d no_cpu ≡ get_or l.fn.cpus.items d no_cpu;
+      after : (d : ℕ) → l.below ≤ d
+          → get_or l.cpus.items d no_cpu ≡ get_or l.fn.cpus.items d no_cpu;
     }

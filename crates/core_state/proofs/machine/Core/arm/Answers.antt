@@ -7,15 +7,17 @@ use Rattle.core_state.proofs.machine.Core.arm.Goals as goal
 
 pub arm-requires-clause-not_queued : goal.arm-requires-clause-not_queued
 arm-requires-clause-not_queued g c =
-    ap (class_in c.args.timer.0) (sym (ap (λ (y : CpuRecord). y.bases) (read_bases _ c.args.self.now c.args.cpu.0
-    c.from.result c.index_mut.result.now c.self.view_is c.from.ensures c.requires.is_free.in_range
-    c.index_mut.ensures.value))) ∙ c.requires.not_queued c.args.cpu.0
+    ap (class_in c.args.timer.0)
+    (sym (ap (λ (y : CpuRecord). y.bases)
+    (read_bases _ c.args.self.now c.args.cpu.0 c.from.result c.index_mut.result.now
+    c.self.view_is c.from.ensures c.requires.is_free.in_range c.index_mut.ensures.value)))
+    ∙ c.requires.not_queued c.args.cpu.0
 
 pub arm-requires-clause-none_behind : goal.arm-requires-clause-none_behind
 arm-requires-clause-none_behind g c =
-    subst (λ (y : CpuRecord). NoneBehind (base_of c.args.class y.bases)) (read_bases _ c.args.self.now c.args.cpu.0
-    c.from.result c.index_mut.result.now c.self.view_is c.from.ensures c.requires.is_free.in_range
-    c.index_mut.ensures.value) c.requires.none_behind
+    subst (λ (y : CpuRecord). NoneBehind (base_of c.args.class y.bases))
+    (read_bases _ c.args.self.now c.args.cpu.0 c.from.result c.index_mut.result.now c.self.view_is
+    c.from.ensures c.requires.is_free.in_range c.index_mut.ensures.value) c.requires.none_behind
 
 pub returns-in_err-wheel-clause-err : goal.returns-in_err-wheel-clause-err
 returns-in_err-wheel-clause-err g c =
@@ -25,8 +27,8 @@ returns-in_err-wheel-clause-err g c =
 
 pub invariant_of-self-2 : goal.invariant_of-self-2
 invariant_of-self-2 g c =
-    arm_kept _ c.args.self.now c.self.inside.holders.items c.args.cpu c.from.result c.index_mut.result.now c.arm.new.self
-    c.now-now.result c.self.view_is c.self.invariant refl c.kept.ensures.stays c.timers_kept.ensures c.from.ensures
-    c.index_mut.ensures.value c.now-now.ensures
-    c.args.timer c.args.class c.args.expires c.args.job c.args.arg c.args.line c.from-2.result (search rules)
-    c.from-2.ensures c.requires c.in_ok-wheel.ensures.ok
+    arm_kept _ c.args.self.now c.self.inside.holders.items c.args.cpu c.from.result
+    c.index_mut.result.now c.arm.new.self c.now-now.result c.self.view_is c.self.invariant refl
+    c.kept.ensures.stays c.timers_kept.ensures c.from.ensures c.index_mut.ensures.value
+    c.now-now.ensures c.args.timer c.args.class c.args.expires c.args.job c.args.arg c.args.line
+    c.from-2.result (search rules) c.from-2.ensures c.requires c.in_ok-wheel.ensures.ok

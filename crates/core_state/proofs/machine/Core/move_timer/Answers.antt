@@ -10,45 +10,54 @@ use Rattle.core_state.proofs.machine.Core.move_timer.Goals as goal
 
 pub move_between-requires-clause-may : goal.move_between-requires-clause-may
 move_between-requires-clause-may g c =
-    let is = same_Some _ _ (c.in-Some.ensures.class ∙ ap (option_map (λ first. first.0)) c.requires.first) in
-    subst (λ (u : World). MayTakeIn c.in-Some.class (cpu_of u c.args.from.0).bases (cpu_of u c.args.to.0).bases)
-    (sym c.self.view_is)
+    let is = same_Some _ _
+    (c.in-Some.ensures.class ∙ ap (option_map (λ first. first.0)) c.requires.first) in
+    subst (λ (u : World). MayTakeIn c.in-Some.class (cpu_of u c.args.from.0).bases
+    (cpu_of u c.args.to.0).bases) (sym c.self.view_is)
     (may_take_in c.args.self.now c.self.inside.holders.items c.args.from c.args.to c.args.timer
-    (subst (λ u. IsHeld u c.self.inside.holders.items) c.self.view_is c.self.invariant.held) c.kept.ensures.fits
-    c.law_bases.ensures.queued_once c.timers_kept.ensures c.timers_kept-2.ensures c.requires c.in-Some.class is)
+    (subst (λ u. IsHeld u c.self.inside.holders.items) c.self.view_is c.self.invariant.held)
+    c.kept.ensures.fits c.law_bases.ensures.queued_once c.timers_kept.ensures
+    c.timers_kept-2.ensures c.requires c.in-Some.class is)
 
 pub index_mut-requires : goal.index_mut-requires
 index_mut-requires g c =
     let low = note_low c.self.inside.holders.items c.args.timer.0 c.args.from
     (noted_here c.args.self.now c.self.inside.holders.items c.args.from c.args.to c.args.timer
-    (subst (λ u. IsHeld u c.self.inside.holders.items) c.self.view_is c.self.invariant.held) c.kept.ensures.fits
-    c.law_bases.ensures.queued_once c.timers_kept.ensures c.timers_kept-2.ensures c.requires) in
+    (subst (λ u. IsHeld u c.self.inside.holders.items) c.self.view_is c.self.invariant.held)
+    c.kept.ensures.fits c.law_bases.ensures.queued_once c.timers_kept.ensures
+    c.timers_kept-2.ensures c.requires) in
     let at = c.from.ensures in
     omega (arith, low, at)
 
 pub invariant_of-self-2 : goal.invariant_of-self-2
 invariant_of-self-2 g c =
-    let is = same_Some _ _ (c.in-Some.ensures.class ∙ ap (option_map (λ first. first.0)) c.requires.first) in
+    let is = same_Some _ _
+    (c.in-Some.ensures.class ∙ ap (option_map (λ first. first.0)) c.requires.first) in
     move_kept c.args.self.now c.self.inside.holders.items c.args.from c.args.to c.args.timer
-    (subst (λ u. IsHeld u c.self.inside.holders.items) c.self.view_is c.self.invariant.held) c.kept.ensures.fits
-    c.law_bases.ensures.queued_once c.timers_kept.ensures c.timers_kept-2.ensures c.requires _
-    c.move_between.new.cpus.items c.in-Some.class c.now-now.result _ c.self.view_is is c.now-now.ensures
-    c.in_ok-wheel.ensures.ok (length-set c.self.inside.holders.items c.from.result (Some c.args.to))
-    c.from.result c.from.ensures c.kept.ensures.stays refl
+    (subst (λ u. IsHeld u c.self.inside.holders.items) c.self.view_is c.self.invariant.held)
+    c.kept.ensures.fits c.law_bases.ensures.queued_once c.timers_kept.ensures
+    c.timers_kept-2.ensures c.requires _ c.move_between.new.cpus.items c.in-Some.class
+    c.now-now.result _ c.self.view_is is c.now-now.ensures c.in_ok-wheel.ensures.ok
+    (length-set c.self.inside.holders.items c.from.result (Some c.args.to)) c.from.result
+    c.from.ensures c.kept.ensures.stays refl
 
 pub returns-clause-ok : goal.returns-clause-ok
 returns-clause-ok g c =
-    let is = same_Some _ _ (c.in-Some.ensures.class ∙ ap (option_map (λ first. first.0)) c.requires.first) in
+    let is = same_Some _ _
+    (c.in-Some.ensures.class ∙ ap (option_map (λ first. first.0)) c.requires.first) in
     move_done c.args.self.now c.self.inside.holders.items c.args.from c.args.to c.args.timer
-    (subst (λ u. IsHeld u c.self.inside.holders.items) c.self.view_is c.self.invariant.held) c.kept.ensures.fits
-    c.law_bases.ensures.queued_once c.timers_kept.ensures c.timers_kept-2.ensures c.requires _
-    c.move_between.new.cpus.items c.in-Some.class c.now-now.result _ c.self.view_is is c.now-now.ensures
-    c.in_ok-wheel.ensures.ok (length-set c.self.inside.holders.items c.from.result (Some c.args.to))
+    (subst (λ u. IsHeld u c.self.inside.holders.items) c.self.view_is c.self.invariant.held)
+    c.kept.ensures.fits c.law_bases.ensures.queued_once c.timers_kept.ensures
+    c.timers_kept-2.ensures c.requires _ c.move_between.new.cpus.items c.in-Some.class
+    c.now-now.result _ c.self.view_is is c.now-now.ensures c.in_ok-wheel.ensures.ok
+    (length-set c.self.inside.holders.items c.from.result (Some c.args.to))
 
 pub returns-clause-wheel : goal.returns-clause-wheel
 returns-clause-wheel g c =
-    let is = same_Some _ _ (c.in-Some.ensures.class ∙ ap (option_map (λ first. first.0)) c.requires.first) in
+    let is = same_Some _ _
+    (c.in-Some.ensures.class ∙ ap (option_map (λ first. first.0)) c.requires.first) in
     move_wheel c.args.self.now c.self.inside.holders.items c.args.from c.args.to c.args.timer
-    (subst (λ u. IsHeld u c.self.inside.holders.items) c.self.view_is c.self.invariant.held) c.kept.ensures.fits
-    c.law_bases.ensures.queued_once c.timers_kept.ensures c.timers_kept-2.ensures c.requires _
-    c.in-Some.class c.now-now.result c.self.view_is is c.now-now.ensures _ c.in_ok-wheel.ensures.wheel
+    (subst (λ u. IsHeld u c.self.inside.holders.items) c.self.view_is c.self.invariant.held)
+    c.kept.ensures.fits c.law_bases.ensures.queued_once c.timers_kept.ensures
+    c.timers_kept-2.ensures c.requires _ c.in-Some.class c.now-now.result c.self.view_is is
+    c.now-now.ensures _ c.in_ok-wheel.ensures.wheel
