@@ -68,6 +68,35 @@ pub record StaleRun : Type 0 where
   pub level : option_map (λ (k : Walk). k.level) (cpu_of stale_end 8).walk ≡ Some 1
   pub stage : option_map (λ (k : Walk). k.stage) (cpu_of stale_end 8).walk ≡ Some stages.LockChild
 
+-- LOST-EXCHANGE: CPU 8 idles and reads the word of its leaf and its own; CPU 9 idles and makes its
+-- exchange there, which makes that reading stale; so the exchange of CPU 8 fails
+abbrev pub lost_steps : List Step
+lost_steps =
+    steps.Idle (record { 0 = 8 }) ∷ walks 2 8 ++ steps.Idle (record { 0 = 9 }) ∷ walks 3 9
+    ++ walks 1 8
+
+abbrev pub lost_end : World
+lost_end = after_all stale_start lost_steps
+
+-- and two steps later, when it has read again
+abbrev pub made_end : World
+made_end = after_all lost_end (walks 2 8)
+
+pub record LostExchange : Type 0 where
+  pub enabled : EachEnabled stale_start lost_steps
+  -- CPU 9 alone has left the active set, and waits for the lock
+  pub active : (group_of lost_end 1).active ≡ 1
+  pub migrator : (group_of lost_end 1).migrator ≡ Some 0
+  pub second : option_map (λ (k : Walk). k.stage) (cpu_of lost_end 9).walk ≡ Some stages.LockGroup
+  -- CPU 8 has read the word anew, and has its own still to read
+  pub stage : option_map (λ (k : Walk). k.stage) (cpu_of lost_end 8).walk ≡ Some stages.Child
+  pub fresh : option_map (λ (k : Walk). k.fresh) (cpu_of lost_end 8).walk ≡ Some true
+  -- its next exchange is made
+  pub goes_on : EachEnabled lost_end (walks 2 8)
+  pub none_active : (group_of made_end 1).active ≡ 0
+  pub none_migrates : (group_of made_end 1).migrator ≡ None
+  pub made : option_map (λ (k : Walk). k.stage) (cpu_of made_end 8).walk ≡ Some stages.LockGroup
+
 -- an active CPU can't be woken
 abbrev pub WakeRefused : Type 0
 WakeRefused = Enabled stale_start (steps.Wake (record { 0 = 0 })) → ⊥

@@ -2,13 +2,19 @@
 //! they leave. They are run through the definitions themselves, by computation.
 #![tactic(auto)]
 
-ghost use Rattle.core_rows.specs.Rows.{SettledCover, StaleRun, WakeRefused};
+ghost use Rattle.core_rows.specs.Rows.{LostExchange, SettledCover, StaleRun, WakeRefused};
 
 /// A CPU wakes beside a deactivation that has read the top's word: the deactivation's exchange
 /// fails.
 pub fn row_stale_run()
     ensures run { StaleRun }
     ensures refused { WakeRefused }
+{}
+
+/// Two CPUs of a leaf go idle at once: who exchanges second has to read again, and is a step behind
+/// where it would be had its exchange been made.
+pub fn row_lost_exchange()
+    ensures { LostExchange }
 {}
 
 /// A CPU goes idle with a global timer, and tells it to the other CPU of its group.

@@ -8,6 +8,7 @@ use core_world::Step;
 use cpu_bases::Bases;
 use std::alloc::Global;
 use std::test::Fail;
+use step_core::enabled;
 use step_laws::run_steps;
 use tm_base::{CpuId, CpuSet, GroupId, NEVER, NoMemory};
 use tree_plan::plan;
@@ -45,8 +46,8 @@ fn start(alloc: Global, cpus: u8, timers: u16) -> Result<Core<ListBase>, NoMemor
     new_core(alloc, tree, bases, timers)
 }
 
-// CPU 9 of ten goes idle: CPU 8 of its group stays active, and is the migrator. The values are
-// those of the rules for a group with one active child.
+// CPU 9 of ten goes idle, and wakes: CPU 8 of its group stays active, and is the migrator. The
+// values are those of the rules for a group with one active child, and with two.
 #[test]
 fn a_walk_is_made_to_its_end(rt: HostRuntime) -> Result<(), Fail> {
     let mut core = start(rt.alloc(), 10, 0)?;
@@ -62,6 +63,12 @@ fn a_walk_is_made_to_its_end(rt: HostRuntime) -> Result<(), Fail> {
     assert_eq!(&rt; core.cpu(CpuId(9)).wakeup, NEVER);
     assert!(&rt; 1 < core.tree().group_count());
     assert_eq!(&rt; core.active(GroupId(1)), 1);
+    assert_eq!(&rt; core.migrator(GroupId(1)), Some(0));
+    assert!(&rt; enabled(&core, &Step::Wake { cpu: CpuId(9) }));
+    assert!(&rt; is_alone(&core, CpuId(9)));
+    wake(&mut core, CpuId(9));
+    assert!(&rt; 1 < core.tree().group_count());
+    assert_eq!(&rt; core.active(GroupId(1)), 3);
     assert_eq!(&rt; core.migrator(GroupId(1)), Some(0));
     Ok(())
 }

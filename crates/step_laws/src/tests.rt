@@ -86,6 +86,39 @@ fn a_stale_exchange_fails(rt: HostRuntime) -> Result<(), Fail> {
     Ok(())
 }
 
+// Two CPUs of a leaf idle at once. CPU 8 has read the leaf's word and its own when CPU 9 makes its
+// exchange there; so the exchange of CPU 8 fails, and it stands at its own word again, still active
+// in its leaf. Two steps later it has made its exchange, and stands before the leaf's lock. The row
+// is worked by hand from the stages of a deactivation.
+#[test]
+fn a_stale_exchange_leaves_the_word_and_reads_again(rt: HostRuntime) -> Result<(), Fail> {
+    let mut core = start(rt.alloc(), 10, 0)?;
+    let mut steps = Vec::new(rt.alloc());
+    steps.push(Step::Idle { cpu: CpuId(8) })?;
+    add_walks(&mut steps, 2, 8)?;
+    steps.push(Step::Idle { cpu: CpuId(9) })?;
+    add_walks(&mut steps, 3, 9)?;
+    add_walks(&mut steps, 1, 8)?;
+    assert_eq!(&rt; run_steps(&mut core, steps.as_slice()), Ok(()));
+    check_group(&rt, &core, 1, 1, Some(0));
+    assert!(&rt; 8 < core.tree().cpu_count());
+    let reads_again = match core.walk(CpuId(8)) {
+        Some(walk) => walk.fresh && matches!(walk.stage, Stage::Child),
+        None => false,
+    };
+    assert_eq!(&rt; reads_again, true);
+    let more = [Step::Walk { cpu: CpuId(8) }, Step::Walk { cpu: CpuId(8) }];
+    assert_eq!(&rt; run_steps(&mut core, more.as_slice()), Ok(()));
+    check_group(&rt, &core, 1, 0, None);
+    assert!(&rt; 8 < core.tree().cpu_count());
+    let waits = match core.walk(CpuId(8)) {
+        Some(walk) => matches!(walk.stage, Stage::LockGroup),
+        None => false,
+    };
+    assert_eq!(&rt; waits, true);
+    Ok(())
+}
+
 // An active CPU isn't woken.
 #[test]
 fn a_step_that_is_not_enabled_is_named(rt: HostRuntime) -> Result<(), Fail> {

@@ -15,6 +15,7 @@ mod operations;
 mod outcomes;
 mod playing;
 mod plays;
+mod starting;
 mod telling;
 
 pub use moments::next_moment;
@@ -22,3 +23,4 @@ pub use numbers::Summary;
 pub use outcomes::{Counts, DriveFault};
 pub use playing::play_on;
 pub use plays::{play, summary};
+pub use starting::start_core;

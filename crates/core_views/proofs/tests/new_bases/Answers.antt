@@ -12,6 +12,6 @@ loop-cpu-preserved c = record {
       ∙ ap (λ n. n + 1) c.loop-cpu.invariant.count);
   empty =
       subst (All (λ (b : RoomyBases). b.plain ≡ empty_bases)) (sym c.in_ok-push.ensures.items)
-      (All-push (λ (b : RoomyBases). b.plain ≡ empty_bases) c.loop-cpu.bases.items c.no_timers.result
-      c.loop-cpu.invariant.empty c.no_timers.ensures);
+      (All-push (λ (b : RoomyBases). b.plain ≡ empty_bases) c.loop-cpu.bases.items
+      c.no_timers.result c.loop-cpu.invariant.empty c.no_timers.ensures);
 }

@@ -1,0 +1,4 @@
+pub mod Lowest
+pub mod Leading
+pub mod Settled
+pub mod Shown
