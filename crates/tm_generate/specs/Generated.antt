@@ -1,5 +1,6 @@
 -- generated scripts
-use Rattle.std.specs.Prelude.{ℕ, ◌+◌, ◌-◌, ◌*◌, ◌/◌, ◌%◌, ◌^◌, zero, suc, [], ◌∷◌, map, ◌==◌, nat_le, if◌then◌else◌}
+use Rattle.std.specs.Prelude.{ℕ, ◌+◌, ◌-◌, ◌*◌, ◌/◌, ◌%◌, ◌^◌, zero, suc, [], ◌∷◌, map, ◌==◌}
+use Rattle.std.specs.Prelude.{nat_le, if◌then◌else◌}
 use Rattle.std.specs.List.{range_with_len}
 use Rattle.std.specs.FinSet.{empty}
 use Rattle.tm_base.specs.declared.names.Class.TheVariants.{Pinned, Global}
@@ -26,13 +27,14 @@ answer x n = x / 2 ^ 33 % n
 abbrev pub draw : ℕ → ℕ → ℕ → ℕ
 draw number k n = answer (x_after number (suc k)) n
 
--- The arming of timer i: draws 3 * i to 3 * i + 2 are p, d and a. Its line is the seventh and further ones behind
--- the four lines of the machine and `at 0`.
+-- The arming of timer i: draws 3 * i to 3 * i + 2 are p, d and a. Its line is the seventh and
+-- further ones behind the four lines of the machine and `at 0`.
 abbrev pub arming_by : ℕ → ℕ → ℕ → ℕ → ℕ → Op
 arming_by cpus i p d a = record {
   line = 6 + i;
   cpu = record { 0 = i % cpus };
-  what = Arm (record { 0 = i }) (if p == 0 then Pinned else Global) (20 + d) (if p == 0 then 2 else 1) (50 + a);
+  what = Arm (record { 0 = i }) (if p == 0 then Pinned else Global) (20 + d)
+      (if p == 0 then 2 else 1) (50 + a);
 }
 
 unfoldable pub arming : ℕ → ℕ → ℕ → Op
@@ -48,7 +50,8 @@ idling timers c = record { line = 6 + timers + c; cpu = record { 0 = c }; what =
 abbrev pub choice : ℕ → ℕ → ℕ → What
 choice r c t = if r == 0 then Wake else if nat_le r 2 then Idle else Cancel (record { 0 = t })
 
--- The moment 5 * j of one operation; the draws are the three behind those of the armings and of the moments before.
+-- The moment 5 * j of one operation; the draws are the three behind those of the armings and of the
+-- moments before.
 unfoldable pub later : ℕ → ℕ → ℕ → ℕ → Moment
 later number cpus timers j =
     let k = 3 * timers + 3 * (j - 1) in
@@ -57,7 +60,8 @@ later number cpus timers j =
       ops = record {
         line = 5 + timers + cpus + 2 * j;
         cpu = record { 0 = draw number (suc k) cpus };
-        what = choice (draw number k 4) (draw number (suc k) cpus) (draw number (suc (suc k)) timers);
+        what =
+            choice (draw number k 4) (draw number (suc k) cpus) (draw number (suc (suc k)) timers);
       } ∷ [];
     }
 

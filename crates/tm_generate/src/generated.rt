@@ -4,7 +4,8 @@ ghost use Rattle.std.specs.Prelude.{◌≡◌, ◌+◌, ◌-◌, ◌*◌, ◌<�
 ghost use Rattle.std.specs.List.{range_with_len};
 ghost use Rattle.tm_base.specs.declared.limits.TheConstants.{MOST_CPUS_V1, MOST_TIMERS};
 ghost use Rattle.tm_script.specs.Grammar.{IsScript};
-ghost use Rattle.tm_generate.specs.Generated.{x_after, next, answer, arming_by, arming, idling, choice, later, generated};
+ghost use Rattle.tm_generate.specs.Generated.{x_after, next, answer, arming_by, arming, idling};
+ghost use Rattle.tm_generate.specs.Generated.{choice, later, generated};
 
 use crate::draws::Draws;
 use std::alloc::Global;

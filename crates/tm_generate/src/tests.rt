@@ -11,8 +11,8 @@ fn the_first_draw_of_number_1_is_6(rt: HostRuntime) -> Result<(), Fail> {
     Ok(())
 }
 
-/// Row generated-day: the beginning of the script of 1 1 1 1, whose first arm line is global since the draw is 6. The
-/// last two lines follow from the rule: one moment at 5, and the end at 5 * 2.
+/// Row generated-day: the beginning of the script of 1 1 1 1, whose first arm line is global since
+/// the draw is 6. The last two lines follow from the rule: one moment at 5, and the end at 5 * 2.
 #[test]
 fn the_script_of_1_1_1_1_begins_as_the_rule_says(rt: HostRuntime) -> Result<(), Fail> {
     let script = generate(rt.alloc(), 1, 1, 1, 1).ok().ok_or("no memory")?;
