@@ -169,7 +169,8 @@ module _ (w : World) (l : IsLawful w) (s : IsSettled w) (planned : IsPlanned w.t
       let soon = nat_le x.wakeup time in
       let in_time = is.in_time in
       let same = wakeup_seen w d low in
-      and_from x.online (x.idle && (is_placed_in w.tree d && soon)) (online_seen w d low ∙ is.online)
+      and_from x.online (x.idle && (is_placed_in w.tree d && soon))
+      (online_seen w d low ∙ is.online)
       (and_from x.idle (is_placed_in w.tree d && soon) (idle_seen w d low ∙ is.idle)
       (and_from (is_placed_in w.tree d) soon is.placed
       (le-leb x.wakeup time (omega (arith, in_time, same)))))

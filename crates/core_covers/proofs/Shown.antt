@@ -49,7 +49,8 @@ module _ (w : World) where
         let soon = nat_le (cpu_of w c).wakeup wheel in
         elim (cases_Bool soon) [
           | inl is ↦
-              cond-true soon (Some (plain.by_wakeup (state_of w) c)) (steps.cover_above w c lowest) is
+              cond-true soon (Some (plain.by_wakeup (state_of w) c)) (steps.cover_above w c lowest)
+              is
               ∙ (ap Some (wake_shown c low)
               ∙ sym (ap (option_map (shown w))
               (cond-true soon (Some (by_wakeup w c)) (choice_above w c lowest) is)))

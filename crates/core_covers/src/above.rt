@@ -1,8 +1,9 @@
 //! What the groups above a CPU say.
 
-ghost use Rattle.std.specs.Prelude.{◌≡◌, ◌<◌, IfSome, is_some, length, option_and_then, option_map};
+ghost use Rattle.std.specs.Prelude.{◌≡◌, ◌<◌, IfSome, length, option_and_then, option_map};
 ghost use Rattle.tree_plan.specs.Paths.{child_at};
-ghost use Rattle.play_rules.specs.Covers.{led_from, led_to, lowest_active_group, waker_by, wakes_by};
+ghost use Rattle.play_rules.specs.Covers.{led_from, led_to, lowest_active_group};
+ghost use Rattle.play_rules.specs.Covers.{waker_by, wakes_by};
 ghost use Rattle.play_rules.specs.State.{migrator_at};
 ghost use Rattle.step_rules.specs.Seen.{state_of};
 ghost use Rattle.step_rules.specs.StepRules.{time_at_top};

@@ -1,6 +1,6 @@
 //! Who answers.
 
-ghost use Rattle.std.specs.Prelude.{◌≡◌, ◌<◌, ℕ, IfSome, Some, is_some, length, option_map};
+ghost use Rattle.std.specs.Prelude.{◌≡◌, ◌<◌, ℕ, IfSome, Some, is_some, length};
 ghost use Rattle.tm_base.specs.declared.names.CpuId.{CpuId};
 ghost use Rattle.tm_base.specs.declared.names.GroupId.{GroupId};
 ghost use Rattle.core_world.specs.Covered.{IsSettled};

@@ -15,11 +15,13 @@ use Rattle.core_facts.proofs.Scenes.{in_scene, online_there, stands_where}
 
 pub each_hands_on : EachHandsOn
 each_hands_on w l c k is at =
-    let has : HasGroup w.tree c = stands_where w l c k is (λ e. (let no_way : stages.Handing ≡ stages.Finish = sym at ∙ e in cc)) in
+    let handing : k.stage ≡ stages.Finish → ⊥ = λ e. cc in
+    let has : HasGroup w.tree c = stands_where w l c k is handing in
     let fits = (l.placed.in_tree c (forget k) (in_scene w c k is) has).fits in
     let kind : k.kind ≡ kinds.Offline = subst (FitsStage w.tree c k.kind k.level) at fits in
     let off : (cpu_of w c).online ≡ false =
-    subst (λ v. IsWalker v (cpu_of w c).online (cpu_of w c).idle) kind (l.walkers c (forget k) (in_scene w c k is)) in
+    subst (λ v. IsWalker v (cpu_of w c).online (cpu_of w c).idle) kind
+    (l.walkers c (forget k) (in_scene w c k is)) in
     let first = comes w l k.first (l.time_origins.walks c k is).first (l.found c k is at) in
     record {
       kind = kind;

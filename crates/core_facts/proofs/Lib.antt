@@ -1,8 +1,13 @@
-pub mod WalkersRead
+pub mod ExchangesOnce
+pub mod ExchangesRead
+pub mod HandingRead
 pub mod HoldersRead
 pub mod MarkedRead
-pub mod Scenes
-pub mod RangesRead
-pub mod HandingRead
 pub mod PlacesRead
+pub mod PlayedRead
+pub mod RangesRead
+pub mod ReachRead
+pub mod Reaches
+pub mod Scenes
 pub mod ToldRead
+pub mod WalkersRead

@@ -44,8 +44,9 @@ both w items known placed = λ k d low. record {
 module _ (w : World) (l : IsLawful w) where
   pub armed_in : (time : ℕ) → WasArmed w time → time ≤ TIME_LIMIT
   armed_in time armed =
-      let early = All-contains (λ entry. entry.wheel ≤ TIME_LIMIT) (cpu_of w armed.cpu).bases.journal armed.entry
-      (l.timers.consistent armed.cpu).in_time armed.written in
+      let early =
+      All-contains (λ entry. entry.wheel ≤ TIME_LIMIT) (cpu_of w armed.cpu).bases.journal
+      armed.entry (l.timers.consistent armed.cpu).in_time armed.written in
       subst (λ n. n ≤ TIME_LIMIT) armed.wheel early
 
   time_in : (time : ℕ) → HasOrigin w time → time < 2 ^ 48
@@ -61,7 +62,9 @@ module _ (w : World) (l : IsLawful w) where
       let leaf = has_leaf w.tree l.hierarchy c level g at in
       let placed : is_placed_in w.tree c ≡ true = l.hierarchy.has_group c leaf.0 leaf.1 in
       let sized = l.sized.cpus in
-      let low = ltb-true c (cpu_count_of w.tree) (and_parts (nat_lt c (cpu_count_of w.tree)) (not (contains w.tree.isolated c)) placed).0 in
+      let parts =
+      and_parts (nat_lt c (cpu_count_of w.tree)) (not (contains w.tree.isolated c)) placed in
+      let low = ltb-true c (cpu_count_of w.tree) parts.0 in
       omega arith
 
   event_in : (g k : ℕ) (e : Event) → event_at (group_of w g).events k ≡ Some e → EventInRange w e
@@ -112,7 +115,8 @@ module _ (w : World) (l : IsLawful w) where
   group_in : (g : ℕ) → GroupInRange w (group_of w g)
   group_in g = record {
     active = l.groups.eight g;
-    migrator = child_in (group_of w g).active (group_of w g).migrator (l.groups.eight g) (l.groups.law g);
+    migrator =
+        child_in (group_of w g).active (group_of w g).migrator (l.groups.eight g) (l.groups.law g);
     lock =
         λ c is. (let holder = (each_lock_is_held w l).walking g c is in
         walker_there w c holder.made holder.walk);

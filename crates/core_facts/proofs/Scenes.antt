@@ -32,7 +32,8 @@ no_cpu_there w c past = get_or_past w.cpus c no_cpu past
 pub online_there : (w : World) (c : ℕ) → (cpu_of w c).online ≡ true → c < length w.cpus
 online_there w c on = elim (cases_lt c (length w.cpus)) [
   | inl low ↦ low
-  | inr past ↦ absurd (true≢false (sym on ∙ ap (λ (y : CpuRecord). y.online) (no_cpu_there w c past)))
+  | inr past ↦
+      absurd (true≢false (sym on ∙ ap (λ (y : CpuRecord). y.online) (no_cpu_there w c past)))
 ]
 
 -- and so is one that makes a walk

@@ -1,7 +1,8 @@
 -- what a walk says of its CPU, kind by kind
 use Rattle.std.proofs.Common.{◌≡◌, ◌↔◌, ℕ, Bool, true, false, Some, refl, sym, ap, ◌∙◌, inl, inr}
 use Rattle.std.proofs.Common.{true≢false}
-use Rattle.std.specs.Prelude.{◌&&◌, not}
+use Rattle.std.proofs.lemmas.Bool.{and_left, and_right}
+use Rattle.std.specs.Prelude.{not}
 use Rattle.walk_rules.specs.declared.walk.Walk.{Walk}
 use Rattle.walk_rules.specs.declared.walk.WalkKind.{WalkKind}
 use Rattle.walk_rules.specs.declared.walk.WalkKind.TheVariants as kinds
@@ -12,15 +13,11 @@ use Rattle.core_world.specs.World.{CpuRecord, World, cpu_of, is_active}
 use Rattle.core_facts.specs.Walkers.{EachWalkerIs, IsAsleep, IsOff, WalkerIs}
 use Rattle.core_facts.proofs.Scenes.{in_scene}
 
-and_false : (b : Bool) → (b && false) ≡ false
-and_false true = refl
-and_false false = refl
-
 asleep_off : (y : CpuRecord) → IsAsleep y → is_active y ≡ false
-asleep_off y asleep = ap (λ b. y.online && not b) asleep.idle ∙ and_false y.online
+asleep_off y asleep = and_right y.online (not y.idle) (ap not asleep.idle)
 
 offline_off : (y : CpuRecord) → y.online ≡ false → is_active y ≡ false
-offline_off y off = ap (λ b. b && not y.idle) off
+offline_off y off = and_left y.online (not y.idle) off
 
 walker_is : (kind : WalkKind) (y : CpuRecord) → IsWalker kind y.online y.idle
     → (kind ≡ kinds.Activate → is_active y ≡ true) → WalkerIs kind y
@@ -36,7 +33,8 @@ never_both b off on = absurd (true≢false (sym on ∙ off))
 active_where : (kind : WalkKind) (y : CpuRecord) → WalkerIs kind y
     → (is_active y ≡ true) ↔ (kind ≡ kinds.Activate)
 active_where kinds.Activate y is = ((λ _. refl), (λ _. is))
-active_where kinds.Deactivate y is = ((λ e. never_both (is_active y) (asleep_off y is) e), (λ e. cc))
+active_where kinds.Deactivate y is =
+    ((λ e. never_both (is_active y) (asleep_off y is) e), (λ e. cc))
 active_where kinds.Offline y is = ((λ e. never_both (is_active y) (offline_off y is) e), (λ e. cc))
 active_where kinds.Reeval y is = ((λ e. never_both (is_active y) (asleep_off y is) e), (λ e. cc))
 active_where (kinds.Remote by) y is =

@@ -1,7 +1,11 @@
-pub mod Walkers
+pub mod Exchanges
+pub mod Handing
 pub mod Holders
 pub mod Marked
-pub mod Ranges
-pub mod Handing
 pub mod Places
+pub mod Played
+pub mod Ranges
+pub mod Reach
+pub mod Stepping
 pub mod Told
+pub mod Walkers

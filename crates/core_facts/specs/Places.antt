@@ -21,8 +21,8 @@ pub record IsGroupAt (w : World) (c level g : ℕ) : Type 0 where
 pub record StandsAtGroup (w : World) (c : ℕ) (k : Walk) : Type 0 where
   pub group : (g : ℕ) × IsGroupAt w c k.level g
   -- so does the path one level below, where there is one
-  pub child : 0 < k.level
-      → (h : ℕ) × (group_under w.tree c k.level ≡ Some h) × (h < length w.groups)
+  pub child : 0 < k.level →
+      (h : ℕ) × (group_under w.tree c k.level ≡ Some h) × (h < length w.groups)
   pub fits : FitsStage w.tree c k.kind k.level k.stage
   pub flags : FlagsAt (at_top w.tree c k.level) k.on k.over k.stage
   -- where it marks, or gives back its locks to go on, there is a next level

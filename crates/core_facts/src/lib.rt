@@ -2,13 +2,21 @@
 //! marks, and the ranges of numbers. The functions do nothing: what they say are their contracts.
 #![tactic(auto)]
 
+ghost use Rattle.core_facts.specs.Exchanges.{EachGoesOn, EachStaysPast, NoneIsPast};
 ghost use Rattle.core_facts.specs.Handing.{EachHandsOn, EachHasPlaced};
 ghost use Rattle.core_facts.specs.Holders.{EachLockIsHeld};
 ghost use Rattle.core_facts.specs.Marked.{EachMarkFits};
 ghost use Rattle.core_facts.specs.Places.{EachPlaceFits};
+ghost use Rattle.core_facts.specs.Played.{EachAddsReplay, StartsPlayed, StaysPlayed};
 ghost use Rattle.core_facts.specs.Ranges.{EachInRange};
+ghost use Rattle.core_facts.specs.Reach.{EachKeeps};
+ghost use Rattle.core_facts.specs.Stepping.{EachStageLawful};
 ghost use Rattle.core_facts.specs.Told.{EachHasToldOwn};
 ghost use Rattle.core_facts.specs.Walkers.{EachWalkerIs};
+
+use core_laws::law_step;
+use core_world::law_sizes;
+use cpu_bases::{law_bases, law_calls};
 
 /// A CPU with a walk is active exactly where the walk is an activation; the other kinds are made by
 /// online idle CPUs, or by a CPU that goes offline.
@@ -52,3 +60,40 @@ pub fn law_place()
 pub fn law_own_event()
     ensures { EachHasToldOwn }
 {}
+
+/// A step changes the data of its own CPU, of another one for a timer that moves, and of a group
+/// for a walk; journals only grow, and the clock never falls.
+pub fn law_frame()
+    ensures { EachKeeps }
+{
+    law_sizes();
+}
+
+/// A walk goes on from stage to stage and level to level but where an exchange fails, and makes at
+/// most one exchange at each level.
+pub fn law_once_a_level()
+    ensures goes_on { EachGoesOn }
+    ensures stays_past { EachStaysPast }
+    ensures none_past { NoneIsPast }
+{
+    law_frame();
+}
+
+/// A CPU's bases are what its journal makes when it is played again from empty ones: so they begin,
+/// and each step keeps it, since what it makes of them its entries tell.
+pub fn law_replay()
+    ensures starts { StartsPlayed }
+    ensures adds { EachAddsReplay }
+    ensures stays { StaysPlayed }
+{
+    law_bases();
+    law_calls();
+    law_frame();
+}
+
+/// What a walk's step at a stage makes of a lawful world is lawful.
+pub fn law_stage()
+    ensures { EachStageLawful }
+{
+    law_step();
+}

@@ -1,18 +1,14 @@
 -- the CPUs below a group have no other between them, and an exchange reaches no others
-use Rattle.std.proofs.Common.{◌≡◌, ℕ, ◌-◌, ◌<◌, ◌≤◌, Bool, true, false, Option, Some, None, cond}
+use Rattle.std.proofs.Common.{◌≡◌, ℕ, ◌-◌, ◌<◌, ◌≤◌, true, false, Option, Some, None, cond}
 use Rattle.std.proofs.Common.{refl, sym, ap, ◌∙◌, arith, inl, inr}
-use Rattle.std.specs.Prelude.{◌==◌, ◌&&◌, ◌⊎◌, nat_le, not, option_map}
+use Rattle.std.specs.Prelude.{◌==◌, ◌⊎◌, nat_le, not, option_map}
 use Rattle.std.specs.Option.{option_map_or}
-use Rattle.std.proofs.lemmas.Bool.{cases_Bool, ne_eqb, eq-eqb, leb-true, leb-false}
+use Rattle.std.proofs.lemmas.Bool.{and_right, cases_Bool, ne_eqb, eq-eqb, leb-true, leb-false}
 use Rattle.tree_plan.specs.Laws.{BelowLaws, PathLaws}
 use Rattle.tree_plan.specs.Shape.{Shape}
 use Rattle.tree_plan.specs.Paths.{IsBelow, group_at_of, level_of}
 use Rattle.walk_rules.specs.declared.walk.Walk.{Walk}
 use Rattle.core_world.specs.World.{CpuRecord, is_reading, reads_at, stale, stale_walk}
-
-and_false : (b : Bool) → (b && false) ≡ false
-and_false true = refl
-and_false false = refl
 
 -- a group that is named there, if any
 not_there : (t : Shape) (g d l : ℕ) → (IsBelow t d g → ⊥) → (o : Option ℕ) → group_at_of t d l ≡ o
@@ -22,8 +18,9 @@ not_there t g d l apart (Some h) at = ne_eqb h g (λ same. apart (l, at ∙ ap S
 
 reads_none : (t : Shape) (g d : ℕ) (k : Walk) → (IsBelow t d g → ⊥) → reads_at t g d k ≡ false
 reads_none t g d k apart =
-    ap (λ b. is_reading k.stage && b) (not_there t g d k.level apart (group_at_of t d k.level) refl)
-    ∙ and_false (is_reading k.stage)
+    and_right (is_reading k.stage)
+    (option_map_or (λ h. h == g) (group_at_of t d k.level) false)
+    (not_there t g d k.level apart (group_at_of t d k.level) refl)
 
 same_walk : (t : Shape) (g d : ℕ) (o : Option Walk) → (IsBelow t d g → ⊥)
     → option_map (stale_walk t g d) o ≡ o

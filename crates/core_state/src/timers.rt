@@ -19,7 +19,7 @@ impl<B: TimerBase> CoreCpu<B> {
         self.bases.journal();
     }
 
-    /// Arms a timer that isn't queued on it at `now`, and answers its wheel expiry, both in
+    /// Arms a timer that isn't queued on it at `now`, in jiffies, and answers its wheel expiry, in
     /// jiffies. Want of memory leaves all as before.
     pub(crate) fn arm(
         &mut self,

@@ -2,14 +2,14 @@
 //! rules of steps, and none looks at a CPU more than once.
 #![tactic(auto)]
 
+mod cpu;
 mod looks;
 mod machine;
-mod one;
 mod timers;
 
+pub use cpu::{first_event, has_interrupt, is_active, is_idle, is_online, is_placed, wakeup};
 pub use looks::{hands_on, live_expiry, looks_after, named, takes, told_by};
 pub use machine::{controller, next_interrupt, successor};
-pub use one::{first_event, has_interrupt, is_active, is_idle, is_online, is_placed, wakeup};
 pub use timers::{holder, queued, queued_on};
 
 #[cfg(test)]

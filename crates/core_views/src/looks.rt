@@ -4,7 +4,7 @@ ghost use Rattle.std.specs.Prelude.{◌≡◌, ◌<◌, IfSome, length, option_m
 ghost use Rattle.tree_plan.specs.Paths.{is_placed_in};
 ghost use Rattle.play_rules.specs.Hierarchy.{looks_after};
 ghost use Rattle.step_rules.specs.Live.{counting, expiry_of, live, told_by};
-ghost use Rattle.step_rules.specs.Seen.{InPlay, state_of};
+ghost use Rattle.step_rules.specs.Seen.{state_of};
 ghost use Rattle.step_rules.specs.StepRules.{can_be_taken, is_waiting, named_at, named_by_queue};
 
 use core_state::Core;

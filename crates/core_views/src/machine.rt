@@ -10,7 +10,7 @@ ghost use Rattle.play_rules.specs.Timers.{controller};
 ghost use Rattle.core_world.specs.World.{cpu_of};
 ghost use Rattle.step_rules.specs.Seen.{state_of};
 
-use crate::one::{is_active, is_online, is_placed, wakeup};
+use crate::cpu::{is_active, is_online, is_placed, wakeup};
 use core_state::Core;
 use tm_base::{CpuId, Jiffy, NEVER};
 use wheel_core::TimerBase;

@@ -41,8 +41,8 @@ abbrev pub LacksJob : (table : ℕ) → Script → (line job : ℕ) → Type 0
 LacksJob table script line job =
     first_unknown_job table script.moments ≡ Some (record { line = line; job = job })
 
--- the work of the script's play is broken off at this count, as it is printed; so its end comes late
--- enough for its CPUs and timers to come to the limit
+-- the work of the script's play is broken off at this count, as it is printed; so its end comes
+-- late enough for its CPUs and timers to come to the limit
 pub record SpendsWork (jobs : Replies) (table : ℕ) (script : Script) (count : ℕ) : Type 0 where
   pub known : KnowsJobs table script
   pub spent : option_map counted (spent_by jobs script) ≡ Some count

@@ -90,7 +90,8 @@ module _ (law : StepsStayLawful) (walks : Walks) (t : Shape)
             (armed_on s c a).state arms
             (rules.armed now c s a low known short on awake none was.settles) refl refl refl
 
-      module _ (a : Cancelling) (held : Queued) (known : (a.timer.0 < timers) × (a.by.0 < cpu_count_of t))
+      module _ (a : Cancelling) (held : Queued)
+          (known : (a.timer.0 < timers) × (a.by.0 < cpu_count_of t))
           (is : queued_on s a.timer.0 ≡ Some held) where
         pub cancel : Plays resting (cancelled_by_steps w held.cpu.0 a)
             (cancelled_on s held.cpu.0 a)
@@ -98,7 +99,8 @@ module _ (law : StepsStayLawful) (walks : Walks) (t : Shape)
             cancel_plays law resting w i a held is
             (free_in resting w held.cpu.0 (bare resting w i) refl
             (from_play t timers now between resting w was held.cpu.0
-            (queued_low s a.timer.0 held is))) (in_core t timers now between resting w was a.by.0 known.1)
+            (queued_low s a.timer.0 held is)))
+            (in_core t timers now between resting w was a.by.0 known.1)
 
         pub cancelled : At t timers now between resting (cancelled_by_steps w held.cpu.0 a)
         cancelled =

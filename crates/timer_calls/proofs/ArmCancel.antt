@@ -58,7 +58,8 @@ module _ (law : StepsStayLawful) (w : World) (c : ℕ) (a : Arming) (low : c < l
 
   -- what the step leaves
   module _ (v : World)
-      (made : v ≡ stepped w (steps.Arm (record { 0 = c }) a.timer a.class n a.job a.arg a.line)) where
+      (made : v ≡ stepped w (steps.Arm (record { 0 = c }) a.timer a.class n a.job a.arg a.line))
+      where
     pub arm_state : v ≡ (armed_by_steps w c a).state
     arm_state =
         made
@@ -75,7 +76,8 @@ module _ (law : StepsStayLawful) (w : World) (c : ℕ) (a : Arming) (low : c < l
         (rebased_online w c _ (armed_by_steps w c a).state low is)
 
 -- CANCELLING
-held_by : (o : Option Queued) (home : CpuId) → option_map (λ (held : Queued). held.cpu) o ≡ Some home →
+held_by : (o : Option Queued) (home : CpuId) →
+    option_map (λ (held : Queued). held.cpu) o ≡ Some home →
     (held : Queued) × (o ≡ Some held) × (held.cpu ≡ home)
 held_by None home is = absurd (none-some home is)
 held_by (Some held) home is = (held, refl, same_Some held.cpu home is)

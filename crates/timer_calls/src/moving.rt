@@ -1,7 +1,7 @@
 //! A timer moves from a CPU that is offline to an active one.
 
-ghost use Rattle.std.specs.Prelude.{◌≡◌, ◌≢◌, ◌<◌, IfOk, OnErr, OnOk, false, length, true};
-ghost use Rattle.std.specs.Prelude.{option_map};
+ghost use Rattle.std.specs.Prelude.{◌≡◌, ◌≢◌, ◌<◌, IfOk, OnErr, OnOk, false, length, option_map};
+ghost use Rattle.std.specs.Prelude.{true};
 ghost use Rattle.tm_base.specs.declared.names.TimerId.{TimerId};
 ghost use Rattle.play_rules.specs.Machines.{Same, SameFlags, after_move};
 ghost use Rattle.play_rules.specs.Phases.{IsUp};

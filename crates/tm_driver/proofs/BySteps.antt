@@ -1,6 +1,6 @@
 -- what playing by the rules of steps does, as Play has it
 use Rattle.std.proofs.Common.{◌≡◌, ℕ, ◌+◌, ◌++◌, List, [], ◌∷◌, length, map, true, false, Option}
-use Rattle.std.proofs.Common.{Some, None, refl, sym, ap, ◌∙◌}
+use Rattle.std.proofs.Common.{Some, None, refl, sym, ap, ◌∙◌, subst}
 use Rattle.std.specs.Prelude.{if◌then◌else◌, nat_le, option_map}
 use Rattle.std.proofs.lemmas.Bool.{both_ways}
 use Rattle.std.proofs.lemmas.List.{length-map}
@@ -22,8 +22,9 @@ use Rattle.step_play.specs.SamePlay.{IsPlayOfSteps, core_start, step_turns, turn
 use Rattle.tm_driver.specs.declared.outcomes.Counts.{Counts}
 use Rattle.tm_driver.specs.declared.outcomes.DriveFault.{DriveFault}
 use Rattle.tm_driver.specs.declared.outcomes.DriveFault.TheVariants.{BadJob, NoMemory, WorkSpent}
-use Rattle.tm_driver.specs.OnCore.{EachIsAnsweredFor, IsPlayedBySteps}
+use Rattle.tm_driver.specs.OnCore.{EachIsAnsweredFor, IsPlayedBySteps, core_end}
 use Rattle.tm_driver.specs.Outcomes.{PlaysWhole, SaysFault, work_limit}
+use Rattle.tm_driver.specs.Plays.{BreaksPlay}
 
 -- the moments that are finished by a count of work have the same lines
 finished_seen : (limit work : ℕ) (ts : List (Turn World)) →
@@ -33,11 +34,11 @@ finished_seen limit work (t ∷ ts) =
     let more = work + t.played.work in
     elim (nat_le limit more)
     as (λ b.
-        turn_lines
-        (if b then turn_seen t ∷ [] else turn_seen t ∷ finished limit more (map turn_seen ts))
-        ≡ turn_lines (if b then t ∷ [] else t ∷ finished limit more ts))
-    [ true ↦ refl
-    | false ↦ ap (λ ls. t.played.lines ++ ls) (finished_seen limit more ts)
+    turn_lines
+    (if b then turn_seen t ∷ [] else turn_seen t ∷ finished limit more (map turn_seen ts))
+    ≡ turn_lines (if b then t ∷ [] else t ∷ finished limit more ts)) [
+      | true ↦ refl
+      | false ↦ ap (λ ls. t.played.lines ++ ls) (finished_seen limit more ts)
     ]
 
 -- AT REST a core in play is settled, so its own law answers for each of its timers
@@ -62,26 +63,37 @@ module _ (jobs : Replies) (script : Script) (is : IsPlayOfSteps jobs script) whe
         (step_turns jobs script) is.in_play;
   }
 
-  -- THE WHOLE play
-  pub whole_seen : (table : ℕ) (old new : List ℕ) (counts : Counts) (last : World) →
-      PlaysWhole step_rules jobs table script (core_start script) old new counts last →
-      PlaysWhole plain_rules jobs table script (play_start script) old new counts (state_of last)
-  whole_seen table old new counts last whole = record {
-    text = whole.text ∙ ap (λ ls. old ++ report_text ls) is.lines;
-    moments = whole.moments
-        ∙ ap counted (sym (length-map (step_turns jobs script) turn_seen) ∙ ap length is.turns);
-    lines = whole.lines ∙ ap (tallied_all no_lines) is.lines;
-    state = ap state_of whole.state ∙ is.last;
-    known = whole.known;
-    within = sym (is.spent (work_limit script.version)) ∙ whole.within;
-  }
+  -- THE WHOLE play from a start
+  module _ (table : ℕ) (start : World) (at_start : start ≡ core_start script)
+      (old new : List ℕ) (counts : Counts) (last : World) where
+    from_start : PlaysWhole step_rules jobs table script start old new counts last →
+        PlaysWhole step_rules jobs table script (core_start script) old new counts last
+    from_start whole =
+        subst (λ w. PlaysWhole step_rules jobs table script w old new counts last) at_start whole
+
+    pub last_core : PlaysWhole step_rules jobs table script start old new counts last →
+        last ≡ core_end jobs script
+    last_core whole = (from_start whole).state
+
+    pub whole_seen : PlaysWhole step_rules jobs table script start old new counts last →
+        PlaysWhole plain_rules jobs table script (play_start script) old new counts
+        (state_of last)
+    whole_seen was = let whole = from_start was in record {
+      text = whole.text ∙ ap (λ ls. old ++ report_text ls) is.lines;
+      moments = whole.moments
+          ∙ ap counted (sym (length-map (step_turns jobs script) turn_seen) ∙ ap length is.turns);
+      lines = whole.lines ∙ ap (tallied_all no_lines) is.lines;
+      state = ap state_of whole.state ∙ is.last;
+      known = whole.known;
+      within = sym (is.spent (work_limit script.version)) ∙ whole.within;
+    }
 
   -- and where it is broken off
-  pub fault_seen : (table : ℕ) (fault : DriveFault) (old new : List ℕ) →
+  at_fault : (table : ℕ) (fault : DriveFault) (old new : List ℕ) →
       SaysFault step_rules jobs table script (core_start script) fault old new →
       SaysFault plain_rules jobs table script (play_start script) fault old new
-  fault_seen table (BadJob line job) old new says = says
-  fault_seen table (WorkSpent count) old new says =
+  at_fault table (BadJob line job) old new says = says
+  at_fault table (WorkSpent count) old new says =
       let limit = work_limit script.version in (
         says.0,
         record {
@@ -92,4 +104,12 @@ module _ (jobs : Replies) (script : Script) (is : IsPlayOfSteps jobs script) whe
               ∙ ap (λ ts. turn_lines (finished limit 0 ts)) is.turns);
         },
       )
-  fault_seen table NoMemory old new says = says
+  at_fault table NoMemory old new says = says
+
+  pub fault_seen : (table : ℕ) (start : World) → start ≡ core_start script →
+      (fault : DriveFault) (old new : List ℕ) →
+      SaysFault step_rules jobs table script start fault old new →
+      BreaksPlay jobs table script fault old new
+  fault_seen table start at_start fault old new says =
+      at_fault table fault old new
+      (subst (λ w. SaysFault step_rules jobs table script w fault old new) at_start says)

@@ -1,7 +1,6 @@
--- how playing a script on the plain machine ends
+-- how playing a script on the core ends
 use Rattle.std.specs.Prelude.{◌≡◌, ℕ, List, ◌++◌, Some, None, length, option_map}
 use Rattle.tm_script.specs.declared.syntax.Script.{Script}
-use Rattle.play_rules.specs.State.{State}
 use Rattle.play_rules.specs.Interrupts.{Replies}
 use Rattle.play_rules.specs.Jobs.{first_unknown_job}
 use Rattle.play_rules.specs.Moments.{last_state, whole_lines}
@@ -12,6 +11,9 @@ use Rattle.play_rules.specs.Play.{AfterEachMoment, plain_rules, play_spent, play
 use Rattle.play_rules.specs.Play.{play_turns}
 use Rattle.play_rules.specs.Tallies.{no_lines, tallied_all}
 use Rattle.play_rules.specs.declared.tally.Tally.{Tally}
+use Rattle.core_world.specs.World.{World}
+use Rattle.step_rules.specs.Seen.{state_of}
+use Rattle.tm_driver.specs.OnCore.{IsPlayedBySteps, core_end}
 use Rattle.tm_driver.specs.Outcomes.{SaysFault, work_limit}
 use Rattle.tm_driver.specs.declared.outcomes.DriveFault.{DriveFault}
 use Rattle.tm_driver.specs.declared.outcomes.DriveFault.TheVariants.{BadJob, NoMemory, WorkSpent}
@@ -22,13 +24,16 @@ pub record CanPlay (jobs : Replies) (table : ℕ) (script : Script) : Type 0 whe
   pub known : first_unknown_job table script.moments ≡ None
   pub within : play_spent jobs (work_limit script.version) script ≡ None
 
--- the report has gained the text of the script's play, and this is the state that its last moment
+-- the report has gained the text of the script's play; the core is the one that the last moment of
+-- the play made of steps leaves, and what Play sees of it is the state that Play's last moment
 -- leaves; after each moment each global timer that is queued on an idle CPU is held or woken for,
 -- and each pinned or global timer whose wheel expiry has come has its end, in its jiffy
-pub record Plays (jobs : Replies) (table : ℕ) (script : Script) (old new : List ℕ) (last : State)
+pub record Plays (jobs : Replies) (table : ℕ) (script : Script) (old new : List ℕ) (core : World)
     : Type 0 where
   pub text : new ≡ old ++ play_text jobs script
-  pub state : last ≡ last_state (play_start script) (play_turns jobs script)
+  pub core_is : core ≡ core_end jobs script
+  pub state : state_of core ≡ last_state (play_start script) (play_turns jobs script)
+  pub by_steps : IsPlayedBySteps jobs script
   pub can_play : CanPlay jobs table script
   pub settled : AfterEachMoment IsSettled jobs script
   pub in_its_jiffy : AfterEachMoment InItsJiffy jobs script

@@ -1,35 +1,67 @@
-//! Playing a script on the plain machine.
+//! Playing a script on the core.
 
-ghost use Rattle.std.specs.Prelude.{◌≡◌, ◌+◌, IfErr, IfOk};
+ghost use Rattle.std.specs.Prelude.{◌≡◌, ◌+◌, IfErr, IfOk, OnOk};
 ghost use Rattle.tm_script.specs.Grammar.{IsScript};
-ghost use Rattle.play_rules.specs.Play.{play_start};
+ghost use Rattle.play_rules.specs.Play.{plain_rules, play_start};
+ghost use Rattle.step_rules.specs.Seen.{InPlay, resting, state_of};
+ghost use Rattle.step_play.specs.SamePlay.{core_start};
+ghost use Rattle.tm_driver.specs.OnCore.{IsPlayedBySteps, core_end};
+ghost use Rattle.tm_driver.specs.Outcomes.{PlaysWhole};
 ghost use Rattle.tm_driver.specs.Plays.{BreaksPlay, BreaksSummary, Plays, Summarizes};
 ghost use Rattle.tm_driver.specs.Plays.{summary_with};
 
 use crate::numbers::Summary;
 use crate::outcomes::{Counts, DriveFault};
 use crate::playing::play_on;
+use crate::starting::start_core;
+use core_cover::law_settled as law_core_settled;
+use core_machine::Player;
+use core_state::Core;
 use job_table::Jobs;
 use play_jiffies::{law_ends, law_in_its_jiffy};
 use play_laws::law_settled;
-use quiet_machine::Quiet;
 use std::alloc::Global;
+use step_play::law_steps_are_play;
 use tm_base::{Jiffy, NoMemory};
 use tm_report::Report;
 use tm_script::Script;
-use tree_plan::plan;
+use wheel_base::WheelBase;
 
-/// The plain machine at the start of a script.
-fn started(alloc: Global, script: &Script) -> Result<Quiet, NoMemory>
+/// The core at the start of a script, which is to play it.
+fn started(alloc: Global, script: &Script) -> Result<Player<WheelBase>, NoMemory>
     requires { IsScript script.now }
-    ensures { IfOk result (λ quiet. quiet ≡ play_start script.now) }
+    ensures start { IfOk result (λ player. player ≡ core_start script.now) }
+    ensures in_play { IfOk result (InPlay resting) }
 {
-    let tree = plan(alloc, script.nodes, script.cpus, &script.isolated)?;
-    Quiet::new(alloc, tree, script.timers)
+    let core = start_core(alloc, script)?;
+    Ok(Player::new(alloc, core))
 }
 
-/// Plays a script from its start into a report, and answers the machine that its last moment
-/// leaves.
+/// Plays a script on the core of its start, by steps: what that tells and leaves is as Play has it.
+fn play_by_steps<J: Jobs>(
+    alloc: Global,
+    player: &mut Player<WheelBase>,
+    script: &Script,
+    jobs: &J,
+    report: &mut Report,
+) -> Result<Counts, DriveFault>
+    requires script { IsScript script.now }
+    requires start { player.old ≡ core_start script.now }
+    requires in_play { InPlay resting player.old }
+    ensures whole { IfOk result (λ counts.
+        PlaysWhole plain_rules (J.replies jobs.now) (J.count jobs.now) script.now
+        (play_start script.now) report.old report.new counts (state_of player.new)) }
+    ensures core { OnOk result (player.new ≡ core_end (J.replies jobs.now) script.now) }
+    ensures by_steps { IsPlayedBySteps (J.replies jobs.now) script.now }
+    ensures fault { IfErr result (λ fault.
+        BreaksPlay (J.replies jobs.now) (J.count jobs.now) script.now fault report.old report.new) }
+{
+    law_steps_are_play();
+    law_core_settled();
+    play_on(alloc, player, script, jobs, report)
+}
+
+/// Plays a script from its start into a report, and answers the core that its last moment leaves.
 ///
 /// `BadJob` comes exactly where an `arm` line names a job that the table hasn't, before anything is
 /// played. `WorkSpent` comes where the moments finished, interrupts made and timers handed out
@@ -40,19 +72,19 @@ pub fn play<J: Jobs>(
     script: &Script,
     jobs: &J,
     report: &mut Report,
-) -> Result<Quiet, DriveFault>
+) -> Result<Core<WheelBase>, DriveFault>
     requires { IsScript script.now }
-    ensures whole { IfOk result (λ machine.
-        Plays (J.replies jobs.now) (J.count jobs.now) script.now report.old report.new machine) }
+    ensures whole { IfOk result (λ core.
+        Plays (J.replies jobs.now) (J.count jobs.now) script.now report.old report.new core) }
     ensures fault { IfErr result (λ fault.
         BreaksPlay (J.replies jobs.now) (J.count jobs.now) script.now fault report.old report.new) }
 {
     law_settled();
     law_in_its_jiffy();
     law_ends();
-    let mut quiet = started(alloc, script)?;
-    play_on(alloc, &mut quiet, script, jobs, report)?;
-    Ok(quiet)
+    let mut player = started(alloc, script)?;
+    play_by_steps(alloc, &mut player, script, jobs, report)?;
+    Ok(player.into_core())
 }
 
 /// The numbers of a play that ended there, of so many moments and lines.
@@ -83,8 +115,8 @@ pub fn summary<J: Jobs>(alloc: Global, script: &Script, jobs: &J) -> Result<Summ
     ensures fault { IfErr result
         (BreaksSummary (J.replies jobs.now) (J.count jobs.now) script.now) }
 {
-    let mut quiet = started(alloc, script)?;
+    let mut player = started(alloc, script)?;
     let mut report = Report::new(alloc);
-    let counts = play_on(alloc, &mut quiet, script, jobs, &mut report)?;
+    let counts = play_by_steps(alloc, &mut player, script, jobs, &mut report)?;
     Ok(summary_with(script.end, counts))
 }

@@ -49,8 +49,8 @@ fn bases_of_all(alloc: Global, count: u16) -> Result<Vec<Bases<WheelBase>>, NoMe
     Ok(bases)
 }
 
-/// The core of a script's machine at jiffy 0: every CPU is online and active, and nothing is queued.
-/// Each base is a wheel of nine levels.
+/// The core of a script's machine at jiffy 0: every CPU is online and active, and nothing is
+/// queued. Each base is a wheel of nine levels.
 pub fn start_core(alloc: Global, script: &Script) -> Result<Core<WheelBase>, NoMemory>
     requires { IsScript script.now }
     ensures start { IfOk result (λ core. core ≡ core_start script.now) }

@@ -20,7 +20,8 @@ fn words(rt: &HostRuntime) -> Result<Vec<String>, AllocError> {
     }
 }
 
-/// Runs the program with its four jobs. By their numbers: 0 is done, 1 and 2 arm again, 3 leaves a mark.
+/// Runs the program with its four jobs. By their numbers: 0 is done, 1 and 2 arm again, 3 leaves
+/// a mark.
 fn run(rt: &HostRuntime) -> Result<Status, AllocError> {
     let alloc = rt.alloc();
     let words = words(rt)?;

@@ -1,7 +1,7 @@
 //! The four walks that tell, each begun by a step of a play and made alone to its end, leave a core
-//! in play, and in it Play's state after the rule of Play that the walk stands for: a CPU goes idle,
-//! goes offline, ends its interrupt, or is let go by the CPU that took it. The functions do nothing;
-//! their contracts are the laws.
+//! in play, and in it Play's state after the rule of Play that the walk stands for: a CPU goes
+//! idle, goes offline, ends its interrupt, or is let go by the CPU that took it. The functions do
+//! nothing; their contracts are the laws.
 #![tactic(auto)]
 
 ghost use Rattle.step_rules.specs.Alike.{EndsAlike, IdlesAlike, LetsGoAlike, OfflinesAlike};

@@ -27,11 +27,13 @@ pub returns-clause-due : goal.returns-clause-due
 returns-clause-due g c =
     hands_due c.law_step.ensures c.args.core.now c.args.home.0 c.args.class c.args.runner.0
     c.requires.drains c.tree.ensures.lawful _ (sym c.in-Some.ensures)
-    ∙ ap (λ w. c.in-Some.item ∷ items_due w c.args.home.0 c.args.class) (sym c.in_ok-hand.ensures.ok)
+    ∙ ap (λ w. c.in-Some.item ∷ items_due w c.args.home.0 c.args.class)
+    (sym c.in_ok-hand.ensures.ok)
 
 pub returns-clause-fewer : goal.returns-clause-fewer
 returns-clause-fewer g c =
-    subst (λ (w : World). OneFewer (base_of c.args.class (cpu_of c.args.core.now c.args.home.0).bases)
+    subst (λ (w : World).
+    OneFewer (base_of c.args.class (cpu_of c.args.core.now c.args.home.0).bases)
     (base_of c.args.class (cpu_of w c.args.home.0).bases)) (sym c.in_ok-hand.ensures.ok)
     (hands_fewer c.law_step.ensures c.args.core.now c.args.home.0 c.args.class c.args.runner.0
     c.requires.drains c.tree.ensures.lawful _ (sym c.in-Some.ensures))

@@ -1,0 +1,20 @@
+-- the bases of each CPU, those that aren't there too
+use Rattle.std.proofs.Common.{ℕ, ◌<◌, ◌≤◌, length, sym, subst, arith, inl, inr}
+use Rattle.std.proofs.lemmas.Bool.{cases_lt}
+use Rattle.tm_base.specs.declared.names.Class.TheVariants.{Pinned, Global, Deferrable}
+use Rattle.cpu_bases.specs.CpuBases.{empty_bases}
+use Rattle.core_world.specs.World.{CpuRecord, World, cpu_of}
+use Rattle.play_queues.proofs.Sights.{past_of}
+use Rattle.hotplug.specs.Settled.{AllWhole, IsWhole}
+
+empty_whole : IsWhole empty_bases
+empty_whole Pinned = λ wheel is. omega arith
+empty_whole Global = λ wheel is. omega arith
+empty_whole Deferrable = λ wheel is. omega arith
+
+pub whole_up_to : (w : World) (n : ℕ) → length w.cpus ≤ n →
+    ((d : ℕ) → d < n → IsWhole (cpu_of w d).bases) → AllWhole w
+whole_up_to w n all each d = elim (cases_lt d (length w.cpus)) [
+  | inl low ↦ each d (omega (arith, low, all))
+  | inr past ↦ subst (λ (y : CpuRecord). IsWhole y.bases) (sym (past_of w d past)) empty_whole
+]

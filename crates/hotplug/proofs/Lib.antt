@@ -1,0 +1,7 @@
+pub mod Frames
+pub mod Settling
+pub mod Activating
+pub mod Leaving
+pub mod Moving
+pub mod Heirs
+pub mod Bases

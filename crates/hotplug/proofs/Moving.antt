@@ -1,0 +1,239 @@
+-- timers of a dead CPU move in a settled core
+use Rattle.std.proofs.Common.{◌≡◌, ◌≢◌, ℕ, ◌+◌, ◌<◌, true, List, [], ◌∷◌}
+use Rattle.std.proofs.Common.{Option, Some, None, length, refl, sym, ap, ◌∙◌, subst, arith}
+use Rattle.std.specs.Prelude.{is_some, not, option_map}
+use Rattle.std.specs.Option.{option_or}
+use Rattle.std.proofs.lemmas.Bool.{and_parts, both_ways}
+use Rattle.std.proofs.lemmas.Option.{none-some}
+use Rattle.tm_base.specs.declared.names.Class.{Class}
+use Rattle.tm_base.specs.declared.names.Class.TheVariants.{Pinned, Global, Deferrable}
+use Rattle.tm_base.specs.declared.names.CpuId.{CpuId}
+use Rattle.tm_base.specs.declared.names.TimerId.{TimerId}
+use Rattle.wheel_core.specs.declared.item.Item.{Item}
+use Rattle.wheel_core.specs.PlainBase.{IsPlaced, NoneBehind, item_of, removed}
+use Rattle.wheel_core.proofs.Ids.{item_holds, length-without}
+use Rattle.cpu_bases.specs.declared.entry.Act.TheVariants as acts
+use Rattle.cpu_bases.specs.CpuBases.{CpuBases, after_move_out, base_of, changed}
+use Rattle.cpu_bases.specs.CpuBases.{entry_of, moved_out, oldest_in}
+use Rattle.cpu_bases.proofs.Keeping.{oldest_found}
+use Rattle.tree_plan.specs.Paths.{is_placed_in}
+use Rattle.play_rules.specs.Machines.{after_move}
+use Rattle.play_rules.specs.Timers.{first_to_move, oldest_of_class}
+use Rattle.core_world.specs.declared.step.Step.TheVariants as steps
+use Rattle.core_world.specs.Enabled.{MayMove}
+use Rattle.core_world.specs.Lawful.{IsLawful}
+use Rattle.core_world.specs.Steps.{giver, moved_with, stepped, taker, with_bases}
+use Rattle.core_world.specs.World.{CpuRecord, World, cpu_of, is_active}
+use Rattle.step_rules.specs.StepRules.{moved_by_steps, step_rules}
+use Rattle.step_play.proofs.Bases.{moved_out_whole, queued_whole}
+use Rattle.step_play.proofs.Held.{bases_seen}
+use Rattle.step_play.proofs.Moves.{first_alike, is_oldest}
+use Rattle.step_play.proofs.Worlds.{put, put_all, put_count, put_else, put_field, put_same}
+use Rattle.timer_calls.specs.Turns.{timer_of}
+use Rattle.timer_calls.proofs.FirstMoves.{Found, found_first}
+use Rattle.hotplug.specs.Frames.{MayMoveAll}
+use Rattle.hotplug.specs.Settled.{AllWhole}
+
+-- HOW MANY are queued
+abbrev pub count_in : CpuBases → ℕ
+count_in b =
+    length (base_of Pinned b).items
+    + (length (base_of Global b).items + length (base_of Deferrable b).items)
+
+pub count_seen_in : (w : World) (c : ℕ) → c < length w.cpus →
+    step_rules.queued_on w c ≡ count_in (cpu_of w c).bases
+count_seen_in w c low = ap count_in (bases_seen w c low)
+
+fewer_in : (now : ℕ) (k : Class) (by : CpuId) (b : CpuBases) (item : Item) →
+    item_of item.id (base_of k b).items ≡ Some item →
+    count_in (changed k (removed item.id (base_of k b)) (entry_of acts.MovedOut 0 now k item by) b)
+    + 1 ≡ count_in b
+fewer_in now Pinned by b item found =
+    let one = length-without item.id (base_of Pinned b).items item found in omega (arith, one)
+fewer_in now Global by b item found =
+    let one = length-without item.id (base_of Global b).items item found in omega (arith, one)
+fewer_in now Deferrable by b item found =
+    let one = length-without item.id (base_of Deferrable b).items item found in omega (arith, one)
+
+fewer_out : (now : ℕ) (k : Class) (by : CpuId) (b : CpuBases) (item : Item) →
+    oldest_in (base_of k b).items ≡ Some item → count_in (moved_out now k by b) + 1 ≡ count_in b
+fewer_out now k by b item is =
+    ap (λ o. count_in (after_move_out o now k by b) + 1) is
+    ∙ fewer_in now k by b item (oldest_found (base_of k b).items item is)
+
+-- nothing moves first exactly where nothing is queued
+no_items : (k : Class) (items : List Item) →
+    option_map {U = Class × Item} (λ item. (k, item)) (oldest_in items) ≡ None → length items ≡ 0
+no_items k [] none = refl
+no_items k (item ∷ items) none = absurd (none-some (k, item) (sym none))
+
+first_none : (o p : Option (Class × Item)) → option_or o p ≡ None → o ≡ None
+first_none None p none = refl
+first_none (Some x) p none = none
+
+pub rest_none : {X : Type 0} (o p : Option X) → option_or o p ≡ None → p ≡ None
+rest_none None p none = none
+rest_none (Some x) p none = absurd (none-some x (sym none))
+
+pub none_queued : (b : CpuBases) → first_to_move b ≡ None → count_in b ≡ 0
+none_queued b none =
+    let more = rest_none (oldest_of_class Pinned b) _ none in
+    let p = no_items Pinned (base_of Pinned b).items
+    (first_none (oldest_of_class Pinned b) _ none) in
+    let g = no_items Global (base_of Global b).items
+    (first_none (oldest_of_class Global b) _ more) in
+    let d = no_items Deferrable (base_of Deferrable b).items
+    (rest_none (oldest_of_class Global b) _ more) in
+    omega (arith, p, g, d)
+
+some_items : (k : Class) (items : List Item) (item : Item) → oldest_in items ≡ Some item →
+    0 < length items
+some_items k [] item is = absurd (none-some item is)
+some_items k (x ∷ items) item is = omega arith
+
+some_in : (b : CpuBases) (k : Class) (item : Item) → oldest_in (base_of k b).items ≡ Some item →
+    0 < count_in b
+some_in b Pinned item is =
+    let some = some_items Pinned (base_of Pinned b).items item is in omega (arith, some)
+some_in b Global item is =
+    let some = some_items Global (base_of Global b).items item is in omega (arith, some)
+some_in b Deferrable item is =
+    let some = some_items Deferrable (base_of Deferrable b).items item is in omega (arith, some)
+
+pub some_queued : (b : CpuBases) (f : Class × Item) → first_to_move b ≡ Some f → 0 < count_in b
+some_queued b f is = some_in b f.0 f.1 (is_oldest b f is)
+
+-- A MOVE
+module _ (w : World) (from to : ℕ) (lawful : IsLawful w) (may : MayMoveAll w from to)
+    (t : TimerId) (is : Some t ≡ option_map timer_of (first_to_move (cpu_of w from).bases)) where
+  f : Found w from t
+  f = found_first w from t is
+
+  abbrev class : Class
+  class = f.found.0
+
+  abbrev item : Item
+  item = f.found.1
+
+  to_online : (cpu_of w to).online ≡ true
+  to_online = (and_parts (cpu_of w to).online (not (cpu_of w to).idle) may.active).0
+
+  apart : to ≢ from
+  apart same = both_ways (cpu_of w from).online may.offline
+      (ap (λ n. (cpu_of w n).online) (sym same) ∙ to_online)
+
+  pub moves_enabled : MayMove w from to t.0
+  moves_enabled =
+      subst (λ (x : TimerId). MayMove w from to x.0) (sym f.timer) (record {
+        from_free = record { in_range = may.low; free = may.settled.free from };
+        from_offline = may.offline;
+        to_free = record { in_range = may.to_low; free = may.settled.free to };
+        to_placed = may.placed;
+        to_active = may.active;
+        to_outside = may.settled.outside to;
+        class = class;
+        item = item;
+        first = first_alike (cpu_of w from).bases ∙ f.first;
+        timers = refl;
+        none_behind = may.whole to class;
+      })
+
+  abbrev v : World
+  v = stepped w (steps.Move (record { 0 = from }) (record { 0 = to }) t)
+
+  -- by the definition of a move
+  pub moves_step : v ≡ after_move (step_rules.moved w from to) w
+  moves_step =
+      sym (ap (λ o. after_move (option_map (moved_by_steps w from to) o) w) f.first)
+
+  pub moves_some : true ≡ is_some (step_rules.moved w from to)
+  moves_some = sym (ap (λ o. is_some (option_map (moved_by_steps w from to) o)) f.first)
+
+  -- between the two CPUs, and after it
+  abbrev mid : World
+  mid = put w from (giver w from to class)
+
+  abbrev last : World
+  last = put mid to (taker w to class item)
+
+  v_is : v ≡ last
+  v_is = ap (moved_with w from to) (first_alike (cpu_of w from).bases ∙ f.first)
+
+  mid_low : to < length mid.cpus
+  mid_low =
+      let count = put_count w from (giver w from to class) may.low in
+      let low = may.to_low in
+      omega (arith, count, low)
+
+  field : {X : Type 0} (g : CpuRecord → X) → ((y : CpuRecord) (b : CpuBases) →
+      g (with_bases y b) ≡ g y) → (d : ℕ) → g (cpu_of v d) ≡ g (cpu_of w d)
+  field g same d =
+      let first = put_field w from (giver w from to class) may.low g (same (cpu_of w from) _) in
+      ap (λ u. g (cpu_of u d)) v_is
+      ∙ (put_field mid to (taker w to class item) mid_low g
+      (same (cpu_of w to) _ ∙ sym (first to)) d
+      ∙ first d)
+
+  count : length v.cpus ≡ length w.cpus
+  count =
+      ap (λ (u : World). length u.cpus) v_is
+      ∙ (put_count mid to (taker w to class item) mid_low
+      ∙ put_count w from (giver w from to class) may.low)
+
+  tree : v.tree ≡ w.tree
+  tree = ap (λ (u : World). u.tree) v_is
+
+  placed : IsPlaced item
+  placed =
+      item_holds IsPlaced item.id (base_of class (cpu_of w from).bases).items item
+      ((lawful.timers.consistent from).fits class).sound.placed
+      (oldest_found (base_of class (cpu_of w from).bases).items item
+      (is_oldest (cpu_of w from).bases f.found f.first))
+
+  given_whole : (k : Class) → NoneBehind (base_of k (giver w from to class).bases)
+  given_whole =
+      moved_out_whole (cpu_of w from).bases (may.whole from) w.clock class (record { 0 = to })
+
+  taken_whole : (k : Class) → NoneBehind (base_of k (taker w to class item).bases)
+  taken_whole =
+      let clock = lawful.times.clock in
+      let fits = placed.expires in
+      queued_whole (cpu_of w to).bases (may.whole to) (lawful.timers.consistent to)
+      acts.MovedIn 0 w.clock (w.clock + 1) class item.id item.expires item.job item.arg
+      (record { 0 = to }) (omega (arith, clock)) (omega (arith, fits))
+
+  whole : AllWhole v
+  whole =
+      subst AllWhole (sym v_is)
+      (put_all mid to (taker w to class item) mid_low
+      (λ d z. (k : Class) → NoneBehind (base_of k z.bases)) taken_whole
+      (λ d ne. put_all w from (giver w from to class) may.low
+      (λ d z. (k : Class) → NoneBehind (base_of k z.bases)) given_whole (λ e other. may.whole e)
+      d))
+
+  pub moves_on : MayMoveAll v from to
+  moves_on = record {
+    settled = record {
+      free = λ d. field (λ y. y.walk) (λ y b. refl) d ∙ may.settled.free d;
+      outside = λ d. field (λ y. y.inside) (λ y b. refl) d ∙ may.settled.outside d;
+    };
+    low = (let same = count in let low = may.low in omega (arith, same, low));
+    to_low = (let same = count in let low = may.to_low in omega (arith, same, low));
+    offline = field (λ y. y.online) (λ y b. refl) from ∙ may.offline;
+    placed = ap (λ x. is_placed_in x to) tree ∙ may.placed;
+    active = field is_active (λ y b. refl) to ∙ may.active;
+    whole = whole;
+  }
+
+  pub moves_fewer : step_rules.queued_on v from + 1 ≡ step_rules.queued_on w from
+  moves_fewer =
+      let there : (cpu_of v from).bases ≡ (giver w from to class).bases =
+      ap (λ (u : World). (cpu_of u from).bases) v_is
+      ∙ (ap (λ (y : CpuRecord). y.bases)
+      (put_else mid to (taker w to class item) mid_low from (λ same. apart (sym same)))
+      ∙ ap (λ (y : CpuRecord). y.bases) (put_same w from (giver w from to class) may.low)) in
+      let fewer = fewer_out w.clock class (record { 0 = to }) (cpu_of w from).bases item
+      (is_oldest (cpu_of w from).bases f.found f.first) in
+      let new = count_seen_in v from moves_on.low in
+      let old = count_seen_in w from may.low in
+      ap (λ n. n + 1) (new ∙ ap count_in there) ∙ (fewer ∙ sym old)

@@ -1,0 +1,10 @@
+use Rattle.hotplug.proofs.Heirs.{moved_more}
+use Rattle.hotplug.proofs.dead.move_all.Goals as goal
+
+pub loop-preserved : goal.loop-preserved
+loop-preserved g c = record {
+  moved = moved_more c.args.core.now c.loop.core c.move_next.new.core c.args.from.0 c.args.to.0
+      c.loop.invariant.moved c.in_ok-move_next.ensures.moved
+      (c.in_ok-move_next.ensures.fewer c.if-branch.true);
+  may = c.in_ok-move_next.ensures.may;
+}

@@ -1,0 +1,13 @@
+use Rattle.step_rules.specs.StepRules.{step_rules}
+use Rattle.hotplug.specs.Frames.{MayMoveAll}
+use Rattle.hotplug.specs.Settled.{MovedTimes}
+use Rattle.hotplug.proofs.dead.move_all.Given as goal
+
+abbrev pub invariant-loop : goal.invariant-loop
+invariant-loop g l = record {
+  moved : MovedTimes l.fn.core l.from.0 l.to.0 l.core;
+  may : MayMoveAll l.core l.from.0 l.to.0;
+}
+
+abbrev pub decreases-loop : goal.decreases-loop
+decreases-loop g l = step_rules.queued_on l.core l.from.0

@@ -1,0 +1,25 @@
+use Rattle.hotplug.proofs.Heirs.{heir_activates, heir_moved, heir_ready, none_dead}
+use Rattle.hotplug.proofs.dead.move_dead.Goals as goal
+
+pub returns-in_default-clause-none_left : goal.returns-in_default-clause-none_left
+returns-in_default-clause-none_left g c =
+    none_dead c.args.core.now c.args.dead.0 c.requires.dead c.in_default.ensures
+    c.requires.some_online
+
+pub make_active-requires : goal.make_active-requires
+make_active-requires g c =
+    heir_activates c.args.core.now c.args.dead.0 c.requires.dead c.in-Some.heir c.in-Some.ensures
+    c.requires.settled c.requires.offline c.requires.whole
+
+pub move_all-requires : goal.move_all-requires
+move_all-requires g c =
+    heir_ready c.args.core.now c.args.dead.0 c.requires.dead c.in-Some.heir c.in-Some.ensures
+    c.requires.settled c.requires.offline c.requires.whole c.make_active.new.core
+    c.make_active.ensures.made c.make_active.ensures.active
+
+pub returns-clause-moved : goal.returns-clause-moved
+returns-clause-moved g c =
+    heir_moved c.args.core.now c.args.dead.0 c.requires.dead c.in-Some.heir c.in-Some.ensures
+    c.requires.settled c.requires.offline c.requires.whole c.make_active.new.core
+    c.make_active.ensures.made c.make_active.ensures.active c.move_all.new.core
+    c.in_ok-move_all.ensures.moved c.in_ok-move_all.ensures.none_left

@@ -1,0 +1,23 @@
+//! A CPU is made active.
+
+ghost use Rattle.std.specs.Prelude.{◌≡◌};
+ghost use Rattle.step_rules.specs.StepRules.{made_active};
+ghost use Rattle.hotplug.specs.Frames.{Activated, MayActivate};
+
+use core_state::Core;
+use step_calls::wake;
+use tm_base::CpuId;
+use wheel_core::TimerBase;
+
+/// An online CPU without walk becomes active, where it is idle. No other walk goes on.
+pub(crate) fn make_active<B: TimerBase>(core: &mut Core<B>, cpu: CpuId)
+    requires { MayActivate core.old cpu.0 }
+    ensures made { core.new ≡ made_active core.old cpu.0 }
+    ensures active { Activated core.old cpu.0 core.new }
+{
+    if !core.status(cpu).idle {
+        return;
+    }
+    wake(core, cpu);
+    core.tree();
+}

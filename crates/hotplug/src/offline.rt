@@ -1,0 +1,93 @@
+//! A CPU leaves.
+
+ghost use Rattle.std.specs.Prelude.{◌≡◌, ◌≢◌, ◌<◌, IfOk, MatchResult, None, OnErr, OnOk, Some};
+ghost use Rattle.std.specs.Prelude.{length, true};
+ghost use Rattle.tree_plan.specs.Paths.{is_placed_in};
+ghost use Rattle.core_world.specs.Covered.{IsSettled};
+ghost use Rattle.step_rules.specs.StepRules.{handed_on_by_steps};
+ghost use Rattle.hotplug.specs.Frames.{Waits};
+ghost use Rattle.hotplug.specs.Settled.{gone_whole, heir_at, offline_fault};
+
+use crate::activation::make_active;
+use core_state::Core;
+use core_world::Step;
+use step_calls::make;
+use tm_base::{CpuId, OpFault};
+use wheel_core::TimerBase;
+
+/// Why a CPU can't leave, with CPU `to` to follow it.
+fn offline_fault<B: TimerBase>(core: &Core<B>, cpu: CpuId, to: CpuId) -> Option<OpFault>
+    requires cpu { cpu.0 < length core.now.cpus }
+    requires to { to.0 < length core.now.cpus }
+    ensures { result ≡ offline_fault core.now cpu.0 to.0 }
+{
+    let status = core.status(cpu);
+    if !status.online {
+        Some(OpFault::Offline)
+    } else if status.idle {
+        Some(OpFault::NotActive)
+    } else if !core.status(to).online {
+        Some(OpFault::LastOnline)
+    } else {
+        None
+    }
+}
+
+/// The walk of a CPU that left hands on to another one, which is woken for it.
+fn hand_on<B: TimerBase>(core: &mut Core<B>, cpu: CpuId, to: CpuId)
+    requires { Waits core.old cpu.0 to.0 }
+    ensures handed { core.new ≡ handed_on_by_steps core.old cpu.0 to.0 }
+    ensures settled { IsSettled core.new }
+{
+    make_active(core, to);
+    make(core, Step::HandOn { cpu, to });
+}
+
+/// A CPU leaves that may; it answers the CPU to which it handed on, if it did.
+fn leave<B: TimerBase>(core: &mut Core<B>, cpu: CpuId, to: CpuId) -> Option<CpuId>
+    requires cpu { cpu.0 < length core.old.cpus }
+    requires to { to.0 < length core.old.cpus }
+    requires another { to.0 ≢ cpu.0 }
+    requires placed { is_placed_in core.old.tree to.0 ≡ true }
+    requires settled { IsSettled core.old }
+    requires allowed { offline_fault core.old cpu.0 to.0 ≡ None }
+    ensures gone { core.new ≡ gone_whole core.old cpu.0 to.0 }
+    ensures heir { result ≡ heir_at core.old cpu.0 to }
+    ensures settled { IsSettled core.new }
+{
+    step_calls::go_offline(core, cpu);
+    if core.walk(cpu).is_none() {
+        return None;
+    }
+    hand_on(core, cpu, to);
+    Some(to)
+}
+
+/// An active CPU leaves (the kernel's `tmigr_cpu_offline`). Where its walk finds that no active CPU
+/// looks after its timers, it hands on to the placed CPU `to`, which is woken for it where it is
+/// idle; `to` is answered exactly then. Refusals, in this order, which leave all as it was:
+/// `Offline`; `NotActive` of an idle CPU; `LastOnline` where `to` is offline.
+pub fn go_offline<B: TimerBase>(
+    core: &mut Core<B>,
+    cpu: CpuId,
+    to: CpuId,
+) -> Result<Option<CpuId>, OpFault>
+    requires cpu { cpu.0 < length core.old.cpus }
+    requires to { to.0 < length core.old.cpus }
+    requires another { to.0 ≢ cpu.0 }
+    requires placed { is_placed_in core.old.tree to.0 ≡ true }
+    requires settled { IsSettled core.old }
+    ensures refused { MatchResult result
+        (λ heir. offline_fault core.old cpu.0 to.0 ≡ None)
+        (λ fault. offline_fault core.old cpu.0 to.0 ≡ Some fault) }
+    ensures err { OnErr result (core.new ≡ core.old) }
+    ensures gone { OnOk result (core.new ≡ gone_whole core.old cpu.0 to.0) }
+    ensures heir { IfOk result (λ heir. heir ≡ heir_at core.old cpu.0 to) }
+    ensures settled { IsSettled core.new }
+{
+    if let Some(fault) = offline_fault(core, cpu, to) {
+        return Err(fault);
+    }
+    let heir = leave(core, cpu, to);
+    Ok(heir)
+}

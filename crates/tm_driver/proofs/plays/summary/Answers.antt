@@ -1,8 +1,0 @@
-use Rattle.std.proofs.Common.{◌*◌}
-use Rattle.std.proofs.lemmas.List.{length-replicate}
-use Rattle.tm_driver.proofs.Playable.{playable}
-use Rattle.tm_driver.proofs.plays.summary.Goals as goal
-
-pub play_on-requires-clause-playable : goal.play_on-requires-clause-playable
-play_on-requires-clause-playable g c =
-    rw c.in_ok-quiet.ensures (playable c.args.script.now c.requires _ (length-replicate (c.args.script.now.nodes * c.args.script.now.cpus) _))
