@@ -23,7 +23,8 @@ mark_low (Some c) fits = let low = fits c refl in omega arith
 pub fields : (mark inside idle online wakeup : ℕ) → mark < 2 ^ 10 → inside ≤ 1 → idle ≤ 1
     → online ≤ 1 → wakeup < 2 ^ 48
     → bit_or (bit_or (bit_or (bit_or (mark * 2251799813685248 % 18446744073709551616)
-    (inside * 1125899906842624 % 18446744073709551616)) (idle * 562949953421312 % 18446744073709551616))
+    (inside * 1125899906842624 % 18446744073709551616))
+    (idle * 562949953421312 % 18446744073709551616))
     (online * 281474976710656 % 18446744073709551616)) wakeup
     ≡ wakeup + 2 ^ 48 * online + 2 ^ 49 * idle + 2 ^ 50 * inside + 2 ^ 51 * mark
 fields mark inside idle online wakeup m n i o w =
@@ -34,8 +35,8 @@ fields mark inside idle online wakeup m n i o w =
     let e = or_shifted mark 51 (inside * 2 ^ 50) (omega arith) in
     let e' : mark * 2 ^ 51 + inside * 2 ^ 50 ≡ (mark * 2 + inside) * 2 ^ 50 = omega arith in
     let f = or_shifted (mark * 2 + inside) 50 (idle * 2 ^ 49) (omega arith) in
-    let f' : (mark * 2 + inside) * 2 ^ 50 + idle * 2 ^ 49 ≡ (mark * 4 + inside * 2 + idle) * 2 ^ 49 =
-    omega arith in
+    let f' : (mark * 2 + inside) * 2 ^ 50 + idle * 2 ^ 49
+    ≡ (mark * 4 + inside * 2 + idle) * 2 ^ 49 = omega arith in
     let g = or_shifted (mark * 4 + inside * 2 + idle) 49 (online * 2 ^ 48) (omega arith) in
     let g' : (mark * 4 + inside * 2 + idle) * 2 ^ 49 + online * 2 ^ 48
     ≡ (mark * 8 + inside * 4 + idle * 2 + online) * 2 ^ 48 = omega arith in

@@ -5,7 +5,8 @@ use tm_base::{CpuId, Jiffy};
 /// A word has room for the numbers of markers below this one.
 pub const MARKER_LIMIT: u16 = 1023;
 
-/// The state of a CPU. It fits a word where the wakeup is below 2^48 and the marker below the limit.
+/// The state of a CPU. It fits a word where the wakeup is below 2^48 and the marker below the
+/// limit.
 #[derive(Clone, Copy, Debug, PartialEq, Eq)]
 pub struct CpuState {
     pub online: bool,

@@ -2,8 +2,8 @@ use super::*;
 use std::test::Fail;
 use tm_base::{CpuId, NEVER};
 
-// The words are laid out by hand: the wakeup below, then online, idle and inside, then one more than
-// the marker. A word with a bit above holds no state.
+// The words are laid out by hand: the wakeup below, then online, idle and inside, then one more
+// than the marker. A word with a bit above holds no state.
 #[test]
 fn a_word_is_that_of_one_state_or_of_none(rt: HostRuntime) -> Result<(), Fail> {
     let asleep = CpuState {
