@@ -1,6 +1,7 @@
 //! What a core says of itself.
 
 ghost use Rattle.std.specs.Prelude.{◌≡◌, ℕ, ◌<◌, IfNone, IfSome, length, option_map, true, false};
+ghost use Rattle.core_facts.specs.Played.{AllPlayed};
 ghost use Rattle.core_world.specs.Frames.{IsSized};
 ghost use Rattle.core_world.specs.Lawful.{IsLawful};
 ghost use Rattle.core_world.specs.World.{cpu_of, group_of};
@@ -32,11 +33,13 @@ impl<B: TimerBase> Core<B> {
         self.holders.len() as u16
     }
 
-    /// The tree of its groups. Its contract also says that every core is lawful.
+    /// The tree of its groups. Its contract also says that every core is lawful, and that its bases
+    /// are what their journals make when they are played again.
     pub fn tree(&self) -> &Tree
         ensures tree { result.now ≡ self.now.tree }
         ensures sized { IsSized self.now }
         ensures lawful { IsLawful self.now }
+        ensures played { AllPlayed self.now }
     {
         &self.tree
     }

@@ -9,6 +9,7 @@ ghost use Rattle.core_world.specs.Start.{start_cpu, start_group, start_of};
 use crate::cpu::CoreCpu;
 use crate::group::CoreGroup;
 use crate::machine::Core;
+use core_facts::law_replay;
 use core_start::law_start;
 use cpu_bases::Bases;
 use std::alloc::Global;
@@ -75,6 +76,7 @@ pub fn new_core<B: TimerBase>(
     ensures { IfOk result (λ core. core ≡ start_of tree timers) }
 {
     law_start();
+    law_replay();
     tree.cpu_count();
     let groups = new_groups(alloc, &tree)?;
     let cpus = new_cpus(alloc, bases)?;

@@ -14,6 +14,7 @@ use Rattle.play_rules.specs.Jobs.{first_unknown_job}
 use Rattle.play_rules.specs.Play.{AfterEachMoment, play_text, play_spent}
 use Rattle.play_jiffies.specs.Jiffies.{EachHasEnded, InItsJiffy}
 use Rattle.play_laws.specs.Settled.{IsSettled}
+use Rattle.tm_driver.specs.OnCore.{IsPlayedBySteps}
 use Rattle.tm_driver.specs.Outcomes.{work_limit}
 use Rattle.tm_driver.specs.Plays.{CanPlay, summary_of}
 use Rattle.tree_text.specs.Trees.{tree_text}
@@ -55,12 +56,14 @@ KnowsJobs table script = first_unknown_job table script.moments ≡ None
 abbrev pub spent_by : Replies → Script → Option ℕ
 spent_by jobs script = play_spent jobs (work_limit script.version) script
 
--- the text is that of the play of the script, which can be played to its end; and after each moment
--- each global timer that is queued on an idle CPU is held or woken for, and each pinned or global
--- timer whose wheel expiry has come has its end, in its jiffy
+-- the text is that of the play of the script, which can be played to its end, and which the core
+-- plays by steps; and after each moment each global timer that is queued on an idle CPU is held or
+-- woken for, by Play's state and by the core's own groups, and each pinned or global timer whose
+-- wheel expiry has come has its end, in its jiffy
 pub record IsPlayOf (jobs : Replies) (table : ℕ) (script : Script) (text : List ℕ) : Type 0 where
   pub can_play : CanPlay jobs table script
   pub played : text ≡ play_text jobs script
+  pub by_steps : IsPlayedBySteps jobs script
   pub settled : AfterEachMoment IsSettled jobs script
   pub in_its_jiffy : AfterEachMoment InItsJiffy jobs script
   pub ended : AfterEachMoment EachHasEnded jobs script

@@ -53,7 +53,7 @@ fn play_script<J: Jobs>(alloc: Global, script: &Script, jobs: &J) -> Result<Repl
     law_work();
     let mut report = Report::new(alloc);
     match play(alloc, script, jobs, &mut report) {
-        Ok(_machine) => Ok(Reply::Played(report)),
+        Ok(_core) => Ok(Reply::Played(report)),
         Err(DriveFault::BadJob { line, job }) => Ok(Reply::JobUnknown { line, job }),
         Err(DriveFault::WorkSpent { count }) => Ok(Reply::WorkSpent { count }),
         Err(DriveFault::NoMemory) => Err(NoMemory),
