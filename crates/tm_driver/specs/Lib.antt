@@ -1,4 +1,5 @@
 pub mod Conditions
+pub mod Following
 pub mod OnCore
 pub mod Outcomes
 pub mod Plays

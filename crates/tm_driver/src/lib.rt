@@ -6,6 +6,7 @@
 #![tactic(auto)]
 
 mod closing;
+mod following;
 mod interrupts;
 mod jobs;
 mod moments;
@@ -18,7 +19,7 @@ mod plays;
 mod starting;
 mod telling;
 
-pub use moments::next_moment;
+pub use following::next_moment;
 pub use numbers::Summary;
 pub use outcomes::{Counts, DriveFault};
 pub use playing::play_on;

@@ -123,7 +123,7 @@ fn turn<M: Machine, J: Jobs>(
 }
 
 /// When the next moment comes, in jiffies: the next interrupt, the script's next moment or the end.
-pub fn next_moment<M: Machine>(machine: &M, left: &[Moment], end: Jiffy) -> Jiffy
+pub(crate) fn moment_after<M: Machine>(machine: &M, left: &[Moment], end: Jiffy) -> Jiffy
     requires { M.rules.clock (M.world machine.now) < SCRIPT_TIME_LIMIT }
     ensures { result ≡ next_moment M.rules end left.now (M.world machine.now) }
 {
@@ -175,7 +175,7 @@ pub(crate) fn moments<M: Machine, J: Jobs>(
         }
         count = count.saturating_add(1);
         left = still_to_come(left, now);
-        now = next_moment(machine, left, script.end);
+        now = moment_after(machine, left, script.end);
     }
     turn(machine, jobs, left, now, telling)?;
     Ok(count.saturating_add(1))

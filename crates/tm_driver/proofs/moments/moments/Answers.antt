@@ -31,7 +31,7 @@ loop-now-preserved g c =
     let rises = after_rise _ _ _ so_far.rise in
     let said = said_by_end _ _ _ rises in
     let from = from_said _ _ _ rises (omega (arith, c.loop-now-test.true)) in
-    rw (c.next_moment-now.ensures, c.still_to_come-left.ensures) (record {
+    rw (c.moment_after-now.ensures, c.still_to_come-left.ensures) (record {
       far = one_more _ _ _ _ _ _ _ _ _ _ _ _ so_far.far _ _ done.prints c.loop-now-test.true
           _ c.saturating_add-count.ensures (omega (arith, c.if-work-limit.false, c.work.ensures)) c.work_limit-limit.type_inv (omega (arith, done.clock));
       not_back = omega (arith, done.clock);

@@ -1,4 +1,3 @@
-use Rattle.std.proofs.Common.{sym, subst}
 use Rattle.tm_driver.proofs.Wholes.{whole_plays}
 use Rattle.tm_driver.proofs.plays.play.Goals as goal
 
