@@ -21,7 +21,7 @@ abbrev pub by_wakeup : World → (d : ℕ) → Cover
 by_wakeup w d = covers.Wake (record { 0 = d }) (cpu_of w d).wakeup
 
 -- where the lowest active group of the CPU's path is this one, the CPU to which its migrators lead;
--- where none is active, the lowest placed one that wakes by the top's event towards the CPU
+-- where none is active, the lowest online idle placed one that wakes by the top's event towards it
 abbrev pub choice_above : World → (c : ℕ) → Option ℕ → Option Cover
 choice_above w c None = option_map (by_wakeup w) (waker_by (state_of w) (time_at_top w c))
 choice_above w c (Some g) = option_map (by_migrator g) (led_to (state_of w) g)

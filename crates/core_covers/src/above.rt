@@ -23,7 +23,7 @@ fn wakes_by<B: TimerBase>(core: &Core<B>, time: Jiffy, cpu: CpuId) -> bool
         && (is_idle(core, cpu) && (is_placed(core, cpu) && wakeup(core, cpu) <= time))
 }
 
-/// The lowest CPU that wakes by a time, in jiffies.
+/// The lowest online idle placed CPU that wakes by a time, in jiffies.
 pub(crate) fn waker_by<B: TimerBase>(core: &Core<B>, time: Jiffy) -> Option<CpuId>
     ensures waker { option_map (λ d. d.0) result ≡ waker_by (state_of core.now) time }
     ensures in_range { IfSome result (λ d. d.0 < length core.now.cpus) }

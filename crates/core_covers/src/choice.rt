@@ -86,10 +86,11 @@ fn choose<B: TimerBase>(core: &Core<B>, cpu: CpuId) -> Option<Cover>
     }
 }
 
-/// Who answers for the first global timer of a CPU, with no walk and no interrupt under way: the
-/// CPU itself where its wakeup is in time; else the CPU to which the migrators lead from the lowest
-/// active group of its path; else the lowest placed CPU that wakes by the top's event towards it.
-/// None exactly where the CPU isn't online and idle or has no global timer.
+/// Who answers for the first global timer of a CPU: the CPU itself where its wakeup is in time;
+/// where a group of its path is active, the CPU to which the migrators lead from the lowest of
+/// these; else the lowest online idle placed CPU whose wakeup isn't past the top's event towards
+/// it. With no walk and no interrupt under way it is None exactly where the CPU isn't online and
+/// idle or has no global timer.
 pub fn cover_of<B: TimerBase>(core: &Core<B>, cpu: CpuId) -> Option<Cover>
     requires { cpu.0 < length core.now.cpus }
     ensures choice { result ≡ choice_of core.now cpu.0 }

@@ -125,8 +125,8 @@ moved_by_steps w from to found = record {
 }
 
 -- COVER: the CPU itself where its wakeup isn't past W; else the CPU to which the migrators lead
--- from the lowest active group of its path; else the lowest placed CPU that wakes by the top's
--- event towards the CPU
+-- from the lowest active group of its path; where none is active, the lowest online idle placed
+-- CPU that wakes by the top's event towards the CPU
 abbrev pub event_at_top : World → (c : ℕ) → Option ℕ → ℕ
 event_at_top w c None = expiry_of None
 event_at_top w c (Some top) = expiry_of (live w top (side w.tree c (level_count_of w.tree - 1)))
