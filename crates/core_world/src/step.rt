@@ -2,8 +2,10 @@
 
 use tm_base::{Class, CpuId, Jiffy, TimerId};
 
-/// One atomic step: a load, store or exchange on one word, or a change of a CPU's timers under its
-/// lock.
+/// One atomic step: time goes on, a CPU's own data changes, a timer moves, or a walk makes one
+/// load, store or exchange, or takes or gives back one lock. There is no lock of a CPU (the
+/// kernel's `tmigr_cpu.lock`, which is held through a walk): in its place stands that the CPU has a
+/// walk.
 #[derive(Clone, Copy)]
 pub enum Step {
     /// Time goes on.

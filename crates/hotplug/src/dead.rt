@@ -66,9 +66,10 @@ fn heir_of<B: TimerBase>(core: &Core<B>, dead: CpuId) -> Option<CpuId>
 
 /// The timers of an offline CPU move to the controlling CPU, which is answered: the lowest active
 /// placed one, or else the lowest online placed one, which is woken; None exactly where nothing is
-/// queued on the dead CPU (the kernel's `timers_dead_cpu`). Pinned timers move first, then global
-/// and then deferrable ones, each class in arming order. After want of memory the controlling CPU
-/// may be active, and the first of the timers may have moved.
+/// queued on the dead CPU (in the kernel `timers_dead_cpu` moves them to the CPU that does the
+/// hotplug work). Pinned timers move first, then global and then deferrable ones, each class in
+/// arming order. After want of memory the controlling CPU is active, and the first of the timers
+/// may have moved.
 pub fn move_dead<B: TimerBase>(core: &mut Core<B>, dead: CpuId) -> Result<Option<CpuId>, NoMemory>
     requires dead { dead.0 < length core.old.cpus }
     requires settled { IsSettled core.old }

@@ -65,10 +65,10 @@ fn leave<B: TimerBase>(core: &mut Core<B>, cpu: CpuId, to: CpuId) -> Option<CpuI
     Some(to)
 }
 
-/// An active CPU leaves (the kernel's `tmigr_cpu_offline`). Where its walk finds that no active CPU
-/// looks after its timers, it hands on to the placed CPU `to`, which is woken for it where it is
-/// idle; `to` is answered exactly then. Refusals, in this order, which leave all as it was:
-/// `Offline`; `NotActive` of an idle CPU; `LastOnline` where `to` is offline.
+/// An active CPU leaves (the kernel's `tmigr_cpu_offline`). Where its walk finds a top that nobody
+/// looks after, with an event in it, it hands on to the placed CPU `to`, which is woken for it
+/// where it is idle; `to` is answered exactly then. Refusals, in this order, which leave all as it
+/// was: `Offline`; `NotActive` of an idle CPU; `LastOnline` where `to` is offline.
 pub fn go_offline<B: TimerBase>(
     core: &mut Core<B>,
     cpu: CpuId,

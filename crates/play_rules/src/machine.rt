@@ -221,7 +221,8 @@ pub trait Machine: Drop {
         requires { cpu.0 < rules.cpus (world self.now) }
         ensures { result ≡ rules.first_event (world self.now) cpu.0 };
 
-    /// An active CPU goes idle (the kernel's `tmigr_cpu_deactivate`).
+    /// An active CPU goes idle (the kernel's `tmigr_cpu_deactivate`, and `timer_use_tmigr` for its
+    /// wakeup).
     fn idle(&mut self, cpu: CpuId)
         requires cpu { cpu.0 < rules.cpus (world self.old) }
         requires online { rules.is_online (world self.old) cpu.0 ≡ true }
@@ -315,8 +316,8 @@ pub trait Machine: Drop {
         ensures online { SameOnline rules (world self.old) (world self.new) };
 
     /// The first timer of CPU `from`, which is offline, moves to CPU `to`, which is active and
-    /// placed (the kernel's `timers_dead_cpu`); None, with nothing changed, exactly where nothing
-    /// is queued on `from`.
+    /// placed (in the place of the kernel's `migrate_timer_list`, which goes by buckets); None,
+    /// with nothing changed, exactly where nothing is queued on `from`.
     fn move_first(&mut self, from: CpuId, to: CpuId) -> Result<Option<Mover>, NoMemory>
         requires from { from.0 < rules.cpus (world self.old) }
         requires to { to.0 < rules.cpus (world self.old) }

@@ -74,8 +74,8 @@ fn hand_all<B: TimerBase>(
 }
 
 /// Takes out all timers of a base of CPU `home` that are due at the clock, for CPU `runner` to run
-/// their jobs, in the order of hand-out (the kernel's `__run_timers`). After want of memory some of
-/// them may be out.
+/// their jobs, in the order of hand-out (the kernel's `__run_timers`; of the global base of another
+/// CPU `timer_expire_remote`). After want of memory some of them may be out.
 pub fn drain<B: TimerBase>(
     core: &mut Core<B>,
     alloc: Global,

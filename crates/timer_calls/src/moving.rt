@@ -40,8 +40,8 @@ fn mover_at(timer: TimerId, wheel: Option<Jiffy>) -> Option<Mover>
 }
 
 /// The first timer of CPU `from`, which is offline, moves to CPU `to`, which is active and placed
-/// (the kernel's `timers_dead_cpu`); None, with nothing changed, exactly where nothing is queued on
-/// `from`. Want of memory leaves all as before.
+/// (in the place of the kernel's `migrate_timer_list`, which goes by buckets); None, with nothing
+/// changed, exactly where nothing is queued on `from`. Want of memory leaves all as before.
 pub fn move_first<B: TimerBase>(
     core: &mut Core<B>,
     from: CpuId,

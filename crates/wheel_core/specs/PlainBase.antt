@@ -57,8 +57,8 @@ clock_forwarded now clock (Some wheel) =
 abbrev pub forwarded : (now : ℕ) → PlainBase → PlainBase
 forwarded now base = record base { clock = clock_forwarded now base.clock (least base.items) }
 
--- ADDING (enqueue_timer): the item that a timer becomes in a base of this clock goes to the end
--- of the list
+-- ADDING (internal_add_timer): the item that a timer becomes in a base of this clock goes to the
+-- end of the list
 abbrev pub placed : (clock id expires job arg : ℕ) → Item
 placed clock id expires job arg = record {
   id = id;

@@ -50,8 +50,8 @@ pub trait TimerBase: Drop {
         ensures clock { (base self.new).plain.clock ≤ max (base self.old).plain.clock now };
 
     /// Queues a timer that isn't queued, at the end of the arming order, and answers its item (the
-    /// kernel's `enqueue_timer`). Its asked expiry and the clock are below 2^47 jiffies, and no
-    /// queued wheel expiry is below the clock.
+    /// kernel's `internal_add_timer`: `calc_wheel_index` and `enqueue_timer`). Its asked expiry and
+    /// the clock are below 2^47 jiffies, and no queued wheel expiry is below the clock.
     fn add(&mut self, id: u32, expires: u64, job: u8, arg: u32) -> Item
         requires room { length (base self.old).plain.items < (base self.old).capacity }
         requires not_queued { item_of id (base self.old).plain.items ≡ None }

@@ -51,9 +51,9 @@ fn rounded_up(time: u64, level: u8) -> u64
 /// clock; both are in jiffies and below 2^47 (the kernel's `calc_wheel_index`). Level n has a
 /// granularity of 8^n jiffies.
 ///
-/// An expiry that is past goes to the clock. A delay below 63 goes to level 0 and the next jiffy;
-/// one from 63 * 8^(n-1) on, for n up to 8, to level n and the end of the granule. A delay of
-/// 63 * 2^24 or more is taken for 62 * 2^24.
+/// An expiry that is past goes to the clock. A delay below 63 goes to level 0 and the jiffy behind
+/// the expiry; one from 63 * 8^(n-1) on, for n up to 8, to level n and the end of the granule. A
+/// delay of 63 * 2^24 or more is taken for 62 * 2^24.
 #[tactic(auto, unfolding(crate::specs::WheelExpiry::wheel_expiry_of, crate::specs::WheelExpiry::wheel_level_of, crate::specs::WheelExpiry::level_of_delay))]
 pub fn wheel_expiry(expires: u64, clock: u64) -> (u64, u8)
     requires expires_in_time { expires < 2 ^ 47 }
