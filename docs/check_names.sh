@@ -54,8 +54,10 @@ def names_of(path):
 
 def definitions_of(path):
     """The definitions alone, without fields and cases, for --missing."""
-    heads = r"^\s*(?:abbrev|unfoldable) pub ([^\s:({]+)|^\s*pub (?:record|data) ([^\s:({]+)"
-    return {one or other for one, other in re.findall(heads, read(path), re.M)}
+    short = r"^\s*(?:abbrev|unfoldable)(?: pub)? ([^\s:({]+)"
+    long = r"^\s*(?:pub )?(?:record|data) ([A-Z][^\s:({]*)"
+    plain = r"^pub (?!(?:mod|use|record|data)\b)([^\s:({]+)"
+    return {name for heads in (short, long, plain) for name in re.findall(heads, read(path), re.M)} - {"pub"}
 
 
 sources = {}
