@@ -96,7 +96,8 @@ pub enum Step {
     Walk {
         cpu: CpuId,
     },
-    /// The walk of a CPU that went offline as the last active one hands on to another CPU.
+    /// The walk of a CPU that went offline, and found an event in a top without migrator, hands on
+    /// to an active CPU.
     HandOn {
         cpu: CpuId,
         to: CpuId,

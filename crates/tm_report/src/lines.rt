@@ -64,8 +64,8 @@ pub enum Line {
         now: Jiffy,
         cpu: CpuId,
     },
-    /// CPU `cpu`, which went offline as the last active one, handed the first event of the
-    /// hierarchy on to CPU `to`, which was woken for it.
+    /// CPU `cpu`, which went offline as the last active one of the tree, handed the first event of
+    /// the hierarchy on to CPU `to`, which was woken for it.
     Handed {
         now: Jiffy,
         cpu: CpuId,

@@ -70,7 +70,8 @@ pub enum Stage {
     FreeChild,
     /// Writes what came out into the CPU's word.
     Finish,
-    /// The CPU went offline as the last one active: another CPU has to take over.
+    /// The CPU went offline and found an event in a top without migrator: another CPU has to take
+    /// over.
     Handing,
 }
 
@@ -86,7 +87,7 @@ pub struct Walk {
     /// The event that the CPU then had for its leaf, in jiffies, or `NEVER`.
     pub next: Jiffy,
     /// The first event of the top that isn't ignored, as far as it was read, in jiffies, or
-    /// `NEVER`.
+    /// `NEVER`; of a CPU that has no group its `next`.
     pub first: Jiffy,
     /// The first event of the child that isn't ignored, as far as it was read.
     pub best: Option<Event>,
