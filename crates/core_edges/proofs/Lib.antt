@@ -6,5 +6,13 @@ pub mod Waking
 pub mod Resting
 pub mod Rising
 pub mod Swapping
+pub mod Stages
+pub mod CalmSteps
+pub mod Beginning
+pub mod StageKeeps
 pub mod Keeps
+pub mod SteadyBits
+pub mod Claims
+pub mod StageBits
+pub mod Marks
 pub mod KeepsBits

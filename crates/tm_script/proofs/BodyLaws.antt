@@ -1,8 +1,8 @@
 -- the lines of moments and of the end: those that are read are spelled so
-use Rattle.std.proofs.Common.{◌≡◌, ℕ, zero, suc, ◌+◌, ◌*◌, ◌^◌, ◌<◌, ◌≤◌, Bool, true, false, List, [], ◌∷◌, ◌++◌, length, map, Option, Some, None, is_some, Result, Ok, Err, refl, sym, ap, subst, ◌∙◌, append_assoc, arith}
+use Rattle.std.proofs.Common.{◌≡◌, ℕ, zero, suc, ◌+◌, ◌^◌, ◌<◌, ◌≤◌, Bool, true, false, List, [], ◌∷◌, ◌++◌, length, map, Option, Some, None, is_some, Ok, refl, sym, ap, subst, ◌∙◌, append_assoc, arith}
 use Rattle.std.specs.Prelude.{codes}
 use Rattle.std.specs.List.{flat_map, AllByRecursion}
-use Rattle.std.proofs.lemmas.List.{append-nil, length_push}
+use Rattle.std.proofs.lemmas.List.{append-nil}
 use Rattle.std.proofs.lemmas.List.Elements.{All-from_recursion}
 use Rattle.tm_base.specs.declared.names.CpuId.{CpuId}
 use Rattle.tm_base.specs.declared.limits.TheConstants.{MOST_OPS, MOST_LINES, SCRIPT_TIME_LIMIT}
@@ -16,11 +16,11 @@ use Rattle.tm_script.specs.declared.known.Said.{Said}
 use Rattle.tm_script.specs.declared.known.Said.TheVariants.{Version, NodeCount, CpuCount, TimerCount, IsolatedCpus, Opening, Operation, Ending}
 use Rattle.tm_script.specs.declared.draft.Draft.{Draft}
 use Rattle.tm_script.specs.Texts.{cpu_count, number_line, what_line, op_line, moment_lines}
-use Rattle.tm_script.specs.Grammar.{is_hotplug, IsOp, IsWhat, IsMoment, IsHotplugLast, AreOpsNumbered, AreMomentsNumbered}
+use Rattle.tm_script.specs.Grammar.{is_hotplug, IsOp, IsMoment, IsHotplugLast, AreOpsNumbered, AreMomentsNumbered}
 use Rattle.tm_script.specs.Judge.{is_after, is_reached}
 use Rattle.tm_script.specs.Reading.{closed_with, draft_after, read_from}
-use Rattle.tm_script.proofs.LineLaws.{IsSmall, Fits, said_line}
-use Rattle.tm_script.proofs.ReadLaws.{Step, step_found, over_found}
+use Rattle.tm_script.proofs.SaidLines.{IsSmall, Fits, said_line}
+use Rattle.tm_script.proofs.ReadLaws.{step_found, over_found}
 
 -- a draft among the moments of a script, where n operations stand in the open moment
 abbrev pub body_known : Script → ℕ → Option ℕ → ℕ → Bool → Known

@@ -1,20 +1,18 @@
 -- what the code reads in a line is what the line is judged to say
-use Rattle.std.proofs.Common.{◌≡◌, ℕ, suc, ◌+◌, ◌*◌, ◌^◌, Bool, true, false, cond, not, ◌&&◌, ◌||◌, eqb, ltb, leb, List, [], ◌∷◌, map, Option, Some, None, is_some, Result, Ok, Err, refl, sym, ap, ◌∙◌, arith}
+use Rattle.std.proofs.Common.{◌≡◌, ℕ, ◌+◌, ◌*◌, ◌^◌, Bool, true, false, cond, not, ◌&&◌, ◌||◌, eqb, ltb, leb, List, [], ◌∷◌, map, Option, Some, None, is_some, Result, Ok, Err, refl, sym, ap, ◌∙◌, arith}
 use Rattle.std.specs.Prelude.{codes}
-use Rattle.std.specs.List.{list_any, list_all, range_with_len}
+use Rattle.std.specs.List.{list_any, list_all}
 use Rattle.std.specs.Str.{bytes_eq}
-use Rattle.std.specs.FinSet.{contains, from_list}
-use Rattle.std.specs.Ordering.{nat_cmp}
+use Rattle.std.specs.FinSet.{from_list}
 use Rattle.std.proofs.lemmas.Bool.{le-leb}
 use Rattle.std.proofs.lemmas.Slice.Eq.{bytes_eq-Decides}
 use Rattle.text_words.specs.Numbers.{is_number, value_of}
 use Rattle.tm_base.specs.CpuSet.{Cpus as CpuNumbers}
 use Rattle.tm_base.specs.declared.names.Class.{Class}
 use Rattle.tm_base.specs.declared.names.Class.TheVariants.{Pinned, Global, Deferrable}
-use Rattle.tm_base.specs.declared.limits.TheConstants.{MOST_NODES, MOST_NODE_CPUS, MOST_TIMERS, MOST_OPS, MOST_LINES, SCRIPT_TIME_LIMIT}
+use Rattle.tm_base.specs.declared.limits.TheConstants.{MOST_NODES, MOST_NODE_CPUS, MOST_TIMERS, SCRIPT_TIME_LIMIT}
 use Rattle.tm_script.specs.declared.faults.Kind.{Kind}
 use Rattle.tm_script.specs.declared.faults.Kind.TheVariants.{BadLine, BadNumber, OutOfRange, OutOfOrder, TooManyLines}
-use Rattle.tm_script.specs.declared.syntax.What.{What}
 use Rattle.tm_script.specs.declared.syntax.What.TheVariants as what
 use Rattle.tm_script.specs.declared.known.Command.{Command}
 use Rattle.tm_script.specs.declared.known.Command.TheVariants.{Tmig, Nodes, Cpus, Timers, Isolated, At, End, Arm, Cancel, Idle, Wake, Offline, Online}
@@ -26,7 +24,7 @@ use Rattle.tm_script.specs.Judge.{may_stand, cpu, rise, leaves_some, slots, clas
 use Rattle.tm_script.specs.Faults.{command_of, class_named, said_behind, said_or, heard_behind, heard}
 use Rattle.tm_script.proofs.Rows.{bind_cond, bind_row, cond_and, number_step, within_step}
 use Rattle.tm_script.proofs.IsolatedLaws.{isolated_tests}
-use Rattle.tm_script.specs.Reading.{no_numbers, isolated_from, ◌>>=◌, only, front, number_in, version_in, class_in, within, ArmParts, arm_parts, count_in, arm_in, cancel_in, field_in, cpus_in, cpu_in, words_in, in_order, in_room, placed, line_behind, line_in}
+use Rattle.tm_script.specs.Reading.{◌>>=◌, number_in, version_in, class_in, within, arm_parts, count_in, arm_in, cancel_in, field_in, cpus_in, cpu_in, words_in, placed, line_behind, line_in}
 
 -- ---- tests in a row
 

@@ -1,17 +1,16 @@
 -- what holds of every script of the grammar
-use Rattle.std.proofs.Common.{◌≡◌, ℕ, zero, suc, ◌+◌, ◌*◌, ◌<◌, ◌≤◌, Bool, true, false, List, [], ◌∷◌, ◌++◌, length, map, Option, Some, None, refl, sym, ap, subst, ◌∙◌, length-append, arith}
+use Rattle.std.proofs.Common.{◌≡◌, ℕ, zero, suc, ◌+◌, ◌<◌, ◌≤◌, false, List, [], ◌∷◌, ◌++◌, length, Option, Some, None, sym, ap, subst, ◌∙◌, length-append, arith}
 use Rattle.std.specs.Prelude.{codes, slice_get}
 use Rattle.std.specs.List.{flat_map, AllByRecursion}
 use Rattle.std.proofs.lemmas.Bool.{ltb-true}
 use Rattle.std.proofs.lemmas.List.{length-map}
 use Rattle.std.proofs.lemmas.List.Elements.{recursion_from_All}
-use Rattle.tm_base.specs.declared.limits.TheConstants.{MOST_CPUS_V2, MOST_LINES, SCRIPT_TIME_LIMIT}
 use Rattle.tm_script.specs.declared.syntax.Script.{Script}
 use Rattle.tm_script.specs.declared.syntax.Moment.{Moment}
 use Rattle.tm_script.specs.declared.syntax.Op.{Op}
 use Rattle.tm_script.specs.Texts.{cpu_count, op_line, moment_lines, number_line, head_lines}
 use Rattle.tm_script.specs.Grammar.{is_hotplug, IsOp, IsMoment, IsHotplugLast, AreOpsNumbered, AreMomentsNumbered, IsScript}
-use Rattle.tm_script.specs.Facts.{MomentFacts, ScriptFacts, ScriptsHaveFacts}
+use Rattle.tm_script.specs.Facts.{MomentFacts, ScriptsHaveFacts}
 use Rattle.tm_script.proofs.BodyLaws.{InOrder}
 use Rattle.tm_script.proofs.HeadLaws.{few_of_most, some_product}
 use Rattle.tm_script.proofs.ScriptLaws.{order_of}

@@ -1,24 +1,22 @@
 -- the lines before the moments, and the whole text
-use Rattle.std.proofs.Common.{◌≡◌, ℕ, zero, suc, ◌+◌, ◌*◌, ◌^◌, ◌<◌, ◌≤◌, ltb, Bool, true, false, cond, eqb, List, [], ◌∷◌, ◌++◌, length, map, Option, Some, None, Result, Ok, Err, refl, sym, ap, subst, ◌∙◌, append_assoc, length-append, arith, inl, inr}
+use Rattle.std.proofs.Common.{◌≡◌, ℕ, ◌+◌, ◌*◌, ◌^◌, ◌<◌, ◌≤◌, Bool, true, false, cond, eqb, List, [], ◌∷◌, ◌++◌, length, None, Ok, refl, sym, ap, subst, ◌∙◌, arith}
 use Rattle.std.specs.Prelude.{codes}
-use Rattle.std.specs.List.{flat_map}
 use Rattle.std.specs.FinSet.{empty, contains, contains-empty}
 use Rattle.std.specs.Ordering.{nat_cmp}
 use Rattle.std.proofs.Math.Nat.{mul-pos}
-use Rattle.std.proofs.lemmas.Bool.{eqb-true, eqb-false, eq-eqb, cases_Bool, false≢true}
+use Rattle.std.proofs.lemmas.Bool.{eqb-true, eqb-false, false≢true}
 use Rattle.tm_base.specs.CpuSet.{Cpus as CpuNumbers, Contains}
-use Rattle.tm_base.specs.declared.limits.TheConstants.{MOST_NODES, MOST_NODE_CPUS, MOST_CPUS_V1, MOST_CPUS_V2, MOST_TIMERS, MOST_LINES}
+use Rattle.tm_base.specs.declared.limits.TheConstants.{MOST_NODES, MOST_NODE_CPUS, MOST_CPUS_V1, MOST_CPUS_V2, MOST_TIMERS}
 use Rattle.tm_script.specs.declared.syntax.Script.{Script}
 use Rattle.tm_script.specs.declared.known.Place.{Place}
-use Rattle.tm_script.specs.declared.known.Place.TheVariants.{VersionLine, NodesLine, CpusLine, TimersLine, IsolatedLine, Body}
-use Rattle.tm_script.specs.declared.known.Known.{Known}
+use Rattle.tm_script.specs.declared.known.Place.TheVariants.{IsolatedLine, Body}
 use Rattle.tm_script.specs.declared.known.Said.{Said}
 use Rattle.tm_script.specs.declared.known.Said.TheVariants.{Version, NodeCount, CpuCount, TimerCount, IsolatedCpus, Opening, Operation, Ending}
 use Rattle.tm_script.specs.declared.draft.Draft.{Draft}
 use Rattle.tm_script.specs.Texts.{cpu_count, number_line, isolated_line, head_lines}
 use Rattle.tm_script.specs.Grammar.{most_cpus}
 use Rattle.tm_script.specs.Reading.{start, draft_after, read_from}
-use Rattle.tm_script.proofs.LineLaws.{IsSmall, Fits, said_line}
+use Rattle.tm_script.proofs.SaidLines.{Fits, said_line}
 use Rattle.tm_script.proofs.ReadLaws.{step_found, HasFirst, has_first, step_again}
 use Rattle.tm_script.proofs.BodyLaws.{body_draft}
 

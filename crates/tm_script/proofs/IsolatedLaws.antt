@@ -1,17 +1,17 @@
 -- the set of isolated CPUs that words name
-use Rattle.std.proofs.Common.{◌≡◌, ℕ, suc, ◌+◌, Bool, true, false, cond, not, ◌&&◌, ◌||◌, eqb, ltb, leb, List, [], ◌∷◌, map, Option, Some, None, Result, Ok, Err, refl, sym, ap, ◌∙◌, arith, inl, inr}
+use Rattle.std.proofs.Common.{◌≡◌, ℕ, Bool, true, false, cond, not, ◌&&◌, ◌||◌, eqb, ltb, List, [], ◌∷◌, map, Some, None, Result, Ok, Err, refl, sym, ap, ◌∙◌}
 use Rattle.std.specs.List.{list_any, list_all, range_with_len}
-use Rattle.std.specs.FinSet.{empty, contains, insert, from_list, contains-empty, contains-insert, contains-from_list_nat, same_set, nat_cmp-IsAntisymmetric}
+use Rattle.std.specs.FinSet.{contains, insert, from_list, contains-empty, contains-insert, contains-from_list_nat, same_set, nat_cmp-IsAntisymmetric}
 use Rattle.std.specs.Ordering.{nat_cmp}
 use Rattle.std.specs.Cmp.{nat_cmp_total, unsigned_tied, nat_eq_equiv}
-use Rattle.std.proofs.lemmas.Bool.{and_parts, cases_Bool}
+use Rattle.std.proofs.lemmas.Bool.{and_parts}
 use Rattle.text_words.specs.Numbers.{is_number, value_of}
 use Rattle.tm_base.specs.CpuSet.{Cpus}
 use Rattle.tm_script.specs.declared.faults.Kind.{Kind}
 use Rattle.tm_script.specs.declared.faults.Kind.TheVariants.{BadNumber, OutOfRange, OutOfOrder}
 use Rattle.tm_script.specs.declared.isolated.Named.{Named}
 use Rattle.tm_script.specs.Judge.{is_after, rise, leaves_some}
-use Rattle.tm_script.specs.Reading.{◌>>=◌, number_in, with_number, no_numbers, spares, isolated_by, isolated_from}
+use Rattle.tm_script.specs.Reading.{with_number, no_numbers, spares, isolated_by, isolated_from}
 use Rattle.tm_script.proofs.Rows.{number_step, cond_and}
 
 module _ (count : ℕ) where

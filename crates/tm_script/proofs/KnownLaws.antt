@@ -1,5 +1,5 @@
 -- what is always known behind a line
-use Rattle.std.proofs.Common.{◌≡◌, ℕ, ◌+◌, ◌*◌, ◌^◌, ◌<◌, ◌≤◌, Bool, true, false, cond, eqb, List, [], ◌∷◌, Result, Ok, Err, Option, Some, None, refl, sym, ap, subst, ◌∙◌, arith}
+use Rattle.std.proofs.Common.{◌≡◌, ℕ, ◌+◌, ◌*◌, ◌≤◌, Bool, true, false, cond, eqb, List, [], ◌∷◌, Result, Ok, Err, refl, sym, ap, subst, ◌∙◌, arith}
 use Rattle.std.proofs.lemmas.Bool.{false≢true}
 use Rattle.text_words.specs.Words.{lines_of, words_of}
 use Rattle.text_words.proofs.Cuts.{split_some}
@@ -15,7 +15,8 @@ use Rattle.tm_script.specs.declared.known.Said.TheVariants.{Version, NodeCount, 
 use Rattle.tm_script.specs.declared.draft.Draft.{Draft}
 use Rattle.tm_script.specs.Faults.{known_after, beginning, heard}
 use Rattle.tm_script.specs.Reading.{count_in, draft_after, fault_in, finished, go_on, read_from}
-use Rattle.tm_script.proofs.LineLaws.{IsSmall, Fits, heard_found}
+use Rattle.tm_script.proofs.SaidLines.{IsSmall, Fits}
+use Rattle.tm_script.proofs.LineFound.{heard_found}
 use Rattle.tm_script.proofs.HeadLaws.{few_of_most}
 use Rattle.tm_script.proofs.ScriptLaws.{known_of}
 

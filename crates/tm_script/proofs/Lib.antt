@@ -4,7 +4,11 @@ pub mod IsolatedLaws
 pub mod Members
 pub mod Steps
 pub mod Bridge
-pub mod LineLaws
+pub mod SaidLines
+pub mod Passes
+pub mod LineWords
+pub mod LineFound
+pub mod LineAgain
 pub mod ReadLaws
 pub mod BodyLaws
 pub mod BodyAgain

@@ -1,5 +1,5 @@
 -- numbers that rise, and the set that they are
-use Rattle.std.proofs.Common.{◌≡◌, ℕ, zero, suc, ◌+◌, ◌<◌, ◌≤◌, ◌⊎◌, Bool, true, false, cond, ◌||◌, eqb, List, [], ◌∷◌, map, Option, Some, None, refl, sym, ap, ◌∙◌, arith, inl, inr}
+use Rattle.std.proofs.Common.{◌≡◌, ℕ, zero, suc, ◌+◌, ◌<◌, ◌≤◌, Bool, true, false, cond, ◌||◌, eqb, List, [], ◌∷◌, Some, None, refl, sym, ap, ◌∙◌, arith, inl, inr}
 use Rattle.std.specs.Prelude.{filter, nat_lt}
 use Rattle.std.specs.List.{list_any, list_all, range_with_len}
 use Rattle.std.specs.FinSet.{contains, from_list, contains-from_list_nat, same_set, nat_cmp-IsAntisymmetric}
@@ -8,7 +8,7 @@ use Rattle.std.specs.Cmp.{nat_cmp_total}
 use Rattle.std.proofs.lemmas.Bool.{and_parts, and_from, or_left, or_right, or_from, ltb-true, lt-ltb, cases_eq, cases_Bool, eq-eqb, eqb-true, ne_eqb, false≢true}
 use Rattle.tm_base.specs.CpuSet.{Cpus, Contains}
 use Rattle.tm_script.specs.Texts.{members}
-use Rattle.tm_script.specs.Judge.{is_after, rise}
+use Rattle.tm_script.specs.Judge.{rise}
 
 -- they rise, from a on
 abbrev pub Rises : ℕ → List ℕ → Type 0

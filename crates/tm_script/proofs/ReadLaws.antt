@@ -1,20 +1,21 @@
 -- one line of a text that is read
-use Rattle.std.proofs.Common.{◌≡◌, ℕ, suc, ◌+◌, ◌^◌, ◌<◌, ◌≤◌, Bool, true, false, cond, List, [], ◌∷◌, ◌++◌, Option, Some, None, Result, Ok, Err, refl, sym, ap, ◌∙◌, arith}
+use Rattle.std.proofs.Common.{◌≡◌, ℕ, ◌≤◌, Bool, false, cond, List, [], ◌∷◌, ◌++◌, Result, Ok, Err, refl, sym, ap, ◌∙◌}
 use Rattle.text_words.specs.Words.{words_of}
 use Rattle.text_words.proofs.Cuts.{words_joined}
 use Rattle.tm_base.specs.declared.limits.TheConstants.{MOST_LINES}
 use Rattle.tm_script.specs.declared.faults.Kind.{Kind}
 use Rattle.tm_script.specs.declared.faults.Kind.TheVariants.{NoEnd}
-use Rattle.tm_script.specs.declared.faults.ScriptFault.{ScriptFault}
 use Rattle.tm_script.specs.declared.syntax.Script.{Script}
-use Rattle.tm_script.specs.declared.known.Place.TheVariants.{VersionLine, NodesLine, CpusLine, TimersLine, IsolatedLine, Body, Over}
+use Rattle.tm_script.specs.declared.known.Place.TheVariants.{Over}
 use Rattle.tm_script.specs.declared.known.Known.{Known}
 use Rattle.tm_script.specs.declared.known.Said.{Said}
 use Rattle.tm_script.specs.declared.known.Said.TheVariants.{Version, NodeCount, CpuCount, TimerCount, IsolatedCpus, Opening, Operation, Ending}
 use Rattle.tm_script.specs.declared.draft.Draft.{Draft}
 use Rattle.tm_script.specs.Faults.{is_over, heard}
 use Rattle.tm_script.specs.Reading.{draft_after, script_of, fault_in, finished, go_on, read_from}
-use Rattle.tm_script.proofs.LineLaws.{IsSmall, Fits, said_line, heard_found, heard_again}
+use Rattle.tm_script.proofs.SaidLines.{IsSmall, Fits, said_line}
+use Rattle.tm_script.proofs.LineFound.{heard_found}
+use Rattle.tm_script.proofs.LineAgain.{heard_again}
 
 -- a line that was read, and what is read behind it
 pub record Step (parts : List (List ℕ)) (d : Draft) (s : Script) : Type 0 where

@@ -1,11 +1,11 @@
 -- a script that is read is of the grammar and spelled so, and a script of the grammar that is spelled so is read
-use Rattle.std.proofs.Common.{◌≡◌, ℕ, zero, suc, ◌+◌, ◌*◌, ◌^◌, ◌<◌, ◌≤◌, ltb, cond, eqb, Bool, true, false, List, [], ◌∷◌, ◌++◌, length, map, Option, Some, None, Result, Ok, Err, refl, sym, ap, subst, ◌∙◌, append_assoc, length-append, arith}
-use Rattle.std.specs.Prelude.{◌↔◌, codes, IfOk, IfErr}
+use Rattle.std.proofs.Common.{◌≡◌, ℕ, zero, suc, ◌+◌, ◌^◌, ◌<◌, ◌≤◌, cond, Bool, true, false, List, [], ◌∷◌, ◌++◌, length, map, Option, Some, None, Result, Ok, Err, refl, sym, ap, subst, ◌∙◌, append_assoc, length-append, arith}
+use Rattle.std.specs.Prelude.{codes, IfOk, IfErr}
 use Rattle.std.specs.List.{flat_map, AllByRecursion}
 use Rattle.std.specs.List.Sorted.{IsStrictlyIncreasing}
 use Rattle.std.proofs.lemmas.Bool.{ltb-true, lt-ltb, le-leb}
 use Rattle.std.proofs.lemmas.List.Elements.{All-from_recursion, recursion_from_All}
-use Rattle.text_words.specs.Words.{lines_of, words_of, ended}
+use Rattle.text_words.specs.Words.{lines_of, words_of}
 use Rattle.text_words.proofs.Cuts.{lines_found, lines_again, split_some}
 use Rattle.tm_base.specs.declared.limits.TheConstants.{MOST_LINES}
 use Rattle.tm_script.specs.declared.faults.Kind.{Kind}
@@ -15,16 +15,15 @@ use Rattle.tm_script.specs.declared.faults.ReadScript.TheVariants.{Refused, NoMe
 use Rattle.tm_script.specs.declared.syntax.Script.{Script}
 use Rattle.tm_script.specs.declared.syntax.Moment.{Moment}
 use Rattle.tm_script.specs.declared.syntax.Op.{Op}
-use Rattle.tm_script.specs.declared.known.Known.{Known}
 use Rattle.tm_script.specs.declared.known.Said.{Said}
 use Rattle.tm_script.specs.declared.known.Said.TheVariants.{Version, NodeCount, CpuCount, TimerCount, IsolatedCpus, Opening, Operation, Ending}
 use Rattle.tm_script.specs.declared.draft.Draft.{Draft}
-use Rattle.tm_script.specs.Texts.{cpu_count, number_line, op_line, moment_lines, head_lines, script_lines, script_text}
+use Rattle.tm_script.specs.Texts.{cpu_count, number_line, op_line, moment_lines, head_lines, script_lines}
 use Rattle.tm_script.specs.Grammar.{IsMoment, AreMomentsNumbered, IsScript, Spells}
-use Rattle.tm_script.specs.Faults.{known_after, is_over, heard, fault_or, fault_at, fault_at_end, fault_from, fault_of, FaultsTell}
+use Rattle.tm_script.specs.Faults.{known_after, is_over, heard, fault_or, fault_from, fault_of, FaultsTell}
 use Rattle.tm_script.specs.Reader.{IsOnlyScriptOf, IsRefusalOf}
 use Rattle.tm_script.specs.Reading.{Gives, start, draft_after, script_of, finished, go_on, read_from}
-use Rattle.tm_script.proofs.BodyLaws.{ToRead, body_lines, end_lines, whole, InOrder, Found, body_found}
+use Rattle.tm_script.proofs.BodyLaws.{body_lines, end_lines, whole, InOrder, Found, body_found}
 use Rattle.tm_script.proofs.BodyAgain.{reached_end, body_again}
 use Rattle.tm_script.proofs.HeadLaws.{IsHead, HeadFound, few_of_most, head_found, head_again}
 use Rattle.tm_script.proofs.ReadLaws.{has_first}

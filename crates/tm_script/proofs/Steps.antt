@@ -1,8 +1,7 @@
 -- going over words and lines
-use Rattle.std.proofs.Common.{◌≡◌, ℕ, suc, ◌+◌, List, [], ◌∷◌, length, Option, Some, None, Result, Ok, Err, refl, sym, ap, ◌∙◌, arith}
+use Rattle.std.proofs.Common.{◌≡◌, ℕ, ◌+◌, List, ◌∷◌, length, Option, Some, None, Result, Ok, Err, sym, ap, ◌∙◌}
 use Rattle.text_words.specs.Words.{words_of}
 use Rattle.text_words.proofs.Cuts.{split_some}
-use Rattle.tm_base.specs.CpuSet.{Cpus}
 use Rattle.tm_script.specs.declared.faults.Kind.{Kind}
 use Rattle.tm_script.specs.declared.faults.Kind.TheVariants.{BadLine}
 use Rattle.tm_script.specs.declared.isolated.Named.{Named}

@@ -1,9 +1,7 @@
 -- what holds of every script of the grammar, for those who play it
-use Rattle.std.specs.Prelude.{◌≡◌, ℕ, ◌+◌, ◌^◌, ◌<◌, ◌≤◌, List, [], ◌∷◌, Bool, true, false, length}
+use Rattle.std.specs.Prelude.{◌≡◌, ℕ, ◌+◌, ◌<◌, ◌≤◌, false, length}
 use Rattle.std.specs.Prelude.{slice_get, Some}
-use Rattle.tm_base.specs.declared.names.Class.{Class}
-use Rattle.tm_base.specs.declared.names.Class.TheVariants.{Deferrable}
-use Rattle.tm_base.specs.declared.limits.TheConstants.{MOST_CPUS_V1, MOST_CPUS_V2, MOST_TIMERS}
+use Rattle.tm_base.specs.declared.limits.TheConstants.{MOST_CPUS_V2}
 use Rattle.tm_base.specs.declared.limits.TheConstants.{MOST_OPS, MOST_LINES, SCRIPT_TIME_LIMIT}
 use Rattle.tm_script.specs.declared.syntax.Script.{Script}
 use Rattle.tm_script.specs.declared.syntax.Moment.{Moment}

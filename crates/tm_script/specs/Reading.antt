@@ -6,9 +6,8 @@ use Rattle.std.specs.List.{list_any, range_with_len}
 use Rattle.std.specs.Str.{bytes_eq}
 use Rattle.std.specs.FinSet.{empty, insert, contains}
 use Rattle.text_words.specs.Numbers.{is_number, value_of}
-use Rattle.text_words.specs.Words.{words_of, lines_of}
+use Rattle.text_words.specs.Words.{words_of}
 use Rattle.tm_base.specs.CpuSet.{Cpus as CpuNumbers}
-use Rattle.tm_base.specs.declared.names.CpuId.{CpuId}
 use Rattle.tm_base.specs.declared.names.Class.{Class}
 use Rattle.tm_base.specs.declared.names.Class.TheVariants.{Pinned, Global, Deferrable}
 use Rattle.tm_base.specs.declared.limits.TheConstants.{MOST_NODES, MOST_NODE_CPUS, MOST_TIMERS}

@@ -106,7 +106,7 @@ sum-nodes isolated cpus a (suc k) =
     let rest = map length (map (λ n. map of_cpu (placed_from isolated (n * cpus) cpus)) (range_with_len (a + 1) k)) in
     omega (arith, sum-nodes isolated cpus (a + 1) k, sum_by-cons (λ x. x) (length here) rest, length-map (placed_from isolated (a * cpus) cpus) of_cpu, few_placed isolated (a * cpus) cpus, suc-mul k cpus)
 
-all_few : (nodes cpus : ℕ) → nodes ≤ 8 → cpus ≤ 64 → nodes * cpus ≤ 512
+pub all_few : (nodes cpus : ℕ) → nodes ≤ 8 → cpus ≤ 64 → nodes * cpus ≤ 512
 all_few nodes cpus few small = grind arith
 
 -- the nodes of a machine

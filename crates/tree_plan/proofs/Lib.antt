@@ -12,6 +12,6 @@ pub mod Walks
 pub mod Below
 pub mod Rows
 pub mod Nodes
+pub mod Children
 pub mod Stored
 pub mod Climbs
-pub mod Found

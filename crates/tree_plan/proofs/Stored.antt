@@ -12,13 +12,15 @@ use Rattle.tree_plan.specs.declared.cutting.Link.{Link}
 use Rattle.tm_base.specs.declared.names.Child.{Child}
 use Rattle.tm_base.specs.Children.{of_cpu, of_group}
 use Rattle.tm_base.specs.CpuSet.{Cpus}
+use Rattle.tm_base.specs.declared.names.CpuId.{CpuId}
 use Rattle.tree_plan.specs.Shape.{Shape, IsPlanned, IsWithinLimits, joined, placed_from, tree_of}
 use Rattle.tree_plan.specs.Paths.{cpu_count_of, is_placed_in, placed_of, group_count_of, level_count_of, groups_of, level_in, place_in, level_of, place_of, children_of, child_count_of, child_at, parent_of, bit_in, bit_of, IsTop}
-use Rattle.tree_plan.specs.Store.{listed, listed_levels, lengths, links_from, group_of, link_of, seat_link, seat_links, IsStored}
+use Rattle.tree_plan.specs.Store.{listed, listed_levels, lengths, links_from, firsts_from, first_child_of, cpu_ids, group_of, link_of, seat_link, seat_links, IsStored}
 use Rattle.std.proofs.lemmas.List.FromFn.{length-map-range_with_len}
 use Rattle.tree_plan.proofs.Gets.{get_either, get_within, get_some, get_left, get_right, get_range}
 use Rattle.tree_plan.proofs.Seats.{has, seat_of, length-links_from}
 use Rattle.tree_plan.proofs.Stacks.{first_level, later_level, first_place, later_place}
+use Rattle.tree_plan.proofs.Children.{get-firsts, length-firsts}
 use Rattle.tree_plan.proofs.Placed.{is_placed, placed_parts}
 use Rattle.tree_plan.proofs.Trees.{some_cpus, rank, group_at, cpu_there, group_there, child_total, alone, cpu_placed, cut_laws, edge_laws, level_laws}
 
@@ -192,7 +194,7 @@ module _ (t : Shape) (planned : IsPlanned t) where
       let linked_is : linked ≡ true = e ∙ ap (λ o. is_some (option_map (link_to_parent t (of_group g)) o)) some in
       (λ not_linked. absurd (true≢false (sym linked_is ∙ not_linked)), λ last. absurd (omega (arith, last, (edge_laws t planned).group_within g p some))))
 
-module _ (nodes cpus : ℕ) (isolated : Cpus) (placed : ℕ) (groups : List Group) (links : List Link) (seats : List (Option Link)) (stored : IsStored nodes cpus isolated placed groups links seats) (t : Shape) (view : tree_of nodes cpus isolated ≡ t) where
+module _ (nodes cpus : ℕ) (isolated : Cpus) (placed : List CpuId) (groups : List Group) (firsts : List ℕ) (links : List Link) (seats : List (Option Link)) (stored : IsStored nodes cpus isolated placed groups firsts links seats) (t : Shape) (view : tree_of nodes cpus isolated ≡ t) where
   pub is_planned : IsPlanned t
   is_planned = subst IsPlanned view (planned_tree nodes cpus isolated stored.limits)
 
@@ -217,6 +219,13 @@ module _ (nodes cpus : ℕ) (isolated : Cpus) (placed : ℕ) (groups : List Grou
   pub seat_total : length seats ≡ cpu_count_of t
   seat_total = ap length stored.all_seats ∙ (length-map-range_with_len (seat_link isolated links) 0 (nodes * cpus) ∙ cpu_total)
 
+  -- the placed CPUs
+  pub placed_is : placed ≡ cpu_ids (placed_of t)
+  placed_is = stored.all_placed ∙ ap (λ s. cpu_ids (placed_of s)) view
+
+  pub placed_total : length placed ≡ length (placed_of t)
+  placed_total = ap length placed_is ∙ length-map (placed_of t) (λ n. record { 0 = n })
+
   -- the link of a CPU
   pub cpu_link : (c : ℕ) → c < cpu_count_of t → slice_get seats c ≡ Some (link_of t (of_cpu c))
   cpu_link c inside =
@@ -225,9 +234,22 @@ module _ (nodes cpus : ℕ) (isolated : Cpus) (placed : ℕ) (groups : List Grou
       ∙ ((λ i. Some (seat_link (same_isolated i) (all_links i) (zero-add c i))) ∙ ap Some (seat_of_cpu t is_planned c inside)))
 
   -- the link of a group
-  pub group_link : (g : ℕ) → g < group_count_of t → slice_get links (placed + g) ≡ link_of t (of_group g)
+  pub group_link : (g : ℕ) → g < group_count_of t → slice_get links (length placed + g) ≡ link_of t (of_group g)
   group_link g inside =
-      (λ i. slice_get (all_links i) ((stored.all_placed ∙ ap (λ s. length (placed_of s)) view) i + g)) ∙ group_link_of t is_planned g inside
+      (λ i. slice_get (all_links i) (placed_total i + g)) ∙ group_link_of t is_planned g inside
+
+  -- the first child of a group
+  pub first_total : length firsts ≡ group_count_of t
+  first_total =
+      ap length stored.all_firsts
+      ∙ (length-firsts 0 (map length (groups_of (tree_of nodes cpus isolated)))
+      ∙ (length-map (groups_of (tree_of nodes cpus isolated)) length ∙ ap group_count_of view))
+
+  pub first_is : (g : ℕ) → g < group_count_of t → slice_get firsts g ≡ Some (first_child_of t g)
+  first_is g inside =
+      ap (λ fs. slice_get fs g) stored.all_firsts
+      ∙ (ap (λ (s : Shape). slice_get (firsts_from 0 (map length (groups_of s))) g) view
+      ∙ (get-firsts 0 (map length (groups_of t)) g (omega (arith, length-map (groups_of t) length, inside)) ∙ ap (λ k. Some k) (zero-add (first_child_of t g))))
 
   -- the last group is the top, on the highest level
   pub top_level : (top : Group) → slice_get groups (length groups - 1) ≡ Some top → top.level + 1 ≡ level_count_of t
@@ -268,7 +290,14 @@ unfolding groups_of
 plan_total nodes cpus isolated groups limits made =
     omega (arith, ap length made, length-listed_levels 0 (tree_of nodes cpus isolated).levels, (cut_laws (tree_of nodes cpus isolated) (planned_tree nodes cpus isolated limits)).at_most_73_groups)
 
--- the links of the children of the groups that were cut
+-- the first children of the groups that were cut, and the links of their children
+pub plan_firsts : (nodes cpus : ℕ) (isolated : Cpus) (groups given : List Group) (firsts : List ℕ) →
+    groups ≡ listed_levels 0 (lengths (tree_of nodes cpus isolated).levels) → given ≡ groups →
+    firsts ≡ firsts_from 0 (map (λ (g : Group). g.children) given) → firsts ≡ firsts_from 0 (map length (groups_of (tree_of nodes cpus isolated)))
+unfolding groups_of
+plan_firsts nodes cpus isolated groups given firsts made same counted =
+    counted ∙ ap (firsts_from 0) (ap (map (λ (g : Group). g.children)) (same ∙ made) ∙ all_child_counts 0 (tree_of nodes cpus isolated).levels)
+
 pub plan_links : (nodes cpus : ℕ) (isolated : Cpus) (groups given : List Group) (links : List Link) →
     groups ≡ listed_levels 0 (lengths (tree_of nodes cpus isolated).levels) → given ≡ groups →
     links ≡ links_from 0 (map (λ (g : Group). g.children) given) → links ≡ links_from 0 (map length (groups_of (tree_of nodes cpus isolated)))
@@ -277,17 +306,19 @@ plan_links nodes cpus isolated groups given links made same linked =
     linked ∙ ap (links_from 0) (ap (map (λ (g : Group). g.children)) (same ∙ made) ∙ all_child_counts 0 (tree_of nodes cpus isolated).levels)
 
 -- and with the links of the CPUs they are the tree
-pub plan_stored : (nodes cpus : ℕ) (isolated copy : Cpus) (placed count : ℕ) (groups : List Group) (links given : List Link) (seats : List (Option Link)) →
+pub plan_stored : (nodes cpus : ℕ) (isolated copy : Cpus) (count : ℕ) (placed : List CpuId) (groups : List Group) (firsts : List ℕ) (links given : List Link) (seats : List (Option Link)) →
     IsWithinLimits nodes cpus isolated → copy ≡ isolated → count ≡ nodes * cpus →
-    placed ≡ length (placed_from isolated 0 count) →
+    placed ≡ cpu_ids (placed_from isolated 0 count) →
     groups ≡ listed_levels 0 (lengths (tree_of nodes cpus isolated).levels) →
+    firsts ≡ firsts_from 0 (map length (groups_of (tree_of nodes cpus isolated))) →
     links ≡ links_from 0 (map length (groups_of (tree_of nodes cpus isolated))) → given ≡ links →
-    seats ≡ seat_links isolated given count → IsStored nodes cpus copy placed groups links seats
-plan_stored nodes cpus isolated copy placed count groups links given seats limits same counted free made linked lent seated =
-    subst (λ set. IsStored nodes cpus set placed groups links seats) (sym same) (record {
+    seats ≡ seat_links isolated given count → IsStored nodes cpus copy placed groups firsts links seats
+plan_stored nodes cpus isolated copy count placed groups firsts links given seats limits same counted free made begun linked lent seated =
+    subst (λ set. IsStored nodes cpus set placed groups firsts links seats) (sym same) (record {
       limits = limits;
-      all_placed = free ∙ ap (λ n. length (placed_from isolated 0 n)) counted;
+      all_placed = free ∙ ap (λ n. cpu_ids (placed_from isolated 0 n)) counted;
       all_groups = made;
+      all_firsts = begun;
       all_links = linked;
       all_seats = seated ∙ (λ i. seat_links isolated (lent i) (counted i));
     })

@@ -1,12 +1,14 @@
 -- how a tree is kept (no public clause cites it): its groups in the order of their numbers, and for
 -- each child, the placed CPUs first and then the groups, the group that has it and its child number
--- there; the same once more for each CPU by its number
-use Rattle.std.specs.Prelude.{◌≡◌, ℕ, zero, suc, ◌+◌, ◌-◌, ◌*◌, ◌/◌, ◌==◌, ◌&&◌, min, nat_lt}
-use Rattle.std.specs.Prelude.{if◌then◌else◌, Bool, false, List, [], ◌∷◌, ◌++◌, length, map}
-use Rattle.std.specs.Prelude.{flat_map, sum, Option, Some, None, option_map, slice_get}
+-- there; the same once more for each CPU by its number; for each group, which of all children its
+-- first one is
+use Rattle.std.specs.Prelude.{◌≡◌, ℕ, zero, suc, ◌+◌, ◌-◌, ◌*◌, ◌/◌, min, nat_lt}
+use Rattle.std.specs.Prelude.{if◌then◌else◌, List, [], ◌∷◌, ◌++◌, length, map}
+use Rattle.std.specs.Prelude.{flat_map, sum, Option, None, option_map, slice_get}
 use Rattle.std.specs.List.{range_with_len}
 use Rattle.std.specs.FinSet.{contains}
 use Rattle.tm_base.specs.declared.names.Child.{Child}
+use Rattle.tm_base.specs.declared.names.CpuId.{CpuId}
 use Rattle.tm_base.specs.CpuSet.{Cpus}
 use Rattle.tree_plan.specs.declared.cutting.Group.{Group}
 use Rattle.tree_plan.specs.declared.cutting.Link.{Link}
@@ -80,10 +82,24 @@ abbrev pub link_of : Shape → Child → Option Link
 link_of t m =
     option_map (λ p. record { parent = record { 0 = p }; bit = bit_of t m }) (parent_of t m)
 
--- whether a link leads to this child number of group g
-abbrev pub leads_to : Option Link → (g k : ℕ) → Bool
-leads_to None g k = false
-leads_to (Some link) g k = link.parent.0 == g && link.bit == k
+-- how many children the groups before group g have, where the groups have these numbers of children
+unfoldable pub count_before : List ℕ → (g : ℕ) → ℕ
+count_before [] g = 0
+count_before (n ∷ ns) zero = 0
+count_before (n ∷ ns) (suc g) = n + count_before ns g
+
+-- which of all children the first one of group g is
+abbrev pub first_child_of : Shape → ℕ → ℕ
+first_child_of t g = count_before (map length (groups_of t)) g
+
+-- the same for each of groups with these numbers of children, where so many children come before
+unfoldable pub firsts_from : ℕ → List ℕ → List ℕ
+firsts_from next [] = []
+firsts_from next (n ∷ ns) = next ∷ firsts_from (next + n) ns
+
+-- the CPUs of these numbers
+abbrev pub cpu_ids : List ℕ → List CpuId
+cpu_ids ns = map (λ n. record { 0 = n }) ns
 
 -- the links of the n CPUs from 0 on, where these are the links of the placed ones among them in
 -- ascending order
@@ -94,11 +110,14 @@ seat_link isolated links c =
 abbrev pub seat_links : Cpus → List Link → (n : ℕ) → List (Option Link)
 seat_links isolated links n = map (seat_link isolated links) (range_with_len 0 n)
 
--- these are the groups and the links of the tree of this machine
-pub record IsStored (nodes cpus : ℕ) (isolated : Cpus) (placed : ℕ) (groups : List Group)
-    (links : List Link) (seats : List (Option Link)) : Type 0 where
+-- these are the placed CPUs, the groups and the links of the tree of this machine
+pub record IsStored (nodes cpus : ℕ) (isolated : Cpus) (placed : List CpuId)
+    (groups : List Group) (firsts : List ℕ) (links : List Link)
+    (seats : List (Option Link)) : Type 0 where
   pub limits : IsWithinLimits nodes cpus isolated
-  pub all_placed : placed ≡ length (placed_of (tree_of nodes cpus isolated))
+  pub all_placed : placed ≡ cpu_ids (placed_of (tree_of nodes cpus isolated))
   pub all_groups : groups ≡ groups_planned nodes cpus isolated
+  pub all_firsts :
+      firsts ≡ firsts_from 0 (map length (groups_of (tree_of nodes cpus isolated)))
   pub all_links : links ≡ links_from 0 (map length (groups_of (tree_of nodes cpus isolated)))
   pub all_seats : seats ≡ seat_links isolated links (nodes * cpus)

@@ -7,8 +7,8 @@ ghost use Rattle.tm_base.specs.declared.limits.TheConstants.{MOST_CPUS_V2};
 ghost use Rattle.tree_plan.specs.Shape.{IsWithinLimits, levels_for, node_cpus, placed_from};
 ghost use Rattle.tree_plan.specs.Shape.{tree_of};
 ghost use Rattle.tree_plan.specs.Store.{groups_for, row_lengths_at, row_groups, level_of_rows};
-ghost use Rattle.tree_plan.specs.Store.{CutsNext, groups_planned, leads_to, links_to, links_from};
-ghost use Rattle.tree_plan.specs.Store.{seat_links};
+ghost use Rattle.tree_plan.specs.Store.{CutsNext, groups_planned, links_to, links_from};
+ghost use Rattle.tree_plan.specs.Store.{seat_links, cpu_ids, firsts_from};
 
 use std::alloc::Global;
 use tm_base::{CpuId, CpuSet, GROUP_SIZE, GroupId, NoMemory};
@@ -31,18 +31,6 @@ pub(crate) struct Link {
     pub(crate) parent: GroupId,
     /// The child's number there, below 8.
     pub(crate) bit: u8,
-}
-
-impl Link {
-    /// Whether a link leads to this child number of a group.
-    pub(crate) fn leads_to(link: Option<Link>, group: GroupId, bit: u8) -> bool
-        ensures { result ≡ leads_to link group.0 bit }
-    {
-        match link {
-            Some(link) => link.parent.0 == group.0 && link.bit == bit,
-            None => false,
-        }
-    }
 }
 
 /// How many levels of eight to a group bring so many members down to one, ceil(log2up(members) /
@@ -145,7 +133,7 @@ fn cut_next(
 }
 
 /// How many of so many CPUs from this one on are placed.
-pub(crate) fn placed_among(first: u16, count: u16, isolated: &CpuSet) -> u16
+fn placed_among(first: u16, count: u16, isolated: &CpuSet) -> u16
     requires { first + count < 2 ^ 16 }
     ensures { result ≡ length (placed_from isolated.now first count) }
 {
@@ -213,6 +201,48 @@ pub(crate) fn link_children(alloc: Global, groups: &[Group]) -> Result<Vec<Link>
         link_to(&mut links, GroupId(number as u16), group.children)?;
     }
     Ok(links)
+}
+
+/// The index of each group's first child, where the children of all groups are counted in the order
+/// of their groups.
+pub(crate) fn first_children(alloc: Global, groups: &[Group]) -> Result<Vec<usize>, NoMemory>
+    requires { length groups.now < 2 ^ 16 }
+    ensures { IfOk result (λ firsts.
+        firsts.items ≡ firsts_from 0 (map (λ g. g.children) groups.now)) }
+{
+    let mut firsts = Vec::new(alloc);
+    let mut next = 0;
+    for group in groups {
+        firsts.push(next)?;
+        next += usize::from(group.children);
+    }
+    Ok(firsts)
+}
+
+/// Appends a CPU, if it is placed.
+fn place(placed: &mut Vec<CpuId>, cpu: u16, isolated: &CpuSet) -> Result<(), NoMemory>
+    ensures { OnOk result
+        (placed.new.items ≡ placed.old.items ++ cpu_ids (placed_from isolated.now cpu 1)) }
+{
+    if !isolated.has(CpuId(cpu)) {
+        placed.push(CpuId(cpu))?;
+    }
+    Ok(())
+}
+
+/// The placed ones of so many CPUs, in ascending order.
+pub(crate) fn placed_cpus(
+    alloc: Global,
+    count: u16,
+    isolated: &CpuSet,
+) -> Result<Vec<CpuId>, NoMemory>
+    ensures { IfOk result (λ cpus. cpus.items ≡ cpu_ids (placed_from isolated.now 0 count)) }
+{
+    let mut placed = Vec::new(alloc);
+    for cpu in 0..count {
+        place(&mut placed, cpu, isolated)?;
+    }
+    Ok(placed)
 }
 
 /// The link of a CPU: a placed one has the next one of `links`, where so many were given out.

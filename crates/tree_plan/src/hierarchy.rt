@@ -1,15 +1,18 @@
 //! The planned tree and its readers.
 
-ghost use Rattle.std.specs.Prelude.{◌≡◌, ◌<◌, ◌≤◌, ◌↔◌, true, IfOk, IsNone, option_map};
+ghost use Rattle.std.specs.Prelude.{◌≡◌, ◌<◌, ◌≤◌, ◌↔◌, true, IfOk, IsNone, Some, option_map};
+ghost use Rattle.std.specs.Prelude.{length, slice_get};
 ghost use Rattle.std.specs.Bool.{OnTrue, OnFalse};
 ghost use Rattle.tm_base.specs.Children.{of_cpu, of_group};
-ghost use Rattle.tree_plan.specs.Shape.{Shape, IsWithinLimits, IsPlanned, tree_of};
+ghost use Rattle.tree_plan.specs.Shape.{Shape, IsWithinLimits, IsPlanned, joined, tree_of};
 ghost use Rattle.tree_plan.specs.Paths.{cpu_count_of, is_placed_in, group_count_of, level_count_of};
 ghost use Rattle.tree_plan.specs.Paths.{level_of, place_of, child_count_of, child_at, parent_of};
-ghost use Rattle.tree_plan.specs.Paths.{bit_of, group_at_of, IsTop};
-ghost use Rattle.tree_plan.specs.Store.{group_of, link_of};
+ghost use Rattle.tree_plan.specs.Paths.{bit_of, group_at_of, groups_of, IsTop};
+ghost use Rattle.tree_plan.specs.Store.{first_child_of, group_of, link_of};
 
-use crate::cutting::{Group, Link, cut_groups, link_children, link_cpus, placed_among};
+use crate::cutting::{
+    Group, Link, cut_groups, first_children, link_children, link_cpus, placed_cpus,
+};
 use std::alloc::Global;
 use std::marker::Model;
 use tm_base::{Child, CpuId, CpuSet, GroupId, NoMemory};
@@ -21,9 +24,11 @@ pub struct Tree {
     nodes: u8,
     cpus: u8,
     isolated: CpuSet,
-    /// How many CPUs are placed.
-    placed: u16,
+    /// The placed CPUs in ascending order.
+    placed: Vec<CpuId>,
     groups: Vec<Group>,
+    /// Of each group: which of all children its first one is.
+    firsts: Vec<usize>,
     /// Of each child: the placed CPUs in ascending order, and then the groups but for the top.
     links: Vec<Link>,
     /// Of each CPU by its number.
@@ -42,7 +47,8 @@ impl Model for Tree {
     ghost view = { λ t. tree_of t.nodes t.cpus t.isolated };
 
     ghost invariant = { λ t.
-        IsStored t.nodes t.cpus t.isolated t.placed t.groups.items t.links.items t.seats.items };
+        IsStored t.nodes t.cpus t.isolated t.placed.items t.groups.items t.firsts.items
+        t.links.items t.seats.items };
 }
 
 /// Plans the tree of a machine of 1 to 8 nodes with 1 to 64 CPUs each, of which some aren't
@@ -57,14 +63,17 @@ pub fn plan(alloc: Global, nodes: u8, cpus: u8, isolated: &CpuSet) -> Result<Tre
 {
     let count = u16::from(nodes) * u16::from(cpus);
     let groups = cut_groups(alloc, nodes, cpus, isolated)?;
+    let placed = placed_cpus(alloc, count, isolated)?;
+    let firsts = first_children(alloc, groups.as_slice())?;
     let links = link_children(alloc, groups.as_slice())?;
     let seats = link_cpus(alloc, count, isolated, links.as_slice())?;
     Ok(Tree {
         nodes,
         cpus,
         isolated: isolated.copy(),
-        placed: placed_among(0, count, isolated),
+        placed,
         groups,
+        firsts,
         links,
         seats,
     })
@@ -130,21 +139,16 @@ impl Tree {
     }
 
     /// The child of a group with this child number; None exactly where the group has no such child.
-    /// The work is linear in the number of CPUs and groups.
     pub fn child(&self, g: GroupId, bit: u8) -> Option<Child>
         ensures { result ≡ child_at self.now g.0 bit }
     {
-        for c in 0..self.cpu_count() {
-            if Link::leads_to(self.cpu_link(CpuId(c)), g, bit) {
-                return Some(Child::Cpu(CpuId(c)));
-            }
+        if g.0 >= self.group_count() {
+            return None;
         }
-        for h in 0..self.group_count() {
-            if Link::leads_to(self.group_link(GroupId(h)), g, bit) {
-                return Some(Child::Group(GroupId(h)));
-            }
+        if bit >= self.children(g) {
+            return None;
         }
-        None
+        Some(self.member(self.first(g) + usize::from(bit)))
     }
 
     /// The group that has this group as a child. Only the top has none.
@@ -209,6 +213,26 @@ impl Tree {
         self.groups[usize::from(g.0)]
     }
 
+    /// Which of all children a group's first one is.
+    fn first(&self, g: GroupId) -> usize
+        requires { g.0 < group_count_of self.now }
+        ensures first { result ≡ first_child_of self.now g.0 }
+        ensures planned { IsPlanned self.now }
+    {
+        self.firsts[usize::from(g.0)]
+    }
+
+    /// One of all children: these are the placed CPUs, and then the groups but for the top.
+    fn member(&self, index: usize) -> Child
+        requires { index < length (joined (groups_of self.now)) }
+        ensures { slice_get (joined (groups_of self.now)) index ≡ Some result }
+    {
+        match self.placed.get(index) {
+            Some(cpu) => Child::Cpu(*cpu),
+            None => Child::Group(GroupId((index - self.placed.len()) as u16)),
+        }
+    }
+
     /// The link of a CPU to its leaf, None where it has none.
     fn cpu_link(&self, c: CpuId) -> Option<Link>
         requires { c.0 < cpu_count_of self.now }
@@ -225,7 +249,7 @@ impl Tree {
         ensures planned { IsPlanned self.now }
     {
         self.links
-            .get(usize::from(self.placed) + usize::from(g.0))
+            .get(self.placed.len() + usize::from(g.0))
             .copied()
     }
 }

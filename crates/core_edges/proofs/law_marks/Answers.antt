@@ -1,4 +1,4 @@
-use Rattle.core_edges.proofs.KeepsBits.{marks_follow}
+use Rattle.core_edges.proofs.Marks.{marks_follow}
 use Rattle.core_edges.proofs.law_marks.Goals as goal
 
 pub returns : goal.returns

@@ -1,8 +1,7 @@
 use Rattle.std.proofs.Common.{sym, ap, subst, ◌∙◌}
 use Rattle.text_words.specs.Words.{lines_of}
 use Rattle.tm_script.specs.declared.draft.Draft.{Draft}
-use Rattle.tm_script.specs.declared.faults.ScriptFault.{ScriptFault}
-use Rattle.tm_script.specs.Reading.{Gives, read_from}
+use Rattle.tm_script.specs.Reading.{read_from}
 use Rattle.tm_script.proofs.KnownLaws.{IsKnown, known_behind, line_read, line_refused, lines_end}
 use Rattle.tm_script.proofs.reading.read_lines.Goals as goal
 
