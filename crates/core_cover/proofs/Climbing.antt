@@ -10,15 +10,18 @@ use Rattle.event_queue.specs.EventMap.{Counts, event_at}
 use Rattle.tm_base.specs.Children.{of_group}
 use Rattle.tree_plan.specs.Shape.{Shape}
 use Rattle.tree_plan.specs.Paths.{bit_of, child_towards, group_at_of, group_count_of, parent_of}
-use Rattle.coverage.specs.Coverage.{HasEvent, Told}
+use Rattle.coverage.specs.Coverage.{HasEvent, Told, WakesBy}
 use Rattle.walk_rules.specs.Hierarchy.{at_top, side}
 use Rattle.walk_rules.specs.Queues.{HasTold}
 use Rattle.core_world.specs.Covered.{Covered, at_idle_top, by_role, live_expiry, machine_of}
-use Rattle.core_world.specs.Covered.{on_the_way}
+use Rattle.core_world.specs.Covered.{IsUnderWay, on_the_way}
+use Rattle.core_world.specs.IdleTop.{Answered, by_activation, by_climbing, by_first, by_interrupt}
+use Rattle.core_world.specs.IdleTop.{by_reading, by_wakeup}
 use Rattle.core_world.specs.Lawful.{IsLawful}
-use Rattle.core_world.specs.World.{World, group_of, scene_of}
+use Rattle.core_world.specs.World.{World, cpu_of, group_of, scene_of}
 use Rattle.core_cover.proofs.Chains.{level_short}
 use Rattle.core_cover.proofs.Leading.{Ends, leads}
+use Rattle.core_cover.proofs.Resting.{kept}
 
 -- the event that counts, from its expiry
 pub record IsLive (m : Option Event) (expiry : ℕ) : Type 0 where
@@ -44,6 +47,10 @@ live (Some e) expiry is = live_as e e.ignored expiry refl is
 
 pub counted : (m : Option Event) (e : Event) → m ≡ Some e → Counts e → live_expiry m ≡ Some e.expiry
 counted m e is counts = ap live_expiry is ∙ ap (λ b. cond b None (Some e.expiry)) counts
+
+none_is : (m : Option ℕ) → is_none m ≡ true → m ≡ None
+none_is None e = refl
+none_is (Some p) e = absurd (cc)
 
 some_next : (m : Option ℕ) → is_none m ≡ false → (p : ℕ) × (m ≡ Some p)
 some_next None e = absurd (cc)
@@ -112,13 +119,52 @@ module _ (w : World) (l : IsLawful w) (c wheel : ℕ) where
   -- at a group of the path that isn't active
   module _ (level g : ℕ) (told : To level) (here : group_at_of w.tree c level ≡ Some g)
       (off : (group_of w g).migrator ≡ None) where
+    -- at an idle top a kept wakeup answers for the CPU's event, or something under way does
+    module _ (e : Event) (top : at_top w.tree c level ≡ true)
+        (is : event_at (group_of w g).events (side w.tree c level) ≡ Some e) (counts : Counts e)
+      where
+        carried : (by : Answered w (side w.tree c level) e.expiry) →
+            IsUnderWay w (side w.tree c level) e.expiry by → Covered w c wheel
+        carried by going = inr (inr (at_idle_top level g e told here top off is by going))
+
+        woken : WakesBy (machine_of w) e.expiry → Covered w c wheel
+        woken wakes = inr (inl (inr (record {
+          level = level;
+          top = g;
+          expiry = e.expiry;
+          on_path = here;
+          is_top = (let next : suc level ≡ level + 1 = omega arith in
+              subst (λ n. group_at_of w.tree c n ≡ None) next
+              (none_is (group_at_of w.tree c (suc level)) top));
+          told = told;
+          inactive = off;
+          event = counted _ e is counts;
+          wakes = wakes;
+        })))
+
+        answered : Answered w (side w.tree c level) e.expiry → Covered w c wheel
+        answered (by_wakeup d group keeps soon) = woken (record {
+          waker = d;
+          at = (cpu_of w d).wakeup;
+          placed = l.hierarchy.has_group d group.0 group.1;
+          keeps = kept (cpu_of w d) keeps;
+          in_time = soon;
+        })
+        answered (by_activation d k group is kind) = carried (by_activation d k group is kind) tt
+        answered (by_interrupt d group online idle inside goes_on) =
+            carried (by_interrupt d group online idle inside goes_on) tt
+        answered (by_climbing d k climbs over) = carried (by_climbing d k climbs over) tt
+        answered (by_reading d k climbs top off yet) =
+            carried (by_reading d k climbs top off yet) tt
+        answered (by_first d k climbs soon) = carried (by_first d k climbs soon) tt
+
     at_last : at_top w.tree c level ≡ true → Covered w c wheel
     at_last top =
         let e = told.events level (omega arith) in
         let is = live _ e.expiry (in_place level g e here) in
-        inr (inr (at_idle_top level g is.event told here top off is.is
+        answered is.event top is.is is.counts
         (l.answered g (side w.tree c level) is.event
-        (record { cpu = c; level = level; there = here; last = top }) off is.is is.counts)))
+        (record { cpu = c; level = level; there = here; last = top }) off is.is is.counts)
 
     going_on : ((p : ℕ) → To (suc level) → Covered w c wheel) → at_top w.tree c level ≡ false →
         Covered w c wheel

@@ -11,7 +11,7 @@ use Rattle.walk_rules.specs.Edges.{StandsAt, StandsBelow, edge_of}
 use Rattle.walk_rules.specs.Queues.{IsCarried, tells_by, will_tell_by}
 use Rattle.walk_rules.specs.Stages.{forget}
 use Rattle.core_world.specs.Covered.{IsSettled, IsTakenCareOf, kept_wakeup, machine_of}
-use Rattle.core_world.specs.Covered.{takes_out_by}
+use Rattle.core_world.specs.Covered.{IsUnderWay, takes_out_by}
 use Rattle.core_world.specs.IdleTop.{Answered, by_activation, by_climbing, by_first, by_interrupt}
 use Rattle.core_world.specs.IdleTop.{by_reading, by_wakeup}
 use Rattle.core_world.specs.Lawful.{IsLawful}
@@ -52,7 +52,17 @@ module _ (w : World) (s : IsSettled w) where
   walks : (c : ℕ) (k : Walk) → (cpu_of w c).walk ≡ Some k → ⊥
   walks c k is = none-some k (sym (s.free c) ∙ is)
 
-  -- so an idle top is answered by a wakeup
+  -- nothing under way answers for an idle top
+  pub none_goes : (child time : ℕ) (by : Answered w child time) → IsUnderWay w child time by → ⊥
+  none_goes child time (by_activation d k group is kind) going = walks d k is
+  none_goes child time (by_wakeup d group keeps soon) going = going
+  none_goes child time (by_interrupt d group online idle inside goes_on) going =
+      true≢false (sym inside ∙ s.outside d)
+  none_goes child time (by_climbing d k climbs over) going = walks d k climbs.walk
+  none_goes child time (by_reading d k climbs top on yet) going = walks d k climbs.walk
+  none_goes child time (by_first d k climbs soon) going = walks d k climbs.walk
+
+  -- so it is answered by a wakeup
   pub woken_by : IsLawful w → (child time : ℕ) → Answered w child time → WakesBy (machine_of w) time
   woken_by l child time (by_activation d k group is kind) = absurd (walks d k is)
   woken_by l child time (by_wakeup d group keeps soon) = record {

@@ -16,6 +16,7 @@ use Rattle.walk_rules.specs.Scene.{is_on}
 use Rattle.walk_rules.specs.Stages.{is_remote}
 use Rattle.walk_rules.specs.Standing.{is_leaving}
 use Rattle.core_world.specs.IdleTop.{Answered}
+use Rattle.core_world.specs.IdleTop as tops
 use Rattle.core_world.specs.Wakeups.{is_undisturbed}
 use Rattle.core_world.specs.World.{CpuRecord, World, cpu_of, group_of, is_active, scene_of}
 
@@ -62,6 +63,16 @@ abbrev pub IsTakenCareOf : World → Child → Type 0
 IsTakenCareOf w z = ((d : ℕ) × (takes_out_by w d (cpu_of w d).walk ≡ Some z)) ⊎
     ((x : ℕ) × (z ≡ of_group x) × StandsBelow w.tree (scene_of w) x)
 
+-- what answers for an idle top's event is a walk or an interrupt under way, and not a wakeup that
+-- a CPU keeps
+abbrev pub IsUnderWay : (w : World) (child time : ℕ) → Answered w child time → Type 0
+IsUnderWay w child time (tops.by_activation d k group is kind) = Unit {0}
+IsUnderWay w child time (tops.by_wakeup d group keeps soon) = ⊥
+IsUnderWay w child time (tops.by_interrupt d group online idle inside goes_on) = Unit {0}
+IsUnderWay w child time (tops.by_climbing d k climbs over) = Unit {0}
+IsUnderWay w child time (tops.by_reading d k climbs top off yet) = Unit {0}
+IsUnderWay w child time (tops.by_first d k climbs soon) = Unit {0}
+
 -- CARRIED: a walk or an interrupt under way answers
 pub data Carried (w : World) (c wheel : ℕ) : Type 0 where
   by_walk : (k : Walk) → (cpu_of w c).walk ≡ Some k → is_remote k.kind ≡ false → Carried w c wheel
@@ -77,7 +88,8 @@ pub data Carried (w : World) (c wheel : ℕ) : Type 0 where
       group_at_of w.tree c level ≡ Some top → at_top w.tree c level ≡ true →
       (group_of w top).migrator ≡ None →
       event_at (group_of w top).events (side w.tree c level) ≡ Some e →
-      Answered w (side w.tree c level) e.expiry → Carried w c wheel
+      (by : Answered w (side w.tree c level) e.expiry) →
+      IsUnderWay w (side w.tree c level) e.expiry by → Carried w c wheel
 
 -- COVERED
 abbrev pub Covered : World → (c wheel : ℕ) → Type 0

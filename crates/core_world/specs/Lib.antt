@@ -1,6 +1,7 @@
 pub mod World
 pub mod Steps
 pub mod Enabled
+pub mod Lists
 pub mod Frames
 pub mod Start
 pub mod Wakeups

@@ -1,7 +1,7 @@
 -- a CPU leaves, and hands on
-use Rattle.std.proofs.Common.{◌≡◌, ◌≢◌, ℕ, ◌<◌, Bool, true, false, Option, Some, None, length}
-use Rattle.std.proofs.Common.{refl, sym, ap, ◌∙◌, subst, arith, inl, inr}
-use Rattle.std.specs.Prelude.{if◌then◌else◌, is_none, not}
+use Rattle.std.proofs.Common.{◌≡◌, ◌≢◌, ◌⊎◌, ℕ, ◌<◌, Bool, true, false, Option, Some, None}
+use Rattle.std.proofs.Common.{length, refl, sym, ap, ◌∙◌, subst, arith, inl, inr}
+use Rattle.std.specs.Prelude.{◌&&◌, if◌then◌else◌, is_none, not}
 use Rattle.std.proofs.lemmas.Bool.{both_ways, cases_eq, cond-false, cond-true}
 use Rattle.std.proofs.lemmas.Option.{none-some}
 use Rattle.tm_base.specs.declared.names.CpuId.{CpuId}
@@ -48,12 +48,10 @@ stands (Some k) is =
     let off = not_true (goes_on (Some k)) is in
     record { made = k; walk = refl; stands = handing k off; still = off }
 
-pub waits_if : (m : Option Walk) → is_none m ≡ false → goes_on m ≡ false → waiting m ≡ true
-waits_if None some off = cc
-waits_if (Some k) some off = ap not off
-
-pub waits_unless : (m : Option Walk) → m ≡ None → waiting m ≡ false
-waits_unless m none = ap waiting none
+-- who neither goes on nor waits has none
+pub calm_none : (m : Option Walk) → waiting m ≡ false → goes_on m ≡ false → m ≡ None
+calm_none None calm off = refl
+calm_none (Some k) calm off = absurd (both_ways (waiting (Some k)) calm (ap not off))
 
 -- HANDING ON
 module _ (w : World) (c to : ℕ) (waits : Waits w c to) where
@@ -130,31 +128,37 @@ module _ (w : World) (c to : ℕ) (waits : Waits w c to) where
 
 -- LEAVING
 -- what is no refusal
-record Allowed (on idles to_on : Bool) : Type 0 where
+record Allowed (on idles placed to_on : Bool) : Type 0 where
   pub online : on ≡ true
   pub busy : idles ≡ false
-  pub to_online : to_on ≡ true
+  pub missed : (placed ≡ false) ⊎ (to_on ≡ true)
 
-allowed_by : (a b e : Bool) →
+allowed_by : (a b p e : Bool) →
     (if not a then Some faults.Offline else (if b then Some faults.NotActive
-    else (if not e then Some faults.LastOnline else None))) ≡ None → Allowed a b e
-allowed_by false b e is = absurd (none-some faults.Offline (sym is))
-allowed_by true true e is = absurd (none-some faults.NotActive (sym is))
-allowed_by true false false is = absurd (none-some faults.LastOnline (sym is))
-allowed_by true false true is = record { online = refl; busy = refl; to_online = refl }
+    else (if p && not e then Some faults.LastOnline else None))) ≡ None → Allowed a b p e
+allowed_by false b p e is = absurd (none-some faults.Offline (sym is))
+allowed_by true true p e is = absurd (none-some faults.NotActive (sym is))
+allowed_by true false true false is = absurd (none-some faults.LastOnline (sym is))
+allowed_by true false true true is = record { online = refl; busy = refl; missed = inr refl }
+allowed_by true false false e is = record { online = refl; busy = refl; missed = inl refl }
 
 module _ (w : World) (c to : ℕ) (low : c < length w.cpus) (to_low : to < length w.cpus)
     (another : to ≢ c) (placed : is_placed_in w.tree to ≡ true) (settled : IsSettled w)
     (allowed : offline_fault w c to ≡ None) where
-  a : Allowed (cpu_of w c).online (cpu_of w c).idle (cpu_of w to).online
-  a = allowed_by (cpu_of w c).online (cpu_of w c).idle (cpu_of w to).online allowed
+  a : Allowed (cpu_of w c).online (cpu_of w c).idle (is_placed_in w.tree c) (cpu_of w to).online
+  a =
+      allowed_by (cpu_of w c).online (cpu_of w c).idle (is_placed_in w.tree c)
+      (cpu_of w to).online allowed
 
   pub may_leave : MayGoOffline w c
   may_leave = record {
     is_free = record { in_range = low; free = settled.free c };
     active = runs w c a.online a.busy;
     outside = settled.outside c;
-    missed = inr (to, another, placed, a.to_online);
+    missed = elim a.missed [
+      | inl isolated ↦ inl isolated
+      | inr online ↦ inr (to, another, placed, online)
+    ];
   }
 
   abbrev gone : CpuRecord
@@ -189,58 +193,62 @@ module _ (w : World) (c to : ℕ) (low : c < length w.cpus) (to_low : to < lengt
     others d ne = ap (λ (y : CpuRecord). y.walk) (f.others d ne) ∙ settled.free d
 
     -- it has left
-    module _ (none : (cpu_of v c).walk ≡ None) where
-      calm : is_waiting (gone_by_steps w c) c ≡ false
-      calm = ap (λ u. is_waiting u c) (sym is) ∙ waits_unless (cpu_of v c).walk none
-
-      pub leaves_whole : v ≡ gone_whole w c to
-      leaves_whole =
-          is ∙ sym (cond-false (is_waiting (gone_by_steps w c) c)
-          (handed_on_by_steps (gone_by_steps w c) c to) (gone_by_steps w c) calm)
-
-      pub leaves_none : (heir : CpuId) → None ≡ heir_at w c heir
-      leaves_none heir =
-          sym (cond-false (is_waiting (gone_by_steps w c) c) (Some heir) None calm)
-
+    module _ (calm : is_waiting v c ≡ false) (ends : goes_on (cpu_of v c).walk ≡ false) where
       pub leaves_settled : IsSettled v
       leaves_settled = record {
         free = λ d. elim (cases_eq d c) [
-          | inl same ↦ ap (λ n. (cpu_of v n).walk) same ∙ none
+          | inl same ↦ ap (λ n. (cpu_of v n).walk) same ∙ calm_none (cpu_of v c).walk calm ends
           | inr ne ↦ others d ne
         ];
         outside = out;
       }
 
-    -- or it waits
-    module _ (some : is_none (cpu_of v c).walk ≡ false) (ends : goes_on (cpu_of v c).walk ≡ false)
-      where
-        waits_there : is_waiting v c ≡ true
-        waits_there = waits_if (cpu_of v c).walk some ends
+      calm_here : is_waiting (gone_by_steps w c) c ≡ false
+      calm_here = ap (λ u. is_waiting u c) (sym is) ∙ calm
 
-        waits_here : is_waiting (gone_by_steps w c) c ≡ true
-        waits_here = ap (λ u. is_waiting u c) (sym is) ∙ waits_there
+      pub leaves_whole : v ≡ gone_whole w c to
+      leaves_whole =
+          is ∙ sym (cond-false (is_waiting (gone_by_steps w c) c)
+          (handed_on_by_steps (gone_by_steps w c) c to) (gone_by_steps w c) calm_here)
 
-        pub leaves_waits : Waits v c to
-        leaves_waits = record {
-          low = leaves_low;
-          waits = waits_there;
-          others = others;
-          outside = out;
-          to_low = (let same = f.cpus in omega (arith, to_low, same));
-          another = another;
-          placed = ap (λ t. is_placed_in t to) f.tree ∙ placed;
-          online = ap (λ (y : CpuRecord). y.online) (f.others to another) ∙ a.to_online;
-        }
+      pub leaves_none : (heir : CpuId) → None ≡ heir_at w c heir
+      leaves_none heir =
+          sym (cond-false (is_waiting (gone_by_steps w c) c) (Some heir) None calm_here)
 
-        pub leaves_handed : (u : World) → u ≡ handed_on_by_steps v c to → u ≡ gone_whole w c to
-        leaves_handed u made =
-            made ∙ (ap (λ x. handed_on_by_steps x c to) is
-            ∙ sym (cond-true (is_waiting (gone_by_steps w c) c)
-            (handed_on_by_steps (gone_by_steps w c) c to) (gone_by_steps w c) waits_here))
+    -- or it waits, and is placed
+    module _ (waits : is_waiting v c ≡ true) (itself : is_placed_in v.tree c ≡ true) where
+      to_online : (cpu_of w to).online ≡ true
+      to_online = elim a.missed [
+        | inl isolated ↦
+            absurd (both_ways (is_placed_in w.tree c) isolated
+            (sym (ap (λ t. is_placed_in t c) f.tree) ∙ itself))
+        | inr online ↦ online
+      ]
 
-        pub leaves_heir : (heir : CpuId) → Some heir ≡ heir_at w c heir
-        leaves_heir heir =
-            sym (cond-true (is_waiting (gone_by_steps w c) c) (Some heir) None waits_here)
+      pub leaves_waits : Waits v c to
+      leaves_waits = record {
+        low = leaves_low;
+        waits = waits;
+        others = others;
+        outside = out;
+        to_low = (let same = f.cpus in omega (arith, to_low, same));
+        another = another;
+        placed = ap (λ t. is_placed_in t to) f.tree ∙ placed;
+        online = ap (λ (y : CpuRecord). y.online) (f.others to another) ∙ to_online;
+      }
+
+      waits_here : is_waiting (gone_by_steps w c) c ≡ true
+      waits_here = ap (λ u. is_waiting u c) (sym is) ∙ waits
+
+      pub leaves_handed : (u : World) → u ≡ handed_on_by_steps v c to → u ≡ gone_whole w c to
+      leaves_handed u made =
+          made ∙ (ap (λ x. handed_on_by_steps x c to) is
+          ∙ sym (cond-true (is_waiting (gone_by_steps w c) c)
+          (handed_on_by_steps (gone_by_steps w c) c to) (gone_by_steps w c) waits_here))
+
+      pub leaves_heir : (heir : CpuId) → Some heir ≡ heir_at w c heir
+      leaves_heir heir =
+          sym (cond-true (is_waiting (gone_by_steps w c) c) (Some heir) None waits_here)
 
 -- COMING BACK
 module _ (w : World) (c : ℕ) (low : c < length w.cpus) (settled : IsSettled w)

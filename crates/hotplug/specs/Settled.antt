@@ -1,24 +1,25 @@
 -- CPUs that leave and come back in a settled core, and the timers that a dead one leaves
-use Rattle.std.specs.Prelude.{◌≡◌, ℕ, zero, suc, ◌+◌, ◌==◌, not, true, Option, Some, None}
-use Rattle.std.specs.Prelude.{option_map}
-use Rattle.std.specs.Prelude.{if◌then◌else◌}
+use Rattle.std.specs.Prelude.{◌≡◌, ℕ, zero, suc, ◌+◌, ◌==◌, ◌&&◌, not, true, Option, Some, None}
+use Rattle.std.specs.Prelude.{if◌then◌else◌, option_map}
 use Rattle.tm_base.specs.declared.faults.OpFault.{OpFault}
 use Rattle.tm_base.specs.declared.faults.OpFault.TheVariants as faults
 use Rattle.tm_base.specs.declared.names.Class.{Class}
 use Rattle.tm_base.specs.declared.names.CpuId.{CpuId}
 use Rattle.wheel_core.specs.PlainBase.{NoneBehind}
 use Rattle.cpu_bases.specs.CpuBases.{CpuBases, base_of}
+use Rattle.tree_plan.specs.Paths.{is_placed_in}
 use Rattle.play_rules.specs.Machines.{after_move}
 use Rattle.core_world.specs.World.{World, cpu_of}
 use Rattle.step_rules.specs.StepRules.{gone_by_steps, handed_on_by_steps, is_waiting, made_active}
 use Rattle.step_rules.specs.StepRules.{step_rules}
 
--- OFFLINE: why CPU c can't leave, with CPU `to` to follow it
+-- OFFLINE: why CPU c can't leave, with CPU `to` to follow it; an isolated one needs nobody to
 abbrev pub offline_fault : World → (c to : ℕ) → Option OpFault
 offline_fault w c to =
     if not (cpu_of w c).online then Some faults.Offline
     else (if (cpu_of w c).idle then Some faults.NotActive
-    else (if not (cpu_of w to).online then Some faults.LastOnline else None))
+    else (if is_placed_in w.tree c && not (cpu_of w to).online then Some faults.LastOnline
+    else None))
 
 -- it leaves; where its walk waits to hand on, it hands on to CPU `to`, which is woken for it
 abbrev pub gone_whole : World → (c to : ℕ) → World

@@ -10,6 +10,7 @@ ghost use Rattle.hotplug.specs.Settled.{AllWhole, gone_whole, heir_at, offline_f
 
 use crate::activation::make_active;
 use core_state::Core;
+use core_views::hands_on;
 use core_world::Step;
 use step_calls::make;
 use tm_base::{CpuId, OpFault};
@@ -26,7 +27,7 @@ fn offline_fault<B: TimerBase>(core: &Core<B>, cpu: CpuId, to: CpuId) -> Option<
         Some(OpFault::Offline)
     } else if status.idle {
         Some(OpFault::NotActive)
-    } else if !core.status(to).online {
+    } else if core.is_placed(cpu) && !core.status(to).online {
         Some(OpFault::LastOnline)
     } else {
         None
@@ -58,17 +59,18 @@ fn leave<B: TimerBase>(core: &mut Core<B>, cpu: CpuId, to: CpuId) -> Option<CpuI
     ensures whole { AllWhole core.old → AllWhole core.new }
 {
     step_calls::go_offline(core, cpu);
-    if core.walk(cpu).is_none() {
-        return None;
+    if hands_on(core, cpu) {
+        hand_on(core, cpu, to);
+        return Some(to);
     }
-    hand_on(core, cpu, to);
-    Some(to)
+    None
 }
 
 /// An active CPU leaves (the kernel's `tmigr_cpu_offline`). Where its walk finds a top that nobody
 /// looks after, with an event in it, it hands on to the placed CPU `to`, which is woken for it
 /// where it is idle; `to` is answered exactly then. Refusals, in this order, which leave all as it
-/// was: `Offline`; `NotActive` of an idle CPU; `LastOnline` where `to` is offline.
+/// was: `Offline`; `NotActive` of an idle CPU; `LastOnline` of a placed CPU where `to` is offline.
+/// An isolated CPU hands nothing on.
 pub fn go_offline<B: TimerBase>(
     core: &mut Core<B>,
     cpu: CpuId,

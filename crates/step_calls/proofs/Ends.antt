@@ -32,7 +32,7 @@ use Rattle.core_laws.specs.Laws.{StepsStayLawful}
 use Rattle.step_rules.specs.Alone.{goes_on, is_handing, most_steps, walked_out}
 use Rattle.walk_alone.proofs.Walking.{onwards, walks_out}
 use Rattle.step_calls.specs.Lone.{IsLone}
-use Rattle.step_calls.proofs.Lone.{lone_made, may_walk}
+use Rattle.step_calls.proofs.Lone.{lone_made, may_walk, on_unless}
 
 -- STEPS LEFT at a level: a reading that isn't fresh is made once more
 abbrev place : Stage → (fresh : Bool) → ℕ
@@ -267,10 +267,6 @@ module _ (w : World) (c : ℕ) (k : Walk) (low : c < length w.cpus) (lawful : Is
       (freed_falls levels k k.over (goes_higher (flags stages.FreeChild at (λ e. cc))))
   falls stages.Finish at on = written 0 no_group _ false _ (end_falls levels k (cpu_of w c) k.kind)
   falls stages.Handing at on = absurd (true≢false on)
-
-on_unless : (b : Bool) → cond b false true ≡ true → b ≡ false
-on_unless true e = absurd (true≢false (sym e))
-on_unless false e = refl
 
 some_left : (levels l : ℕ) (st : Stage) (b : Bool) → left levels l st b < 1 → is_handing st ≡ true
 some_left levels l st b few = elim (cases_Bool (is_handing st)) [

@@ -109,7 +109,7 @@ module _ (w : World) (c : ℕ) (k : Walk) (lawful : IsLawful w) (lone : IsLone w
   goes_by stages.Finish at go = tt
   goes_by stages.Handing at go = cc
 
-on_unless : (b : Bool) → cond b false true ≡ true → b ≡ false
+pub on_unless : (b : Bool) → cond b false true ≡ true → b ≡ false
 on_unless true e = cc
 on_unless false e = refl
 

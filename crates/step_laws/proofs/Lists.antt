@@ -7,7 +7,7 @@ use Rattle.core_world.specs.declared.step.Step.{Step}
 use Rattle.core_world.specs.Enabled.{Enabled}
 use Rattle.core_world.specs.Steps.{stepped}
 use Rattle.core_world.specs.World.{World}
-use Rattle.core_laws.specs.Laws.{EachEnabled, after_all}
+use Rattle.core_world.specs.Lists.{EachEnabled, after_all}
 use Rattle.step_laws.specs.Runs.{RunsWhole}
 
 after_more : (w : World) (steps : List Step) (step : Step)

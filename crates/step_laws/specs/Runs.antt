@@ -2,7 +2,7 @@
 use Rattle.std.specs.Prelude.{◌≡◌, ℕ, List, Some, slice_get, take}
 use Rattle.core_world.specs.declared.step.Step.{Step}
 use Rattle.core_world.specs.Enabled.{Enabled}
-use Rattle.core_laws.specs.Laws.{EachEnabled, after_all}
+use Rattle.core_world.specs.Lists.{EachEnabled, after_all}
 use Rattle.core_world.specs.World.{World}
 use Rattle.step_laws.specs.declared.running.StepsFault.{StepsFault}
 use Rattle.step_laws.specs.declared.running.StepsFault.TheVariants as faults
@@ -22,8 +22,13 @@ pub record StopsBefore
   pub made : RunsWhole (take index steps) before after
   pub why : Why step
 
+-- the step is enabled, and may want memory
+pub record MayWant (w : World) (step : Step) : Type 0 where
+  pub enabled : Enabled w step
+  pub wants : WantsMemory step
+
 abbrev pub Stops : StepsFault → List Step → (before after : World) → Type 0
 Stops (faults.NotEnabled index) steps before after =
     StopsBefore steps index (λ step. Enabled after step → ⊥) before after
 Stops (faults.NoMemory index) steps before after =
-    StopsBefore steps index WantsMemory before after
+    StopsBefore steps index (MayWant after) before after

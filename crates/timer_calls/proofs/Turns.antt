@@ -1,6 +1,6 @@
 -- the turns of a drain
 use Rattle.std.proofs.Common.{◌≡◌, ℕ, ◌+◌, ◌^◌, ◌<◌, List, [], ◌∷◌, ◌++◌, length, Some, None}
-use Rattle.std.proofs.Common.{suc, sym, ap, ◌∙◌, subst, arith, append-nil, append_assoc}
+use Rattle.std.proofs.Common.{suc, refl, sym, ap, ◌∙◌, subst, arith, append-nil, append_assoc}
 use Rattle.tm_base.specs.declared.names.Class.{Class}
 use Rattle.wheel_core.specs.declared.item.Item.{Item}
 use Rattle.wheel_core.specs.PlainBase.{OneFewer, PlainBase, next_out, taken}
@@ -21,7 +21,7 @@ use Rattle.step_play.proofs.Bases.{due_last, due_more}
 use Rattle.step_play.proofs.Drains.{base_after, free_after, hand_is, is_due, left, may_after}
 use Rattle.step_play.proofs.Drains.{may_hand, rebased}
 use Rattle.step_play.proofs.Worlds.{put_same}
-use Rattle.timer_calls.specs.Turns.{Drains, handed_next}
+use Rattle.timer_calls.specs.Turns.{DrainedSome, Drains, handed_each, handed_next}
 
 module _ (law : StepsStayLawful) (w : World) (home : ℕ) (class : Class) (runner : ℕ)
     (d : Drains w home class runner) (lawful : IsLawful w) where
@@ -96,6 +96,17 @@ module _ (home : ℕ) (class : Class) (runner : ℕ) (start : World) where
     pub items : out ++ items_due w home class ≡ items_due start home class
     pub state : after_steps (hands home class runner (items_due w home class)) w
         ≡ (drained_by_steps start home class runner).state
+    pub is : w ≡ handed_each home runner out start
+
+  pub drained_some : (w : World) (out : List Item) → DrainsSoFar w out →
+      DrainedSome start home class runner w
+  drained_some w out so_far = record { out = out; left = so_far.items; is = so_far.is }
+
+  each_more : (out : List Item) (item : Item) (w : World) →
+      handed_each home runner (out ++ item ∷ []) w
+      ≡ handed_next (handed_each home runner out w) home runner (Some item)
+  each_more [] item w = refl
+  each_more (first ∷ out) item w = each_more out item (handed_next w home runner (Some first))
 
   pub drain_more : (w v : World) (out more : List Item) (item : Item) → DrainsSoFar w out →
       v ≡ handed_next w home runner (Some item) → Drains v home class runner →
@@ -110,7 +121,21 @@ module _ (home : ℕ) (class : Class) (runner : ℕ) (start : World) where
     state =
         ap (after_steps (hands home class runner (items_due v home class))) is
         ∙ (ap (λ xs. after_steps (hands home class runner xs) w) (sym due) ∙ so_far.state);
+    is =
+        is
+        ∙ (ap (λ u. handed_next u home runner (Some item)) so_far.is
+        ∙ (sym (each_more out item start)
+        ∙ ap (λ xs. handed_each home runner xs start) (sym pushed)));
   }
+
+  -- an item that went out, and for which there was no room
+  pub drained_more : (w v : World) (out : List Item) (item : Item) → DrainsSoFar w out →
+      v ≡ handed_next w home runner (Some item) → Drains v home class runner →
+      items_due w home class ≡ item ∷ items_due v home class →
+      DrainedSome start home class runner v
+  drained_more w v out item so_far is drains due =
+      drained_some v (out ++ item ∷ [])
+      (drain_more w v out (out ++ item ∷ []) item so_far is drains due refl)
 
   module _ (w : World) (out : List Item) (so_far : DrainsSoFar w out)
       (none : items_due w home class ≡ []) where

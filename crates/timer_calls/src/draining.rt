@@ -1,6 +1,6 @@
 //! A base is drained.
 
-ghost use Rattle.std.specs.Prelude.{◌≡◌, ◌<◌, All, IfOk, None, OnOk, OnSome};
+ghost use Rattle.std.specs.Prelude.{◌≡◌, ◌<◌, All, IfOk, None, OnErr, OnOk, OnSome};
 ghost use Rattle.wheel_core.specs.PlainBase.{OneFewer, next_out};
 ghost use Rattle.cpu_bases.specs.CpuBases.{base_of};
 ghost use Rattle.core_world.specs.declared.step.Step.TheVariants as steps;
@@ -11,7 +11,7 @@ ghost use Rattle.play_rules.specs.Phases.{FitsSome, MayDrain, StaysFit};
 ghost use Rattle.play_rules.specs.Timers.{item_then};
 ghost use Rattle.step_rules.specs.Seen.{InPlay};
 ghost use Rattle.step_rules.specs.StepRules.{items_due, step_rules};
-ghost use Rattle.timer_calls.specs.Turns.{Drains, handed_next};
+ghost use Rattle.timer_calls.specs.Turns.{DrainedSome, Drains, handed_next};
 
 use core_laws::law_step;
 use core_state::Core;
@@ -39,6 +39,7 @@ fn hand_next<B: TimerBase>(
         (base_of class (cpu_of core.new home.0).bases))) }
     ensures drains { OnOk result (Drains core.new home.0 class runner.0) }
     ensures clock { core.new.clock ≡ core.old.clock }
+    ensures err { OnErr result (core.new ≡ core.old) }
 {
     law_step();
     core.tree();
@@ -65,6 +66,7 @@ fn hand_all<B: TimerBase>(
         (base_of class (cpu_of core.new home.0).bases) ≡ None) }
     ensures drains { OnOk result (Drains core.new home.0 class runner.0) }
     ensures clock { core.new.clock ≡ core.old.clock }
+    ensures some { DrainedSome core.old home.0 class runner.0 core.new }
 {
     let mut items = Vec::new(alloc);
     while let Some(item) = hand_next(core, home, class, runner)? {
@@ -75,7 +77,7 @@ fn hand_all<B: TimerBase>(
 
 /// Takes out all timers of a base of CPU `home` that are due at the clock, for CPU `runner` to run
 /// their jobs, in the order of hand-out (the kernel's `__run_timers`; of the global base of another
-/// CPU `timer_expire_remote`). After want of memory some of them may be out.
+/// CPU `timer_expire_remote`). After want of memory the first of them may be out.
 pub fn drain<B: TimerBase>(
     core: &mut Core<B>,
     alloc: Global,
@@ -97,6 +99,7 @@ pub fn drain<B: TimerBase>(
     ensures same { OnOk result (Same step_rules core.old core.new) }
     ensures online { OnOk result (SameOnline step_rules core.old core.new) }
     ensures clock { step_rules.clock core.new ≡ step_rules.clock core.old }
+    ensures err { OnErr result (DrainedSome core.old home.0 class runner.0 core.new) }
 {
     law_step();
     core.tree();

@@ -1,38 +1,37 @@
-use Rattle.std.proofs.Common.{false, None, rules, ◌≡◌}
-use Rattle.std.specs.Prelude.{is_none}
-use Rattle.core_world.specs.World.{cpu_of}
+use Rattle.std.proofs.Common.{sym, ◌∙◌}
 use Rattle.hotplug.proofs.Leaving.{leaves_bases, leaves_low, leaves_settled, leaves_waits}
 use Rattle.hotplug.proofs.offline.leave.Goals as goal
 
-pub walk-requires : goal.walk-requires
-walk-requires g c =
+pub hands_on-requires : goal.hands_on-requires
+hands_on-requires g c =
     leaves_low c.args.core.now c.args.cpu.0 c.args.to.0 c.requires.cpu c.requires.to
     c.requires.another c.requires.placed c.requires.settled c.requires.allowed
     c.go_offline.new.core c.go_offline.ensures.walked
 
-pub returns-then-is_none-clause-settled : goal.returns-then-is_none-clause-settled
-returns-then-is_none-clause-settled g c =
-    let none : (cpu_of c.go_offline.new.core c.args.cpu.0).walk ≡ None = search rules in
-    leaves_settled c.args.core.now c.args.cpu.0 c.args.to.0 c.requires.cpu c.requires.to
-    c.requires.another c.requires.placed c.requires.settled c.requires.allowed
-    c.go_offline.new.core c.go_offline.ensures.walked none
-
 pub hand_on-requires : goal.hand_on-requires
 hand_on-requires g c =
-    let some : is_none (cpu_of c.go_offline.new.core c.args.cpu.0).walk ≡ false = search rules in
     leaves_waits c.args.core.now c.args.cpu.0 c.args.to.0 c.requires.cpu c.requires.to
     c.requires.another c.requires.placed c.requires.settled c.requires.allowed
-    c.go_offline.new.core c.go_offline.ensures.walked some c.go_offline.ensures.ends
-
-pub returns-then-is_none-clause-whole : goal.returns-then-is_none-clause-whole
-returns-then-is_none-clause-whole g c =
-    leaves_bases c.args.core.now c.args.cpu.0 c.args.to.0 c.requires.cpu c.requires.to
-    c.requires.another c.requires.placed c.requires.settled c.requires.allowed
     c.go_offline.new.core c.go_offline.ensures.walked
+    (sym c.hands_on.ensures.hands ∙ c.if-hands_on.true)
+    (c.hands_on.ensures.placed c.if-hands_on.true)
 
-pub returns-clause-whole : goal.returns-clause-whole
-returns-clause-whole g c = λ all.
+pub returns-then-hands_on-clause-whole : goal.returns-then-hands_on-clause-whole
+returns-then-hands_on-clause-whole g c = λ all.
     c.hand_on.ensures.whole
     (leaves_bases c.args.core.now c.args.cpu.0 c.args.to.0 c.requires.cpu c.requires.to
     c.requires.another c.requires.placed c.requires.settled c.requires.allowed
     c.go_offline.new.core c.go_offline.ensures.walked all)
+
+pub returns-clause-settled : goal.returns-clause-settled
+returns-clause-settled g c =
+    leaves_settled c.args.core.now c.args.cpu.0 c.args.to.0 c.requires.cpu c.requires.to
+    c.requires.another c.requires.placed c.requires.settled c.requires.allowed
+    c.go_offline.new.core c.go_offline.ensures.walked
+    (sym c.hands_on.ensures.hands ∙ c.if-hands_on.false) c.go_offline.ensures.ends
+
+pub returns-clause-whole : goal.returns-clause-whole
+returns-clause-whole g c =
+    leaves_bases c.args.core.now c.args.cpu.0 c.args.to.0 c.requires.cpu c.requires.to
+    c.requires.another c.requires.placed c.requires.settled c.requires.allowed
+    c.go_offline.new.core c.go_offline.ensures.walked

@@ -1,0 +1,16 @@
+-- lists of steps
+use Rattle.std.specs.Prelude.{List, [], ◌∷◌}
+use Rattle.core_world.specs.declared.step.Step.{Step}
+use Rattle.core_world.specs.Enabled.{Enabled}
+use Rattle.core_world.specs.Steps.{stepped}
+use Rattle.core_world.specs.World.{World}
+
+-- what a list of steps makes of a world
+abbrev pub after_all : World → List Step → World
+after_all w [] = w
+after_all w (step ∷ rest) = after_all (stepped w step) rest
+
+-- each step is enabled where it stands
+abbrev pub EachEnabled : World → List Step → Type 0
+EachEnabled w [] = Unit {0}
+EachEnabled w (step ∷ rest) = Enabled w step × EachEnabled (stepped w step) rest
