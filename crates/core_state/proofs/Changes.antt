@@ -15,6 +15,7 @@ use Rattle.core_world.specs.Steps.{finished}
 use Rattle.core_world.specs.World.{CpuRecord, World, cpu_of, no_cpu, own}
 use Rattle.core_state.specs.declared.status.CpuStatus.{CpuStatus}
 use Rattle.core_state.specs.Kept.{IsHeld, IsKept, WorldFits, WorldsStayFit, is_queued}
+use Rattle.core_state.specs.Tally.{CpuTally, IsTallied}
 use Rattle.core_state.specs.Status.{finished_status, status_of, with_cpu_status, with_status}
 
 pub cpu_read : (cpus : List CpuRecord) (c i : ℕ) (x : CpuRecord) → i ≡ c → c < length cpus
@@ -55,19 +56,22 @@ pub held_on : (v w : World) (holders : List (Option CpuId))
 held_on v w holders same held = λ timer d. ap (is_queued timer) (same d) ∙ held timer d
 
 -- another status of a CPU
-pub set_kept : (v w : World) (holders : List (Option CpuId)) (c i : ℕ) (x z : CpuRecord)
-    (status : CpuStatus) → v ≡ w → IsKept v holders → i ≡ c → c < length w.cpus
-    → x ≡ get_or v.cpus i x → z ≡ with_status x status → WorldFits (with_cpu_status w c status)
-    → IsKept (record v { cpus = slice_set v.cpus i z }) holders
-set_kept v w holders c i x z status seen kept same low is made fits =
+pub set_kept : (v w : World) (holders : List (Option CpuId)) (tally later : CpuTally) (c i : ℕ)
+    (x z : CpuRecord) (status : CpuStatus) → v ≡ w → IsKept v holders tally → i ≡ c
+    → c < length w.cpus → x ≡ get_or v.cpus i x → z ≡ with_status x status
+    → IsTallied v.tree (slice_set v.cpus c (with_status (cpu_of v c) status)) later
+    → WorldFits (with_cpu_status w c status)
+    → IsKept (record v { cpus = slice_set v.cpus i z }) holders later
+set_kept v w holders tally later c i x z status seen kept same low is made tallied fits =
     let f : CpuRecord → CpuRecord = λ y. with_status y status in
     let now = written v w c i x z f seen same low is made in
-    subst (λ u. IsKept u holders) (sym now)
+    subst (λ u. IsKept u holders later) (sym now)
     (record {
       fits = fits;
       held = held_on w (with_change w c f) holders
           (same_bases w c f (λ y. refl) low)
           (subst (λ u. IsHeld u holders) seen kept.held);
+      tallied = subst (λ (u : World). IsTallied u.tree (with_change u c f).cpus later) seen tallied;
     })
 
 -- a step that changes no group
@@ -88,12 +92,14 @@ status_made w after c status wanted is made =
     made ∙ (ap (with_cpu_status w c) is ∙ sym (own_is w c (with_status (cpu_of w c) wanted)))
 
 -- another time
-pub clock_kept : (v w : World) (holders : List (Option CpuId)) (now : ℕ) → v ≡ w → WorldsStayFit
-    → IsKept v holders → Enabled w (steps.Clock now) → IsKept (record v { clock = now }) holders
-clock_kept v w holders now seen law kept enabled = record {
+pub clock_kept : (v w : World) (holders : List (Option CpuId)) (tally : CpuTally) (now : ℕ) → v ≡ w
+    → WorldsStayFit → IsKept v holders tally → Enabled w (steps.Clock now)
+    → IsKept (record v { clock = now }) holders tally
+clock_kept v w holders tally now seen law kept enabled = record {
   fits = law v kept.fits (steps.Clock now)
       (subst (λ u. Enabled u (steps.Clock now)) (sym seen) enabled);
   held = kept.held;
+  tallied = kept.tallied;
 }
 
 -- what a walk leaves as it ends is another status

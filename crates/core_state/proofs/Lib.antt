@@ -1,4 +1,5 @@
 pub mod Changes
+pub mod Counting
 pub mod Fits
 pub mod Holders
 pub mod Making
@@ -10,5 +11,6 @@ pub mod Ranges
 pub mod Readings
 pub mod Rooms
 pub mod Starts
+pub mod Tallies
 pub mod TimerSteps
 pub mod Under

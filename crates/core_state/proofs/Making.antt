@@ -1,6 +1,6 @@
 -- for crates above: a step of a walk, as the code makes it
-use Rattle.std.proofs.Common.{◌≡◌, ℕ, ◌<◌, Bool, List, Option, length, sym, ap, ◌∙◌, subst, arith}
-use Rattle.std.proofs.Common.{inl, inr, get_or, get_or-set_other, get_or-set_same}
+use Rattle.std.proofs.Common.{◌≡◌, ℕ, ◌<◌, Bool, List, Option, length, refl, sym, ap, ◌∙◌, subst}
+use Rattle.std.proofs.Common.{arith, inl, inr, get_or, get_or-set_other, get_or-set_same}
 use Rattle.std.specs.Prelude.{slice_set}
 use Rattle.std.proofs.lemmas.Bool.{cases_eq}
 use Rattle.std.proofs.lemmas.List.{get_or_default}
@@ -14,8 +14,10 @@ use Rattle.core_state.specs.declared.status.CpuStatus.{CpuStatus}
 use Rattle.core_state.specs.Changes.{changed}
 use Rattle.core_state.specs.Kept.{IsHeld, IsKept, WorldFits}
 use Rattle.core_state.specs.Status.{with_status}
+use Rattle.core_state.specs.Tally.{CpuTally, IsTallied}
 use Rattle.core_state.proofs.Changes.{cpu_read, held_on}
-use Rattle.core_state.proofs.Readings.{if_length, same_timers}
+use Rattle.core_state.proofs.Readings.{if_length, same_part, same_timers}
+use Rattle.core_state.proofs.Tallies.{set_alike}
 
 group_read : (groups : List Group) (g i : ℕ) (x : Group) → i ≡ g → g < length groups
     → x ≡ get_or groups i x → get_or groups g no_group ≡ x
@@ -80,13 +82,28 @@ module _ (v w : World) (g i c j : ℕ) (x y : Group) (cs : List CpuRecord) (a b 
             ∙ same_timers w.tree exchanges g w.cpus d
       ]
 
-  pub made_kept : (holders : List (Option CpuId)) → IsKept v holders → WorldFits after
-      → IsKept (record v { groups = slice_set v.groups i y; cpus = slice_set cs j b }) holders
-  made_kept holders kept fits =
-      subst (λ u. IsKept u holders) (sym made)
+  -- readings are neither marks nor CPUs online
+  tallied_after : (tally : CpuTally)
+      → IsTallied v.tree (slice_set v.cpus c (with_status (cpu_of v c) status)) tally
+      → IsTallied after.tree after.cpus tally
+  tallied_after tally tallied =
+      set_alike w.tree w.cpus (stale_if w.tree exchanges g w.cpus) c
+      (with_status (cpu_of w c) status) tally (if_length w.tree exchanges g w.cpus) c_low
+      (λ d. same_part (λ (z : CpuRecord). z.mark) w.tree exchanges g w.cpus d (λ e z. refl))
+      (λ d. same_part (λ (z : CpuRecord). z.online) w.tree exchanges g w.cpus d (λ e z. refl))
+      (subst (λ (u : World).
+      IsTallied u.tree (slice_set u.cpus c (with_status (cpu_of u c) status)) tally) seen tallied)
+
+  pub made_kept : (holders : List (Option CpuId)) (tally later : CpuTally) → IsKept v holders tally
+      → IsTallied v.tree (slice_set v.cpus c (with_status (cpu_of v c) status)) later
+      → WorldFits after
+      → IsKept (record v { groups = slice_set v.groups i y; cpus = slice_set cs j b }) holders later
+  made_kept holders tally later kept tallied fits =
+      subst (λ u. IsKept u holders later) (sym made)
       (record {
         fits = fits;
         held = held_on w after holders same_after (subst (λ u. IsHeld u holders) seen kept.held);
+        tallied = tallied_after later tallied;
       })
 
 -- and with a status that is known to be another one

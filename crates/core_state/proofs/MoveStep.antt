@@ -19,11 +19,13 @@ use Rattle.core_world.specs.Enabled.{MayMove}
 use Rattle.core_world.specs.Steps.{first_moved, moved_with, stepped, with_bases}
 use Rattle.core_world.specs.World.{CpuRecord, World, cpu_of, is_active, no_cpu, own}
 use Rattle.core_state.specs.Kept.{IsHeld, IsKept, StaysFit, WorldFits, but, holds, is_queued, noted}
+use Rattle.core_state.specs.Tally.{CpuTally, IsTallied}
 use Rattle.core_state.specs.Moves.{MayTakeIn, after_moving, taken_in, wheel_in, wheel_moved}
 use Rattle.core_state.specs.Moves.{wheel_taken}
 use Rattle.core_state.proofs.Holders.{came, note_low, queued_noted, went}
 use Rattle.core_state.proofs.Queues.{moving_in_queues, moving_out_queues, some_or_none}
 use Rattle.core_state.proofs.Rooms.{oldest_in_time, oldest_narrow}
+use Rattle.core_state.proofs.Tallies.{one_alike}
 use Rattle.core_state.proofs.TimerSteps.{is_there}
 
 twice : {A : Type 0} (xs : List A) (i : ℕ) (a b : A)
@@ -180,6 +182,20 @@ module _ (w : World) (holders : List (Option CpuId)) (from to : CpuId) (t : Time
       (subst (λ hs. IsHeld (own (own w from.0 given) to.0 taken) hs)
       (twice holders t.0 None (Some to)) both)
 
+  moved_tallied : (tally : CpuTally) → IsTallied w.tree w.cpus tally
+      → IsTallied (stepped w (steps.Move from to t)).tree (stepped w (steps.Move from to t)).cpus
+      tally
+  moved_tallied tally tallied =
+      let low : to.0 < length (slice_set w.cpus from.0 given) =
+      let len = length-set w.cpus from.0 given in
+      let low = may.to_free.in_range in omega (arith, len, low) in
+      subst (λ (u : World). IsTallied u.tree u.cpus tally)
+      (sym (ap (moved_with w from.0 to.0) may.first))
+      (one_alike w.tree (slice_set w.cpus from.0 given) to.0 taken tally low
+      (ap (λ (y : CpuRecord). y.mark) (sym other_there))
+      (ap (λ (y : CpuRecord). y.online) (sym other_there))
+      (one_alike w.tree w.cpus from.0 given tally may.from_free.in_range refl refl tallied))
+
   -- what the code answers
   pub move_wheel : (v : World) (class : Class) (now : ℕ) → v ≡ w → class ≡ may.class → now ≡ w.clock
       → (wheel : Option ℕ)
@@ -207,13 +223,16 @@ module _ (w : World) (holders : List (Option CpuId)) (from to : CpuId) (t : Time
         }) oldest
         ∙ sym (ap (moved_with w from.0 to.0) may.first)))
 
-    pub move_kept : (j : ℕ) → j ≡ t.0 → StaysFit w → length (slice_set holders j (Some to)) ≡ n
-        → IsKept (record v { timers = n; cpus = ys }) (slice_set holders j (Some to))
-    move_kept j at stays len =
-        subst (λ u. IsKept u (slice_set holders j (Some to))) (sym move_done)
+    pub move_kept : (j : ℕ) (tally : CpuTally) → j ≡ t.0 → StaysFit w
+        → length (slice_set holders j (Some to)) ≡ n → IsTallied v.tree v.cpus tally
+        → IsKept (record v { timers = n; cpus = ys }) (slice_set holders j (Some to)) tally
+    move_kept j tally at stays len tallied =
+        subst (λ u. IsKept u (slice_set holders j (Some to)) tally) (sym move_done)
         (record {
           fits = stays (steps.Move from to t) may;
           held = subst
               (λ k. IsHeld (stepped w (steps.Move from to t)) (slice_set holders k (Some to)))
               (sym at) moved_held;
+          tallied = moved_tallied tally
+              (subst (λ (u : World). IsTallied u.tree u.cpus tally) seen tallied);
         })

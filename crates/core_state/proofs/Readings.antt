@@ -27,10 +27,19 @@ pub if_length : (t : Shape) (exchanges : Bool) (g : ℕ) (ys : List CpuRecord)
 if_length t true g ys = stale_length t g 0 ys
 if_length t false g ys = refl
 
+-- what isn't of a walk stays
+pub same_part : {A : Type 0} (part : CpuRecord → A) (t : Shape) (exchanges : Bool) (g : ℕ)
+    (ys : List CpuRecord) (d : ℕ)
+    → ((e : ℕ) (y : CpuRecord) → part (stale t g e y) ≡ part y)
+    → part (get_or (stale_if t exchanges g ys) d no_cpu) ≡ part (get_or ys d no_cpu)
+same_part part t true g ys d same =
+    ap part (stale_read t g 0 ys d) ∙ same (0 + d) (get_or ys d no_cpu)
+same_part part t false g ys d same = refl
+
 pub same_timers : (t : Shape) (exchanges : Bool) (g : ℕ) (ys : List CpuRecord) (d : ℕ)
     → (get_or (stale_if t exchanges g ys) d no_cpu).bases ≡ (get_or ys d no_cpu).bases
-same_timers t true g ys d = ap (λ (y : CpuRecord). y.bases) (stale_read t g 0 ys d)
-same_timers t false g ys d = refl
+same_timers t exchanges g ys d =
+    same_part (λ (y : CpuRecord). y.bases) t exchanges g ys d (λ e y. refl)
 
 -- where each is stale, all are
 pub each_stale : (t : Shape) (g : ℕ) (old new : List CpuRecord) → length new ≡ length old

@@ -17,6 +17,7 @@ use Rattle.core_world.specs.Lawful.{IsLawful}
 use Rattle.core_world.specs.Start.{start_cpu, start_group, start_of}
 use Rattle.core_world.specs.World.{CpuRecord, no_cpu}
 use Rattle.core_state.specs.Kept.{IsKept, holds, is_queued, noted, world_of}
+use Rattle.core_state.specs.Tally.{CpuTally, IsTallied}
 
 pub one_more_group : (t : Shape) (n : ℕ) (groups : List Group) (x : Group)
     → groups ≡ map (λ g. start_group (child_count_of t g)) (range_with_len 0 n)
@@ -72,12 +73,14 @@ no_note n timer = elim (cases_lt timer n) [
 ]
 
 pub start_kept : (t : Shape) (timers count : ℕ) (holders : List (Option CpuId))
-    (groups : List Group) (cpus : List CpuRecord) → IsPlanned t → count ≡ cpu_count_of t
+    (groups : List Group) (cpus : List CpuRecord) (tally : CpuTally) → IsPlanned t
+    → count ≡ cpu_count_of t
     → groups ≡ map (λ g. start_group (child_count_of t g)) (range_with_len 0 (group_count_of t))
     → cpus ≡ replicate count start_cpu → holders ≡ replicate timers None → StartsLawful
-    → StartsPlayed → timers < 2 ^ 16
-    → IsKept (world_of t (length holders) 0 groups cpus) holders
-start_kept t timers count holders groups cpus planned sized of_groups of_cpus of_timers law plays few =
+    → StartsPlayed → timers < 2 ^ 16 → IsTallied t cpus tally
+    → IsKept (world_of t (length holders) 0 groups cpus) holders tally
+start_kept t timers count holders groups cpus tally planned sized of_groups of_cpus of_timers law
+    plays few tallied =
     let start_is : world_of t (length holders) 0 groups cpus ≡ start_of t timers = λ i.
     world_of t ((ap length of_timers ∙ length-replicate timers no_holder) i) 0 (of_groups i)
     ((of_cpus ∙ ap (λ n. replicate n start_cpu) sized) i) in
@@ -101,4 +104,5 @@ start_kept t timers count holders groups cpus planned sized of_groups of_cpus of
           ∙ ap (λ o. holds o c) (no_note timers timer)))
           (sym (ap (λ hs. holds (noted hs timer) c) of_timers
           ∙ ap (λ o. holds o c) (no_note timers timer))) count c);
+      tallied = tallied;
     }

@@ -12,9 +12,11 @@ use Rattle.core_world.specs.Enabled.{Enabled, MayArm, MayCancel, MayHand, MayTic
 use Rattle.core_world.specs.Steps.{handed_of, stepped, with_bases}
 use Rattle.core_world.specs.World.{CpuRecord, World, cpu_of, own}
 use Rattle.core_state.specs.Kept.{IsHeld, IsKept, StaysFit, WorldFits, but, is_queued}
+use Rattle.core_state.specs.Tally.{CpuTally, IsTallied}
 use Rattle.core_state.proofs.Changes.{cpu_read, own_is, written}
 use Rattle.core_state.proofs.Holders.{came, held_at, note_low, nowhere_noted, queued_noted, went}
 use Rattle.core_state.proofs.Queues.{arming_queues, cancelling_queues, handing_queues}
+use Rattle.core_state.proofs.Tallies.{one_alike}
 
 -- what the code writes into a CPU's bases, and beside them
 module _ (v w : World) (c i : ℕ) (x z : CpuRecord) (F : ℕ → CpuBases → CpuBases) (now : ℕ)
@@ -32,10 +34,18 @@ module _ (v w : World) (c i : ℕ) (x z : CpuRecord) (F : ℕ → CpuBases → C
       { cpus = slice_set w.cpus c (with_bases (cpu_of w c) (F t (cpu_of w c).bases)) }) time
       ∙ sym (own_is w c (with_bases (cpu_of w c) (F w.clock (cpu_of w c).bases)))))
 
-  pub done_kept : (after : List (Option CpuId)) → WorldFits done → IsHeld done after
-      → IsKept (record v { timers = n; cpus = slice_set v.cpus i z }) after
-  done_kept after fits held =
-      subst (λ u. IsKept u after) (sym done_is) (record { fits = fits; held = held })
+  pub done_kept : (after : List (Option CpuId)) (tally : CpuTally) → WorldFits done
+      → IsHeld done after → IsTallied w.tree w.cpus tally
+      → IsKept (record v { timers = n; cpus = slice_set v.cpus i z }) after tally
+  done_kept after tally fits held tallied =
+      subst (λ u. IsKept u after tally) (sym done_is)
+      (record {
+        fits = fits;
+        held = held;
+        tallied =
+            one_alike w.tree w.cpus c
+            (with_bases (cpu_of w c) (F w.clock (cpu_of w c).bases)) tally low refl refl tallied;
+      })
 
 pub read_bases : (v w : World) (c i : ℕ) (x : CpuRecord) → v ≡ w → i ≡ c → c < length w.cpus
     → x ≡ get_or v.cpus i x → cpu_of w c ≡ x
@@ -119,8 +129,9 @@ unchanged v w i x z seen read same =
     ap (λ y. record v { cpus = slice_set v.cpus i y }) (same ∙ read)
     ∙ (ap (λ ys. record v { cpus = ys }) (set-get_or v.cpus i x) ∙ seen)
 
-module _ (v w : World) (holders : List (Option CpuId)) (c : CpuId) (i : ℕ) (x z : CpuRecord)
-    (now : ℕ) (seen : v ≡ w) (kept : IsKept v holders) (count : v.timers ≡ length holders)
+module _ (v w : World) (holders : List (Option CpuId)) (tally : CpuTally) (c : CpuId) (i : ℕ)
+    (x z : CpuRecord) (now : ℕ) (seen : v ≡ w) (kept : IsKept v holders tally)
+    (count : v.timers ≡ length holders)
     (stays : StaysFit w) (consistent : IsConsistent (cpu_of w c.0).bases) (at : i ≡ c.0)
     (read : x ≡ get_or v.cpus i x) (time : now ≡ w.clock) where
   fits : WorldFits w
@@ -128,6 +139,9 @@ module _ (v w : World) (holders : List (Option CpuId)) (c : CpuId) (i : ℕ) (x 
 
   held : IsHeld w holders
   held = subst (λ u. IsHeld u holders) seen kept.held
+
+  tallied : IsTallied w.tree w.cpus tally
+  tallied = subst (λ (u : World). IsTallied u.tree u.cpus tally) seen kept.tallied
 
   counted : w.timers ≡ length holders
   counted = ap (λ (u : World). u.timers) (sym seen) ∙ count
@@ -140,16 +154,16 @@ module _ (v w : World) (holders : List (Option CpuId)) (c : CpuId) (i : ℕ) (x 
         cpus =
             slice_set v.cpus i z;
       })
-      (slice_set holders j (Some c))
+      (slice_set holders j (Some c)) tally
   arm_kept t class expires job arg line j narrow at_t may made =
       done_kept v w c.0 i x z (λ n b. armed n class t.0 expires job arg line c b) now seen at
       may.is_free.in_range read time made (length (slice_set holders j (Some c)))
-      (length-set holders j (Some c) ∙ sym count) (slice_set holders j (Some c))
+      (length-set holders j (Some c) ∙ sym count) (slice_set holders j (Some c)) tally
       (stays (steps.Arm c t class expires job arg line) may)
       (subst (λ k. IsHeld (stepped w (steps.Arm c t class expires job arg line))
       (slice_set holders k (Some c))) (sym at_t)
       (arm_held w holders c held fits consistent t class expires job arg line narrow counted
-      may))
+      may)) tallied
 
   pub cancel_kept : (t : TimerId) (by : CpuId) (line j : ℕ) → j ≡ t.0
       → Enabled w (steps.Cancel c t by line)
@@ -159,13 +173,13 @@ module _ (v w : World) (holders : List (Option CpuId)) (c : CpuId) (i : ℕ) (x 
         cpus =
             slice_set v.cpus i z;
       })
-      (slice_set holders j None)
+      (slice_set holders j None) tally
   cancel_kept t by line j at_t may made =
       done_kept v w c.0 i x z (λ n b. cancelled n t.0 line by b) now seen at may.0.is_free.in_range
       read time made (length (slice_set holders j None)) (length-set holders j None ∙ sym count)
-      (slice_set holders j None) (stays (steps.Cancel c t by line) may)
+      (slice_set holders j None) tally (stays (steps.Cancel c t by line) may)
       (subst (λ k. IsHeld (stepped w (steps.Cancel c t by line)) (slice_set holders k None))
-      (sym at_t) (cancel_held w holders c held fits consistent t by line may.0))
+      (sym at_t) (cancel_held w holders c held fits consistent t by line may.0)) tallied
 
   pub hand_kept : (t : TimerId) (runner : CpuId) (j : ℕ) → j ≡ t.0 → MayHand w c.0 t.0 runner.0
       → z ≡ with_bases x (handed_of now (class_in t.0 x.bases) runner x.bases)
@@ -174,14 +188,14 @@ module _ (v w : World) (holders : List (Option CpuId)) (c : CpuId) (i : ℕ) (x 
         cpus =
             slice_set v.cpus i z;
       })
-      (slice_set holders j None)
+      (slice_set holders j None) tally
   hand_kept t runner j at_t may made =
       done_kept v w c.0 i x z (λ n b. handed_of n (class_in t.0 b) runner b) now seen at
       may.is_free.in_range read time made (length (slice_set holders j None))
-      (length-set holders j None ∙ sym count) (slice_set holders j None)
+      (length-set holders j None ∙ sym count) (slice_set holders j None) tally
       (stays (steps.Hand c t runner) may)
       (subst (λ k. IsHeld (stepped w (steps.Hand c t runner)) (slice_set holders k None))
-      (sym at_t) (hand_held w holders c held fits consistent t runner may))
+      (sym at_t) (hand_held w holders c held fits consistent t runner may)) tallied
 
   pub hand_low : (t : TimerId) (runner : CpuId) → MayHand w c.0 t.0 runner.0 → t.0 < length holders
   hand_low t runner may =
@@ -196,8 +210,9 @@ module _ (v w : World) (holders : List (Option CpuId)) (c : CpuId) (i : ℕ) (x 
 
   pub tick_kept : (class : Class) (runner : CpuId) → MayTick w c.0 class runner.0
       → z ≡ with_bases x (handed_out now class runner x.bases)
-      → IsKept (record v { timers = length holders; cpus = slice_set v.cpus i z }) holders
+      → IsKept (record v { timers = length holders; cpus = slice_set v.cpus i z }) holders tally
   tick_kept class runner may made =
       done_kept v w c.0 i x z (λ n b. handed_out n class runner b) now seen at may.is_free.in_range
-      read time made (length holders) (sym count) holders (stays (steps.Ticked c class runner) may)
-      (tick_held w holders c held fits consistent class runner may)
+      read time made (length holders) (sym count) holders tally
+      (stays (steps.Ticked c class runner) may)
+      (tick_held w holders c held fits consistent class runner may) tallied

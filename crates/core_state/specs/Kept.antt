@@ -14,6 +14,7 @@ use Rattle.core_world.specs.Enabled.{Enabled}
 use Rattle.core_world.specs.Lawful.{IsLawful}
 use Rattle.core_world.specs.Steps.{stepped}
 use Rattle.core_world.specs.World.{CpuRecord, World, cpu_of}
+use Rattle.core_state.specs.Tally.{CpuTally, IsTallied}
 
 -- the world that the fields of a core are
 abbrev pub world_of : (tree : Shape) → (timers clock : ℕ) → List Group → List CpuRecord → World
@@ -68,6 +69,7 @@ abbrev pub IsHeld : World → List (Option CpuId) → Type 0
 IsHeld w holders =
     (timer c : ℕ) → is_queued timer (cpu_of w c).bases ≡ holds (noted holders timer) c
 
-pub record IsKept (w : World) (holders : List (Option CpuId)) : Type 0 where
+pub record IsKept (w : World) (holders : List (Option CpuId)) (tally : CpuTally) : Type 0 where
   pub fits : WorldFits w
   pub held : IsHeld w holders
+  pub tallied : IsTallied w.tree w.cpus tally

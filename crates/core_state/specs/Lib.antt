@@ -3,3 +3,4 @@ pub mod Kept
 pub mod Moves
 pub mod Shown
 pub mod Status
+pub mod Tally

@@ -17,6 +17,7 @@ mod shown;
 mod stale;
 mod start;
 mod status;
+mod tally;
 mod timers;
 mod tree;
 

@@ -16,13 +16,14 @@ use crate::group::CoreGroup;
 use crate::laws::law_fits;
 use crate::stale::if_exchanged;
 use crate::status::CpuStatus;
+use crate::tally::Tally;
 use std::marker::Model;
 use tm_base::{CpuId, GroupId, Jiffy};
 use tree_plan::Tree;
 use wheel_core::TimerBase;
 
 /// The core: one world of CPUs with their timers and walks, groups and a clock. Beside it stands,
-/// for each timer, the CPU on which it is queued.
+/// for each timer, the CPU on which it is queued, and what is noted of all CPUs.
 #[derive(Drop)]
 pub struct Core<B: TimerBase> {
     pub(crate) tree: Tree,
@@ -30,6 +31,7 @@ pub struct Core<B: TimerBase> {
     pub(crate) groups: Vec<CoreGroup>,
     pub(crate) cpus: Vec<CoreCpu<B>>,
     pub(crate) holders: Vec<Option<CpuId>>,
+    pub(crate) tally: Tally,
 }
 
 impl<B: TimerBase> Model for Core<B> {
@@ -49,7 +51,7 @@ impl<B: TimerBase> Model for Core<B> {
 
     ghost invariant = { λ c.
         IsKept (world_of c.tree (length c.holders.items) c.clock c.groups.items c.cpus.items)
-        c.holders.items };
+        c.holders.items c.tally };
 }
 
 impl<B: TimerBase> Core<B> {
@@ -72,6 +74,7 @@ impl<B: TimerBase> Core<B> {
         requires fits { WorldFits (with_cpu_status self.old cpu.0 status) }
         ensures { self.new ≡ with_cpu_status self.old cpu.0 status }
     {
+        self.tally.recount(&self.tree, &self.cpus, cpu, status);
         self.cpus[usize::from(cpu.0)].set_status(status);
     }
 
@@ -104,6 +107,7 @@ impl<B: TimerBase> Core<B> {
         ensures { self.new ≡ moved self.old group.0 (changed change (group_of self.old group.0))
             cpu.0 (with_status (cpu_of self.old cpu.0) status) exchanges }
     {
+        self.tally.recount(&self.tree, &self.cpus, cpu, status);
         self.groups[usize::from(group.0)].change(change);
         if_exchanged(&self.tree, &mut self.cpus, cpu, group, exchanges);
         self.cpus[usize::from(cpu.0)].set_status(status);

@@ -1,21 +1,25 @@
 //! What a step of a walk reads.
 
-ghost use Rattle.std.specs.Prelude.{◌≡◌, ℕ, ◌-◌, ◌^◌, ◌<◌, None, is_none, is_some, length, true};
+ghost use Rattle.std.specs.Prelude.{◌≡◌, ℕ, ◌-◌, ◌^◌, ◌<◌, None, false, is_none, is_some};
+ghost use Rattle.std.specs.Prelude.{length, true};
 ghost use Rattle.tree_plan.specs.Paths.{IsBelow, group_at_of, is_placed_in};
 ghost use Rattle.cpu_bases.specs.CpuBases.{events_of};
 ghost use Rattle.event_queue.specs.EventMap.{event_at};
 ghost use Rattle.walk_rules.specs.Hierarchy.{IsHierarchy, at_top, group_on, side};
+ghost use Rattle.core_world.specs.Enabled.{MarksNobody};
 ghost use Rattle.core_world.specs.Steps.{child_on};
 ghost use Rattle.core_world.specs.World.{cpu_of, group_of, moved, own};
 ghost use Rattle.core_world.specs.Steps.{with_walk};
 ghost use Rattle.core_state.specs.Changes.{ChangeFits, changed};
 ghost use Rattle.core_state.specs.Kept.{HasLevel, StaysFit, WorldFits};
 ghost use Rattle.core_state.specs.Status.{EventFits, IsInRange};
+ghost use Rattle.core_state.specs.Tally.{OthersOnline};
 
 use crate::change::GroupChange;
 use crate::laws::law_fits;
 use crate::machine::Core;
 use crate::status::CpuStatus;
+use crate::tally::is_placed_online;
 use crate::tree;
 use cpu_bases::NextEvents;
 use event_queue::Event;
@@ -39,7 +43,7 @@ impl<B: TimerBase> Core<B> {
         self.tree.cpu_count();
     }
 
-    /// The group of a CPU's path at a level; group 0 stands in where the path has none.
+    /// The group of a CPU's path at a level; group 0 placed_online in where the path has none.
     pub fn group_on(&self, cpu: CpuId, level: u8) -> GroupId
         requires { cpu.0 < length self.now.cpus }
         ensures group { result.0 ≡ group_on self.now.tree cpu.0 level }
@@ -189,5 +193,24 @@ impl<B: TimerBase> Core<B> {
         ensures { result ≡ is_placed_in self.now.tree cpu.0 }
     {
         self.tree.is_placed(cpu)
+    }
+
+    /// Whether a CPU has marked another one, to run its timers. It costs no walk over CPUs.
+    pub fn has_marked(&self, cpu: CpuId) -> bool
+        requires { cpu.0 < length self.now.cpus }
+        ensures no { result ≡ false → MarksNobody self.now cpu.0 }
+        ensures yes { MarksNobody self.now cpu.0 → result ≡ false }
+    {
+        self.tally.has_marked(cpu)
+    }
+
+    /// Whether another placed CPU is online. It costs no walk over CPUs.
+    pub fn others_online(&self, cpu: CpuId) -> bool
+        requires { cpu.0 < length self.now.cpus }
+        ensures yes { result ≡ true → OthersOnline self.now cpu.0 }
+        ensures no { OthersOnline self.now cpu.0 → result ≡ true }
+    {
+        let placed_online = is_placed_online(&self.tree, cpu, self.status(cpu).online);
+        self.tally.counts_others(placed_online)
     }
 }

@@ -9,6 +9,7 @@ ghost use Rattle.core_world.specs.Start.{start_cpu, start_group, start_of};
 use crate::cpu::CoreCpu;
 use crate::group::CoreGroup;
 use crate::machine::Core;
+use crate::tally::tally_of;
 use core_facts::law_replay;
 use core_start::law_start;
 use cpu_bases::Bases;
@@ -81,11 +82,13 @@ pub fn new_core<B: TimerBase>(
     let groups = new_groups(alloc, &tree)?;
     let cpus = new_cpus(alloc, bases)?;
     let holders = new_holders(alloc, timers)?;
+    let tally = tally_of(alloc, &tree, &cpus)?;
     Ok(Core {
         tree,
         clock: 0,
         groups,
         cpus,
         holders,
+        tally,
     })
 }

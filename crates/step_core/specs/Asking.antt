@@ -1,5 +1,5 @@
 -- parts of what steps are enabled by
-use Rattle.std.specs.Prelude.{◌≡◌, ◌≢◌, ℕ, ◌<◌, Some, true, length}
+use Rattle.std.specs.Prelude.{◌≡◌, ℕ, ◌<◌, Some, true, length}
 use Rattle.tm_base.specs.declared.names.Class.{Class}
 use Rattle.wheel_core.specs.declared.item.Item.{Item}
 use Rattle.wheel_core.specs.PlainBase.{NoneBehind}
@@ -8,12 +8,6 @@ use Rattle.tree_plan.specs.Paths.{is_placed_in}
 use Rattle.core_world.specs.Enabled.{IsReevaluating}
 use Rattle.core_world.specs.Steps.{first_moved}
 use Rattle.core_world.specs.World.{World, cpu_of}
-
--- d is another CPU than c, placed and online
-pub record StandsIn (w : World) (c d : ℕ) : Type 0 where
-  pub another : d ≢ c
-  pub placed : is_placed_in w.tree d ≡ true
-  pub online : (cpu_of w d).online ≡ true
 
 -- a CPU inside its interrupt that may mark others
 pub record MayLook (w : World) (by : ℕ) : Type 0 where

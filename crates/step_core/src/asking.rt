@@ -1,13 +1,13 @@
 //! Where steps that change what a CPU is are enabled.
 
-ghost use Rattle.std.specs.Prelude.{◌≡◌, ℕ, ◌≢◌, ◌<◌, Some, None, length, true, false};
+ghost use Rattle.std.specs.Prelude.{◌≡◌, ◌<◌, Some, length, true};
 ghost use Rattle.tree_plan.specs.Paths.{is_placed_in};
-ghost use Rattle.core_world.specs.Enabled.{IsDueAtLeaf, IsFree, IsReevaluating, MarksNobody};
-ghost use Rattle.core_world.specs.Enabled.{MayBeMissed, MayCarry, MayComeOnline, MayEnter};
+ghost use Rattle.core_world.specs.Enabled.{IsDueAtLeaf, IsFree, IsReevaluating, MayBeMissed};
+ghost use Rattle.core_world.specs.Enabled.{MayCarry, MayComeOnline, MayEnter};
 ghost use Rattle.core_world.specs.Enabled.{MayGoOffline, MayHandOn, MayIdle, MayLeave, MayReeval};
 ghost use Rattle.core_world.specs.Enabled.{MayRelease, MayTake, MayTime, MayWake};
 ghost use Rattle.core_world.specs.World.{cpu_of, is_active};
-ghost use Rattle.step_core.specs.Asking.{MayLook, StandsIn};
+ghost use Rattle.step_core.specs.Asking.{MayLook};
 ghost use Rattle.walk_rules.specs.declared.walk.Walk.{Walk};
 ghost use Rattle.walk_rules.specs.declared.walk.WalkKind.TheVariants as kinds;
 ghost use Rattle.walk_rules.specs.declared.walk.Stage.TheVariants as stages;
@@ -98,37 +98,6 @@ pub(crate) fn may_wake<B: TimerBase>(core: &Core<B>, cpu: CpuId) -> bool
     status.online && status.idle
 }
 
-/// Whether a CPU's mark doesn't name this one.
-fn leaves_alone<B: TimerBase>(core: &Core<B>, other: CpuId, cpu: CpuId) -> bool
-    requires { other.0 < length core.now.cpus }
-    ensures yes { result ≡ true → (cpu_of core.now other.0).mark ≡ Some cpu.0 → ⊥ }
-    ensures no { result ≡ false → (cpu_of core.now other.0).mark ≡ Some cpu.0 }
-{
-    !names(core.status(other).mark, cpu)
-}
-
-/// Whether no CPU's mark names this one.
-fn marks_nobody<B: TimerBase>(core: &Core<B>, cpu: CpuId) -> bool
-    ensures yes { result ≡ true → MarksNobody core.now cpu.0 }
-    ensures no { MarksNobody core.now cpu.0 → result ≡ true }
-{
-    for other in 0..core.count() {
-        if !leaves_alone(core, CpuId(other), cpu) {
-            return false;
-        }
-    }
-    true
-}
-
-/// Whether a CPU is another one that is placed and online.
-fn stands_in<B: TimerBase>(core: &Core<B>, other: CpuId, cpu: CpuId) -> bool
-    requires { other.0 < length core.now.cpus }
-    ensures yes { result ≡ true → StandsIn core.now cpu.0 other.0 }
-    ensures no { StandsIn core.now cpu.0 other.0 → result ≡ true }
-{
-    other.0 != cpu.0 && core.is_placed(other) && core.status(other).online
-}
-
 /// Whether the CPU is isolated, or another placed CPU is online.
 pub(crate) fn may_be_missed<B: TimerBase>(core: &Core<B>, cpu: CpuId) -> bool
     requires { cpu.0 < length core.now.cpus }
@@ -138,12 +107,7 @@ pub(crate) fn may_be_missed<B: TimerBase>(core: &Core<B>, cpu: CpuId) -> bool
     if !core.is_placed(cpu) {
         return true;
     }
-    for other in 0..core.count() {
-        if stands_in(core, CpuId(other), cpu) {
-            return true;
-        }
-    }
-    false
+    core.others_online(cpu)
 }
 
 pub(crate) fn may_leave<B: TimerBase>(core: &Core<B>, cpu: CpuId) -> bool
@@ -154,7 +118,7 @@ pub(crate) fn may_leave<B: TimerBase>(core: &Core<B>, cpu: CpuId) -> bool
         return false;
     }
     let status = core.status(cpu);
-    status.inside && !status.idle && marks_nobody(core, cpu)
+    status.inside && !status.idle && !core.has_marked(cpu)
 }
 
 pub(crate) fn may_idle<B: TimerBase>(core: &Core<B>, cpu: CpuId) -> bool
@@ -198,7 +162,7 @@ pub(crate) fn may_reevaluate<B: TimerBase>(core: &Core<B>, cpu: CpuId) -> bool
         return false;
     }
     let status = core.status(cpu);
-    status.online && status.idle && status.inside && marks_nobody(core, cpu)
+    status.online && status.idle && status.inside && !core.has_marked(cpu)
 }
 
 /// Whether a CPU's event in its leaf is due.

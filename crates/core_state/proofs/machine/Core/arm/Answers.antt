@@ -27,7 +27,8 @@ returns-in_err-wheel-clause-err g c =
 
 pub invariant_of-self-2 : goal.invariant_of-self-2
 invariant_of-self-2 g c =
-    arm_kept _ c.args.self.now c.self.inside.holders.items c.args.cpu c.from.result
+    arm_kept _ c.args.self.now c.self.inside.holders.items c.self.inside.tally
+    c.args.cpu c.from.result
     c.index_mut.result.now c.arm.new.self c.now-now.result c.self.view_is c.self.invariant refl
     c.kept.ensures.stays c.timers_kept.ensures c.from.ensures c.index_mut.ensures.value
     c.now-now.ensures c.args.timer c.args.class c.args.expires c.args.job c.args.arg c.args.line

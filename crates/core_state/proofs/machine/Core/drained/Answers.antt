@@ -10,7 +10,8 @@ returns-in_err-drain_one-clause-err g c =
 
 pub invariant_of-self-2 : goal.invariant_of-self-2
 invariant_of-self-2 g c =
-    tick_kept _ c.args.self.now c.self.inside.holders.items c.args.cpu c.from.result
+    tick_kept _ c.args.self.now c.self.inside.holders.items c.self.inside.tally
+    c.args.cpu c.from.result
     c.index_mut.result.now c.drain_one.new.self c.now-now.result c.self.view_is c.self.invariant
     refl c.kept.ensures.stays c.timers_kept.ensures c.from.ensures c.index_mut.ensures.value
     c.now-now.ensures c.args.class c.args.runner c.requires c.in_ok-drain_one.ensures.ok

@@ -10,7 +10,8 @@ returns-in_err-hand-clause-err g c =
 
 pub index_mut-requires-2 : goal.index_mut-requires-2
 index_mut-requires-2 g c =
-    let low = hand_low _ c.args.self.now c.self.inside.holders.items c.args.cpu c.from.result
+    let low = hand_low _ c.args.self.now c.self.inside.holders.items c.self.inside.tally
+    c.args.cpu c.from.result
     c.index_mut.result.now c.hand.new.self
     c.now-now.result c.self.view_is c.self.invariant refl c.kept.ensures.stays c.timers_kept.ensures
     c.from.ensures c.index_mut.ensures.value c.now-now.ensures
@@ -20,7 +21,8 @@ index_mut-requires-2 g c =
 
 pub invariant_of-self-2 : goal.invariant_of-self-2
 invariant_of-self-2 g c =
-    hand_kept _ c.args.self.now c.self.inside.holders.items c.args.cpu c.from.result
+    hand_kept _ c.args.self.now c.self.inside.holders.items c.self.inside.tally
+    c.args.cpu c.from.result
     c.index_mut.result.now c.hand.new.self c.now-now.result c.self.view_is c.self.invariant refl
     c.kept.ensures.stays c.timers_kept.ensures c.from.ensures c.index_mut.ensures.value
     c.now-now.ensures c.args.timer c.args.runner c.from-2.result c.from-2.ensures c.requires

@@ -11,7 +11,8 @@ invariant_of-self g c =
     c.set_status.new.self c.args.change c.args.status c.args.exchanges c.self.view_is c.from.ensures
     c.requires.group c.index_mut.ensures.value c.change.ensures c.if_exchanged.ensures
     c.from-2.ensures c.requires.cpu c.index_mut-2.ensures.value c.set_status.ensures
-    c.self.inside.holders.items c.self.invariant c.requires.fits
+    c.self.inside.holders.items c.self.inside.tally c.recount.new.self c.self.invariant
+    c.recount.ensures c.requires.fits
 
 pub returns : goal.returns
 returns g c =

@@ -39,7 +39,7 @@ invariant_of-self-2 g c =
     c.timers_kept-2.ensures c.requires _ c.move_between.new.cpus.items c.in-Some.class
     c.now-now.result _ c.self.view_is is c.now-now.ensures c.in_ok-wheel.ensures.ok
     (length-set c.self.inside.holders.items c.from.result (Some c.args.to)) c.from.result
-    c.from.ensures c.kept.ensures.stays refl
+    c.self.inside.tally c.from.ensures c.kept.ensures.stays refl c.self.invariant.tallied
 
 pub returns-clause-ok : goal.returns-clause-ok
 returns-clause-ok g c =
