@@ -2,6 +2,7 @@ pub mod ExchangesOnce
 pub mod ExchangesRead
 pub mod HandingRead
 pub mod HoldersRead
+pub mod LevelsRead
 pub mod MarkedRead
 pub mod PlacesRead
 pub mod PlayedRead

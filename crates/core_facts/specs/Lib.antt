@@ -1,6 +1,7 @@
 pub mod Exchanges
 pub mod Handing
 pub mod Holders
+pub mod Levels
 pub mod Marked
 pub mod Places
 pub mod Played

@@ -5,6 +5,8 @@
 ghost use Rattle.core_facts.specs.Exchanges.{EachGoesOn, EachStaysPast, NoneIsPast};
 ghost use Rattle.core_facts.specs.Handing.{EachHandsOn, EachHasPlaced};
 ghost use Rattle.core_facts.specs.Holders.{EachLockIsHeld};
+ghost use Rattle.core_facts.specs.Levels.{EachLevelIsLow, EachStageFitsLevels, LevelsStartFit};
+ghost use Rattle.core_facts.specs.Levels.{LevelsStayFit};
 ghost use Rattle.core_facts.specs.Marked.{EachMarkFits};
 ghost use Rattle.core_facts.specs.Places.{EachPlaceFits};
 ghost use Rattle.core_facts.specs.Played.{EachAddsReplay, StartsPlayed, StaysPlayed};
@@ -15,8 +17,9 @@ ghost use Rattle.core_facts.specs.Told.{EachHasToldOwn};
 ghost use Rattle.core_facts.specs.Walkers.{EachWalkerIs};
 
 use core_laws::law_step;
-use core_world::law_sizes;
+use core_world::{law_quiet, law_sizes};
 use cpu_bases::{law_bases, law_calls};
+use tree_plan::{law_cuts, law_paths};
 
 /// A CPU with a walk is active exactly where the walk is an activation; the other kinds are made by
 /// online idle CPUs, or by a CPU that goes offline.
@@ -96,4 +99,18 @@ pub fn law_stage()
     ensures { EachStageLawful }
 {
     law_step();
+}
+
+/// A walk stands below level 3; at level 0 where its CPU has no group, and there it has read no
+/// event of a child. So it begins, and each step keeps it where the invariant holds.
+pub fn law_height()
+    ensures starts { LevelsStartFit }
+    ensures stays { LevelsStayFit }
+    ensures stage { EachStageFitsLevels }
+    ensures low { EachLevelIsLow }
+{
+    law_cuts();
+    law_paths();
+    law_quiet();
+    law_sizes();
 }
