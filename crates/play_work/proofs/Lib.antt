@@ -7,3 +7,4 @@ pub mod Whole
 pub mod Interrupts
 pub mod Silent
 pub mod Turns
+pub mod Courses

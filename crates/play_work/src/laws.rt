@@ -1,5 +1,7 @@
-//! What bounds the work of a play. Each of these functions does nothing; its contract is the law.
+//! What moments a play has, and what bounds its work. Each of these functions does nothing; its
+//! contract is the law.
 
+ghost use Rattle.play_work.specs.Course.{EachComesToItsEnd};
 ghost use Rattle.play_work.specs.Work.{WorkIsBounded};
 
 /// In a moment each CPU has one interrupt at most, and as long as the end isn't past the greatest
@@ -7,4 +9,10 @@ ghost use Rattle.play_work.specs.Work.{WorkIsBounded};
 /// limit isn't broken off.
 pub fn law_work()
     ensures { WorkIsBounded }
+{}
+
+/// The moments of every script's play go from jiffy 0 to its end, each later than the one before,
+/// and each moment of the script is one of them. So what holds after each moment holds to the end.
+pub fn law_moments()
+    ensures { EachComesToItsEnd }
 {}
