@@ -9,7 +9,7 @@ ghost use Rattle.core_world.specs.Start.{start_cpu, start_group, start_of};
 use crate::cpu::CoreCpu;
 use crate::group::CoreGroup;
 use crate::machine::Core;
-use core_facts::law_replay;
+use core_facts::{law_height, law_replay};
 use core_start::law_start;
 use cpu_bases::Bases;
 use std::alloc::Global;
@@ -77,6 +77,7 @@ pub fn new_core<B: TimerBase>(
 {
     law_start();
     law_replay();
+    law_height();
     tree.cpu_count();
     let groups = new_groups(alloc, &tree)?;
     let cpus = new_cpus(alloc, bases)?;

@@ -7,4 +7,4 @@ invariant_of-result g c =
     start_kept c.args.tree c.args.timers _ c.in_ok-holders.holders.items c.in_ok-groups.groups.items
     c.in_ok-cpus.cpus.items c.cpu_count.ensures.planned c.requires.each_cpu c.in_ok-groups.ensures
     c.in_ok-cpus.ensures c.in_ok-holders.ensures c.law_start.ensures c.law_replay.ensures.starts
-    (omega (arith, c.ranges.timers.fits))
+    c.law_height.ensures.starts (omega (arith, c.ranges.timers.fits))
