@@ -12,6 +12,7 @@ use Rattle.tree_plan.specs.Paths.{child_count_of, cpu_count_of, group_count_of}
 use Rattle.cpu_bases.specs.CpuBases.{RoomyBases, empty_bases}
 use Rattle.walk_rules.specs.Scene.{Group}
 use Rattle.core_start.specs.Layer.{StartsLawful}
+use Rattle.core_facts.specs.Levels.{LevelsFit, LevelsStartFit}
 use Rattle.core_facts.specs.Played.{AllPlayed, StartsPlayed}
 use Rattle.core_world.specs.Lawful.{IsLawful}
 use Rattle.core_world.specs.Start.{start_cpu, start_group, start_of}
@@ -77,10 +78,10 @@ pub start_kept : (t : Shape) (timers count : ℕ) (holders : List (Option CpuId)
     → count ≡ cpu_count_of t
     → groups ≡ map (λ g. start_group (child_count_of t g)) (range_with_len 0 (group_count_of t))
     → cpus ≡ replicate count start_cpu → holders ≡ replicate timers None → StartsLawful
-    → StartsPlayed → timers < 2 ^ 16 → IsTallied t cpus tally
+    → StartsPlayed → LevelsStartFit → timers < 2 ^ 16 → IsTallied t cpus tally
     → IsKept (world_of t (length holders) 0 groups cpus) holders tally
 start_kept t timers count holders groups cpus tally planned sized of_groups of_cpus of_timers law
-    plays few tallied =
+    plays levels few tallied =
     let start_is : world_of t (length holders) 0 groups cpus ≡ start_of t timers = λ i.
     world_of t ((ap length of_timers ∙ length-replicate timers no_holder) i) 0 (of_groups i)
     ((of_cpus ∙ ap (λ n. replicate n start_cpu) sized) i) in
@@ -96,6 +97,7 @@ start_kept t timers count holders groups cpus tally planned sized of_groups of_c
             (subst (λ u. IsLawful (start_of u timers)) (sym planned.tree)
             (law t.nodes t.cpus timers t.isolated planned.limits (omega (arith, few))));
         played = subst AllPlayed (sym start_is) (plays t timers);
+        levels = subst LevelsFit (sym start_is) (levels t timers);
       };
       held = λ timer c.
           subst (λ ys. is_queued timer (get_or ys c no_cpu).bases ≡ holds (noted holders timer) c)

@@ -8,6 +8,7 @@ use Rattle.tree_plan.specs.Shape.{Shape, IsPlanned}
 use Rattle.tree_plan.specs.Paths.{group_at_of}
 use Rattle.cpu_bases.specs.CpuBases.{CpuBases, class_in}
 use Rattle.walk_rules.specs.Scene.{Group}
+use Rattle.core_facts.specs.Levels.{LevelsFit}
 use Rattle.core_facts.specs.Played.{AllPlayed}
 use Rattle.core_world.specs.declared.step.Step.{Step}
 use Rattle.core_world.specs.Enabled.{Enabled}
@@ -30,14 +31,15 @@ world_of tree timers clock groups cpus = record {
 abbrev pub HasLevel : Shape → (c l : ℕ) → Type 0
 HasLevel t c l = (g : ℕ) × (group_at_of t c l ≡ Some g)
 
--- THE INVARIANT, with a planned tree, a time in range, a number for each timer, and bases that are
--- what their journals make
+-- THE INVARIANT, with a planned tree, a time in range, a number for each timer, bases that are what
+-- their journals make, and walks at levels that fit
 pub record WorldFits (w : World) : Type 0 where
   pub planned : IsPlanned w.tree
   pub in_time : w.clock < 2 ^ 47 - 2
   pub few : w.timers < 2 ^ 16
   pub lawful : IsLawful w
   pub played : AllPlayed w
+  pub levels : LevelsFit w
 
 -- and after each step that is enabled
 abbrev pub StaysFit : World → Type 0

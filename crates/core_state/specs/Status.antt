@@ -4,6 +4,7 @@ use Rattle.std.specs.Prelude.{slice_set}
 use Rattle.tm_base.specs.declared.names.TheConstants.{NEVER}
 use Rattle.event_queue.specs.declared.event.Event.{Event}
 use Rattle.event_queue.specs.EventMap.{FitsWord}
+use Rattle.cpu_bases.specs.CpuBases.{CpuBases}
 use Rattle.walk_rules.specs.declared.walk.Walk.{Walk}
 use Rattle.walk_rules.specs.declared.walk.WalkKind.{WalkKind}
 use Rattle.walk_rules.specs.declared.walk.WalkKind.TheVariants as kinds
@@ -22,16 +23,20 @@ status_of y = record {
   walk = y.walk;
 }
 
-abbrev pub with_status : CpuRecord → CpuStatus → CpuRecord
-with_status y status = record {
+-- a CPU of this status with these timers
+abbrev pub record_of : CpuStatus → CpuBases → CpuRecord
+record_of status bases = record {
   online = status.online;
   idle = status.idle;
   inside = status.inside;
   mark = status.mark;
   wakeup = status.wakeup;
-  bases = y.bases;
+  bases = bases;
   walk = status.walk;
 }
+
+abbrev pub with_status : CpuRecord → CpuStatus → CpuRecord
+with_status y status = record_of status y.bases
 
 -- the world where CPU c is this besides its timers
 abbrev pub with_cpu_status : World → (c : ℕ) → CpuStatus → World

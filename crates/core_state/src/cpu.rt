@@ -6,7 +6,7 @@ ghost use Rattle.cpu_bases.specs.CpuBases.{IsConsistent, empty_bases, events_of}
 ghost use Rattle.walk_rules.specs.declared.walk.Walk.{Walk};
 ghost use Rattle.core_world.specs.Start.{start_cpu};
 ghost use Rattle.core_world.specs.World.{is_reading};
-ghost use Rattle.core_state.specs.Status.{IsInRange, status_of, with_status};
+ghost use Rattle.core_state.specs.Status.{IsInRange, record_of, status_of, with_status};
 
 use crate::stale::is_reading;
 use crate::status::CpuStatus;
@@ -15,9 +15,9 @@ use std::marker::Model;
 use tm_base::NEVER;
 use wheel_core::TimerBase;
 
-/// What it is, and its timers.
+/// One CPU: what it is, and its timers.
 #[derive(Drop)]
-pub(crate) struct CoreCpu<B: TimerBase> {
+pub struct CoreCpu<B: TimerBase> {
     pub(crate) status: CpuStatus,
     pub(crate) bases: Bases<B>,
 }
@@ -62,7 +62,25 @@ impl<B: TimerBase> CoreCpu<B> {
         }
     }
 
-    pub(crate) fn status(&self) -> CpuStatus
+    /// The CPU of these parts.
+    pub fn from_parts(status: CpuStatus, bases: Bases<B>) -> CoreCpu<B>
+        requires { IsInRange status.walk }
+        ensures { result ≡ record_of status bases.plain }
+    {
+        CoreCpu { status, bases }
+    }
+
+    /// Takes the CPU apart.
+    pub fn into_parts(self) -> (CpuStatus, Bases<B>)
+        ensures status { result.0 ≡ status_of self }
+        ensures bases { result.1.plain ≡ self.bases }
+        ensures in_range { IsInRange result.0.walk }
+    {
+        (self.status, self.bases)
+    }
+
+    /// What it is besides its timers.
+    pub fn status(&self) -> CpuStatus
         ensures status { result ≡ status_of self.now }
         ensures in_range { IsInRange result.walk }
     {
@@ -86,7 +104,8 @@ impl<B: TimerBase> CoreCpu<B> {
         self.status = status;
     }
 
-    pub(crate) fn bases(&self) -> &Bases<B>
+    /// Its timers.
+    pub fn bases(&self) -> &Bases<B>
         ensures { result.now.plain ≡ self.now.bases }
     {
         &self.bases

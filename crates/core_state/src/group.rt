@@ -14,10 +14,10 @@ use event_queue::{Event, Events};
 use group_word::{GroupState, activated, swapped};
 use std::marker::Model;
 
-/// Which children are active, which of them is the migrator, whose walk has the lock, and the
-/// events of the children.
+/// One group: which children are active, which of them is the migrator, whose walk has the lock,
+/// and the events of the children (the kernel's `struct tmigr_group`).
 #[derive(Drop)]
-pub(crate) struct CoreGroup {
+pub struct CoreGroup {
     active: u8,
     migrator: Option<u8>,
     lock: Option<u16>,
@@ -51,14 +51,37 @@ impl CoreGroup {
         }
     }
 
-    pub(crate) fn active(&self) -> u8
+    /// The group of these parts: bit k of `active` stands for child k, and `lock` is the number of
+    /// a CPU.
+    pub fn from_parts(
+        active: u8,
+        migrator: Option<u8>,
+        lock: Option<u16>,
+        events: Events,
+    ) -> CoreGroup
+        requires { GroupLaw active migrator }
+        ensures { result
+            ≡ record { active = active; migrator = migrator; lock = lock; events = events } }
+    {
+        CoreGroup {
+            active,
+            migrator,
+            lock,
+            events,
+        }
+    }
+
+    /// The set of the active children: bit k stands for child k.
+    pub fn active(&self) -> u8
         ensures { result ≡ self.now.active }
     {
         self.active
     }
 
-    pub(crate) fn migrator(&self) -> Option<u8>
-        ensures { result ≡ self.now.migrator }
+    /// The active child that looks after the timers of the idle ones.
+    pub fn migrator(&self) -> Option<u8>
+        ensures migrator { result ≡ self.now.migrator }
+        ensures law { GroupLaw self.now.active self.now.migrator }
     {
         self.migrator
     }
@@ -76,13 +99,15 @@ impl CoreGroup {
         self.migrator.is_none()
     }
 
-    pub(crate) fn lock(&self) -> Option<u16>
+    /// The number of the CPU whose walk has the lock.
+    pub fn lock(&self) -> Option<u16>
         ensures { result ≡ self.now.lock }
     {
         self.lock
     }
 
-    pub(crate) fn events(&self) -> &Events
+    /// The events of the children.
+    pub fn events(&self) -> &Events
         ensures { result.now ≡ self.now.events }
     {
         &self.events

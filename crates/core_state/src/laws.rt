@@ -3,7 +3,7 @@
 
 ghost use Rattle.core_state.specs.Kept.{WorldsStayFit};
 
-use core_facts::law_replay;
+use core_facts::{law_height, law_replay};
 use core_laws::law_step;
 use core_world::law_sizes;
 
@@ -14,4 +14,5 @@ pub(crate) fn law_fits()
     law_sizes();
     law_step();
     law_replay();
+    law_height();
 }

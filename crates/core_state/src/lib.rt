@@ -1,5 +1,5 @@
 //! The core's state as code: a world of CPUs with their timers and walks, groups and a clock; its
-//! start, its readers, and how it is written.
+//! start, its readers, its parts, and how it is written.
 #![tactic(auto)]
 
 mod below;
@@ -10,6 +10,7 @@ mod group;
 mod laws;
 mod machine;
 mod moving;
+mod parts;
 mod places;
 mod queueing;
 mod readers;
@@ -22,6 +23,9 @@ mod timers;
 mod tree;
 
 pub use change::GroupChange;
+pub use cpu::CoreCpu;
+pub use group::CoreGroup;
 pub use machine::Core;
+pub use parts::CoreParts;
 pub use start::new_core;
 pub use status::CpuStatus;

@@ -78,12 +78,20 @@ impl<B: TimerBase> Core<B> {
         self.cpus[usize::from(cpu.0)].set_status(status);
     }
 
-    /// A group.
-    pub(crate) fn group(&self, group: GroupId) -> &CoreGroup
+    /// A group as a whole.
+    pub fn group(&self, group: GroupId) -> &CoreGroup
         requires { group.0 < length self.now.groups }
         ensures { result.now ≡ group_of self.now group.0 }
     {
         &self.groups[usize::from(group.0)]
+    }
+
+    /// A CPU as a whole.
+    pub fn core_cpu(&self, cpu: CpuId) -> &CoreCpu<B>
+        requires { cpu.0 < length self.now.cpus }
+        ensures { result.now ≡ cpu_of self.now cpu.0 }
+    {
+        &self.cpus[usize::from(cpu.0)]
     }
 
     /// A step of a CPU's walk: it changes a group and the CPU, and where it exchanges the word of a

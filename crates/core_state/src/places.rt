@@ -5,6 +5,7 @@ ghost use Rattle.std.specs.Prelude.{length, true};
 ghost use Rattle.tree_plan.specs.Paths.{IsBelow, group_at_of, is_placed_in};
 ghost use Rattle.cpu_bases.specs.CpuBases.{events_of};
 ghost use Rattle.event_queue.specs.EventMap.{event_at};
+ghost use Rattle.core_facts.specs.Levels.{IsLowWalk};
 ghost use Rattle.walk_rules.specs.Hierarchy.{IsHierarchy, at_top, group_on, side};
 ghost use Rattle.core_world.specs.Enabled.{MarksNobody};
 ghost use Rattle.core_world.specs.Steps.{child_on};
@@ -21,6 +22,7 @@ use crate::machine::Core;
 use crate::status::CpuStatus;
 use crate::tally::is_placed_online;
 use crate::tree;
+use core_facts::law_height;
 use cpu_bases::NextEvents;
 use event_queue::Event;
 use tm_base::{CpuId, GroupId};
@@ -35,9 +37,11 @@ impl<B: TimerBase> Core<B> {
         ensures stays { StaysFit self.now }
         ensures hierarchy { IsHierarchy self.now.tree }
         ensures levels { (c l : ℕ) → HasLevel self.now.tree c l → l < 3 }
+        ensures low { IsLowWalk self.now }
     {
         law_cuts();
         law_fits();
+        law_height();
         law_hierarchy();
         law_paths();
         self.tree.cpu_count();

@@ -10,7 +10,7 @@ use crate::cpu::CoreCpu;
 use crate::group::CoreGroup;
 use crate::machine::Core;
 use crate::tally::tally_of;
-use core_facts::law_replay;
+use core_facts::{law_height, law_replay};
 use core_start::law_start;
 use cpu_bases::Bases;
 use std::alloc::Global;
@@ -78,6 +78,7 @@ pub fn new_core<B: TimerBase>(
 {
     law_start();
     law_replay();
+    law_height();
     tree.cpu_count();
     let groups = new_groups(alloc, &tree)?;
     let cpus = new_cpus(alloc, bases)?;

@@ -161,3 +161,57 @@ fn an_idle_cpu_tells_its_timer(rt: HostRuntime) -> Result<(), Fail> {
     assert_eq!(&rt; told, true);
     Ok(())
 }
+
+/// A core of the same world.
+fn taken_apart(core: Core<ListBase>) -> Core<ListBase>
+    ensures { result ≡ core }
+{
+    Core::from_parts(core.into_parts())
+}
+
+/// CPU 9 goes idle, and has the lock of its leaf; CPU 0 has an armed timer.
+fn in_mid_walk(rt: &impl Abort, alloc: Global) -> Result<Core<ListBase>, NoMemory> {
+    let mut core = start(alloc, 10, 1)?;
+    let mut steps = Vec::new(alloc);
+    steps.push(Step::Clock { now: 10 })?;
+    steps.push(Step::Arm {
+        cpu: CpuId(0),
+        timer: TimerId(0),
+        class: Class::Global,
+        expires: 60,
+        job: 0,
+        arg: 0,
+        line: 0,
+    })?;
+    steps.push(Step::Idle { cpu: CpuId(9) })?;
+    add_walks(&mut steps, 4, 9)?;
+    assert_eq!(rt; run_steps(&mut core, steps.as_slice()), Ok(()));
+    Ok(core)
+}
+
+fn check_leaf(rt: &impl Abort, core: &Core<ListBase>, lock: Option<CpuId>) {
+    check_group(rt, core, 1, 1, Some(0));
+    assert!(rt; 1 < core.tree().group_count());
+    assert_eq!(rt; core.lock_of(GroupId(1)), lock);
+    assert_eq!(rt; core.now(), 10);
+    assert!(rt; 0 < core.timers());
+    assert_eq!(rt; core.queued_on(TimerId(0)), Some(CpuId(0)));
+}
+
+// It is put together between two steps of a walk, with a lock held, and then goes on as one that
+// was left whole. The row is worked by hand from the stages of a deactivation.
+#[test]
+fn a_core_taken_apart_in_mid_walk_goes_on(rt: HostRuntime) -> Result<(), Fail> {
+    let mut whole = in_mid_walk(&rt, rt.alloc())?;
+    let mut again = taken_apart(in_mid_walk(&rt, rt.alloc())?);
+    check_leaf(&rt, &again, Some(CpuId(9)));
+    let mut more = Vec::new(rt.alloc());
+    add_walks(&mut more, 4, 9)?;
+    assert_eq!(&rt; run_steps(&mut whole, more.as_slice()), Ok(()));
+    assert_eq!(&rt; run_steps(&mut again, more.as_slice()), Ok(()));
+    check_leaf(&rt, &whole, None);
+    check_leaf(&rt, &again, None);
+    assert!(&rt; 9 < again.tree().cpu_count());
+    assert_eq!(&rt; again.walk(CpuId(9)).is_none(), true);
+    Ok(())
+}

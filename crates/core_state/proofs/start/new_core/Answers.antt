@@ -8,4 +8,4 @@ invariant_of-result g c =
     c.in_ok-cpus.cpus.items c.in_ok-tally.tally c.cpu_count.ensures.planned
     c.requires.each_cpu c.in_ok-groups.ensures
     c.in_ok-cpus.ensures c.in_ok-holders.ensures c.law_start.ensures c.law_replay.ensures.starts
-    (omega (arith, c.ranges.timers.fits)) c.in_ok-tally.ensures
+    c.law_height.ensures.starts (omega (arith, c.ranges.timers.fits)) c.in_ok-tally.ensures

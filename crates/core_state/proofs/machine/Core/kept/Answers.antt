@@ -1,0 +1,8 @@
+use Rattle.std.proofs.Common.{subst}
+use Rattle.core_state.specs.Kept.{WorldFits}
+use Rattle.core_state.proofs.machine.Core.kept.Goals as goal
+
+pub returns-clause-low : goal.returns-clause-low
+returns-clause-low g c =
+    let fits = subst WorldFits c.self.view_is c.self.invariant.fits in
+    c.law_height.ensures.low c.args.self.now fits.planned fits.lawful fits.levels
