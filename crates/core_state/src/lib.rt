@@ -29,3 +29,4 @@ pub use machine::Core;
 pub use parts::CoreParts;
 pub use start::new_core;
 pub use status::CpuStatus;
+pub use tally::Tally;

@@ -6,6 +6,7 @@ ghost use Rattle.core_state.specs.Kept.{IsHeld, WorldFits, world_of};
 use crate::cpu::CoreCpu;
 use crate::group::CoreGroup;
 use crate::machine::Core;
+use crate::tally::{Tally, tally_in};
 use tm_base::{CpuId, Jiffy};
 use tree_plan::Tree;
 use wheel_core::TimerBase;
@@ -23,6 +24,8 @@ pub struct CoreParts<B: TimerBase> {
     pub cpus: Vec<CoreCpu<B>>,
     /// For each timer the CPU on which it is queued, None where it is queued nowhere.
     pub holders: Vec<Option<CpuId>>,
+    /// Room for what a core counts of its CPUs; what it says isn't read.
+    pub tally: Tally,
 }
 
 impl<B: TimerBase> Core<B> {
@@ -32,6 +35,7 @@ impl<B: TimerBase> Core<B> {
             result.groups.items result.cpus.items ≡ self }
         ensures fits { WorldFits self }
         ensures held { IsHeld self result.holders.items }
+        ensures room { length result.tally.marks ≡ length result.cpus.items }
     {
         CoreParts {
             tree: self.tree,
@@ -39,24 +43,29 @@ impl<B: TimerBase> Core<B> {
             groups: self.groups,
             cpus: self.cpus,
             holders: self.holders,
+            tally: self.tally,
         }
     }
 
-    /// The core of these parts. Of the parts of a core it is a core of the same world.
+    /// The core of these parts. Of the parts of a core it is a core of the same world. It counts
+    /// each CPU once.
     pub fn from_parts(parts: CoreParts<B>) -> Core<B>
         requires fits { WorldFits (world_of parts.tree (length parts.holders.items) parts.clock
             parts.groups.items parts.cpus.items) }
         requires held { IsHeld (world_of parts.tree (length parts.holders.items) parts.clock
             parts.groups.items parts.cpus.items) parts.holders.items }
+        requires room { length parts.tally.marks ≡ length parts.cpus.items }
         ensures { result ≡ world_of parts.tree (length parts.holders.items) parts.clock
             parts.groups.items parts.cpus.items }
     {
+        let tally = tally_in(parts.tally, &parts.tree, &parts.cpus);
         Core {
             tree: parts.tree,
             clock: parts.clock,
             groups: parts.groups,
             cpus: parts.cpus,
             holders: parts.holders,
+            tally,
         }
     }
 }

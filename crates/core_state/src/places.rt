@@ -47,7 +47,7 @@ impl<B: TimerBase> Core<B> {
         self.tree.cpu_count();
     }
 
-    /// The group of a CPU's path at a level; group 0 placed_online in where the path has none.
+    /// The group of a CPU's path at a level; group 0 stands in where the path has none.
     pub fn group_on(&self, cpu: CpuId, level: u8) -> GroupId
         requires { cpu.0 < length self.now.cpus }
         ensures group { result.0 ≡ group_on self.now.tree cpu.0 level }

@@ -18,7 +18,7 @@ use wheel_core::TimerBase;
 
 /// How many CPUs each CPU has marked, and how many placed CPUs are online.
 #[derive(Drop)]
-pub(crate) struct Tally {
+pub struct Tally {
     marks: Vec<u16>,
     online: u16,
 }
@@ -40,8 +40,8 @@ pub(crate) fn is_placed_online(tree: &Tree, cpu: CpuId, online: bool) -> bool
 }
 
 impl Tally {
-    /// So many CPUs, none of which is counted yet.
-    fn new(alloc: Global, count: u16) -> Result<Tally, NoMemory>
+    /// Room for so many CPUs, none of which is counted yet.
+    pub fn new(alloc: Global, count: u16) -> Result<Tally, NoMemory>
         ensures marks { IfOk result (λ tally. tally.marks ≡ replicate count 0) }
         ensures online { IfOk result (λ tally. tally.online ≡ 0) }
     {
@@ -125,6 +125,15 @@ impl Tally {
         self.count_in(status.mark, is_placed_online(tree, cpu, status.online));
     }
 
+    /// No CPU is counted any more.
+    fn clear(&mut self)
+        ensures marks { self.new.marks ≡ replicate (length self.old.marks) 0 }
+        ensures online { self.new.online ≡ 0 }
+    {
+        self.marks.fill(0);
+        self.online = 0;
+    }
+
     /// Counts the CPUs of a tree, of which none is counted yet.
     fn count_all<B: TimerBase>(&mut self, tree: &Tree, cpus: &Vec<CoreCpu<B>>)
         requires each_cpu { length cpus.now.items ≡ cpu_count_of tree.now }
@@ -139,6 +148,18 @@ impl Tally {
             );
         }
     }
+}
+
+/// The tally of the CPUs of a tree, in the room of one that counted as many.
+pub(crate) fn tally_in<B: TimerBase>(room: Tally, tree: &Tree, cpus: &Vec<CoreCpu<B>>) -> Tally
+    requires each_cpu { length cpus.now.items ≡ cpu_count_of tree.now }
+    requires room { length room.marks ≡ length cpus.now.items }
+    ensures { IsTallied tree.now cpus.now.items result }
+{
+    let mut tally = room;
+    tally.clear();
+    tally.count_all(tree, cpus);
+    tally
 }
 
 /// The tally of the CPUs of a tree.
