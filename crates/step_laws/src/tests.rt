@@ -131,6 +131,28 @@ fn a_step_that_is_not_enabled_is_named(rt: HostRuntime) -> Result<(), Fail> {
     Ok(())
 }
 
+// Of two placed CPUs the first goes offline, so the other one may not; once the first is online
+// again, the other may.
+#[test]
+fn the_last_placed_cpu_stays_online(rt: HostRuntime) -> Result<(), Fail> {
+    let mut core = start(rt.alloc(), 2, 0)?;
+    let mut leaving = Vec::new(rt.alloc());
+    leaving.push(Step::Offline { cpu: CpuId(0) })?;
+    add_walks(&mut leaving, 8, 0)?;
+    assert_eq!(&rt; run_steps(&mut core, leaving.as_slice()), Ok(()));
+    let last = [Step::Offline { cpu: CpuId(1) }];
+    assert_eq!(&rt;
+        run_steps(&mut core, last.as_slice()),
+        Err(StepsFault::NotEnabled { index: 0 })
+    );
+    let again = [
+        Step::Online { cpu: CpuId(0) },
+        Step::Offline { cpu: CpuId(1) },
+    ];
+    assert_eq!(&rt; run_steps(&mut core, again.as_slice()), Ok(()));
+    Ok(())
+}
+
 // A CPU goes idle with a global timer, and tells it to the other CPU of its group.
 #[test]
 fn an_idle_cpu_tells_its_timer(rt: HostRuntime) -> Result<(), Fail> {
@@ -213,5 +235,47 @@ fn a_core_taken_apart_in_mid_walk_goes_on(rt: HostRuntime) -> Result<(), Fail> {
     check_leaf(&rt, &again, None);
     assert!(&rt; 9 < again.tree().cpu_count());
     assert_eq!(&rt; again.walk(CpuId(9)).is_none(), true);
+    Ok(())
+}
+
+// CPU 1 goes idle with a global timer. When it is due, CPU 0 marks CPU 1 inside its interrupt, and
+// so may not leave it, until the walk that tells CPU 1's next event has taken the mark away.
+#[test]
+fn a_cpu_that_has_marked_another_stays_inside(rt: HostRuntime) -> Result<(), Fail> {
+    let mut core = start(rt.alloc(), 2, 1)?;
+    let mut steps = Vec::new(rt.alloc());
+    steps.push(Step::Arm {
+        cpu: CpuId(1),
+        timer: TimerId(0),
+        class: Class::Global,
+        expires: 60,
+        job: 0,
+        arg: 0,
+        line: 0,
+    })?;
+    steps.push(Step::Idle { cpu: CpuId(1) })?;
+    add_walks(&mut steps, 8, 1)?;
+    steps.push(Step::Clock { now: 70 })?;
+    steps.push(Step::Enter { cpu: CpuId(0) })?;
+    steps.push(Step::Take {
+        cpu: CpuId(1),
+        by: CpuId(0),
+    })?;
+    assert_eq!(&rt; run_steps(&mut core, steps.as_slice()), Ok(()));
+    let leave = [Step::Leave { cpu: CpuId(0) }];
+    assert_eq!(&rt;
+        run_steps(&mut core, leave.as_slice()),
+        Err(StepsFault::NotEnabled { index: 0 })
+    );
+    let mut carried = Vec::new(rt.alloc());
+    carried.push(Step::Hand {
+        cpu: CpuId(1),
+        timer: TimerId(0),
+        runner: CpuId(0),
+    })?;
+    carried.push(Step::Carry { cpu: CpuId(1) })?;
+    add_walks(&mut carried, 5, 1)?;
+    assert_eq!(&rt; run_steps(&mut core, carried.as_slice()), Ok(()));
+    assert_eq!(&rt; run_steps(&mut core, leave.as_slice()), Ok(()));
     Ok(())
 }
