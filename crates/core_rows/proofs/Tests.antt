@@ -7,10 +7,9 @@ use Rattle.walk_rules.specs.declared.walk.Stage.{Stage}
 use Rattle.walk_rules.specs.declared.walk.Stage.TheVariants as stages
 use Rattle.core_world.specs.declared.step.Step.{Step}
 use Rattle.core_world.specs.declared.step.Step.TheVariants as steps
-use Rattle.core_world.specs.Enabled.{Enabled, IsFree, MayGoOn, MayWalk, MayIdle, MayWake, first_event}
+use Rattle.core_world.specs.Enabled.{EachEnabled, Enabled, IsFree, MayGoOn, MayWalk, MayIdle, MayWake, first_event}
 use Rattle.core_world.specs.Steps.{stepped, here, child_here}
 use Rattle.core_world.specs.World.{World, cpu_of, group_of, is_active}
-use Rattle.core_rows.specs.Rows.{EachEnabled}
 
 both : (a b : Bool) → (a && b) ≡ true → (a ≡ true) × (b ≡ true)
 both true b e = (refl, e)

@@ -12,9 +12,8 @@ use Rattle.walk_rules.specs.declared.walk.Walk.{Walk}
 use Rattle.walk_rules.specs.declared.walk.Stage.TheVariants as stages
 use Rattle.core_world.specs.declared.step.Step.{Step}
 use Rattle.core_world.specs.declared.step.Step.TheVariants as steps
-use Rattle.core_world.specs.Enabled.{Enabled}
+use Rattle.core_world.specs.Enabled.{EachEnabled, Enabled, after_all}
 use Rattle.core_world.specs.Start.{start_of}
-use Rattle.core_world.specs.Steps.{stepped}
 use Rattle.core_world.specs.World.{World, cpu_of, group_of}
 
 -- the tree of one node of so many CPUs, none of them isolated
@@ -27,16 +26,6 @@ one_node_of cpus = record {
       levels_from (levels_for cpus) (levels_for cpus + levels_for 1) 0 0
       (map of_cpu (range_with_len 0 cpus) ∷ []);
 }
-
--- what a list of steps makes of a world
-abbrev pub after_all : World → List Step → World
-after_all w [] = w
-after_all w (step ∷ rest) = after_all (stepped w step) rest
-
--- each step is enabled where it stands
-abbrev pub EachEnabled : World → List Step → Type 0
-EachEnabled w [] = Unit {0}
-EachEnabled w (step ∷ rest) = Enabled w step × EachEnabled (stepped w step) rest
 
 abbrev pub walks : (n c : ℕ) → List Step
 walks n c = replicate n (steps.Walk (record { 0 = c }))

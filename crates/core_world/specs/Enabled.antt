@@ -1,6 +1,6 @@
 -- where each step is enabled
 use Rattle.std.specs.Prelude.{◌≡◌, ◌≢◌, ◌⊎◌, ℕ, ◌+◌, ◌-◌, ◌^◌, ◌<◌, ◌≤◌, true, false, Some, None}
-use Rattle.std.specs.Prelude.{min, length}
+use Rattle.std.specs.Prelude.{min, length, List, [], ◌∷◌}
 use Rattle.tm_base.specs.declared.names.Class.{Class}
 use Rattle.tm_base.specs.declared.names.Class.TheVariants.{Global}
 use Rattle.event_queue.specs.declared.event.Event.{Event}
@@ -16,7 +16,7 @@ use Rattle.walk_rules.specs.declared.walk.Stage.TheVariants as stages
 use Rattle.walk_rules.specs.Hierarchy.{side}
 use Rattle.core_world.specs.declared.step.Step.{Step}
 use Rattle.core_world.specs.declared.step.Step.TheVariants as steps
-use Rattle.core_world.specs.Steps.{child_here, first_moved, here}
+use Rattle.core_world.specs.Steps.{child_here, first_moved, here, stepped}
 use Rattle.core_world.specs.World.{World, cpu_of, group_of, is_active}
 
 -- the CPU is there, and free: it has no walk
@@ -221,3 +221,13 @@ Enabled w (steps.Carry cpu) = MayCarry w cpu.0
 Enabled w (steps.Release cpu) = MayRelease w cpu.0
 Enabled w (steps.Walk cpu) = MayWalk w cpu.0
 Enabled w (steps.HandOn cpu to) = MayHandOn w cpu.0 to.0
+
+-- what a list of steps makes of a world
+abbrev pub after_all : World → List Step → World
+after_all w [] = w
+after_all w (step ∷ rest) = after_all (stepped w step) rest
+
+-- each step of a list is enabled where it stands
+abbrev pub EachEnabled : World → List Step → Type 0
+EachEnabled w [] = Unit {0}
+EachEnabled w (step ∷ rest) = Enabled w step × EachEnabled (stepped w step) rest

@@ -4,10 +4,9 @@ use Rattle.std.proofs.Common.{take, refl, sym, ap, ◌∙◌, subst, get_or}
 use Rattle.std.specs.Prelude.{OnOk, Result, Ok, Err, is_err}
 use Rattle.std.proofs.lemmas.List.{take_more}
 use Rattle.core_world.specs.declared.step.Step.{Step}
-use Rattle.core_world.specs.Enabled.{Enabled}
+use Rattle.core_world.specs.Enabled.{EachEnabled, Enabled, after_all}
 use Rattle.core_world.specs.Steps.{stepped}
 use Rattle.core_world.specs.World.{World}
-use Rattle.core_laws.specs.Laws.{EachEnabled, after_all}
 use Rattle.step_laws.specs.Runs.{RunsWhole}
 
 after_more : (w : World) (steps : List Step) (step : Step)

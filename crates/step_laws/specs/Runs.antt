@@ -1,8 +1,7 @@
 -- lists of steps
 use Rattle.std.specs.Prelude.{◌≡◌, ℕ, List, Some, slice_get, take}
 use Rattle.core_world.specs.declared.step.Step.{Step}
-use Rattle.core_world.specs.Enabled.{Enabled}
-use Rattle.core_laws.specs.Laws.{EachEnabled, after_all}
+use Rattle.core_world.specs.Enabled.{EachEnabled, Enabled, after_all}
 use Rattle.core_world.specs.World.{World}
 use Rattle.step_laws.specs.declared.running.StepsFault.{StepsFault}
 use Rattle.step_laws.specs.declared.running.StepsFault.TheVariants as faults
