@@ -25,11 +25,11 @@ use Rattle.core_world.proofs.Quiet.{moved_group_field, own_group}
 use Rattle.core_walks.specs.Fit.{WalksFit}
 use Rattle.core_edges.specs.Layer.{EdgesFit}
 use Rattle.core_edges.proofs.Facts.{group_child, own_child}
-use Rattle.core_walks.proofs.Stands.{leaf_or, stage_fits, stands_in}
+use Rattle.core_walks.proofs.Stands.{free_kind, freed_kind, leaf_or, stage_fits, stands_in}
 use Rattle.core_edges.proofs.Resting.{Departs}
 use Rattle.core_edges.proofs.Rising.{Rises, rise_fit}
 use Rattle.core_edges.proofs.Swapping.{swap_fit}
-use Rattle.core_edges.proofs.Stages.{is_rising, tells_at, is_finish, is_swap, cond_swap, lock_swap, sight_swap, after_swap, freed_swap, free_swap, freed_kind, free_kind}
+use Rattle.core_edges.proofs.Stages.{is_rising, tells_at, is_finish, is_swap, cond_swap, lock_swap, sight_swap, after_swap, freed_swap, free_swap}
 use Rattle.core_edges.proofs.CalmSteps.{no_edge, none_passed, calm_kept, told_kept, quiet_kept}
 use Rattle.core_edges.proofs.Beginning.{and_false}
 

@@ -119,11 +119,3 @@ freed_swap false k = first_swap k.kind
 pub free_swap : (l : ℕ) (k : Walk) → is_swap (free_group_next l k).stage ≡ false
 free_swap zero k = freed_swap k.over k
 free_swap (suc l) k = refl
-
-pub freed_kind : (over : Bool) (k : Walk) → (freed_next over k).kind ≡ k.kind
-freed_kind true k = refl
-freed_kind false k = refl
-
-pub free_kind : (l : ℕ) (k : Walk) → (free_group_next l k).kind ≡ k.kind
-free_kind zero k = freed_kind k.over k
-free_kind (suc l) k = refl

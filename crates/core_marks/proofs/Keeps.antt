@@ -16,7 +16,7 @@ use Rattle.walk_rules.specs.declared.walk.WalkKind.TheVariants as kinds
 use Rattle.walk_rules.specs.declared.walk.Stage.{Stage}
 use Rattle.walk_rules.specs.declared.walk.Stage.TheVariants as stages
 use Rattle.walk_rules.specs.Scene.{Group}
-use Rattle.walk_rules.specs.Stages.{at_stage, free_group_next, freed_next, mark_next, see_child_next, swap_next, up_next}
+use Rattle.walk_rules.specs.Stages.{at_stage, mark_next, see_child_next, swap_next, up_next}
 use Rattle.core_world.specs.declared.step.Step.TheVariants as steps
 use Rattle.core_world.specs.Enabled.{IsReevaluating, MayGoOn}
 use Rattle.core_world.specs.Marks.{IsMarker, SomePlaced}
@@ -24,6 +24,7 @@ use Rattle.core_world.specs.Steps.{begun_where, child_on, finished, first_moved,
 use Rattle.core_world.specs.World.{CpuRecord, World, cpu_of, group_of, moved, no_cpu, own, reads_at, stale_walk}
 use Rattle.core_world.proofs.Moves.{beside, cpu_else, cpu_same}
 use Rattle.core_world.proofs.Quiet.{own_field}
+use Rattle.core_walks.proofs.Stands.{free_kind, freed_kind}
 use Rattle.core_marks.specs.Layer.{MarksFit, MarkersStayFit}
 
 -- what is read of a CPU: whether it is online and inside, its mark, and whether its walk is a Reeval one
@@ -161,14 +162,6 @@ module _ (w : World) (g : ℕ) (x : Group) (c : ℕ) (y : CpuRecord) (r : Bool) 
       either : (q : Bool) → (q ≡ true → ⊥) → q ≡ false
       either true refuse = absurd (refuse refl)
       either false refuse = refl
-
-freed_kind : (over : Bool) (k : Walk) → (freed_next over k).kind ≡ k.kind
-freed_kind true k = refl
-freed_kind false k = refl
-
-free_kind : (l : ℕ) (k : Walk) → (free_group_next l k).kind ≡ k.kind
-free_kind zero k = freed_kind k.over k
-free_kind (suc l) k = refl
 
 see_kind : (on : Bool) (k : Walk) → (see_child_next on k).kind ≡ k.kind
 see_kind true k = refl

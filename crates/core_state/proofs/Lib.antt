@@ -9,7 +9,7 @@ pub mod Paths
 pub mod Queues
 pub mod Ranges
 pub mod Readings
-pub mod Rooms
+pub mod Oldest
 pub mod Starts
 pub mod Tallies
 pub mod TimerSteps

@@ -16,7 +16,8 @@ use Rattle.core_state.specs.Kept.{IsHeld, IsKept, WorldFits}
 use Rattle.core_state.specs.Status.{with_status}
 use Rattle.core_state.specs.Tally.{CpuTally, IsTallied}
 use Rattle.core_state.proofs.Changes.{cpu_read, held_on}
-use Rattle.core_state.proofs.Readings.{if_length, same_part, same_timers}
+use Rattle.core_world.proofs.Moves.{stale_if_length}
+use Rattle.core_state.proofs.Readings.{same_part, same_timers}
 use Rattle.core_state.proofs.Tallies.{set_alike}
 
 group_read : (groups : List Group) (g i : ℕ) (x : Group) → i ≡ g → g < length groups
@@ -40,7 +41,7 @@ module _ (v w : World) (g i c j : ℕ) (x y : Group) (cs : List CpuRecord) (a b 
   same_timers_here : a.bases ≡ (cpu_of v c).bases
   same_timers_here =
       let low : c < length v.cpus = subst (λ (u : World). c < length u.cpus) (sym seen) c_low in
-      let len = if_length v.tree exchanges g v.cpus in
+      let len = stale_if_length v.tree exchanges g v.cpus in
       let low' : c < length cs = subst (λ ys. c < length ys) (sym are) (omega (arith, low, len)) in
       ap (λ (z : CpuRecord). z.bases) (sym (cpu_read cs c j a at_c low' read_c))
       ∙ (ap (λ ys. (get_or ys c no_cpu).bases) are ∙ same_timers v.tree exchanges g v.cpus c)
@@ -71,7 +72,7 @@ module _ (v w : World) (g i c j : ℕ) (x y : Group) (cs : List CpuRecord) (a b 
   same_after d =
       let cs' = stale_if w.tree exchanges g w.cpus in
       let z = with_status (cpu_of w c) status in
-      let len = if_length w.tree exchanges g w.cpus in
+      let len = stale_if_length w.tree exchanges g w.cpus in
       elim (cases_eq d c) [
         | inl is ↦
             subst (λ k. (cpu_of after k).bases ≡ (cpu_of w k).bases) (sym is)
@@ -88,7 +89,7 @@ module _ (v w : World) (g i c j : ℕ) (x y : Group) (cs : List CpuRecord) (a b 
       → IsTallied after.tree after.cpus tally
   tallied_after tally tallied =
       set_alike w.tree w.cpus (stale_if w.tree exchanges g w.cpus) c
-      (with_status (cpu_of w c) status) tally (if_length w.tree exchanges g w.cpus) c_low
+      (with_status (cpu_of w c) status) tally (stale_if_length w.tree exchanges g w.cpus) c_low
       (λ d. same_part (λ (z : CpuRecord). z.mark) w.tree exchanges g w.cpus d (λ e z. refl))
       (λ d. same_part (λ (z : CpuRecord). z.online) w.tree exchanges g w.cpus d (λ e z. refl))
       (subst (λ (u : World).

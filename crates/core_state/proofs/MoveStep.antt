@@ -24,7 +24,7 @@ use Rattle.core_state.specs.Moves.{MayTakeIn, after_moving, taken_in, wheel_in, 
 use Rattle.core_state.specs.Moves.{wheel_taken}
 use Rattle.core_state.proofs.Holders.{came, note_low, queued_noted, went}
 use Rattle.core_state.proofs.Queues.{moving_in_queues, moving_out_queues, some_or_none}
-use Rattle.core_state.proofs.Rooms.{oldest_in_time, oldest_narrow}
+use Rattle.core_state.proofs.Oldest.{oldest_in_time, oldest_narrow}
 use Rattle.core_state.proofs.Tallies.{one_alike}
 use Rattle.core_state.proofs.TimerSteps.{is_there}
 

@@ -9,23 +9,7 @@ use Rattle.tree_plan.specs.Shape.{Shape}
 use Rattle.tree_plan.specs.Paths.{IsBelow}
 use Rattle.core_state.proofs.Under.{untouched}
 use Rattle.core_world.specs.World.{CpuRecord, all_stale, no_cpu, stale, stale_if}
-
-stale_read : (t : Shape) (g n : ℕ) (ys : List CpuRecord) (d : ℕ)
-    → get_or (all_stale t g n ys) d no_cpu ≡ stale t g (n + d) (get_or ys d no_cpu)
-stale_read t g n [] d = refl
-stale_read t g n (y ∷ ys) zero = let e : n ≡ n + 0 = omega arith in ap (λ m. stale t g m y) e
-stale_read t g n (y ∷ ys) (suc d) =
-    let e : suc n + d ≡ n + suc d = omega arith in
-    stale_read t g (suc n) ys d ∙ ap (λ m. stale t g m (get_or ys d no_cpu)) e
-
-stale_length : (t : Shape) (g n : ℕ) (ys : List CpuRecord) → length (all_stale t g n ys) ≡ length ys
-stale_length t g n [] = refl
-stale_length t g n (y ∷ ys) = ap suc (stale_length t g (suc n) ys)
-
-pub if_length : (t : Shape) (exchanges : Bool) (g : ℕ) (ys : List CpuRecord)
-    → length (stale_if t exchanges g ys) ≡ length ys
-if_length t true g ys = stale_length t g 0 ys
-if_length t false g ys = refl
+use Rattle.core_world.proofs.Moves.{stale_length, stale_read}
 
 -- what isn't of a walk stays
 pub same_part : {A : Type 0} (part : CpuRecord → A) (t : Shape) (exchanges : Bool) (g : ℕ)

@@ -19,6 +19,7 @@ use Rattle.walk_rules.specs.Standing.{is_leaving}
 use Rattle.core_world.specs.IdleTop.{Answered, IsTopGroup, ReadsYet, TopAnswered, is_climbing}
 use Rattle.core_world.specs.Steps.{child_here, child_on, here, swapped, walked, with_walk}
 use Rattle.core_world.specs.World.{World, cpu_of, group_of, moved, own, scene_of}
+use Rattle.core_walks.proofs.Stands.{free_kind, freed_kind}
 use Rattle.core_tops.proofs.Answering.{By, answered_own, tame, tops_step}
 use Rattle.core_tops.proofs.Answering.By.{activation, climbing, first, reading}
 use Rattle.core_tops.proofs.Rising.{IsRising, group_rises}
@@ -46,14 +47,6 @@ freed_over false k same off = refl
 free_over : (l : ℕ) (k : Walk) → k.over ≡ false → (free_group_next l k).over ≡ false
 free_over zero k off = freed_over k.over k refl off
 free_over (suc l) k off = off
-
-freed_kind : (over : Bool) (k : Walk) → (freed_next over k).kind ≡ k.kind
-freed_kind true k = refl
-freed_kind false k = refl
-
-free_kind : (l : ℕ) (k : Walk) → (free_group_next l k).kind ≡ k.kind
-free_kind zero k = freed_kind k.over k
-free_kind (suc l) k = refl
 
 freed_first : (over : Bool) (k : Walk) → (freed_next over k).first ≡ k.first
 freed_first true k = refl

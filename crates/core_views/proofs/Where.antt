@@ -1,13 +1,12 @@
 -- where a timer is queued, as Play looks for it
-use Rattle.std.proofs.Common.{◌≡◌, ℕ, ◌+◌, ◌^◌, ◌<◌, ◌≤◌, Bool, true, false, Option, Some, None}
+use Rattle.std.proofs.Common.{◌≡◌, ℕ, ◌+◌, ◌<◌, Bool, true, false, Option, Some, None}
 use Rattle.std.proofs.Common.{length, refl, sym, ap, ◌∙◌, arith, true≢false}
 use Rattle.std.specs.Prelude.{IfNone, IfSome, is_some, option_and_then, option_map}
 use Rattle.tm_base.specs.declared.names.Class.{Class}
 use Rattle.tm_base.specs.declared.names.CpuId.{CpuId}
 use Rattle.wheel_core.specs.declared.item.Item.{Item}
-use Rattle.wheel_core.proofs.Rooms.{no_more}
 use Rattle.tm_base.specs.declared.names.Class.TheVariants.{Pinned, Global, Deferrable}
-use Rattle.cpu_bases.specs.CpuBases.{CpuBases, IsConsistent, base_of, class_in, found_in}
+use Rattle.cpu_bases.specs.CpuBases.{base_of, class_in, found_in}
 use Rattle.play_rules.specs.declared.asks.Queued.{Queued}
 use Rattle.play_rules.specs.State.{Cpu}
 use Rattle.play_rules.specs.Timers.{bases_at, count_on, holder_of, queued_as, queued_at, queued_on}
@@ -84,12 +83,6 @@ module _ (w : World) (timer : ℕ) where
       ∙ there_as d (found_in timer (cpu_of w d.0).bases) there)
 
 -- HOW MANY timers a CPU has
-pub few_queued : (b : CpuBases) (class : Class) → IsConsistent b →
-    length (base_of class b).items ≤ 2 ^ 16
-few_queued b class consistent =
-    let fits = consistent.fits class in
-    no_more (2 ^ 16) (base_of class b).items fits.sound.distinct fits.timers
-
 pub counted : (w : World) (c : ℕ) → c < length w.cpus → count_on (state_of w) c
     ≡ length (base_of Pinned (cpu_of w c).bases).items
     + (length (base_of Global (cpu_of w c).bases).items

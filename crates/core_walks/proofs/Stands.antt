@@ -1,11 +1,12 @@
 -- for crates above: where a walk stands
-use Rattle.std.proofs.Common.{◌≡◌, ◌⊎◌, inl, inr, ℕ, Option, Some, None, refl, sym, ◌∙◌}
+use Rattle.std.proofs.Common.{◌≡◌, ◌⊎◌, inl, inr, ℕ, zero, suc, Bool, true, false, Option, Some, None, refl, sym, ◌∙◌}
 use Rattle.std.proofs.lemmas.Option.{none-some}
 use Rattle.tree_plan.specs.Shape.{Shape}
 use Rattle.tree_plan.specs.Paths.{group_at_of}
 use Rattle.walk_rules.specs.declared.walk.Walk.{Walk}
 use Rattle.walk_rules.specs.declared.walk.Stage.TheVariants as stages
 use Rattle.walk_rules.specs.Scene.{Scene}
+use Rattle.walk_rules.specs.Stages.{free_group_next, freed_next}
 use Rattle.walk_rules.specs.Standing.{FitsStage}
 use Rattle.core_walks.specs.Fit.{WalksFit}
 
@@ -27,3 +28,12 @@ module _ (t : Shape) (s : Scene) (fit : WalksFit t s) where
     | inl g ↦ (fit.placed.in_tree c k is g).there
     | inr none ↦ absurd (other (fit.placed.alone c k is (λ g. none-some g.0 (sym none ∙ g.1))).finishing)
   ]
+
+-- as locks are let go, a walk keeps its kind
+pub freed_kind : (over : Bool) (k : Walk) → (freed_next over k).kind ≡ k.kind
+freed_kind true k = refl
+freed_kind false k = refl
+
+pub free_kind : (l : ℕ) (k : Walk) → (free_group_next l k).kind ≡ k.kind
+free_kind zero k = freed_kind k.over k
+free_kind (suc l) k = refl

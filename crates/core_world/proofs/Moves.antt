@@ -13,14 +13,14 @@ use Rattle.walk_rules.specs.Stages.{forget}
 use Rattle.core_world.specs.World.{CpuRecord, World, all_stale, cpu_of, is_reading, moved, no_cpu, reads_at, stale, stale_if, stale_walk}
 use Rattle.core_world.specs.Frames.{MovedLaws}
 
-stale_read : (t : Shape) (g n : ℕ) (ys : List CpuRecord) (d : ℕ) → get_or (all_stale t g n ys) d no_cpu ≡ stale t g (n + d) (get_or ys d no_cpu)
+pub stale_read : (t : Shape) (g n : ℕ) (ys : List CpuRecord) (d : ℕ) → get_or (all_stale t g n ys) d no_cpu ≡ stale t g (n + d) (get_or ys d no_cpu)
 stale_read t g n [] d = refl
 stale_read t g n (y ∷ ys) zero = let e : n ≡ n + 0 = omega arith in ap (λ m. stale t g m y) e
 stale_read t g n (y ∷ ys) (suc d) =
     let e : suc n + d ≡ n + suc d = omega arith in
     stale_read t g (suc n) ys d ∙ ap (λ m. stale t g m (get_or ys d no_cpu)) e
 
-stale_length : (t : Shape) (g n : ℕ) (ys : List CpuRecord) → length (all_stale t g n ys) ≡ length ys
+pub stale_length : (t : Shape) (g n : ℕ) (ys : List CpuRecord) → length (all_stale t g n ys) ≡ length ys
 stale_length t g n [] = refl
 stale_length t g n (y ∷ ys) = ap suc (stale_length t g (suc n) ys)
 
@@ -33,7 +33,7 @@ stale_if_read : (t : Shape) (r : Bool) (g : ℕ) (ys : List CpuRecord) (d : ℕ)
 stale_if_read t true g ys d = let e : 0 + d ≡ d = omega arith in stale_read t g 0 ys d ∙ ap (λ m. stale t g m (get_or ys d no_cpu)) e
 stale_if_read t false g ys d = refl
 
-stale_if_length : (t : Shape) (r : Bool) (g : ℕ) (ys : List CpuRecord) → length (stale_if t r g ys) ≡ length ys
+pub stale_if_length : (t : Shape) (r : Bool) (g : ℕ) (ys : List CpuRecord) → length (stale_if t r g ys) ≡ length ys
 stale_if_length t true g ys = stale_length t g 0 ys
 stale_if_length t false g ys = refl
 

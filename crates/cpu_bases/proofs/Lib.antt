@@ -12,3 +12,4 @@ pub mod EntryKinds
 pub mod Ends
 pub mod Opens
 pub mod Runs
+pub mod Counts

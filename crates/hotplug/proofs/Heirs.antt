@@ -27,7 +27,9 @@ use Rattle.timer_calls.specs.Turns.{timer_of}
 use Rattle.hotplug.specs.Frames.{Activated, MayActivate, MayMoveAll}
 use Rattle.hotplug.specs.Settled.{AllWhole, MovedSome, MovedTimes, SomeOnline, heir_of, moved_off}
 use Rattle.hotplug.specs.Settled.{moved_times, moved_to}
-use Rattle.hotplug.proofs.Moving.{count_in, count_seen_in, none_queued, rest_none, some_queued}
+use Rattle.cpu_bases.proofs.Counts.{count_in}
+use Rattle.play_rules.proofs.FirstMoves.{either_none, none_queued}
+use Rattle.hotplug.proofs.Moving.{count_seen_in, some_queued}
 use Rattle.hotplug.proofs.Settling.{settled_lone}
 
 -- HOW FAR
@@ -176,7 +178,7 @@ module _ (w : World) (dead : ℕ) (low : dead < length w.cpus) where
       (let at = there w some.0 some.2 in let count = count_seen w in omega (arith, at, count))
       (and_from (is_placed_in w.tree some.0) (cpu_at (state_of w) some.0).online some.1
       (read w (λ x. x.online) some.0 (there w some.0 some.2) ∙ some.2))
-      (rest_none _ _ (none_as (controller (state_of w)) none)))
+      (either_none _ _ (none_as (controller (state_of w)) none)).1)
     where
       none_as : (m : Option ℕ) → None ≡ option_map as_cpu m → m ≡ None
       none_as None is = refl

@@ -1,24 +1,24 @@
 -- timers of a dead CPU move in a settled core
 use Rattle.std.proofs.Common.{◌≡◌, ◌≢◌, ℕ, ◌+◌, ◌<◌, true, List, [], ◌∷◌}
-use Rattle.std.proofs.Common.{Option, Some, None, length, refl, sym, ap, ◌∙◌, subst, arith}
+use Rattle.std.proofs.Common.{Some, length, refl, sym, ap, ◌∙◌, subst, arith}
 use Rattle.std.specs.Prelude.{is_some, not, option_map}
-use Rattle.std.specs.Option.{option_or}
 use Rattle.std.proofs.lemmas.Bool.{and_parts, both_ways}
 use Rattle.std.proofs.lemmas.Option.{none-some}
 use Rattle.tm_base.specs.declared.names.Class.{Class}
 use Rattle.tm_base.specs.declared.names.Class.TheVariants.{Pinned, Global, Deferrable}
-use Rattle.tm_base.specs.declared.names.CpuId.{CpuId}
 use Rattle.tm_base.specs.declared.names.TimerId.{TimerId}
 use Rattle.wheel_core.specs.declared.item.Item.{Item}
-use Rattle.wheel_core.specs.PlainBase.{IsPlaced, NoneBehind, item_of, removed}
-use Rattle.wheel_core.proofs.Ids.{item_holds, length-without}
+use Rattle.wheel_core.specs.PlainBase.{IsPlaced, NoneBehind}
+use Rattle.wheel_core.proofs.Ids.{item_holds}
 use Rattle.cpu_bases.specs.declared.entry.Act.TheVariants as acts
-use Rattle.cpu_bases.specs.CpuBases.{CpuBases, after_move_out, base_of, changed}
-use Rattle.cpu_bases.specs.CpuBases.{entry_of, moved_out, oldest_in}
+use Rattle.cpu_bases.specs.CpuBases.{CpuBases, base_of}
+use Rattle.cpu_bases.specs.CpuBases.{oldest_in}
 use Rattle.cpu_bases.proofs.Keeping.{oldest_found}
 use Rattle.tree_plan.specs.Paths.{is_placed_in}
+use Rattle.cpu_bases.proofs.Counts.{count_in, fewer_out}
+use Rattle.play_rules.proofs.FirstMoves.{first_is}
 use Rattle.play_rules.specs.Machines.{after_move}
-use Rattle.play_rules.specs.Timers.{first_to_move, oldest_of_class}
+use Rattle.play_rules.specs.Timers.{first_to_move}
 use Rattle.core_world.specs.declared.step.Step.TheVariants as steps
 use Rattle.core_world.specs.Enabled.{MayMove}
 use Rattle.core_world.specs.Lawful.{IsLawful}
@@ -27,7 +27,7 @@ use Rattle.core_world.specs.World.{CpuRecord, World, cpu_of, is_active}
 use Rattle.step_rules.specs.StepRules.{moved_by_steps, step_rules}
 use Rattle.step_play.proofs.Bases.{moved_out_whole, queued_whole}
 use Rattle.step_play.proofs.Held.{bases_seen}
-use Rattle.step_play.proofs.Moves.{first_alike, is_oldest}
+use Rattle.step_play.proofs.Moves.{first_alike}
 use Rattle.step_play.proofs.Worlds.{put, put_all, put_count, put_else, put_field, put_same}
 use Rattle.timer_calls.specs.Turns.{timer_of}
 use Rattle.timer_calls.proofs.FirstMoves.{Found, found_first}
@@ -35,56 +35,9 @@ use Rattle.hotplug.specs.Frames.{MayMoveAll}
 use Rattle.hotplug.specs.Settled.{AllWhole}
 
 -- HOW MANY are queued
-abbrev pub count_in : CpuBases → ℕ
-count_in b =
-    length (base_of Pinned b).items
-    + (length (base_of Global b).items + length (base_of Deferrable b).items)
-
 pub count_seen_in : (w : World) (c : ℕ) → c < length w.cpus →
     step_rules.queued_on w c ≡ count_in (cpu_of w c).bases
 count_seen_in w c low = ap count_in (bases_seen w c low)
-
-fewer_in : (now : ℕ) (k : Class) (by : CpuId) (b : CpuBases) (item : Item) →
-    item_of item.id (base_of k b).items ≡ Some item →
-    count_in (changed k (removed item.id (base_of k b)) (entry_of acts.MovedOut 0 now k item by) b)
-    + 1 ≡ count_in b
-fewer_in now Pinned by b item found =
-    let one = length-without item.id (base_of Pinned b).items item found in omega (arith, one)
-fewer_in now Global by b item found =
-    let one = length-without item.id (base_of Global b).items item found in omega (arith, one)
-fewer_in now Deferrable by b item found =
-    let one = length-without item.id (base_of Deferrable b).items item found in omega (arith, one)
-
-fewer_out : (now : ℕ) (k : Class) (by : CpuId) (b : CpuBases) (item : Item) →
-    oldest_in (base_of k b).items ≡ Some item → count_in (moved_out now k by b) + 1 ≡ count_in b
-fewer_out now k by b item is =
-    ap (λ o. count_in (after_move_out o now k by b) + 1) is
-    ∙ fewer_in now k by b item (oldest_found (base_of k b).items item is)
-
--- nothing moves first exactly where nothing is queued
-no_items : (k : Class) (items : List Item) →
-    option_map {U = Class × Item} (λ item. (k, item)) (oldest_in items) ≡ None → length items ≡ 0
-no_items k [] none = refl
-no_items k (item ∷ items) none = absurd (none-some (k, item) (sym none))
-
-first_none : (o p : Option (Class × Item)) → option_or o p ≡ None → o ≡ None
-first_none None p none = refl
-first_none (Some x) p none = none
-
-pub rest_none : {X : Type 0} (o p : Option X) → option_or o p ≡ None → p ≡ None
-rest_none None p none = none
-rest_none (Some x) p none = absurd (none-some x (sym none))
-
-pub none_queued : (b : CpuBases) → first_to_move b ≡ None → count_in b ≡ 0
-none_queued b none =
-    let more = rest_none (oldest_of_class Pinned b) _ none in
-    let p = no_items Pinned (base_of Pinned b).items
-    (first_none (oldest_of_class Pinned b) _ none) in
-    let g = no_items Global (base_of Global b).items
-    (first_none (oldest_of_class Global b) _ more) in
-    let d = no_items Deferrable (base_of Deferrable b).items
-    (rest_none (oldest_of_class Global b) _ more) in
-    omega (arith, p, g, d)
 
 some_items : (k : Class) (items : List Item) (item : Item) → oldest_in items ≡ Some item →
     0 < length items
@@ -101,7 +54,7 @@ some_in b Deferrable item is =
     let some = some_items Deferrable (base_of Deferrable b).items item is in omega (arith, some)
 
 pub some_queued : (b : CpuBases) (f : Class × Item) → first_to_move b ≡ Some f → 0 < count_in b
-some_queued b f is = some_in b f.0 f.1 (is_oldest b f is)
+some_queued b f is = some_in b f.0 f.1 (first_is b f is)
 
 -- A MOVE
 module _ (w : World) (from to : ℕ) (lawful : IsLawful w) (may : MayMoveAll w from to)
@@ -188,7 +141,7 @@ module _ (w : World) (from to : ℕ) (lawful : IsLawful w) (may : MayMoveAll w f
       item_holds IsPlaced item.id (base_of class (cpu_of w from).bases).items item
       ((lawful.timers.consistent from).fits class).sound.placed
       (oldest_found (base_of class (cpu_of w from).bases).items item
-      (is_oldest (cpu_of w from).bases f.found f.first))
+      (first_is (cpu_of w from).bases f.found f.first))
 
   given_whole : (k : Class) → NoneBehind (base_of k (giver w from to class).bases)
   given_whole =
@@ -233,7 +186,7 @@ module _ (w : World) (from to : ℕ) (lawful : IsLawful w) (may : MayMoveAll w f
       (put_else mid to (taker w to class item) mid_low from (λ same. apart (sym same)))
       ∙ ap (λ (y : CpuRecord). y.bases) (put_same w from (giver w from to class) may.low)) in
       let fewer = fewer_out w.clock class (record { 0 = to }) (cpu_of w from).bases item
-      (is_oldest (cpu_of w from).bases f.found f.first) in
+      (first_is (cpu_of w from).bases f.found f.first) in
       let new = count_seen_in v from moves_on.low in
       let old = count_seen_in w from may.low in
       ap (λ n. n + 1) (new ∙ ap count_in there) ∙ (fewer ∙ sym old)

@@ -44,7 +44,7 @@ use Rattle.play_jiffies.proofs.Starts.{first_begun}
 use Rattle.play_jiffies.proofs.MovingSteps.{Moving, controls_leaving, has_controller}
 use Rattle.play_jiffies.proofs.MovingSteps.{leaves_again, left_empty, moves_one, none_moves}
 use Rattle.play_jiffies.proofs.MovingSteps.{wakes_leaving}
-use Rattle.play_jiffies.proofs.Oldest.{empty_by}
+use Rattle.play_jiffies.proofs.Empty.{empty_by}
 use Rattle.play_jiffies.proofs.OperationSteps.{Leaves, Leaving, arms, cancels, comes_online}
 use Rattle.play_jiffies.proofs.OperationSteps.{goes_offline, idles, rested_of_bases, wakes}
 

@@ -10,7 +10,7 @@ pub mod InterruptSteps
 pub mod LookSteps
 pub mod InterruptEnds
 pub mod OperationSteps
-pub mod Oldest
+pub mod Empty
 pub mod MovingSteps
 pub mod Covering
 pub mod Comes

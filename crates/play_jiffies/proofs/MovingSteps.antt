@@ -13,6 +13,8 @@ use Rattle.wheel_core.proofs.Ids.{item_holds}
 use Rattle.cpu_bases.specs.CpuBases.{CpuBases, base_of, class_in}
 use Rattle.cpu_bases.specs.CpuBases.{moved_in, moved_out, oldest_in}
 use Rattle.cpu_bases.proofs.Keeping.{oldest_found}
+use Rattle.cpu_bases.proofs.Counts.{count_in, fewer_out}
+use Rattle.play_rules.proofs.FirstMoves.{either_none, either_some, first_is}
 use Rattle.play_rules.specs.Rules.{Moved}
 use Rattle.play_rules.specs.State.{Cpu, State, all_cpus, cpu_at, cpu_count}
 use Rattle.play_rules.specs.Hierarchy.{is_placed, with_migrators, woken, woken_migrator}
@@ -27,8 +29,7 @@ use Rattle.play_jiffies.proofs.InterruptSteps.{Between, Quiet, Rested}
 use Rattle.play_jiffies.proofs.Machines.{Holds, One, elsewhere, holds_as, move_in_holds}
 use Rattle.play_jiffies.proofs.Machines.{move_out_holds, moved_out_gone}
 use Rattle.play_jiffies.proofs.OperationSteps.{Leaves, Leaving, here, leaves_of_bases, wakes}
-use Rattle.play_jiffies.proofs.Oldest.{count_in, either_none, either_some, fewer_out, first_is}
-use Rattle.play_jiffies.proofs.Oldest.{none_first}
+use Rattle.play_jiffies.proofs.Empty.{none_first}
 use Rattle.play_jiffies.proofs.Waking.{moved_in_waking}
 
 module _ (cpus levels now : ℕ) where
@@ -320,7 +321,7 @@ module _ (cpus levels now : ℕ) where
   moves_by from to n s (Some (class, item)) m low moving first is =
       subst (Moving from to n)
       (ap (λ (x : Moved State). x.state) (same_Some (moved_one s from to (class, item)) m is))
-      (moves_item from to n s low moving class item (first_is (bases_at s from) class item first))
+      (moves_item from to n s low moving class item (first_is (bases_at s from) (class, item) first))
 
   pub moves_one : (from to n : ℕ) (s : State) (m : Moved State) → from < cpus
       → moved s from to ≡ Some m → Moving from to (suc n) s

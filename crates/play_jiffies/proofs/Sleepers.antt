@@ -6,7 +6,7 @@ use Rattle.std.specs.Prelude.{slice_index_or}
 use Rattle.std.specs.List.{list_any, range_with_len}
 use Rattle.std.proofs.lemmas.Bool.{and_parts, both_ways, cases_Bool, cases_lt, eq-eqb, eqb-true}
 use Rattle.std.proofs.lemmas.Bool.{false≢true, leb-true, or_cases, or_left, or_right}
-use Rattle.std.proofs.lemmas.Option.{none-some, same_Some}
+use Rattle.std.proofs.lemmas.Option.{none-some}
 use Rattle.tm_base.specs.declared.names.TheConstants.{NEVER}
 use Rattle.tm_base.specs.declared.names.Child.{Child}
 use Rattle.tree_plan.specs.Paths.{group_at_of, is_under}
@@ -15,6 +15,7 @@ use Rattle.play_rules.specs.Hierarchy.{due_sleeper, due_sleepers, inactive_child
 use Rattle.play_rules.specs.Hierarchy.{least_told, looks_after, looks_after_where, looks_at, named}
 use Rattle.play_rules.specs.Hierarchy.{towards}
 use Rattle.play_laws.proofs.Ranges.{in_range, least_below, least_of, member_was, range_low}
+use Rattle.play_laws.proofs.Settles.{found_member}
 use Rattle.play_jiffies.proofs.Inside.{Frame}
 
 -- WHAT A LOOK READS besides is the same in a frame
@@ -51,19 +52,6 @@ sleeper_same s t frame clock g d told =
     λ i. nat_le (told i) (clock i) && inactive_same s t frame d g i
 
 -- WHOM A LOOK NAMES
-found_is : (p : ℕ → Bool) (xs : List ℕ) (d : ℕ) → find p xs ≡ Some d
-    → list_any (λ x. x == d) xs ≡ true
-found_is p [] d is = absurd (none-some d is)
-found_is p (x ∷ xs) d is =
-    elim (cases_Bool (p x)) [
-      | inl here ↦
-          let at : Some x ≡ Some d = rw here at is in
-          or_left (x == d) (list_any (λ y. y == d) xs) (eq-eqb x d (same_Some x d at))
-      | inr other ↦
-          let at : find p xs ≡ Some d = rw other at is in
-          or_right (x == d) (list_any (λ y. y == d) xs) (found_is p xs d at)
-    ]
-
 kept_passes : (p : ℕ → Bool) (xs : List ℕ) (d : ℕ) → list_any (λ x. x == d) (filter p xs) ≡ true
     → p d ≡ true
 kept_passes p [] d is = absurd (false≢true is)
@@ -90,7 +78,7 @@ named_by : (s : State) (c level d : ℕ) (o : Option ℕ) → group_at_of s.tree
 named_by s c level d None at is = absurd (none-some d is)
 named_by s c level d (Some g) at is =
     let sleepers = due_sleepers s g in
-    let member = found_is (λ e. (cpu_at s e).told == least_told s sleepers) sleepers d is in
+    let member = found_member (λ e. (cpu_at s e).told == least_told s sleepers) sleepers d is in
     record {
       group = g;
       at = at;

@@ -148,7 +148,7 @@ due_online s d is =
     has).0
 
 -- WHOM A LOOK NAMES: a CPU of the machine that rests
-found_member : (p : ℕ → Bool) (xs : List ℕ) (d : ℕ) → find p xs ≡ Some d
+pub found_member : (p : ℕ → Bool) (xs : List ℕ) (d : ℕ) → find p xs ≡ Some d
     → list_any (λ x. x == d) xs ≡ true
 found_member p [] d is = absurd (none-some d is)
 found_member p (x ∷ xs) d is =

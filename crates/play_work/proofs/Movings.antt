@@ -19,7 +19,7 @@ use Rattle.play_rules.specs.Timers.{bases_at, first_to_move, moved, moved_into, 
 use Rattle.play_laws.proofs.Bases.{changed_kept}
 use Rattle.play_laws.proofs.Invariant.{each_put}
 use Rattle.play_laws.proofs.States.{written}
-use Rattle.play_jiffies.proofs.Oldest.{first_is}
+use Rattle.play_rules.proofs.FirstMoves.{first_is}
 use Rattle.play_work.proofs.Homes.{AreHomes, Home, IsAt, IsHome, home_removed, homes_of, not_there}
 use Rattle.play_work.proofs.Homes.{same_homes}
 use Rattle.play_work.proofs.Comings.{IsNowhere, comes_home}
@@ -113,7 +113,7 @@ module _ (timers cpus levels : ℕ) (may : ℕ → Bool) (always : (id : ℕ) �
       let same : moved_one s from to (class, item) ≡ m =
       same_Some (moved_one s from to (class, item)) m some in
       subst (AreHomes timers cpus levels may) (ap (λ (x : Moved State). x.state) same)
-      (one_homes class item (first_is (bases_at s from) class item first))
+      (one_homes class item (first_is (bases_at s from) (class, item) first))
 
   pub moves_homes : (m : Moved State) → moved s from to ≡ Some m
       → AreHomes timers cpus levels may m.state

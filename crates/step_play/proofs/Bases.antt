@@ -1,9 +1,9 @@
 -- for crates above: the bases of a CPU: what a drain hands out, and what stays behind no clock
-use Rattle.std.proofs.Common.{◌≡◌, ℕ, zero, suc, ◌+◌, ◌-◌, ◌<◌, ◌≤◌, true, false, []}
+use Rattle.std.proofs.Common.{◌≡◌, ℕ, zero, suc, ◌+◌, ◌-◌, ◌<◌, ◌≤◌, []}
 use Rattle.std.proofs.Common.{◌∷◌, length, Option, Some, None, refl, sym, ap, ◌∙◌, subst, arith}
 use Rattle.std.proofs.Common.{inl, inr}
 use Rattle.std.specs.Prelude.{All, is_some, if◌then◌else◌, unwrap_or}
-use Rattle.std.proofs.lemmas.Bool.{both_ways, cases_Bool, cases_lt}
+use Rattle.std.proofs.lemmas.Bool.{cases_Bool, cases_lt}
 use Rattle.std.proofs.lemmas.Bool.Decides.{nat_tests}
 use Rattle.std.proofs.lemmas.List.Elements.{All-cons, All-nil, All-push, All-weaker}
 use Rattle.tm_base.specs.Classes.{same_class}
@@ -27,23 +27,13 @@ use Rattle.cpu_bases.specs.CpuBases.{after_move_out, base_of, cancelled, drained
 use Rattle.cpu_bases.specs.CpuBases.{found_in, handed_out, moved_out, first_of, oldest_in, queued}
 use Rattle.cpu_bases.proofs.Drains.{drain_is_whole}
 use Rattle.cpu_bases.proofs.Keeping.{or_item}
+use Rattle.cpu_bases.proofs.Classes.{class_is}
 use Rattle.play_laws.proofs.Bases.{changed_kept}
 use Rattle.play_rules.specs.Timers.{due_items, item_then}
 
 -- each base of a CPU
 abbrev pub Each : (PlainBase → Type 0) → CpuBases → Type 0
 Each P cpu = (class : Class) → P (base_of class cpu)
-
-one_class : (class k : Class) → same_class class k ≡ true → class ≡ k
-one_class Pinned Pinned same = refl
-one_class Pinned Global same = absurd (both_ways false refl same)
-one_class Pinned Deferrable same = absurd (both_ways false refl same)
-one_class Global Pinned same = absurd (both_ways false refl same)
-one_class Global Global same = refl
-one_class Global Deferrable same = absurd (both_ways false refl same)
-one_class Deferrable Pinned same = absurd (both_ways false refl same)
-one_class Deferrable Global same = absurd (both_ways false refl same)
-one_class Deferrable Deferrable same = refl
 
 base_changed : (class : Class) (base : PlainBase) (all : ByClass PlainBase) →
     of_class class (with_class class base all) ≡ base
@@ -177,7 +167,7 @@ module _ (cpu : CpuBases) (whole : Each NoneBehind cpu) where
     pub drained_whole : Each NoneBehind (drained n now class by cpu)
     drained_whole k = elim (cases_Bool (same_class class k)) [
       | inl same ↦
-          subst (λ c. NoneBehind (base_of c (drained n now class by cpu))) (one_class class k same)
+          subst (λ c. NoneBehind (base_of c (drained n now class by cpu))) (class_is class k same)
           drained_one
       | inr other ↦
           subst NoneBehind

@@ -16,11 +16,11 @@ use Rattle.play_rules.specs.Timers.{due_items}
 use Rattle.core_world.specs.declared.step.Step.{Step}
 use Rattle.core_world.specs.declared.step.Step.TheVariants as steps
 use Rattle.core_world.specs.Enabled.{IsFree, MayHand, MayRun}
+use Rattle.core_world.specs.Lists.{after_all}
 use Rattle.core_world.specs.Lawful.{IsLawful}
 use Rattle.core_world.specs.Steps.{handed_of, stepped, with_bases}
 use Rattle.core_world.specs.World.{CpuRecord, World, cpu_of}
 use Rattle.core_laws.specs.Laws.{StepsStayLawful}
-use Rattle.step_rules.specs.Alone.{after_steps}
 use Rattle.step_rules.specs.StepRules.{hands}
 use Rattle.step_play.proofs.Bases.{drained_last, drained_more, due_last, due_more}
 use Rattle.step_play.proofs.Bases.{handed_base}
@@ -57,12 +57,12 @@ module _ (law : StepsStayLawful) (home runner : ℕ) (class : Class) where
     }
 
     stops : (n : ℕ) (items : List Item) → items ≡ [] →
-        Rebases w home (after n w) (after_steps (hands home class runner items) w)
+        Rebases w home (after n w) (after_all w (hands home class runner items))
     stops n items is = record {
       lawful =
-          subst (λ xs. IsLawful (after_steps (hands home class runner xs) w)) (sym is) ticks.lawful;
+          subst (λ xs. IsLawful (after_all w (hands home class runner xs))) (sym is) ticks.lawful;
       is =
-          ap (λ xs. after_steps (hands home class runner xs) w) is
+          ap (λ xs. after_all w (hands home class runner xs)) is
           ∙ (ticks.is ∙ ap (rebased w home)
           (sym (drained_last w.clock class (cpu_id runner) (cpu_of w home).bases n none)));
     }
@@ -139,19 +139,19 @@ module _ (law : StepsStayLawful) (home runner : ℕ) (class : Class) where
 
     goes_on : (n : ℕ) →
         Rebases (rebased w home left) home (after n (rebased w home left))
-        (after_steps (hands home class runner
-        (due_items n w.clock (base_at (rebased w home left)))) (rebased w home left)) →
+        (after_all (rebased w home left) (hands home class runner
+        (due_items n w.clock (base_at (rebased w home left))))) →
         Rebases w home (after (suc n) w)
-        (after_steps (hands home class runner (due_items (suc n) w.clock (base_at w))) w)
+        (after_all w (hands home class runner (due_items (suc n) w.clock (base_at w))))
     goes_on n rest =
-        let first : after_steps (hands home class runner (due_items (suc n) w.clock (base_at w))) w
-        ≡ after_steps (hands home class runner
-        (due_items n w.clock (base_at (rebased w home left)))) (rebased w home left) =
-        ap (λ xs. after_steps (hands home class runner xs) w)
+        let first : after_all w (hands home class runner (due_items (suc n) w.clock (base_at w)))
+        ≡ after_all (rebased w home left) (hands home class runner
+        (due_items n w.clock (base_at (rebased w home left)))) =
+        ap (λ xs. after_all w (hands home class runner xs))
         (due_more n w.clock (base_at w) item out)
-        ∙ (ap (λ b. after_steps (hands home class runner (due_items n w.clock b)) (stepped w hand))
+        ∙ (ap (λ b. after_all (stepped w hand) (hands home class runner (due_items n w.clock b)))
         (sym base_after)
-        ∙ ap (after_steps (hands home class runner
+        ∙ ap (λ v. after_all v (hands home class runner
         (due_items n w.clock (base_at (rebased w home left))))) hand_is) in
         record {
           lawful = subst IsLawful (sym first) rest.lawful;
@@ -169,7 +169,7 @@ module _ (law : StepsStayLawful) (home runner : ℕ) (class : Class) where
   pub drains : (n : ℕ) (w : World) → IsLawful w → IsFree w home → MayRun w home class runner →
       length (base_at w).items ≤ n →
       Rebases w home (after n w)
-      (after_steps (hands home class runner (due_items n w.clock (base_at w))) w)
+      (after_all w (hands home class runner (due_items n w.clock (base_at w))))
   drains n w lawful free may few =
       by_out n w lawful free may few (or_item (next_out w.clock (base_at w)))
     where
@@ -178,7 +178,7 @@ module _ (law : StepsStayLawful) (home runner : ℕ) (class : Class) where
           (next_out w.clock (base_at w) ≡ None)
           ⊎ ((item : Item) × (next_out w.clock (base_at w) ≡ Some item)) →
           Rebases w home (after n w)
-          (after_steps (hands home class runner (due_items n w.clock (base_at w))) w)
+          (after_all w (hands home class runner (due_items n w.clock (base_at w))))
       by_out n w lawful free may few (inl none) =
           stops w lawful free may none n (due_items n w.clock (base_at w))
           (due_last n w.clock (base_at w) none)

@@ -1,6 +1,6 @@
 -- for crates above: a timer moves from a CPU that is offline to an active one
 use Rattle.std.proofs.Common.{◌≡◌, ◌≢◌, ℕ, ◌+◌, ◌<◌, true, false, length, set}
-use Rattle.std.proofs.Common.{Option, Some, None, refl, sym, ap, ◌∙◌, subst, arith, inl, inr, ◌⊎◌}
+use Rattle.std.proofs.Common.{Option, Some, None, refl, sym, ap, ◌∙◌, subst, arith}
 use Rattle.std.specs.Prelude.{not, option_map}
 use Rattle.std.specs.Option.{option_or}
 use Rattle.std.proofs.lemmas.Bool.{and_parts, both_ways}
@@ -18,9 +18,9 @@ use Rattle.tree_plan.specs.Paths.{is_placed_in}
 use Rattle.play_rules.specs.Interrupts.{cpu_id, timer_id}
 use Rattle.play_rules.specs.Rules.{Moved}
 use Rattle.play_rules.specs.State as play
-use Rattle.play_rules.specs.State.{Cpu, State, cpu_at}
 use Rattle.play_rules.specs.Timers.{bases_at, first_to_move, moved, moved_into, moved_one}
 use Rattle.play_rules.specs.Timers.{moved_out_of}
+use Rattle.play_rules.proofs.FirstMoves.{first_is}
 use Rattle.play_shape.proofs.Alike.{moved_seen}
 use Rattle.core_world.specs.declared.step.Step.TheVariants as steps
 use Rattle.core_world.specs.Enabled.{MayMove}
@@ -52,34 +52,6 @@ pub first_alike : (bases : CpuBases) → first_moved bases ≡ first_to_move bas
 first_alike bases =
     first_by (oldest_in (base_of Pinned bases).items) (oldest_in (base_of Global bases).items)
     (oldest_in (base_of Deferrable bases).items)
-
--- and it is the oldest of its class
-or_oldest : (k : Class) (o : Option Item) (rest : Option (Class × Item)) (f : Class × Item) →
-    option_or (option_map (λ item. (k, item)) o) rest ≡ Some f →
-    ((k ≡ f.0) × (o ≡ Some f.1)) ⊎ (rest ≡ Some f)
-or_oldest k None rest f is = inr is
-or_oldest k (Some item) rest f is =
-    let same = same_Some (k, item) f is in
-    inl (ap (λ (x : Class × Item). x.0) same, ap (λ (x : Class × Item). Some x.1) same)
-
-pub is_oldest : (bases : CpuBases) (f : Class × Item) → first_to_move bases ≡ Some f →
-    oldest_in (base_of f.0 bases).items ≡ Some f.1
-is_oldest bases f is =
-    elim (or_oldest Pinned (oldest_in (base_of Pinned bases).items) _ f is) [
-      | inl here ↦ subst (λ k. oldest_in (base_of k bases).items ≡ Some f.1) here.0 here.1
-      | inr more ↦ elim (or_oldest Global (oldest_in (base_of Global bases).items) _ f more) [
-        | inl here ↦ subst (λ k. oldest_in (base_of k bases).items ≡ Some f.1) here.0 here.1
-        | inr last ↦ by_last (oldest_in (base_of Deferrable bases).items) refl last
-      ]
-    ]
-  where
-    by_last : (o : Option Item) → oldest_in (base_of Deferrable bases).items ≡ o →
-        option_map (λ item. (Deferrable, item)) o ≡ Some f →
-        oldest_in (base_of f.0 bases).items ≡ Some f.1
-    by_last None at none = absurd (none-some f none)
-    by_last (Some item) at last =
-        let same : (Deferrable, item) ≡ f = same_Some (Deferrable, item) f last in
-        subst (λ (x : Class × Item). oldest_in (base_of x.0 bases).items ≡ Some x.1) same at
 
 module _ (law : StepsStayLawful) (w : World) (i : InPlay resting w) (from to : ℕ)
     (low : from < length w.cpus) (offline : (cpu_of w from).online ≡ false)
@@ -134,7 +106,7 @@ module _ (law : StepsStayLawful) (w : World) (i : InPlay resting w) (from to : �
       item_holds IsPlaced item.id (base_of class (cpu_of w from).bases).items item
       ((i.lawful.timers.consistent from).fits class).sound.placed
       (oldest_found (base_of class (cpu_of w from).bases).items item
-      (is_oldest (cpu_of w from).bases (class, item) first))
+      (first_is (cpu_of w from).bases (class, item) first))
 
   last_bare : Bare resting last
   last_bare =

@@ -1,19 +1,13 @@
 -- a walk that is made from its start to its end, with no other step between
-use Rattle.std.specs.Prelude.{ℕ, zero, suc, ◌+◌, ◌*◌, Bool, true, false, List, [], ◌∷◌, Option}
+use Rattle.std.specs.Prelude.{ℕ, zero, suc, ◌+◌, ◌*◌, Bool, true, false, Option}
 use Rattle.std.specs.Prelude.{Some, None, if◌then◌else◌}
 use Rattle.tree_plan.specs.Paths.{level_count_of}
 use Rattle.walk_rules.specs.declared.walk.Walk.{Walk}
 use Rattle.walk_rules.specs.declared.walk.Stage.{Stage}
 use Rattle.walk_rules.specs.declared.walk.Stage.TheVariants as stages
-use Rattle.core_world.specs.declared.step.Step.{Step}
 use Rattle.core_world.specs.declared.step.Step.TheVariants as steps
 use Rattle.core_world.specs.Steps.{stepped}
 use Rattle.core_world.specs.World.{World, cpu_of}
-
--- what a list of steps makes of a world
-abbrev pub after_steps : List Step → World → World
-after_steps [] w = w
-after_steps (step ∷ rest) w = after_steps rest (stepped w step)
 
 -- a walk goes on unless it has ended or waits to hand on
 abbrev pub is_handing : Stage → Bool

@@ -27,9 +27,10 @@ use Rattle.core_world.specs.declared.step.Step.{Step}
 use Rattle.core_world.specs.declared.step.Step.TheVariants as steps
 use Rattle.core_world.specs.Steps.{stepped}
 use Rattle.core_world.specs.World.{World, cpu_of, group_of}
-use Rattle.step_rules.specs.Alone.{after_steps, goes_on, walked_out}
+use Rattle.step_rules.specs.Alone.{goes_on, walked_out}
 use Rattle.step_rules.specs.Live.{expiry_of, first_due_in, live, told_by}
 use Rattle.step_rules.specs.Seen.{state_of}
+use Rattle.core_world.specs.Lists.{after_all}
 
 abbrev cpu_id : ℕ → CpuId
 cpu_id c = record { 0 = c }
@@ -51,7 +52,7 @@ items_due w home class =
 abbrev pub drained_by_steps : World → (home : ℕ) → Class → (runner : ℕ) → Drained World
 drained_by_steps w home class runner = record {
   items = items_due w home class;
-  state = after_steps (hands home class runner (items_due w home class)) w;
+  state = after_all w (hands home class runner (items_due w home class));
 }
 
 abbrev pub armed_by_steps : World → (c : ℕ) → Arming → Placed World

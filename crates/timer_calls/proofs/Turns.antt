@@ -11,11 +11,11 @@ use Rattle.play_rules.specs.Interrupts.{cpu_id, timer_id}
 use Rattle.play_rules.specs.Timers.{due_items}
 use Rattle.core_world.specs.declared.step.Step.TheVariants as steps
 use Rattle.core_world.specs.Enabled.{MayHand}
+use Rattle.core_world.specs.Lists.{after_all}
 use Rattle.core_world.specs.Lawful.{IsLawful}
 use Rattle.core_world.specs.Steps.{stepped, with_bases}
 use Rattle.core_world.specs.World.{CpuRecord, World, cpu_of}
 use Rattle.core_laws.specs.Laws.{StepsStayLawful}
-use Rattle.step_rules.specs.Alone.{after_steps}
 use Rattle.step_rules.specs.StepRules.{drained_by_steps, hands, items_due}
 use Rattle.step_play.proofs.Bases.{due_last, due_more}
 use Rattle.step_play.proofs.Drains.{base_after, free_after, hand_is, is_due, left, may_after}
@@ -94,7 +94,7 @@ module _ (home : ℕ) (class : Class) (runner : ℕ) (start : World) where
   pub record DrainsSoFar (w : World) (out : List Item) : Type 0 where
     pub drains : Drains w home class runner
     pub items : out ++ items_due w home class ≡ items_due start home class
-    pub state : after_steps (hands home class runner (items_due w home class)) w
+    pub state : after_all w (hands home class runner (items_due w home class))
         ≡ (drained_by_steps start home class runner).state
     pub is : w ≡ handed_each home runner out start
 
@@ -119,8 +119,8 @@ module _ (home : ℕ) (class : Class) (runner : ℕ) (start : World) where
         ∙ (append_assoc out (item ∷ []) (items_due v home class)
         ∙ (ap (λ xs. out ++ xs) (sym due) ∙ so_far.items));
     state =
-        ap (after_steps (hands home class runner (items_due v home class))) is
-        ∙ (ap (λ xs. after_steps (hands home class runner xs) w) (sym due) ∙ so_far.state);
+        ap (λ v. after_all v (hands home class runner (items_due v home class))) is
+        ∙ (ap (λ xs. after_all w (hands home class runner xs)) (sym due) ∙ so_far.state);
     is =
         is
         ∙ (ap (λ u. handed_next u home runner (Some item)) so_far.is
@@ -144,4 +144,4 @@ module _ (home : ℕ) (class : Class) (runner : ℕ) (start : World) where
 
     pub drain_state : stepped w (steps.Ticked (cpu_id home) class (cpu_id runner))
         ≡ (drained_by_steps start home class runner).state
-    drain_state = sym (ap (λ xs. after_steps (hands home class runner xs) w) none) ∙ so_far.state
+    drain_state = sym (ap (λ xs. after_all w (hands home class runner xs)) none) ∙ so_far.state

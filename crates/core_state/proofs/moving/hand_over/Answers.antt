@@ -2,7 +2,7 @@ use Rattle.std.proofs.Common.{ap, sym, ◌∙◌, subst, ◌<◌, ◌^◌}
 use Rattle.std.specs.Prelude.{IfSome}
 use Rattle.wheel_core.specs.declared.item.Item.{Item}
 use Rattle.cpu_bases.specs.CpuBases.{RoomyBases, base_of, oldest_in}
-use Rattle.core_state.proofs.Rooms.{oldest_in_time, oldest_narrow}
+use Rattle.core_state.proofs.Oldest.{oldest_in_time, oldest_narrow}
 use Rattle.core_state.proofs.moving.hand_over.Goals as goal
 
 pub timer_of-timer-requires : goal.timer_of-timer-requires

@@ -1,7 +1,8 @@
 use Rattle.std.proofs.Common.{◌≤◌, ◌^◌, arith, sym}
 use Rattle.tm_base.specs.declared.names.Class.TheVariants.{Pinned, Global, Deferrable}
 use Rattle.core_world.specs.World.{cpu_of}
-use Rattle.core_views.proofs.Where.{counted, few_queued}
+use Rattle.cpu_bases.proofs.Counts.{few_queued}
+use Rattle.core_views.proofs.Where.{counted}
 use Rattle.core_views.proofs.timers.queued_on.Goals as goal
 
 pub overflow_add-result : goal.overflow_add-result
