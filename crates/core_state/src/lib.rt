@@ -14,6 +14,7 @@ mod places;
 mod queueing;
 mod readers;
 mod shown;
+mod small;
 mod stale;
 mod start;
 mod status;
@@ -22,5 +23,6 @@ mod tree;
 
 pub use change::GroupChange;
 pub use machine::Core;
+pub use small::one_node_core;
 pub use start::new_core;
 pub use status::CpuStatus;
