@@ -1,50 +1,11 @@
-ghost use Rattle.std.specs.Prelude.{◌≡◌, ◌≤◌, All, IfOk, length};
-ghost use Rattle.tm_base.specs.declared.limits.TheConstants.{MOST_NODE_CPUS};
-ghost use Rattle.cpu_bases.specs.CpuBases.{empty_bases};
-
 use super::*;
-use core_state::{Core, new_core};
+use core_state::{Core, one_node_core};
 use core_world::Step;
-use cpu_bases::Bases;
-use std::alloc::Global;
 use std::process::Abort;
 use std::test::Fail;
 use step_laws::run_steps;
-use tm_base::{Class, CpuId, CpuSet, NEVER, NoMemory, TimerId};
-use tree_plan::plan;
+use tm_base::{Class, CpuId, CpuSet, NEVER, TimerId};
 use wheel_core::ListBase;
-
-fn no_timers(alloc: Global) -> Bases<ListBase>
-    ensures { result.plain ≡ empty_bases }
-{
-    Bases::with(
-        alloc,
-        ListBase::new(alloc),
-        ListBase::new(alloc),
-        ListBase::new(alloc),
-    )
-}
-
-fn new_bases(alloc: Global, count: u16) -> Result<Vec<Bases<ListBase>>, NoMemory>
-    ensures count { IfOk result (λ bases. length bases.items ≡ count) }
-    ensures empty { IfOk result (λ bases. All (λ b. b.plain ≡ empty_bases) bases.items) }
-{
-    let mut bases = Vec::new(alloc);
-    for _cpu in 0..count {
-        bases.push(no_timers(alloc))?;
-    }
-    Ok(bases)
-}
-
-/// The start of a machine of one node, with no CPU isolated.
-fn start(alloc: Global, cpus: u8, timers: u16) -> Result<Core<ListBase>, NoMemory>
-    requires some { 1 ≤ cpus }
-    requires few { cpus ≤ MOST_NODE_CPUS }
-{
-    let tree = plan(alloc, 1, cpus, &CpuSet::new())?;
-    let bases = new_bases(alloc, tree.cpu_count())?;
-    new_core(alloc, tree, bases, timers)
-}
 
 /// At jiffy 10, timer 0 is armed on CPU 1, for jiffy 60.
 fn arm() -> Step {
@@ -97,7 +58,7 @@ fn check_machine(rt: &impl Abort, core: &Core<ListBase>) {
 // at 61 its look names CPU 1. The values are those of the rules, by hand.
 #[test]
 fn at_its_time_the_migrator_takes_the_idle_cpu(rt: HostRuntime) -> Result<(), Fail> {
-    let mut core = start(rt.alloc(), 2, 1)?;
+    let mut core = one_node_core(rt.alloc(), 2, 1)?;
     let mut steps = Vec::new(rt.alloc());
     steps.push(Step::Clock { now: 10 })?;
     steps.push(arm())?;

@@ -1,50 +1,11 @@
-ghost use Rattle.std.specs.Prelude.{◌≡◌, ◌≤◌, All, IfOk, length};
-ghost use Rattle.tm_base.specs.declared.limits.TheConstants.{MOST_NODE_CPUS};
-ghost use Rattle.cpu_bases.specs.CpuBases.{empty_bases};
-
 use super::*;
-use core_state::{Core, new_core};
+use core_state::{Core, one_node_core};
 use core_world::Step;
-use cpu_bases::Bases;
-use std::alloc::Global;
 use std::process::Abort;
 use std::test::Fail;
-use tm_base::{Class, CpuId, CpuSet, GroupId, NEVER, NoMemory, TimerId};
-use tree_plan::plan;
+use tm_base::{Class, CpuId, GroupId, NEVER, NoMemory, TimerId};
 use walk_rules::Stage;
 use wheel_core::ListBase;
-
-fn no_timers(alloc: Global) -> Bases<ListBase>
-    ensures { result.plain ≡ empty_bases }
-{
-    Bases::with(
-        alloc,
-        ListBase::new(alloc),
-        ListBase::new(alloc),
-        ListBase::new(alloc),
-    )
-}
-
-fn new_bases(alloc: Global, count: u16) -> Result<Vec<Bases<ListBase>>, NoMemory>
-    ensures count { IfOk result (λ bases. length bases.items ≡ count) }
-    ensures empty { IfOk result (λ bases. All (λ b. b.plain ≡ empty_bases) bases.items) }
-{
-    let mut bases = Vec::new(alloc);
-    for _cpu in 0..count {
-        bases.push(no_timers(alloc))?;
-    }
-    Ok(bases)
-}
-
-/// The start of a machine of one node, with no CPU isolated.
-fn start(alloc: Global, cpus: u8, timers: u16) -> Result<Core<ListBase>, NoMemory>
-    requires some { 1 ≤ cpus }
-    requires few { cpus ≤ MOST_NODE_CPUS }
-{
-    let tree = plan(alloc, 1, cpus, &CpuSet::new())?;
-    let bases = new_bases(alloc, tree.cpu_count())?;
-    new_core(alloc, tree, bases, timers)
-}
 
 fn add_walks(steps: &mut Vec<Step>, times: u8, cpu: u16) -> Result<(), NoMemory> {
     for _walk in 0..times {
@@ -64,7 +25,7 @@ fn check_group(rt: &impl Abort, core: &Core<ListBase>, g: u16, active: u8, migra
 // active. The row and what it leaves are those that are computed from the definitions.
 #[test]
 fn a_stale_exchange_fails(rt: HostRuntime) -> Result<(), Fail> {
-    let mut core = start(rt.alloc(), 10, 0)?;
+    let mut core = one_node_core(rt.alloc(), 10, 0)?;
     let mut steps = Vec::new(rt.alloc());
     steps.push(Step::Idle { cpu: CpuId(9) })?;
     add_walks(&mut steps, 8, 9)?;
@@ -92,7 +53,7 @@ fn a_stale_exchange_fails(rt: HostRuntime) -> Result<(), Fail> {
 // is worked by hand from the stages of a deactivation.
 #[test]
 fn a_stale_exchange_leaves_the_word_and_reads_again(rt: HostRuntime) -> Result<(), Fail> {
-    let mut core = start(rt.alloc(), 10, 0)?;
+    let mut core = one_node_core(rt.alloc(), 10, 0)?;
     let mut steps = Vec::new(rt.alloc());
     steps.push(Step::Idle { cpu: CpuId(8) })?;
     add_walks(&mut steps, 2, 8)?;
@@ -122,7 +83,7 @@ fn a_stale_exchange_leaves_the_word_and_reads_again(rt: HostRuntime) -> Result<(
 // An active CPU isn't woken.
 #[test]
 fn a_step_that_is_not_enabled_is_named(rt: HostRuntime) -> Result<(), Fail> {
-    let mut core = start(rt.alloc(), 10, 0)?;
+    let mut core = one_node_core(rt.alloc(), 10, 0)?;
     let steps = [Step::Wake { cpu: CpuId(0) }];
     assert_eq!(&rt;
         run_steps(&mut core, steps.as_slice()),
@@ -156,7 +117,7 @@ fn the_last_placed_cpu_stays_online(rt: HostRuntime) -> Result<(), Fail> {
 // A CPU goes idle with a global timer, and tells it to the other CPU of its group.
 #[test]
 fn an_idle_cpu_tells_its_timer(rt: HostRuntime) -> Result<(), Fail> {
-    let mut core = start(rt.alloc(), 2, 1)?;
+    let mut core = one_node_core(rt.alloc(), 2, 1)?;
     let mut steps = Vec::new(rt.alloc());
     steps.push(Step::Clock { now: 10 })?;
     steps.push(Step::Arm {

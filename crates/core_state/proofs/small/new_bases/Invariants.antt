@@ -1,7 +1,7 @@
 use Rattle.std.proofs.Common.{◌≡◌, length}
 use Rattle.std.specs.Prelude.{All}
 use Rattle.cpu_bases.specs.CpuBases.{RoomyBases, empty_bases}
-use Rattle.step_laws.proofs.tests.new_bases.Given as goal
+use Rattle.core_state.proofs.small.new_bases.Given as goal
 
 abbrev pub invariant-loop-cpu : goal.invariant-loop-cpu
 invariant-loop-cpu l =

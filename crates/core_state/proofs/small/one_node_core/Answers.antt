@@ -1,7 +1,7 @@
 use Rattle.std.proofs.Common.{arith, ap, ◌∙◌}
 use Rattle.std.specs.FinSet.{contains, contains-empty}
 use Rattle.std.specs.Ordering.{nat_cmp}
-use Rattle.hotplug.proofs.tests.start.Goals as goal
+use Rattle.core_state.proofs.small.one_node_core.Goals as goal
 
 pub plan-requires : goal.plan-requires
 plan-requires c = record {

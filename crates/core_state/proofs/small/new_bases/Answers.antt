@@ -2,7 +2,7 @@ use Rattle.std.proofs.Common.{◌≡◌, ◌+◌, ◌∷◌, [], length, length-
 use Rattle.std.specs.Prelude.{All}
 use Rattle.std.proofs.lemmas.List.Elements.{All-push}
 use Rattle.cpu_bases.specs.CpuBases.{RoomyBases, empty_bases}
-use Rattle.core_views.proofs.tests.new_bases.Goals as goal
+use Rattle.core_state.proofs.small.new_bases.Goals as goal
 
 pub loop-cpu-preserved : goal.loop-cpu-preserved
 loop-cpu-preserved c = record {
