@@ -1,5 +1,5 @@
 -- the timer of a class that was armed first: what holds of it
-use Rattle.std.proofs.Common.{ℕ, ◌^◌, ◌<◌, List, [], ◌∷◌}
+use Rattle.std.proofs.Common.{◌^◌, ◌<◌, List, [], ◌∷◌}
 use Rattle.std.specs.Prelude.{All, IfSome}
 use Rattle.std.proofs.lemmas.List.Elements.{All-head}
 use Rattle.tm_base.specs.declared.names.Class.{Class}

@@ -96,7 +96,7 @@ fn a_step_that_is_not_enabled_is_named(rt: HostRuntime) -> Result<(), Fail> {
 // again, the other may.
 #[test]
 fn the_last_placed_cpu_stays_online(rt: HostRuntime) -> Result<(), Fail> {
-    let mut core = start(rt.alloc(), 2, 0)?;
+    let mut core = one_node_core(rt.alloc(), 2, 0)?;
     let mut leaving = Vec::new(rt.alloc());
     leaving.push(Step::Offline { cpu: CpuId(0) })?;
     add_walks(&mut leaving, 8, 0)?;
@@ -154,7 +154,7 @@ fn taken_apart(core: Core<ListBase>) -> Core<ListBase>
 
 /// CPU 9 goes idle, and has the lock of its leaf; CPU 0 has an armed timer.
 fn in_mid_walk(rt: &impl Abort, alloc: Global) -> Result<Core<ListBase>, NoMemory> {
-    let mut core = start(alloc, 10, 1)?;
+    let mut core = one_node_core(alloc, 10, 1)?;
     let mut steps = Vec::new(alloc);
     steps.push(Step::Clock { now: 10 })?;
     steps.push(Step::Arm {
@@ -203,7 +203,7 @@ fn a_core_taken_apart_in_mid_walk_goes_on(rt: HostRuntime) -> Result<(), Fail> {
 // so may not leave it, until the walk that tells CPU 1's next event has taken the mark away.
 #[test]
 fn a_cpu_that_has_marked_another_stays_inside(rt: HostRuntime) -> Result<(), Fail> {
-    let mut core = start(rt.alloc(), 2, 1)?;
+    let mut core = one_node_core(rt.alloc(), 2, 1)?;
     let mut steps = Vec::new(rt.alloc());
     steps.push(Step::Arm {
         cpu: CpuId(1),
