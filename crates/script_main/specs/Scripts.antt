@@ -11,12 +11,9 @@ use Rattle.tm_generate.specs.Generated.{generated}
 use Rattle.tree_plan.specs.Shape.{tree_of}
 use Rattle.play_rules.specs.Interrupts.{Replies}
 use Rattle.play_rules.specs.Jobs.{first_unknown_job}
-use Rattle.play_rules.specs.Play.{AfterEachMoment, play_text, play_spent}
-use Rattle.play_jiffies.specs.Jiffies.{EachHasEnded, InItsJiffy}
-use Rattle.play_laws.specs.Settled.{IsSettled}
-use Rattle.tm_driver.specs.OnCore.{IsPlayedBySteps}
+use Rattle.play_rules.specs.Play.{play_text, play_spent}
 use Rattle.tm_driver.specs.Outcomes.{work_limit}
-use Rattle.tm_driver.specs.Plays.{CanPlay, summary_of}
+use Rattle.tm_driver.specs.Plays.{CanPlay, LawsHold, summary_of}
 use Rattle.tree_text.specs.Trees.{tree_text}
 use Rattle.day_text.specs.Days.{day_text}
 use Rattle.script_main.specs.declared.commands.Recipe.{Recipe}
@@ -56,22 +53,18 @@ KnowsJobs table script = first_unknown_job table script.moments ≡ None
 abbrev pub spent_by : Replies → Script → Option ℕ
 spent_by jobs script = play_spent jobs (work_limit script.version) script
 
--- the text is that of the play of the script, which can be played to its end, and which the core
--- plays by steps; and after each moment each global timer that is queued on an idle CPU is held or
--- woken for, by Play's state and by the core's own groups, and each pinned or global timer whose
--- wheel expiry has come has its end, in its jiffy
+-- the text is that of the play of the script, which can be played to its end; and the laws hold of
+-- that play, by Play's state and by the core's own groups
 pub record IsPlayOf (jobs : Replies) (table : ℕ) (script : Script) (text : List ℕ) : Type 0 where
   pub can_play : CanPlay jobs table script
   pub played : text ≡ play_text jobs script
-  pub by_steps : IsPlayedBySteps jobs script
-  pub settled : AfterEachMoment IsSettled jobs script
-  pub in_its_jiffy : AfterEachMoment InItsJiffy jobs script
-  pub ended : AfterEachMoment EachHasEnded jobs script
+  pub laws : LawsHold jobs script
 
--- the text sums up the play of the script, which can be played to its end
+-- the text sums up such a play of the script
 pub record IsDayOf (jobs : Replies) (table : ℕ) (script : Script) (text : List ℕ) : Type 0 where
   pub can_play : CanPlay jobs table script
   pub summed : text ≡ day_text (summary_of jobs script)
+  pub laws : LawsHold jobs script
 
 -- WHAT A COMMAND WRITES of its script, where all goes well
 abbrev pub IsOutput : Replies → (table : ℕ) → Command → Script → List ℕ → Type 0

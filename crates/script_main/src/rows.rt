@@ -1,5 +1,5 @@
 //! Worked rows of the whole program: words and input, and the status and text that they come to.
-//! They are those of the specification, from which both were copied.
+//! They were worked out from the rules before the program was, and none is its own output.
 
 use crate::{DONE, JOB_UNKNOWN, SCRIPT_REFUSED, USAGE, WORK_SPENT};
 

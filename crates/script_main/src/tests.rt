@@ -6,7 +6,7 @@ use std::test::Fail;
 use tm_base::{Class, MOST_BYTES};
 use tm_io::{FullSink, MemorySink, MemorySource, PlainSink, PlainSource, Sink, Source};
 
-// Row plain of the specification.
+// The first of the worked rows.
 const PLAIN: &[u8] = b"tmig 1\nnodes 1\ncpus 1\ntimers 1\nat 10\narm 0 0 global 50 0 0\nend 100\n";
 
 // The words of a line.
@@ -99,7 +99,6 @@ fn one_byte_too_many_is_too_long(rt: HostRuntime) -> Result<(), Fail> {
     Ok(())
 }
 
-// Row statuses of the specification.
 #[test]
 fn a_source_that_fails_is_a_read_fault(rt: HostRuntime) -> Result<(), Fail> {
     let alloc = rt.alloc();
@@ -111,7 +110,7 @@ fn a_source_that_fails_is_a_read_fault(rt: HostRuntime) -> Result<(), Fail> {
     Ok(())
 }
 
-// Row short-sink of the specification; a sink that is full takes nothing of a piece.
+// The front is by hand: two pieces of 16 bytes. A sink that is full takes nothing of a piece.
 #[test]
 fn a_sink_that_fails_or_is_full_is_a_write_fault(rt: HostRuntime) -> Result<(), Fail> {
     let alloc = rt.alloc();

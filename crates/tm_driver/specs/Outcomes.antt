@@ -26,7 +26,7 @@ script_turns jobs r script start =
     turns jobs r (script.end + 1) script.end 0 script.moments start
 
 -- these lines were told, and the machine is in this state
-pub record Told {S : Type 0}
+pub record ToldLines {S : Type 0}
     (ls : List Line) (last : S) (old new : Progress) (after : S) : Type 0 where
   pub text : new.text ≡ old.text ++ report_text ls
   pub tally : new.tally ≡ tallied_all old.tally ls
@@ -35,7 +35,7 @@ pub record Told {S : Type 0}
 -- all moments were played, and the work stayed below the limit
 pub record PlaysOut {S : Type 0} (limit : ℕ) (ts : List (Turn S)) (start : S)
     (old new : Progress) (after : S) : Type 0 where
-  pub told : Told (turn_lines ts) (last_state start ts) old new after
+  pub told : ToldLines (turn_lines ts) (last_state start ts) old new after
   pub within : spent_at limit 0 ts ≡ None
 
 -- the play was broken off by its work: the lines of the finished moments were told
@@ -54,7 +54,7 @@ EndsEarly limit ts NoMemory old new = (more : List ℕ) × (new ≡ old ++ more)
 -- all of a play was told: its moments, and what is left
 pub record TellsAll {S : Type 0} (r : Rules S) (jobs : Replies) (script : Script) (start : S)
     (old new : Progress) (after : S) : Type 0 where
-  pub told : Told (whole_lines r script.end start (script_turns jobs r script start))
+  pub told : ToldLines (whole_lines r script.end start (script_turns jobs r script start))
       (last_state start (script_turns jobs r script start)) old new after
   pub within : spent_at (work_limit script.version) 0 (script_turns jobs r script start) ≡ None
 

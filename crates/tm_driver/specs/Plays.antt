@@ -1,12 +1,14 @@
 -- how playing a script on the core ends
 use Rattle.std.specs.Prelude.{◌≡◌, ℕ, List, ◌++◌, Some, None, length, option_map}
 use Rattle.tm_script.specs.declared.syntax.Script.{Script}
+use Rattle.tm_script.specs.Grammar.{IsScript}
 use Rattle.play_rules.specs.Interrupts.{Replies}
 use Rattle.play_rules.specs.Jobs.{first_unknown_job}
 use Rattle.play_rules.specs.Moments.{last_state, whole_lines}
 use Rattle.play_rules.specs.Parts.{counted}
 use Rattle.play_jiffies.specs.Jiffies.{EachHasEnded, InItsJiffy}
 use Rattle.play_laws.specs.Settled.{IsSettled}
+use Rattle.play_work.specs.Course.{ComesToItsEnd, times_of}
 use Rattle.play_rules.specs.Play.{AfterEachMoment, plain_rules, play_spent, play_start, play_text}
 use Rattle.play_rules.specs.Play.{play_turns}
 use Rattle.play_rules.specs.Tallies.{no_lines, tallied_all}
@@ -24,20 +26,30 @@ pub record CanPlay (jobs : Replies) (table : ℕ) (script : Script) : Type 0 whe
   pub known : first_unknown_job table script.moments ≡ None
   pub within : play_spent jobs (work_limit script.version) script ≡ None
 
--- the report has gained the text of the script's play; the core is the one that the last moment of
--- the play made of steps leaves, and what Play sees of it is the state that Play's last moment
--- leaves; after each moment each global timer that is queued on an idle CPU is held or woken for,
--- and each pinned or global timer whose wheel expiry has come has its end, in its jiffy
-pub record Plays (jobs : Replies) (table : ℕ) (script : Script) (old new : List ℕ) (core : World)
-    : Type 0 where
-  pub text : new ≡ old ++ play_text jobs script
-  pub core_is : core ≡ core_end jobs script
-  pub state : state_of core ≡ last_state (play_start script) (play_turns jobs script)
+-- what holds of a script's play, whatever comes of it: the core plays it by steps; its moments go
+-- on to the script's end; and after each of them each global timer that is queued on an idle CPU is
+-- held or woken for, and each pinned or global timer whose wheel expiry has come has its end, in
+-- its jiffy
+pub record LawsHold (jobs : Replies) (script : Script) : Type 0 where
+  pub to_end : ComesToItsEnd script (times_of (play_turns jobs script))
   pub by_steps : IsPlayedBySteps jobs script
-  pub can_play : CanPlay jobs table script
   pub settled : AfterEachMoment IsSettled jobs script
   pub in_its_jiffy : AfterEachMoment InItsJiffy jobs script
   pub ended : AfterEachMoment EachHasEnded jobs script
+
+abbrev pub LawsHoldOfEach : Type 0
+LawsHoldOfEach = (jobs : Replies) (script : Script) → IsScript script → LawsHold jobs script
+
+-- the report has gained the text of the script's play; the core is the one that the last moment of
+-- the play made of steps leaves, and what Play sees of it is the state that Play's last moment
+-- leaves
+pub record PlaysToEnd (jobs : Replies) (table : ℕ) (script : Script) (old new : List ℕ)
+    (core : World) : Type 0 where
+  pub text : new ≡ old ++ play_text jobs script
+  pub core_is : core ≡ core_end jobs script
+  pub state : state_of core ≡ last_state (play_start script) (play_turns jobs script)
+  pub can_play : CanPlay jobs table script
+  pub laws : LawsHold jobs script
 
 -- why it isn't played to its end, and what the report has gained then
 abbrev pub BreaksPlay : Replies → (table : ℕ) → Script → DriveFault → (old new : List ℕ) → Type 0
@@ -67,10 +79,12 @@ summary_of jobs script =
     (tallied_all no_lines
     (whole_lines plain_rules script.end (play_start script) (play_turns jobs script)))
 
+-- a script's play was summed up: these are its numbers
 pub record Summarizes (jobs : Replies) (table : ℕ) (script : Script) (numbers : Summary)
     : Type 0 where
   pub numbers_are : numbers ≡ summary_of jobs script
   pub can_play : CanPlay jobs table script
+  pub laws : LawsHold jobs script
 
 -- why there are none
 abbrev pub BreaksSummary : Replies → (table : ℕ) → Script → DriveFault → Type 0

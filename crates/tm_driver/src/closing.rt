@@ -1,6 +1,6 @@
 //! The end of a play.
 
-ghost use Rattle.std.specs.Prelude.{◌≡◌, ◌<◌, OnOk};
+ghost use Rattle.std.specs.Prelude.{◌<◌, OnOk};
 ghost use Rattle.play_rules.specs.Moments.{closing, left};
 ghost use Rattle.play_rules.specs.Parts.{Gains, Prints, lines_told};
 

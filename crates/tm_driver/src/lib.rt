@@ -1,8 +1,9 @@
 //! Playing a script: moment by moment, into a report.
 //!
 //! The driver is generic over a `Machine`, and its contracts name the rules of any machine:
-//! `interrupts` plays the interrupts of a moment, `operations` what the script has for it,
-//! `moments` the moments to the end.
+//! `interrupts` plays the interrupts of a moment, `operations` and `moving` what the script has for
+//! it, `moments` the moments to the end, and `playing` a whole script. `plays` has a script played
+//! on the core that `starting` makes.
 #![tactic(auto)]
 
 mod closing;

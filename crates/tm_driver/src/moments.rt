@@ -3,8 +3,8 @@
 ghost use Rattle.std.specs.Prelude.{◌≡◌, ◌<◌, ◌≤◌, All, IfErr, IfOk, OnOk, length};
 ghost use Rattle.std.specs.Option.{ForSome, option_copied};
 ghost use Rattle.play_rules.specs.Machines.{Same, SameBuild};
-ghost use Rattle.play_rules.specs.Moments.{moment, moment_at, moment_now, moments_after};
-ghost use Rattle.play_rules.specs.Moments.{next_moment, next_said, scripted, turn, turns};
+ghost use Rattle.play_rules.specs.Moments.{moment, moment_at, moments_after, next_moment};
+ghost use Rattle.play_rules.specs.Moments.{scripted, turn};
 ghost use Rattle.play_rules.specs.Parts.{Gains, Prints, counted};
 ghost use Rattle.play_rules.specs.Phases.{resting};
 ghost use Rattle.tm_base.specs.declared.limits.TheConstants.{SCRIPT_TIME_LIMIT};

@@ -7,7 +7,6 @@ ghost use Rattle.play_rules.specs.Operations.{clear, clear_after, covers, leaver
 ghost use Rattle.play_rules.specs.Operations.{move_all};
 ghost use Rattle.play_rules.specs.Parts.{Gains, Prints};
 ghost use Rattle.play_rules.specs.Phases.{IsUp, resting};
-ghost use Rattle.tm_report.specs.Lines.{report_text};
 ghost use Rattle.tm_driver.specs.Conditions.{IsOpInRange};
 
 use crate::telling::Telling;

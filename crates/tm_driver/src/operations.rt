@@ -1,13 +1,10 @@
-//! The operations of a moment, and what comes behind them: the timers of a CPU that went offline,
-//! and the covers.
+//! The operations of a moment: each is done, or refused.
 
-ghost use Rattle.std.specs.Prelude.{◌≡◌, ◌≢◌, ◌<◌, None, All, OnOk, false};
-ghost use Rattle.std.specs.Option.{option_copied};
+ghost use Rattle.std.specs.Prelude.{◌≡◌, ◌<◌, None, All, OnOk, false};
 ghost use Rattle.play_rules.specs.Machines.{Same};
-ghost use Rattle.play_rules.specs.Operations.{arm, cancel, clear, clear_after, covers, done};
-ghost use Rattle.play_rules.specs.Operations.{done_unless, hand_on, idle, last_online, leaver};
-ghost use Rattle.play_rules.specs.Operations.{moves, not_active, not_idle, offline, online};
-ghost use Rattle.play_rules.specs.Operations.{operation, operations, refusal, refused_line, wake};
+ghost use Rattle.play_rules.specs.Operations.{arm, cancel, done, hand_on, idle, last_online};
+ghost use Rattle.play_rules.specs.Operations.{not_active, not_idle, offline, online, operation};
+ghost use Rattle.play_rules.specs.Operations.{operations, refusal, refused_line, wake};
 ghost use Rattle.play_rules.specs.Parts.{Gains, Prints};
 ghost use Rattle.play_rules.specs.Phases.{after_offline, resting};
 ghost use Rattle.tm_driver.specs.Conditions.{IsOpInRange};

@@ -1,14 +1,14 @@
 //! Playing a script on the core.
 
-ghost use Rattle.std.specs.Prelude.{◌≡◌, ◌+◌, IfErr, IfOk, OnOk};
+ghost use Rattle.std.specs.Prelude.{◌≡◌, IfErr, IfOk, OnOk};
 ghost use Rattle.tm_script.specs.Grammar.{IsScript};
 ghost use Rattle.play_rules.specs.Play.{plain_rules, play_start};
 ghost use Rattle.step_rules.specs.Seen.{InPlay, resting, state_of};
 ghost use Rattle.step_play.specs.SamePlay.{core_start};
-ghost use Rattle.tm_driver.specs.OnCore.{IsPlayedBySteps, core_end};
+ghost use Rattle.tm_driver.specs.OnCore.{core_end};
 ghost use Rattle.tm_driver.specs.Outcomes.{PlaysWhole};
-ghost use Rattle.tm_driver.specs.Plays.{BreaksPlay, BreaksSummary, Plays, Summarizes};
-ghost use Rattle.tm_driver.specs.Plays.{summary_with};
+ghost use Rattle.tm_driver.specs.Plays.{BreaksPlay, BreaksSummary, LawsHold, LawsHoldOfEach};
+ghost use Rattle.tm_driver.specs.Plays.{PlaysToEnd, Summarizes, summary_with};
 
 use crate::numbers::Summary;
 use crate::outcomes::{Counts, DriveFault};
@@ -20,12 +20,26 @@ use core_state::Core;
 use job_table::Jobs;
 use play_jiffies::{law_ends, law_in_its_jiffy};
 use play_laws::law_settled;
+use play_work::law_moments;
 use std::alloc::Global;
 use step_play::law_steps_are_play;
 use tm_base::{Jiffy, NoMemory};
 use tm_report::Report;
 use tm_script::Script;
 use wheel_base::WheelBase;
+
+/// Every script's play is made of the core's steps, of which the headline holds; it goes on to the
+/// script's end, and keeps the laws of Play.
+fn law_plays()
+    ensures { LawsHoldOfEach }
+{
+    law_moments();
+    law_settled();
+    law_in_its_jiffy();
+    law_ends();
+    law_steps_are_play();
+    law_core_settled();
+}
 
 /// The core at the start of a script, which is to play it.
 fn started(alloc: Global, script: &Script) -> Result<Player<WheelBase>, NoMemory>
@@ -52,12 +66,12 @@ fn play_by_steps<J: Jobs>(
         PlaysWhole plain_rules (J.replies jobs.now) (J.count jobs.now) script.now
         (play_start script.now) report.old report.new counts (state_of player.new)) }
     ensures core { OnOk result (player.new ≡ core_end (J.replies jobs.now) script.now) }
-    ensures by_steps { IsPlayedBySteps (J.replies jobs.now) script.now }
+    ensures laws { LawsHold (J.replies jobs.now) script.now }
     ensures fault { IfErr result (λ fault.
         BreaksPlay (J.replies jobs.now) (J.count jobs.now) script.now fault report.old report.new) }
 {
+    law_plays();
     law_steps_are_play();
-    law_core_settled();
     play_on(alloc, player, script, jobs, report)
 }
 
@@ -75,13 +89,11 @@ pub fn play<J: Jobs>(
 ) -> Result<Core<WheelBase>, DriveFault>
     requires { IsScript script.now }
     ensures whole { IfOk result (λ core.
-        Plays (J.replies jobs.now) (J.count jobs.now) script.now report.old report.new core) }
+        PlaysToEnd (J.replies jobs.now) (J.count jobs.now) script.now
+        report.old report.new core) }
     ensures fault { IfErr result (λ fault.
         BreaksPlay (J.replies jobs.now) (J.count jobs.now) script.now fault report.old report.new) }
 {
-    law_settled();
-    law_in_its_jiffy();
-    law_ends();
     let mut player = started(alloc, script)?;
     play_by_steps(alloc, &mut player, script, jobs, report)?;
     Ok(player.into_core())

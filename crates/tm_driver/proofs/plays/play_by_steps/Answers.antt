@@ -1,7 +1,7 @@
 use Rattle.std.proofs.Common.{◌*◌}
 use Rattle.std.proofs.lemmas.List.{length-replicate}
 use Rattle.std.proofs.lemmas.Result.{IfErr-weaker, IfOk-weaker}
-use Rattle.tm_driver.proofs.BySteps.{by_steps, fault_seen, whole_seen}
+use Rattle.tm_driver.proofs.BySteps.{fault_seen, whole_seen}
 use Rattle.tm_driver.proofs.Playable.{playable}
 use Rattle.tm_driver.proofs.plays.play_by_steps.Goals as goal
 
@@ -20,13 +20,6 @@ returns-clause-whole g c =
     (c.law_steps_are_play.ensures jobs c.args.script.now c.requires.script)
     (g.J.Jobs.count c.args.jobs.now) c.args.player.now c.requires.start _ _ counts _)
     c.play_on.ensures.whole
-
-pub returns-clause-by_steps : goal.returns-clause-by_steps
-returns-clause-by_steps g c =
-    let jobs = g.J.Jobs.replies c.args.jobs.now in
-    by_steps jobs c.args.script.now
-    (c.law_steps_are_play.ensures jobs c.args.script.now c.requires.script)
-    c.law_settled.ensures
 
 pub returns-clause-fault : goal.returns-clause-fault
 returns-clause-fault g c =
