@@ -1,5 +1,5 @@
 -- readings that an exchange makes stale
-use Rattle.std.proofs.Common.{◌≡◌, ℕ, ◌+◌, ◌<◌, ◌≤◌, Bool, true, false, List}
+use Rattle.std.proofs.Common.{◌≡◌, ℕ, suc, ◌+◌, ◌<◌, ◌≤◌, Bool, true, false, List}
 use Rattle.std.proofs.Common.{length, refl, sym, ap, ◌∙◌, subst, arith, get_or, get_or-set_same}
 use Rattle.std.proofs.Common.{get_or-set_other, inl, inr}
 use Rattle.std.specs.Prelude.{nat_le, slice_set}
