@@ -94,8 +94,8 @@ impl<B: TimerBase> Machine for Player<B> {
         core_views::named(&self.core, cpu, level, tried)
     }
 
-    fn takes(&self, cpu: CpuId, other: CpuId) -> bool {
-        core_views::takes(&self.core, cpu, other)
+    fn takes(&self, _cpu: CpuId, other: CpuId) -> bool {
+        core_views::is_taken(&self.core, other)
     }
 
     fn take(&mut self, cpu: CpuId, other: CpuId) {

@@ -8,7 +8,7 @@ mod machine;
 mod timers;
 
 pub use cpu::{first_event, has_interrupt, is_active, is_idle, is_online, is_placed, wakeup};
-pub use looks::{hands_on, live_expiry, looks_after, named, takes, told_by};
+pub use looks::{hands_on, is_taken, live_expiry, looks_after, named, told_by};
 pub use machine::{controller, next_interrupt, successor};
 pub use timers::{holder, queued, queued_on};
 

@@ -88,17 +88,17 @@ pub fn named<B: TimerBase>(core: &Core<B>, cpu: CpuId, level: u8, tried: &CpuSet
     }
 }
 
-/// Whether a CPU takes CPU `other`, which its look named, or leaves it alone: it takes one that is
-/// online, idle, unmarked and at rest, and whose event in its leaf has come.
-pub fn takes<B: TimerBase>(core: &Core<B>, _cpu: CpuId, other: CpuId) -> bool
-    requires { other.0 < length core.now.cpus }
-    ensures { result ≡ can_be_taken core.now other.0 }
+/// Whether a CPU that a look named is taken, or left alone: one is taken that is online, idle,
+/// unmarked and at rest, and whose event in its leaf has come.
+pub fn is_taken<B: TimerBase>(core: &Core<B>, cpu: CpuId) -> bool
+    requires { cpu.0 < length core.now.cpus }
+    ensures { result ≡ can_be_taken core.now cpu.0 }
 {
-    let status = core.status(other);
+    let status = core.status(cpu);
     status.online
         && (status.idle
             && (status.walk.is_none()
-                && (status.mark.is_none() && told_by(core, other) <= core.now())))
+                && (status.mark.is_none() && told_by(core, cpu) <= core.now())))
 }
 
 /// Whether a CPU that went offline has to hand on its duty; it is placed then.

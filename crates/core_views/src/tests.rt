@@ -39,7 +39,7 @@ fn check_looks(rt: &impl Abort, core: &Core<ListBase>) {
     assert!(rt; looks_after(core, CpuId(0), 0));
     assert!(rt; !looks_after(core, CpuId(1), 0));
     assert_eq!(rt; named(core, CpuId(0), 0, &CpuSet::new()), Some(CpuId(1)));
-    assert!(rt; takes(core, CpuId(0), CpuId(1)));
+    assert!(rt; is_taken(core, CpuId(1)));
     assert!(rt; !hands_on(core, CpuId(1)));
 }
 
