@@ -130,7 +130,7 @@ fn try_step(core: &mut Core<WheelBase>, step: Step, steps: &mut Vec<Step>) -> Re
     Ok(())
 }
 
-/// So many steps, each enabled where it stands.
+/// So many steps, each enabled where it stands; fewer where too few of those that are drawn are.
 pub(crate) fn draw_steps(
     alloc: Global,
     core: &mut Core<WheelBase>,

@@ -27,9 +27,9 @@ pub record CanPlay (jobs : Replies) (table : ℕ) (script : Script) : Type 0 whe
   pub within : play_spent jobs (work_limit script.version) script ≡ None
 
 -- what holds of a script's play, whatever comes of it: the core plays it by steps; its moments go
--- on to the script's end; and after each of them each global timer that is queued on an idle CPU is
--- held or woken for, and each pinned or global timer whose wheel expiry has come has its end, in
--- its jiffy
+-- on to the script's end; and after each of them each global timer that is queued on an online idle
+-- CPU is held or woken for, and of an online CPU each pinned or global timer whose wheel expiry has
+-- come has its end, in its jiffy
 pub record LawsHold (jobs : Replies) (script : Script) : Type 0 where
   pub to_end : ComesToItsEnd script (times_of (play_turns jobs script))
   pub by_steps : IsPlayedBySteps jobs script
