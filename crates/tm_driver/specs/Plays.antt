@@ -28,8 +28,8 @@ pub record CanPlay (jobs : Replies) (table : ℕ) (script : Script) : Type 0 whe
 
 -- what holds of a script's play, whatever comes of it: the core plays it by steps; its moments go
 -- on to the script's end; and after each of them each global timer that is queued on an online idle
--- CPU is held or woken for, and of an online CPU each pinned or global timer whose wheel expiry has
--- come has its end, in its jiffy
+-- CPU is held or woken for, and each pinned or global timer whose wheel expiry has come has its
+-- end, and was handed out in that jiffy where it was handed out
 pub record LawsHold (jobs : Replies) (script : Script) : Type 0 where
   pub to_end : ComesToItsEnd script (times_of (play_turns jobs script))
   pub by_steps : IsPlayedBySteps jobs script
