@@ -1,6 +1,7 @@
 use super::*;
 use core_state::{Core, one_node_core};
 use core_world::Step;
+use std::alloc::Global;
 use std::process::Abort;
 use std::test::Fail;
 use tm_base::{Class, CpuId, GroupId, NEVER, NoMemory, TimerId};
