@@ -119,7 +119,7 @@ module _ (home : ℕ) (class : Class) (runner : ℕ) (start : World) where
         ∙ (append_assoc out (item ∷ []) (items_due v home class)
         ∙ (ap (λ xs. out ++ xs) (sym due) ∙ so_far.items));
     state =
-        ap (λ v. after_all v (hands home class runner (items_due v home class))) is
+        ap (λ u. after_all u (hands home class runner (items_due v home class))) is
         ∙ (ap (λ xs. after_all w (hands home class runner xs)) (sym due) ∙ so_far.state);
     is =
         is
