@@ -1,3 +1,5 @@
+ghost use Rattle.std.specs.Prelude.{◌≡◌};
+
 use super::*;
 use core_state::{Core, one_node_core};
 use core_world::Step;
