@@ -128,6 +128,26 @@ fn cancel<M: Machine>(rt: &impl Abort, machine: &mut M) -> Result<(), NoMemory>
     Ok(())
 }
 
+/// CPU 0 arms timer 0 with this delay, which comes to this wheel expiry, and cancels it.
+fn arm_and_cancel<M: Machine>(
+    rt: &impl Abort,
+    machine: &mut M,
+    delay: u32,
+    wheel: Jiffy,
+) -> Result<(), NoMemory>
+    requires { M.Fit phases.resting (M.world machine.old) }
+    ensures { OnOk result (M.Fit phases.resting (M.world machine.new)) }
+{
+    arm_on(
+        rt,
+        machine,
+        CpuId(0),
+        arming(0, Class::Global, delay),
+        wheel,
+    )?;
+    cancel(rt, machine)
+}
+
 /// Brings the clock to a later moment.
 fn come_to<M: Machine>(rt: &impl Abort, machine: &mut M, now: Jiffy)
     requires { M.Fit phases.resting (M.world machine.old) }
@@ -202,16 +222,10 @@ fn move_one<M: Machine>(
 fn a_cancelled_timer_is_armed_again(rt: HostRuntime) -> Result<(), Fail> {
     let mut player = start(rt.alloc(), 1, 1)?;
     come_to(&rt, &mut player, 10);
-    for (delay, wheel) in [(62, 73), (63, 80), (503, 520), (504, 576)] {
-        arm_on(
-            &rt,
-            &mut player,
-            CpuId(0),
-            arming(0, Class::Global, delay),
-            wheel,
-        )?;
-        cancel(&rt, &mut player)?;
-    }
+    arm_and_cancel(&rt, &mut player, 62, 73)?;
+    arm_and_cancel(&rt, &mut player, 63, 80)?;
+    arm_and_cancel(&rt, &mut player, 503, 520)?;
+    arm_and_cancel(&rt, &mut player, 504, 576)?;
     Ok(())
 }
 
