@@ -12,7 +12,7 @@ use Rattle.walk_rules.specs.Locks.{HoldsBy, child_lock, group_lock}
 use Rattle.walk_rules.specs.Queues.{group_under}
 use Rattle.walk_rules.specs.Stages.{forget}
 use Rattle.walk_rules.specs.Standing.{FitsStage, Tells}
-use Rattle.core_walks.proofs.Stands.{stage_fits}
+use Rattle.core_laws.proofs.Walks.Stands.{stage_fits}
 use Rattle.core_world.specs.Lawful.{IsLawful}
 use Rattle.core_world.specs.World.{World, cpu_of, group_of, scene_of}
 use Rattle.core_facts.specs.Holders.{EachLockIsHeld, MakesTelling}

@@ -23,7 +23,7 @@ use Rattle.walk_rules.specs.Stages.{mark_next, read_next, scan_next, see_child_n
 use Rattle.walk_rules.specs.Stages.{store_next, stored_event, swap_next, up_next, with_event}
 use Rattle.walk_rules.specs.Stages.{with_lock, with_mark}
 use Rattle.walk_rules.specs.Standing.{FitsStage}
-use Rattle.core_walks.proofs.Stands.{leaf_or}
+use Rattle.core_laws.proofs.Walks.Stands.{leaf_or}
 use Rattle.core_world.specs.declared.step.Step.{Step}
 use Rattle.core_world.specs.declared.step.Step.TheVariants as steps
 use Rattle.core_world.specs.Enabled.{Enabled}

@@ -1,3 +1,5 @@
+pub mod Cover
+pub mod Worked
 pub mod ExchangesOnce
 pub mod ExchangesRead
 pub mod HandingRead

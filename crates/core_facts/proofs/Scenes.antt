@@ -13,8 +13,8 @@ use Rattle.walk_rules.specs.declared.walk.Stage.TheVariants as stages
 use Rattle.walk_rules.specs.Hierarchy.{HasGroup, IsHierarchy}
 use Rattle.walk_rules.specs.Queues.{group_under}
 use Rattle.walk_rules.specs.Stages.{forget}
-use Rattle.core_walks.proofs.Stands.{leaf_or}
-use Rattle.core_walks.specs.Fit.{WalksFit}
+use Rattle.core_laws.proofs.Walks.Stands.{leaf_or}
+use Rattle.core_laws.specs.Walks.Fit.{WalksFit}
 use Rattle.core_world.specs.Lawful.{IsLawful}
 use Rattle.core_world.specs.World.{CpuRecord, World, cpu_of, no_cpu, scene_of}
 

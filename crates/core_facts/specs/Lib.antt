@@ -1,3 +1,5 @@
+pub mod Cover
+pub mod Worked
 pub mod Exchanges
 pub mod Handing
 pub mod Holders

@@ -2,6 +2,9 @@
 //! marks, and the ranges of numbers. The functions do nothing: what they say are their contracts.
 #![tactic(auto)]
 
+mod cover_laws;
+mod worked_rows;
+
 ghost use Rattle.core_facts.specs.Exchanges.{EachGoesOn, EachStaysPast, NoneIsPast};
 ghost use Rattle.core_facts.specs.Handing.{EachHandsOn, EachHasPlaced};
 ghost use Rattle.core_facts.specs.Holders.{EachLockIsHeld};
@@ -18,8 +21,12 @@ ghost use Rattle.core_facts.specs.Walkers.{EachWalkerIs};
 
 use core_laws::law_step;
 use core_world::{law_quiet, law_sizes};
+pub use cover_laws::{
+    law_cover, law_covered, law_next_moment, law_once, law_rest, law_rest_events, law_settled,
+};
 use cpu_bases::{law_bases, law_calls};
 use tree_plan::{law_cuts, law_paths};
+pub use worked_rows::{row_lost_exchange, row_settled_cover, row_stale_run};
 
 /// A CPU with a walk is active exactly where the walk is an activation; the other kinds are made by
 /// online idle CPUs, or by a CPU that goes offline.

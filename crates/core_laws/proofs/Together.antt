@@ -8,16 +8,16 @@ use Rattle.core_world.specs.Frames.{IsSized, SameSize, SizesStay}
 use Rattle.core_world.specs.Lawful.{IsLawful}
 use Rattle.core_world.specs.Steps.{stepped}
 use Rattle.core_world.specs.World.{World, scene_of}
-use Rattle.core_walks.specs.Fit.{WalksFit, WalksStayFit}
-use Rattle.core_edges.specs.Layer.{BitsFit, BitsStayFit, EdgesFit, EdgesStayFit, MarksFollow}
-use Rattle.core_locks.specs.Layer.{LocksStay}
-use Rattle.core_events.specs.Layer.{EventsFit, EventsStayFit}
-use Rattle.core_cpus.specs.Layer.{CpusFit, CpusStayFit}
-use Rattle.core_marks.specs.Layer.{MarkersStayFit, MarksFit}
-use Rattle.core_timers.specs.Layer.{TimersFit, TimersStayFit}
-use Rattle.core_wakeups.specs.Layer.{WakeupsFit, WakeupsStayFit}
-use Rattle.core_tops.specs.Layer.{TopsFit, TopsStayFit}
-use Rattle.core_origins.specs.Layer.{OriginsFit, OriginsStayFit}
+use Rattle.core_laws.specs.Walks.Fit.{WalksFit, WalksStayFit}
+use Rattle.core_laws.specs.Edges.Layer.{BitsFit, BitsStayFit, EdgesFit, EdgesStayFit, MarksFollow}
+use Rattle.core_laws.specs.Locks.Layer.{LocksStay}
+use Rattle.core_laws.specs.Events.Layer.{EventsFit, EventsStayFit}
+use Rattle.core_laws.specs.Cpus.Layer.{CpusFit, CpusStayFit}
+use Rattle.core_laws.specs.Marks.Layer.{MarkersStayFit, MarksFit}
+use Rattle.core_laws.specs.Timers.Layer.{TimersFit, TimersStayFit}
+use Rattle.core_laws.specs.Wakeups.Layer.{WakeupsFit, WakeupsStayFit}
+use Rattle.core_laws.specs.Tops.Layer.{TopsFit, TopsStayFit}
+use Rattle.core_laws.specs.Origins.Layer.{OriginsFit, OriginsStayFit}
 use Rattle.core_laws.specs.Laws.{ListsStayLawful, StepsStayLawful}
 
 module _ (w : World) (l : IsLawful w) where

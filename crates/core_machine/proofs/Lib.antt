@@ -1,0 +1,5 @@
+pub mod Alone
+pub mod Views
+pub mod Covers
+pub mod Draining
+pub mod Calls

@@ -1,8 +1,13 @@
 //! A core as the machine of a play: each of a machine's calls is a rule of steps, made on the core.
 #![tactic(auto)]
 
+pub mod answers;
 mod machine;
 mod player;
+pub mod readings;
+pub mod timers;
+pub mod turns;
+pub mod walks;
 
 pub use player::Player;
 

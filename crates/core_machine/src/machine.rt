@@ -7,8 +7,8 @@ use wheel_core::{Item, TimerBase};
 
 impl<B: TimerBase> Machine for Player<B> {
     ghost use Rattle.core_world.specs.World as core;
-    ghost use Rattle.step_rules.specs.Seen.{InPlay};
-    ghost use Rattle.step_rules.specs.StepRules.{step_rules};
+    ghost use Rattle.step_play.specs.Rules.Seen.{InPlay};
+    ghost use Rattle.step_play.specs.Rules.StepRules.{step_rules};
 
     ghost World = { core.World };
 
@@ -35,130 +35,130 @@ impl<B: TimerBase> Machine for Player<B> {
     }
 
     fn is_online(&self, cpu: CpuId) -> bool {
-        core_views::is_online(&self.core, cpu)
+        crate::readings::is_online(&self.core, cpu)
     }
 
     fn is_idle(&self, cpu: CpuId) -> bool {
-        core_views::is_idle(&self.core, cpu)
+        crate::readings::is_idle(&self.core, cpu)
     }
 
     fn is_placed(&self, cpu: CpuId) -> bool {
-        core_views::is_placed(&self.core, cpu)
+        crate::readings::is_placed(&self.core, cpu)
     }
 
     fn wakeup(&self, cpu: CpuId) -> Jiffy {
-        core_views::wakeup(&self.core, cpu)
+        crate::readings::wakeup(&self.core, cpu)
     }
 
     fn holder(&self, timer: TimerId) -> Option<CpuId> {
-        core_views::holder(&self.core, timer)
+        crate::readings::holder(&self.core, timer)
     }
 
     fn queued(&self, timer: TimerId) -> Option<Queued> {
-        core_views::queued(&self.core, timer)
+        crate::readings::queued(&self.core, timer)
     }
 
     fn set_clock(&mut self, now: Jiffy) {
-        walk_calls::set_clock(&mut self.core, now);
+        crate::turns::set_clock(&mut self.core, now);
     }
 
     fn has_interrupt(&self, cpu: CpuId) -> bool {
-        core_views::has_interrupt(&self.core, cpu)
+        crate::readings::has_interrupt(&self.core, cpu)
     }
 
     fn next_interrupt(&self) -> Jiffy {
-        core_views::next_interrupt(&self.core)
+        crate::readings::next_interrupt(&self.core)
     }
 
     fn drain(&mut self, home: CpuId, class: Class, runner: CpuId) -> Result<Vec<Item>, NoMemory> {
-        timer_calls::drain(&mut self.core, self.alloc, home, class, runner)
+        crate::timers::drain(&mut self.core, self.alloc, home, class, runner)
     }
 
     fn arm(&mut self, cpu: CpuId, arming: Arming) -> Result<Jiffy, NoMemory> {
-        timer_calls::arm(&mut self.core, cpu, arming)
+        crate::timers::arm(&mut self.core, cpu, arming)
     }
 
     fn cancel(&mut self, home: CpuId, cancelling: Cancelling) -> Result<(), NoMemory> {
-        timer_calls::cancel(&mut self.core, home, cancelling)
+        crate::timers::cancel(&mut self.core, home, cancelling)
     }
 
     fn enter(&mut self, cpu: CpuId) {
-        walk_calls::enter(&mut self.core, cpu);
+        crate::turns::enter(&mut self.core, cpu);
     }
 
     fn looks_after(&self, cpu: CpuId, level: u8) -> bool {
-        core_views::looks_after(&self.core, cpu, level)
+        crate::readings::looks_after(&self.core, cpu, level)
     }
 
     fn named(&self, cpu: CpuId, level: u8, tried: &CpuSet) -> Option<CpuId> {
-        core_views::named(&self.core, cpu, level, tried)
+        crate::readings::named(&self.core, cpu, level, tried)
     }
 
     fn takes(&self, _cpu: CpuId, other: CpuId) -> bool {
-        core_views::is_taken(&self.core, other)
+        crate::readings::is_taken(&self.core, other)
     }
 
     fn take(&mut self, cpu: CpuId, other: CpuId) {
-        walk_calls::take(&mut self.core, cpu, other);
+        crate::turns::take(&mut self.core, cpu, other);
     }
 
     fn let_go(&mut self, cpu: CpuId, other: CpuId) {
-        walk_calls::let_go(&mut self.core, cpu, other);
+        crate::turns::let_go(&mut self.core, cpu, other);
     }
 
     fn end(&mut self, cpu: CpuId) {
-        walk_calls::end(&mut self.core, cpu);
+        crate::turns::end(&mut self.core, cpu);
     }
 
     fn first_event(&self, cpu: CpuId) -> Jiffy {
-        core_views::first_event(&self.core, cpu)
+        crate::readings::first_event(&self.core, cpu)
     }
 
     fn idle(&mut self, cpu: CpuId) {
-        walk_calls::idle(&mut self.core, cpu);
+        crate::turns::idle(&mut self.core, cpu);
     }
 
     fn wake(&mut self, cpu: CpuId) {
-        walk_calls::wake(&mut self.core, cpu);
+        crate::turns::wake(&mut self.core, cpu);
     }
 
     fn successor(&self, cpu: CpuId) -> Option<CpuId> {
-        core_views::successor(&self.core, cpu)
+        crate::readings::successor(&self.core, cpu)
     }
 
     fn go_offline(&mut self, cpu: CpuId) {
-        walk_calls::go_offline(&mut self.core, cpu);
+        crate::turns::go_offline(&mut self.core, cpu);
     }
 
     fn hands_on(&self, cpu: CpuId) -> bool {
-        core_views::hands_on(&self.core, cpu)
+        crate::readings::hands_on(&self.core, cpu)
     }
 
     fn hand_on(&mut self, cpu: CpuId, to: CpuId) {
-        walk_calls::hand_on(&mut self.core, cpu, to);
+        crate::turns::hand_on(&mut self.core, cpu, to);
     }
 
     fn come_online(&mut self, cpu: CpuId) {
-        walk_calls::come_online(&mut self.core, cpu);
+        crate::turns::come_online(&mut self.core, cpu);
     }
 
     fn queued_on(&self, cpu: CpuId) -> usize {
-        core_views::queued_on(&self.core, cpu)
+        crate::readings::queued_on(&self.core, cpu)
     }
 
     fn controller(&self) -> Option<CpuId> {
-        core_views::controller(&self.core)
+        crate::readings::controller(&self.core)
     }
 
     fn control(&mut self, cpu: CpuId) {
-        walk_calls::control(&mut self.core, cpu);
+        crate::turns::control(&mut self.core, cpu);
     }
 
     fn move_first(&mut self, from: CpuId, to: CpuId) -> Result<Option<Mover>, NoMemory> {
-        timer_calls::move_first(&mut self.core, from, to)
+        crate::timers::move_first(&mut self.core, from, to)
     }
 
     fn cover_of(&self, cpu: CpuId) -> Option<Answerer> {
-        core_covers::answerer_of(&self.core, cpu)
+        crate::answers::answerer_of(&self.core, cpu)
     }
 }

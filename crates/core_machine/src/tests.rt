@@ -1,7 +1,7 @@
 ghost use Rattle.std.specs.Prelude.{◌≡◌, ◌≤◌, IfOk, OnOk};
 ghost use Rattle.tm_base.specs.declared.limits.TheConstants.{MOST_NODE_CPUS};
 ghost use Rattle.play_rules.specs.Phases as phases;
-ghost use Rattle.step_rules.specs.Seen.{InPlay, resting};
+ghost use Rattle.step_play.specs.Rules.Seen.{InPlay, resting};
 
 use super::*;
 use core_state::one_node_core;

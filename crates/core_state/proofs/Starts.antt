@@ -11,7 +11,7 @@ use Rattle.tree_plan.specs.Shape.{Shape, IsPlanned}
 use Rattle.tree_plan.specs.Paths.{child_count_of, cpu_count_of, group_count_of}
 use Rattle.cpu_bases.specs.CpuBases.{RoomyBases, empty_bases}
 use Rattle.walk_rules.specs.Scene.{Group}
-use Rattle.core_start.specs.Layer.{StartsLawful}
+use Rattle.core_laws.specs.Start.Layer.{StartsLawful}
 use Rattle.core_facts.specs.Levels.{LevelsFit, LevelsStartFit}
 use Rattle.core_facts.specs.Played.{AllPlayed, StartsPlayed}
 use Rattle.core_world.specs.Lawful.{IsLawful}

@@ -11,7 +11,7 @@ use crate::group::CoreGroup;
 use crate::machine::Core;
 use crate::tally::tally_of;
 use core_facts::{law_height, law_replay};
-use core_start::law_start;
+use core_laws::law_start;
 use cpu_bases::Bases;
 use std::alloc::Global;
 use tm_base::{CpuId, GroupId, NoMemory};

@@ -8,8 +8,8 @@ use Rattle.core_world.specs.Enabled.{MayWake}
 use Rattle.core_world.specs.Lawful.{IsLawful}
 use Rattle.core_world.specs.Steps.{begins}
 use Rattle.core_world.specs.World.{CpuRecord, World, cpu_of}
-use Rattle.step_rules.specs.Alone.{goes_on}
-use Rattle.step_rules.specs.StepRules.{made_active, woken_by_steps}
+use Rattle.step_play.specs.Rules.Alone.{goes_on}
+use Rattle.step_play.specs.Rules.StepRules.{made_active, woken_by_steps}
 use Rattle.step_play.proofs.Hotplug.{runs}
 use Rattle.hotplug.specs.Frames.{Activated, Framed, MayActivate}
 use Rattle.hotplug.proofs.Frames.{begun_framed}

@@ -4,7 +4,7 @@ use Rattle.std.proofs.lemmas.Bool.{cases_lt}
 use Rattle.tm_base.specs.declared.names.Class.TheVariants.{Pinned, Global, Deferrable}
 use Rattle.cpu_bases.specs.CpuBases.{empty_bases}
 use Rattle.core_world.specs.World.{CpuRecord, World, cpu_of}
-use Rattle.play_queues.proofs.Sights.{past_of}
+use Rattle.step_play.proofs.Queues.Sights.{past_of}
 use Rattle.hotplug.specs.Settled.{AllWhole, IsWhole}
 
 empty_whole : IsWhole empty_bases

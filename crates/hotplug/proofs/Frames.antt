@@ -11,11 +11,11 @@ use Rattle.walk_rules.specs.Scene.{Group}
 use Rattle.core_world.specs.Steps.{finished, swapped, walk_made, walked, with_walk}
 use Rattle.core_world.specs.World.{CpuRecord, World, cpu_of, group_of, moved, own}
 use Rattle.core_world.proofs.Moves.{cpu_else, cpu_same, moved_laws}
-use Rattle.step_rules.specs.Alone.{goes_on, most_steps, walk_steps, walked_out}
-use Rattle.walk_alone.proofs.Alongside.{beside_still}
-use Rattle.walk_alone.proofs.Walking.{goes, onwards, stays}
-use Rattle.step_calls.specs.Lone.{IsLone}
-use Rattle.step_calls.proofs.Lone.{lone_made, lone_moved}
+use Rattle.step_play.specs.Rules.Alone.{goes_on, most_steps, walk_steps, walked_out}
+use Rattle.step_play.proofs.Activation.Alongside.{beside_still}
+use Rattle.step_play.proofs.Activation.Walking.{goes, onwards, stays}
+use Rattle.core_machine.specs.Alone.Lone.{IsLone}
+use Rattle.core_machine.proofs.Alone.Lone.{lone_made, lone_moved}
 use Rattle.hotplug.specs.Frames.{Framed, Own}
 
 pub own_same : (y : CpuRecord) → Own y y

@@ -12,18 +12,18 @@ use Rattle.wheel_core.specs.declared.item.Item.{Item}
 use Rattle.wheel_core.specs.PlainBase.{NoneBehind}
 use Rattle.cpu_bases.specs.CpuBases.{base_of}
 use Rattle.tree_plan.specs.Paths.{is_placed_in}
-use Rattle.play_laws.proofs.Ranges.{found_some}
+use Rattle.play_laws.proofs.Answered.Ranges.{found_some}
 use Rattle.play_rules.specs.Machines.{after_move}
 use Rattle.play_rules.specs.State.{cpu_at, cpu_count}
 use Rattle.play_rules.specs.Timers.{controller, first_to_move}
 use Rattle.core_world.specs.Covered.{IsSettled}
 use Rattle.core_world.specs.World.{CpuRecord, World, cpu_of}
-use Rattle.step_rules.specs.Seen.{state_of}
-use Rattle.step_rules.specs.StepRules.{made_active, step_rules}
-use Rattle.play_queues.proofs.Sights.{count_seen}
+use Rattle.step_play.specs.Rules.Seen.{state_of}
+use Rattle.step_play.specs.Rules.StepRules.{made_active, step_rules}
+use Rattle.step_play.proofs.Queues.Sights.{count_seen}
 use Rattle.step_play.proofs.Hotplug.{IsHead, head_is, read}
 use Rattle.step_play.proofs.Takes.{there}
-use Rattle.timer_calls.specs.Turns.{timer_of}
+use Rattle.core_machine.specs.Draining.Turns.{timer_of}
 use Rattle.hotplug.specs.Frames.{Activated, MayActivate, MayMoveAll}
 use Rattle.hotplug.specs.Settled.{AllWhole, MovedSome, MovedTimes, SomeOnline, heir_of, moved_off}
 use Rattle.hotplug.specs.Settled.{moved_times, moved_to}

@@ -17,12 +17,12 @@ use Rattle.core_world.specs.Enabled.{MayComeOnline, MayGoOffline, MayHandOn}
 use Rattle.core_world.specs.Lawful.{IsLawful}
 use Rattle.core_world.specs.Steps.{begins, begins_with, stepped, with_walk}
 use Rattle.core_world.specs.World.{CpuRecord, World, cpu_of}
-use Rattle.step_rules.specs.Alone.{goes_on}
-use Rattle.step_rules.specs.StepRules.{come_by_steps, gone_by_steps, handed_on_by_steps}
-use Rattle.step_rules.specs.StepRules.{is_waiting}
+use Rattle.step_play.specs.Rules.Alone.{goes_on}
+use Rattle.step_play.specs.Rules.StepRules.{come_by_steps, gone_by_steps, handed_on_by_steps}
+use Rattle.step_play.specs.Rules.StepRules.{is_waiting}
 use Rattle.step_play.proofs.Hotplug.{runs}
 use Rattle.step_play.proofs.Worlds.{own_is, put_all}
-use Rattle.walk_alone.proofs.Calm.{handing}
+use Rattle.step_play.proofs.Activation.Calm.{handing}
 use Rattle.hotplug.specs.Frames.{Activated, Framed, MayActivate, Waits}
 use Rattle.hotplug.specs.Settled.{AllWhole, IsWhole, gone_whole, heir_at, offline_fault}
 use Rattle.hotplug.proofs.Frames.{begun_framed}

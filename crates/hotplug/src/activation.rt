@@ -1,11 +1,11 @@
 //! A CPU is made active.
 
 ghost use Rattle.std.specs.Prelude.{◌≡◌};
-ghost use Rattle.step_rules.specs.StepRules.{made_active};
+ghost use Rattle.step_play.specs.Rules.StepRules.{made_active};
 ghost use Rattle.hotplug.specs.Frames.{Activated, MayActivate};
 
 use core_state::Core;
-use step_calls::wake;
+use core_machine::walks::wake;
 use tm_base::CpuId;
 use wheel_core::TimerBase;
 

@@ -4,7 +4,7 @@ ghost use Rattle.std.specs.Prelude.{◌≡◌, ◌+◌, ◌<◌, IfOk, OnErr, On
 ghost use Rattle.core_world.specs.Covered.{IsSettled};
 ghost use Rattle.core_world.specs.World.{cpu_of};
 ghost use Rattle.play_rules.specs.Machines.{after_move};
-ghost use Rattle.step_rules.specs.StepRules.{step_rules};
+ghost use Rattle.step_play.specs.Rules.StepRules.{step_rules};
 ghost use Rattle.hotplug.specs.Frames.{MayMoveAll};
 ghost use Rattle.hotplug.specs.Settled.{AllWhole, MovedSome, SomeOnline, heir_of, moved_off};
 ghost use Rattle.hotplug.specs.Settled.{MovedTimes};
@@ -12,8 +12,8 @@ ghost use Rattle.hotplug.specs.Settled.{MovedTimes};
 use crate::activation::make_active;
 use core_laws::law_step;
 use core_state::Core;
-use core_views::controller;
-use timer_calls::first_timer;
+use core_machine::readings::controller;
+use core_machine::timers::first_timer;
 use tm_base::{CpuId, NoMemory};
 use wheel_core::TimerBase;
 

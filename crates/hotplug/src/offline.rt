@@ -4,15 +4,15 @@ ghost use Rattle.std.specs.Prelude.{◌≡◌, ◌≢◌, ◌<◌, IfOk, MatchRe
 ghost use Rattle.std.specs.Prelude.{length, true};
 ghost use Rattle.tree_plan.specs.Paths.{is_placed_in};
 ghost use Rattle.core_world.specs.Covered.{IsSettled};
-ghost use Rattle.step_rules.specs.StepRules.{handed_on_by_steps};
+ghost use Rattle.step_play.specs.Rules.StepRules.{handed_on_by_steps};
 ghost use Rattle.hotplug.specs.Frames.{Waits};
 ghost use Rattle.hotplug.specs.Settled.{AllWhole, gone_whole, heir_at, offline_fault};
 
 use crate::activation::make_active;
 use core_state::Core;
-use core_views::hands_on;
+use core_machine::readings::hands_on;
 use core_world::Step;
-use step_calls::make;
+use core_machine::walks::make;
 use tm_base::{CpuId, OpFault};
 use wheel_core::TimerBase;
 
@@ -58,7 +58,7 @@ fn leave<B: TimerBase>(core: &mut Core<B>, cpu: CpuId, to: CpuId) -> Option<CpuI
     ensures settled { IsSettled core.new }
     ensures whole { AllWhole core.old → AllWhole core.new }
 {
-    step_calls::go_offline(core, cpu);
+    core_machine::walks::go_offline(core, cpu);
     if hands_on(core, cpu) {
         hand_on(core, cpu, to);
         return Some(to);

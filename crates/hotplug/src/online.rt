@@ -2,11 +2,11 @@
 
 ghost use Rattle.std.specs.Prelude.{◌≡◌, ◌<◌, MatchResult, None, OnErr, OnOk, Some, length};
 ghost use Rattle.core_world.specs.Covered.{IsSettled};
-ghost use Rattle.step_rules.specs.StepRules.{come_by_steps};
+ghost use Rattle.step_play.specs.Rules.StepRules.{come_by_steps};
 ghost use Rattle.hotplug.specs.Settled.{AllWhole, online_fault};
 
 use core_state::Core;
-use step_calls::come_online;
+use core_machine::walks::come_online;
 use tm_base::{CpuId, OpFault};
 use wheel_core::TimerBase;
 

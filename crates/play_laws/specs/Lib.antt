@@ -1,1 +1,3 @@
-pub mod Settled
+pub mod Answered
+pub mod Jiffies
+pub mod Work

@@ -1,7 +1,12 @@
-//! Laws of Play: what holds after each moment of every script's play under the plain machine's
-//! rules. Each of these functions does nothing; its contract is the law.
+//! The laws of Play: what holds after each moment of every script's play, under any rules of a
+//! machine. Each function does nothing; its contract is the law. `proofs/Shape`: what holds all
+//! through a play where each rule keeps it; for crates above.
 #![tactic(auto)]
 
-mod laws;
+mod answered_law;
+mod jiffy_laws;
+mod work_laws;
 
-pub use laws::law_settled;
+pub use answered_law::law_settled;
+pub use jiffy_laws::{law_ends, law_in_its_jiffy, law_runners};
+pub use work_laws::{law_moments, law_work};

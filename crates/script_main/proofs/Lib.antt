@@ -1,3 +1,4 @@
+pub mod TreeText
 mod Replying
 mod Endings
 mod Exactly

@@ -1,3 +1,5 @@
+pub mod TreeText
+pub mod DayText
 pub mod Words
 pub mod Texts
 pub mod Scripts

@@ -14,8 +14,8 @@ use Rattle.play_rules.specs.Jobs.{first_unknown_job}
 use Rattle.play_rules.specs.Play.{play_text, play_spent}
 use Rattle.tm_driver.specs.Outcomes.{work_limit}
 use Rattle.tm_driver.specs.Plays.{CanPlay, LawsHold, summary_of}
-use Rattle.tree_text.specs.Trees.{tree_text}
-use Rattle.day_text.specs.Days.{day_text}
+use Rattle.script_main.specs.TreeText.Trees.{tree_text}
+use Rattle.script_main.specs.DayText.Days.{day_text}
 use Rattle.script_main.specs.declared.commands.Recipe.{Recipe}
 use Rattle.script_main.specs.declared.commands.Command.{Command}
 use Rattle.script_main.specs.declared.commands.Command.TheVariants.{Play, Tree, Generate, Day}

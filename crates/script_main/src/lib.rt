@@ -3,10 +3,12 @@
 #![tactic(auto)]
 
 mod commands;
+pub mod day_text;
 mod program;
 mod replies;
 mod statuses;
 mod texts;
+pub mod tree_text;
 
 pub use commands::MOST_NUMBER;
 pub use program::run_program;

@@ -10,9 +10,10 @@ ghost use Rattle.script_main.specs.Replies.{IsReply, IsReplyOf, IsReplyTo};
 ghost use Rattle.script_main.specs.Steps.{IsReplyToBytes};
 
 use crate::commands::{Command, Recipe, read_command};
-use day_text::print_day;
+use crate::day_text::print_day;
+use crate::tree_text::print_tree;
 use job_table::Jobs;
-use play_work::law_work;
+use play_laws::law_work;
 use std::alloc::Global;
 use tm_base::{MOST_BYTES, NoMemory};
 use tm_driver::{DriveFault, play, summary};
@@ -21,7 +22,6 @@ use tm_io::{ReadFault, Source, read_all};
 use tm_report::Report;
 use tm_script::{ReadScript, Script, ScriptFault, print_script, read_script};
 use tree_plan::plan;
-use tree_text::print_tree;
 
 /// A text that the program writes, and what it says.
 #[derive(Drop)]

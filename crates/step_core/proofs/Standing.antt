@@ -14,7 +14,7 @@ use Rattle.core_world.specs.declared.step.Step.TheVariants as steps
 use Rattle.core_world.specs.Enabled.{MayGoOn, MayWalk}
 use Rattle.core_world.specs.Steps.{swapped, walk_made, walked}
 use Rattle.core_world.specs.World.{World, cpu_of, scene_of}
-use Rattle.core_walks.proofs.Stands.{stage_fits, stands_in}
+use Rattle.core_laws.proofs.Walks.Stands.{stage_fits, stands_in}
 use Rattle.core_state.specs.Kept.{HasLevel, StaysFit, WorldFits}
 use Rattle.core_state.proofs.Fits.{walks_fit}
 use Rattle.step_core.specs.Stands.{StandsAt}

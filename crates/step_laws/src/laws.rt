@@ -5,8 +5,8 @@ ghost use Rattle.coverage.specs.Coverage.{Held, Woken};
 ghost use Rattle.wheel_core.specs.declared.item.Item.{Item};
 ghost use Rattle.core_world.specs.Covered.{Covered, IsSettled, machine_of};
 ghost use Rattle.core_world.specs.Lawful.{IsLawful};
-ghost use Rattle.core_cover.specs.Headline.{IsWaiting};
-ghost use Rattle.core_cover.specs.Once.{IsOnce};
+ghost use Rattle.core_facts.specs.Cover.Headline.{IsWaiting};
+ghost use Rattle.core_facts.specs.Cover.Once.{IsOnce};
 
 use core_state::Core;
 use wheel_core::TimerBase;
@@ -24,7 +24,7 @@ pub fn law_covered<B: TimerBase>(core: &Core<B>)
     ensures { (c : ℕ) (item : Item) → IsWaiting core.now c item → Covered core.now c item.wheel }
 {
     law_lawful(core);
-    core_cover::law_covered();
+    core_facts::law_covered();
 }
 
 /// Where none is under way, each of them is held or woken for.
@@ -33,7 +33,7 @@ pub fn law_settled<B: TimerBase>(core: &Core<B>)
         Held (machine_of core.now) c item.wheel ⊎ Woken (machine_of core.now) c item.wheel }
 {
     law_lawful(core);
-    core_cover::law_settled();
+    core_facts::law_settled();
 }
 
 /// A timer is queued at most once, and each arming has at most one end.
@@ -41,5 +41,5 @@ pub fn law_once<B: TimerBase>(core: &Core<B>)
     ensures { IsOnce core.now }
 {
     law_lawful(core);
-    core_cover::law_once();
+    core_facts::law_once();
 }

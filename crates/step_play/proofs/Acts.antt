@@ -21,11 +21,11 @@ use Rattle.core_world.specs.Enabled.{IsFree, MayArm, MayCancel, MayRun}
 use Rattle.core_world.specs.Steps.{with_bases}
 use Rattle.core_world.specs.World.{CpuRecord, World, cpu_of, is_active}
 use Rattle.core_laws.specs.Laws.{StepsStayLawful}
-use Rattle.step_rules.specs.Alike.{Plays}
-use Rattle.step_rules.specs.Seen.{InPlay, Phase, state_of}
-use Rattle.step_rules.specs.StepRules.{armed_by_steps, cancelled_by_steps, drained_by_steps}
-use Rattle.step_rules.specs.StepRules.{items_due}
-use Rattle.play_shape.proofs.Alike.{drained_seen}
+use Rattle.step_play.specs.Rules.Alike.{Plays}
+use Rattle.step_play.specs.Rules.Seen.{InPlay, Phase, state_of}
+use Rattle.step_play.specs.Rules.StepRules.{armed_by_steps, cancelled_by_steps, drained_by_steps}
+use Rattle.step_play.specs.Rules.StepRules.{items_due}
+use Rattle.play_laws.proofs.Shape.Alike.{drained_seen}
 use Rattle.step_play.proofs.Bases.{Each, cancelled_whole, drained_whole, due_all, queued_late}
 use Rattle.step_play.proofs.Bases.{queued_whole}
 use Rattle.step_play.proofs.Drains.{Rebases, drains}

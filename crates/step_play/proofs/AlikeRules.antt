@@ -7,16 +7,16 @@ use Rattle.play_rules.specs.declared.asks.Arming.{Arming}
 use Rattle.play_rules.specs.Play.{plain_rules}
 use Rattle.play_rules.specs.State.{Cpu, cpu_at}
 use Rattle.play_rules.specs.Timers.{armed_item, armed_on}
-use Rattle.play_shape.proofs.Alike.{Alike, placed_seen}
-use Rattle.play_shape.proofs.Shape.{Stage, begun, between, climbed, leaving, looked, looking}
-use Rattle.play_shape.proofs.Shape.{moving, own, running, taking}
+use Rattle.play_laws.proofs.Shape.Alike.{Alike, placed_seen}
+use Rattle.play_laws.proofs.Shape.Shape.{Stage, begun, between, climbed, leaving, looked, looking}
+use Rattle.play_laws.proofs.Shape.Shape.{moving, own, running, taking}
 use Rattle.core_world.specs.World.{World}
 use Rattle.core_laws.specs.Laws.{StepsStayLawful}
-use Rattle.step_rules.specs.Alike.{Plays}
-use Rattle.step_rules.specs.Seen.{Phase, cpu_seen, inside, resting, serving, state_of}
-use Rattle.step_rules.specs.StepRules.{armed_by_steps, step_rules}
-use Rattle.play_queues.proofs.Covers.{covers_alike}
-use Rattle.play_queues.proofs.Sights.{count_seen}
+use Rattle.step_play.specs.Rules.Alike.{Plays}
+use Rattle.step_play.specs.Rules.Seen.{Phase, cpu_seen, inside, resting, serving, state_of}
+use Rattle.step_play.specs.Rules.StepRules.{armed_by_steps, step_rules}
+use Rattle.step_play.proofs.Queues.Covers.{covers_alike}
+use Rattle.step_play.proofs.Queues.Sights.{count_seen}
 use Rattle.step_play.specs.SamePlay.{Walks}
 use Rattle.step_play.proofs.Hotplug.{read}
 use Rattle.step_play.proofs.Interrupted.{arms_own, ended_plays, entered_plays, sees_own}

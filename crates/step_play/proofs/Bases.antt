@@ -28,7 +28,7 @@ use Rattle.cpu_bases.specs.CpuBases.{found_in, handed_out, moved_out, first_of, 
 use Rattle.cpu_bases.proofs.Drains.{drain_is_whole}
 use Rattle.cpu_bases.proofs.Keeping.{or_item}
 use Rattle.cpu_bases.proofs.Classes.{class_is}
-use Rattle.play_laws.proofs.Bases.{changed_kept}
+use Rattle.play_laws.proofs.Answered.Bases.{changed_kept}
 use Rattle.play_rules.specs.Timers.{due_items, item_then}
 
 -- each base of a CPU

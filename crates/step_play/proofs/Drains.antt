@@ -21,7 +21,7 @@ use Rattle.core_world.specs.Lawful.{IsLawful}
 use Rattle.core_world.specs.Steps.{handed_of, stepped, with_bases}
 use Rattle.core_world.specs.World.{CpuRecord, World, cpu_of}
 use Rattle.core_laws.specs.Laws.{StepsStayLawful}
-use Rattle.step_rules.specs.StepRules.{hands}
+use Rattle.step_play.specs.Rules.StepRules.{hands}
 use Rattle.step_play.proofs.Bases.{drained_last, drained_more, due_last, due_more}
 use Rattle.step_play.proofs.Bases.{handed_base}
 use Rattle.step_play.proofs.Worlds.{own_is, put, put_count, put_same}

@@ -10,10 +10,10 @@ use Rattle.cpu_bases.specs.CpuBases.{class_in, found_in}
 use Rattle.play_rules.specs.declared.asks.Queued.{Queued}
 use Rattle.play_rules.specs.State.{Cpu, State, cpu_count}
 use Rattle.play_rules.specs.Timers.{bases_at, holder_of, queued_as, queued_at, queued_on}
-use Rattle.play_laws.proofs.Ranges.{found_some, found_there}
+use Rattle.play_laws.proofs.Answered.Ranges.{found_some, found_there}
 use Rattle.core_world.specs.World.{CpuRecord, World, cpu_of}
-use Rattle.step_rules.specs.Seen.{state_of}
-use Rattle.play_queues.proofs.Sights.{count_seen, past_of, seen_at}
+use Rattle.step_play.specs.Rules.Seen.{state_of}
+use Rattle.step_play.proofs.Queues.Sights.{count_seen, past_of, seen_at}
 
 pub bases_seen : (w : World) (c : ℕ) → c < length w.cpus →
     bases_at (state_of w) c ≡ (cpu_of w c).bases

@@ -20,18 +20,18 @@ use Rattle.play_rules.specs.Hierarchy.{some_placed_active, woken}
 use Rattle.play_rules.specs.Operations.{last_online}
 use Rattle.play_rules.specs.Play.{hands_on, successor}
 use Rattle.play_rules.specs.Timers.{controller, controlling}
-use Rattle.play_laws.proofs.Ranges.{any_here, found_there}
+use Rattle.play_laws.proofs.Answered.Ranges.{any_here, found_there}
 use Rattle.core_world.specs.Enabled.{MayBeMissed, MayGoOffline, MayIdle, MayWake}
 use Rattle.core_world.specs.declared.step.Step.TheVariants as steps
 use Rattle.core_world.specs.Steps.{stepped}
 use Rattle.core_world.specs.World as core
 use Rattle.core_world.specs.World.{World, cpu_of}
 use Rattle.core_laws.specs.Laws.{StepsStayLawful}
-use Rattle.step_rules.specs.Alike.{Plays, WakesAlike}
-use Rattle.step_rules.specs.Seen.{InPlay, Phase, cpu_seen, handing, hands_in, resting, state_of}
-use Rattle.step_rules.specs.StepRules.{handed_on_by_steps, made_active, step_rules}
-use Rattle.step_rules.specs.StepRules.{woken_by_steps}
-use Rattle.play_queues.proofs.Sights.{count_seen, seen_at}
+use Rattle.step_play.specs.Rules.Alike.{Plays, WakesAlike}
+use Rattle.step_play.specs.Rules.Seen.{InPlay, Phase, cpu_seen, handing, hands_in, resting, state_of}
+use Rattle.step_play.specs.Rules.StepRules.{handed_on_by_steps, made_active, step_rules}
+use Rattle.step_play.specs.Rules.StepRules.{woken_by_steps}
+use Rattle.step_play.proofs.Queues.Sights.{count_seen, seen_at}
 use Rattle.step_play.proofs.Takes.{hand_plays}
 use Rattle.step_play.proofs.Worlds.{bare, free_in}
 

@@ -20,23 +20,23 @@ use Rattle.play_rules.specs.Interrupts.{having_interrupt}
 use Rattle.play_rules.specs.Play.{ended, has_interrupt, plain_rules}
 use Rattle.play_rules.specs.State.{State, cpu_at}
 use Rattle.play_rules.specs.Timers.{armed_on, drained_on, queued_on}
-use Rattle.play_laws.proofs.Plays.{rules_keep}
-use Rattle.play_laws.proofs.Settles.{Settles}
+use Rattle.play_laws.proofs.Answered.Plays.{rules_keep}
+use Rattle.play_laws.proofs.Answered.Settles.{Settles}
 use Rattle.std.proofs.lemmas.Bool.Decides.{nat_tests}
-use Rattle.play_shape.proofs.Alike.{drained_seen}
-use Rattle.play_shape.proofs.Shape.{Keeps, MayRunAgain, Stage, begun, between, looked}
-use Rattle.play_shape.proofs.Shape.{nth_class, own}
+use Rattle.play_laws.proofs.Shape.Alike.{drained_seen}
+use Rattle.play_laws.proofs.Shape.Shape.{Keeps, MayRunAgain, Stage, begun, between, looked}
+use Rattle.play_laws.proofs.Shape.Shape.{nth_class, own}
 use Rattle.core_world.specs.declared.step.Step.TheVariants as steps
 use Rattle.core_world.specs.Enabled.{IsFree, MayTime}
 use Rattle.core_world.specs.Steps.{stepped}
 use Rattle.core_world.specs.World.{World, cpu_of}
 use Rattle.core_laws.specs.Laws.{StepsStayLawful}
-use Rattle.step_rules.specs.Alike.{Plays}
-use Rattle.step_rules.specs.Seen.{InPlay, Phase, inside, resting, state_of}
-use Rattle.step_rules.specs.StepRules.{armed_by_steps, drained_by_steps}
-use Rattle.step_rules.specs.StepRules.{ended_by_steps, items_due}
-use Rattle.step_rules.specs.StepRules.{step_rules}
-use Rattle.play_queues.proofs.Sights.{count_seen}
+use Rattle.step_play.specs.Rules.Alike.{Plays}
+use Rattle.step_play.specs.Rules.Seen.{InPlay, Phase, inside, resting, state_of}
+use Rattle.step_play.specs.Rules.StepRules.{armed_by_steps, drained_by_steps}
+use Rattle.step_play.specs.Rules.StepRules.{ended_by_steps, items_due}
+use Rattle.step_play.specs.Rules.StepRules.{step_rules}
+use Rattle.step_play.proofs.Queues.Sights.{count_seen}
 use Rattle.step_play.specs.SamePlay.{Walks}
 use Rattle.step_play.proofs.Acts.{arm_plays, drain_known}
 use Rattle.step_play.proofs.Acts.{drain_plays, drain_seen}

@@ -8,14 +8,14 @@ use Rattle.tm_base.specs.declared.limits.TheConstants.{SCRIPT_TIME_LIMIT}
 use Rattle.tm_base.specs.declared.names.Class.TheVariants.{Global}
 use Rattle.tree_plan.specs.Shape.{Shape}
 use Rattle.tree_plan.specs.Paths.{cpu_count_of, level_count_of}
-use Rattle.play_laws.proofs.Plays.{rules_keep}
-use Rattle.play_laws.proofs.Settles.{Settles}
-use Rattle.play_shape.proofs.Shape.{Keeps, Stage, begun, between, climbed, looked, looking, moving}
-use Rattle.play_shape.proofs.Shape.{nth_class, own, taking}
+use Rattle.play_laws.proofs.Answered.Plays.{rules_keep}
+use Rattle.play_laws.proofs.Answered.Settles.{Settles}
+use Rattle.play_laws.proofs.Shape.Shape.{Keeps, Stage, begun, between, climbed, looked, looking, moving}
+use Rattle.play_laws.proofs.Shape.Shape.{nth_class, own, taking}
 use Rattle.core_world.specs.World.{World}
 use Rattle.core_laws.specs.Laws.{StepsStayLawful}
-use Rattle.step_rules.specs.Seen.{inside, resting, serving, state_of}
-use Rattle.step_rules.specs.StepRules.{step_rules}
+use Rattle.step_play.specs.Rules.Seen.{inside, resting, serving, state_of}
+use Rattle.step_play.specs.Rules.StepRules.{step_rules}
 use Rattle.step_play.specs.SamePlay.{Walks}
 use Rattle.step_play.proofs.Interrupted.{comes, drained, ends, entered, known, ran}
 use Rattle.step_play.proofs.Looking.{can_take, drained_for, let_go, ran_for, taken}

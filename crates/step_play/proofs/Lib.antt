@@ -1,3 +1,6 @@
+pub mod Queues
+pub mod Activation
+pub mod Telling
 pub mod Worlds
 pub mod Bases
 pub mod Drains

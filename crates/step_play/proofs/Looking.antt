@@ -22,22 +22,22 @@ use Rattle.play_rules.specs.Interrupts.{cpu_id}
 use Rattle.play_rules.specs.State.{Cpu, State, cpu_at, cpu_count, has_group, new_cpu}
 use Rattle.play_rules.specs.State.{with_bases}
 use Rattle.play_rules.specs.Timers.{armed_bases, armed_on, bases_at, drained_on, queued_on}
-use Rattle.play_laws.proofs.Plays.{rules_keep}
-use Rattle.play_laws.proofs.States.{here_is}
-use Rattle.play_laws.proofs.Timers.{bases_alike}
-use Rattle.play_shape.proofs.Alike.{drained_seen}
-use Rattle.play_shape.proofs.Shape.{looking}
-use Rattle.play_shape.proofs.Shape.{running, taking}
+use Rattle.play_laws.proofs.Answered.Plays.{rules_keep}
+use Rattle.play_laws.proofs.Answered.States.{here_is}
+use Rattle.play_laws.proofs.Answered.Timers.{bases_alike}
+use Rattle.play_laws.proofs.Shape.Alike.{drained_seen}
+use Rattle.play_laws.proofs.Shape.Shape.{looking}
+use Rattle.play_laws.proofs.Shape.Shape.{running, taking}
 use Rattle.core_world.specs.Enabled.{IsFree}
 use Rattle.core_world.specs.World.{World, cpu_of}
 use Rattle.core_laws.specs.Laws.{StepsStayLawful}
-use Rattle.step_rules.specs.Alike.{Plays}
-use Rattle.step_rules.specs.Seen.{InPlay, inside, serving, state_of}
-use Rattle.step_rules.specs.StepRules.{armed_by_steps, can_be_taken, drained_by_steps}
-use Rattle.step_rules.specs.StepRules.{let_go_by_steps, named_by_queue}
-use Rattle.step_rules.specs.StepRules.{step_rules}
-use Rattle.play_queues.proofs.Looks.{each_can_be_taken, each_names_alike}
-use Rattle.play_queues.proofs.Sights.{count_seen}
+use Rattle.step_play.specs.Rules.Alike.{Plays}
+use Rattle.step_play.specs.Rules.Seen.{InPlay, inside, serving, state_of}
+use Rattle.step_play.specs.Rules.StepRules.{armed_by_steps, can_be_taken, drained_by_steps}
+use Rattle.step_play.specs.Rules.StepRules.{let_go_by_steps, named_by_queue}
+use Rattle.step_play.specs.Rules.StepRules.{step_rules}
+use Rattle.step_play.proofs.Queues.Looks.{each_can_be_taken, each_names_alike}
+use Rattle.step_play.proofs.Queues.Sights.{count_seen}
 use Rattle.step_play.specs.SamePlay.{Walks}
 use Rattle.step_play.proofs.Acts.{arm_else, arm_late, arm_plays, drain_late}
 use Rattle.step_play.proofs.Acts.{drain_plays, drain_seen}

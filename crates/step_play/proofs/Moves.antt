@@ -21,16 +21,16 @@ use Rattle.play_rules.specs.State as play
 use Rattle.play_rules.specs.Timers.{bases_at, first_to_move, moved, moved_into, moved_one}
 use Rattle.play_rules.specs.Timers.{moved_out_of}
 use Rattle.play_rules.proofs.FirstMoves.{first_is}
-use Rattle.play_shape.proofs.Alike.{moved_seen}
+use Rattle.play_laws.proofs.Shape.Alike.{moved_seen}
 use Rattle.core_world.specs.declared.step.Step.TheVariants as steps
 use Rattle.core_world.specs.Enabled.{MayMove}
 use Rattle.core_world.specs.Lawful.{IsLawful}
 use Rattle.core_world.specs.Steps.{first_moved, moved_with, stepped, with_bases}
 use Rattle.core_world.specs.World.{CpuRecord, World, cpu_of, is_active}
 use Rattle.core_laws.specs.Laws.{StepsStayLawful}
-use Rattle.step_rules.specs.Alike.{Plays}
-use Rattle.step_rules.specs.Seen.{InPlay, resting, state_of}
-use Rattle.step_rules.specs.StepRules.{moved_by_steps}
+use Rattle.step_play.specs.Rules.Alike.{Plays}
+use Rattle.step_play.specs.Rules.Seen.{InPlay, resting, state_of}
+use Rattle.step_play.specs.Rules.StepRules.{moved_by_steps}
 use Rattle.step_play.proofs.Bases.{moved_out_whole, queued_whole}
 use Rattle.step_play.proofs.Drains.{rebased}
 use Rattle.step_play.proofs.Held.{bases_seen}

@@ -17,22 +17,22 @@ use Rattle.play_rules.specs.Rules.{Moved}
 use Rattle.play_rules.specs.State.{Cpu, State, cpu_at, cpu_count}
 use Rattle.play_rules.specs.Timers.{armed_on, cancelled_on, controller, controlling, moved}
 use Rattle.play_rules.specs.Timers.{moved_one, queued_on}
-use Rattle.play_laws.proofs.Hotplug.{hands_placed}
-use Rattle.play_laws.proofs.Plays.{rules_keep}
-use Rattle.play_laws.proofs.Settles.{Settles}
-use Rattle.play_laws.proofs.States.{written_alike}
-use Rattle.play_laws.proofs.Timers.{queued_low}
-use Rattle.play_shape.proofs.Alike.{moved_seen}
-use Rattle.play_shape.proofs.Shape.{Keeps, between, leaving, moving}
+use Rattle.play_laws.proofs.Answered.Hotplug.{hands_placed}
+use Rattle.play_laws.proofs.Answered.Plays.{rules_keep}
+use Rattle.play_laws.proofs.Answered.Settles.{Settles}
+use Rattle.play_laws.proofs.Answered.States.{written_alike}
+use Rattle.play_laws.proofs.Answered.Timers.{queued_low}
+use Rattle.play_laws.proofs.Shape.Alike.{moved_seen}
+use Rattle.play_laws.proofs.Shape.Shape.{Keeps, between, leaving, moving}
 use Rattle.core_world.specs.World.{World, cpu_of, is_active}
 use Rattle.core_laws.specs.Laws.{StepsStayLawful}
-use Rattle.step_rules.specs.Alike.{GoesAlike, Plays}
-use Rattle.step_rules.specs.Seen.{InPlay, handing, resting, state_of}
-use Rattle.step_rules.specs.StepRules.{armed_by_steps, cancelled_by_steps, come_by_steps}
-use Rattle.step_rules.specs.StepRules.{gone_by_steps, handed_on_by_steps, idled_by_steps}
-use Rattle.step_rules.specs.StepRules.{is_waiting, made_active, moved_by_steps, step_rules}
-use Rattle.step_rules.specs.StepRules.{woken_by_steps}
-use Rattle.play_queues.proofs.Sights.{count_seen}
+use Rattle.step_play.specs.Rules.Alike.{GoesAlike, Plays}
+use Rattle.step_play.specs.Rules.Seen.{InPlay, handing, resting, state_of}
+use Rattle.step_play.specs.Rules.StepRules.{armed_by_steps, cancelled_by_steps, come_by_steps}
+use Rattle.step_play.specs.Rules.StepRules.{gone_by_steps, handed_on_by_steps, idled_by_steps}
+use Rattle.step_play.specs.Rules.StepRules.{is_waiting, made_active, moved_by_steps, step_rules}
+use Rattle.step_play.specs.Rules.StepRules.{woken_by_steps}
+use Rattle.step_play.proofs.Queues.Sights.{count_seen}
 use Rattle.step_play.specs.SamePlay.{Walks}
 use Rattle.step_play.proofs.Acts.{arm_plays, cancel_plays}
 use Rattle.step_play.proofs.Hotplug.{active_plays, handed_plays, head_is, may_go, may_idle}

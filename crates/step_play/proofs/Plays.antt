@@ -9,18 +9,18 @@ use Rattle.tree_plan.specs.Paths.{cpu_count_of, level_count_of}
 use Rattle.play_rules.specs.Interrupts.{Replies, having_interrupt}
 use Rattle.play_rules.specs.Moments.{Turn, last_state, spent_at, turns, whole_lines}
 use Rattle.play_rules.specs.Play.{plain_rules, play_start, play_turns}
-use Rattle.play_laws.proofs.Scripts.{moments_in, moments_rise, planned_for, tree_for}
-use Rattle.play_laws.proofs.Settles.{AreOnline, due_online}
-use Rattle.play_laws.proofs.Starts.{start_kept}
-use Rattle.play_laws.proofs.States.{IsKept, Nobody}
-use Rattle.play_shape.proofs.AlikeTurns.{last_seen, spent_seen, turns_alike, whole_alike}
-use Rattle.play_shape.proofs.Shape.{begun, between}
-use Rattle.play_shape.proofs.ShapeTurns.{turns_kept}
+use Rattle.play_laws.proofs.Answered.Scripts.{moments_in, moments_rise, planned_for, tree_for}
+use Rattle.play_laws.proofs.Answered.Settles.{AreOnline, due_online}
+use Rattle.play_laws.proofs.Answered.Starts.{start_kept}
+use Rattle.play_laws.proofs.Answered.States.{IsKept, Nobody}
+use Rattle.play_laws.proofs.Shape.AlikeTurns.{last_seen, spent_seen, turns_alike, whole_alike}
+use Rattle.play_laws.proofs.Shape.Shape.{begun, between}
+use Rattle.play_laws.proofs.Shape.ShapeTurns.{turns_kept}
 use Rattle.core_world.specs.World.{World}
 use Rattle.core_laws.specs.Laws.{StepsStayLawful}
-use Rattle.core_start.specs.Layer.{StartsLawful}
-use Rattle.step_rules.specs.Seen.{InPlay, resting, state_of}
-use Rattle.step_rules.specs.StepRules.{step_rules}
+use Rattle.core_laws.specs.Start.Layer.{StartsLawful}
+use Rattle.step_play.specs.Rules.Seen.{InPlay, resting, state_of}
+use Rattle.step_play.specs.Rules.StepRules.{step_rules}
 use Rattle.step_play.specs.SamePlay.{IsPlayOfSteps, StepsArePlay, Walks, core_start, play_lines}
 use Rattle.step_play.specs.SamePlay.{step_lines, step_turns, turn_seen}
 use Rattle.step_play.proofs.AlikeRules.{steps_alike}

@@ -13,15 +13,15 @@ use Rattle.tree_plan.specs.Paths.{cpu_count_of, is_placed_in}
 use Rattle.play_rules.specs.declared.asks.Arming.{Arming}
 use Rattle.play_rules.specs.State.{State, cpu_at, cpu_count}
 use Rattle.play_rules.specs.Play.{hands_on}
-use Rattle.play_laws.proofs.Settles.{Settles}
-use Rattle.play_shape.proofs.Shape.{Stage, begun, between, climbed, leaving, looked, looking}
-use Rattle.play_shape.proofs.Shape.{moving, own, running, taking}
+use Rattle.play_laws.proofs.Answered.Settles.{Settles}
+use Rattle.play_laws.proofs.Shape.Shape.{Stage, begun, between, climbed, leaving, looked, looking}
+use Rattle.play_laws.proofs.Shape.Shape.{moving, own, running, taking}
 use Rattle.core_world.specs.World.{World, cpu_of}
-use Rattle.step_rules.specs.Alike.{Plays}
-use Rattle.step_rules.specs.Seen.{InPlay, Phase, handing, inside, resting, serving, state_of}
-use Rattle.step_rules.specs.StepRules.{is_waiting}
-use Rattle.play_queues.specs.Choices as queues
-use Rattle.play_queues.proofs.Sights.{count_seen, told_seen}
+use Rattle.step_play.specs.Rules.Alike.{Plays}
+use Rattle.step_play.specs.Rules.Seen.{InPlay, Phase, handing, inside, resting, serving, state_of}
+use Rattle.step_play.specs.Rules.StepRules.{is_waiting}
+use Rattle.step_play.specs.Queues.Choices as queues
+use Rattle.step_play.proofs.Queues.Sights.{count_seen, told_seen}
 use Rattle.step_play.proofs.Worlds.{rests}
 
 -- a job arms a timer that there is, with a delay of 32 bits

@@ -20,13 +20,13 @@ use Rattle.play_rules.specs.State.{new_cpu, start}
 use Rattle.walk_rules.specs.Scene.{Group, no_group}
 use Rattle.tm_script.specs.declared.syntax.Script.{Script}
 use Rattle.tm_script.specs.Grammar.{IsScript}
-use Rattle.play_laws.proofs.Scripts.{planned_for, tree_for}
-use Rattle.core_start.specs.Layer.{StartsLawful}
+use Rattle.play_laws.proofs.Answered.Scripts.{planned_for, tree_for}
+use Rattle.core_laws.specs.Start.Layer.{StartsLawful}
 use Rattle.core_world.specs.Lawful.{IsLawful}
 use Rattle.core_world.specs.Start.{start_cpu, start_group, start_of}
 use Rattle.core_world.specs.World.{CpuRecord, World, cpu_of, group_of, no_cpu}
-use Rattle.step_rules.specs.Live.{counting, expiry_of, first_in, live, told_by, told_in}
-use Rattle.step_rules.specs.Seen.{InPlay, WalkFits, cpu_seen, resting, state_of}
+use Rattle.step_play.specs.Rules.Live.{counting, expiry_of, first_in, live, told_by, told_in}
+use Rattle.step_play.specs.Rules.Seen.{InPlay, WalkFits, cpu_seen, resting, state_of}
 use Rattle.step_play.specs.SamePlay.{core_start}
 
 module _ (t : Shape) (timers : ℕ) where

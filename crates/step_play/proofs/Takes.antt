@@ -17,12 +17,12 @@ use Rattle.core_world.specs.Enabled.{IsDueAtLeaf, MayEnter, MayHandOn, MayTake}
 use Rattle.core_world.specs.Steps.{stepped, with_walk}
 use Rattle.core_world.specs.World.{CpuRecord, World, cpu_of, group_of, is_active}
 use Rattle.core_laws.specs.Laws.{StepsStayLawful}
-use Rattle.step_rules.specs.Alike.{Plays}
-use Rattle.step_rules.specs.Live.{counting, expiry_of, told_by, told_in}
-use Rattle.step_rules.specs.Seen.{InPlay, WalkFits, handing, inside, resting, serving}
-use Rattle.step_rules.specs.Seen.{state_of}
-use Rattle.step_rules.specs.StepRules.{can_be_taken}
-use Rattle.play_queues.proofs.Sights.{past_of}
+use Rattle.step_play.specs.Rules.Alike.{Plays}
+use Rattle.step_play.specs.Rules.Live.{counting, expiry_of, told_by, told_in}
+use Rattle.step_play.specs.Rules.Seen.{InPlay, WalkFits, handing, inside, resting, serving}
+use Rattle.step_play.specs.Rules.Seen.{state_of}
+use Rattle.step_play.specs.Rules.StepRules.{can_be_taken}
+use Rattle.step_play.proofs.Queues.Sights.{past_of}
 use Rattle.step_play.proofs.Worlds.{Bare, Fits, bare, dressed, free_in, own_is, put_bare}
 use Rattle.step_play.proofs.Worlds.{put_hidden, walk_by}
 

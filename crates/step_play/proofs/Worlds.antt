@@ -18,11 +18,11 @@ use Rattle.core_world.specs.Enabled.{IsFree}
 use Rattle.core_world.specs.Lawful.{IsLawful}
 use Rattle.core_world.specs.Steps.{with_bases}
 use Rattle.core_world.specs.World.{CpuRecord, World, cpu_of, no_cpu, own}
-use Rattle.step_rules.specs.Live.{Exact, told_by}
-use Rattle.step_rules.specs.Seen.{InPlay, Phase, WalkFits, cpu_seen, hands_in, is_inside}
-use Rattle.step_rules.specs.Seen.{marker_in, state_of}
-use Rattle.play_queues.specs.AtRest.{AtRest}
-use Rattle.play_queues.proofs.Sights.{count_seen, seen_at}
+use Rattle.step_play.specs.Rules.Live.{Exact, told_by}
+use Rattle.step_play.specs.Rules.Seen.{InPlay, Phase, WalkFits, cpu_seen, hands_in, is_inside}
+use Rattle.step_play.specs.Rules.Seen.{marker_in, state_of}
+use Rattle.step_play.specs.Queues.AtRest.{AtRest}
+use Rattle.step_play.proofs.Queues.Sights.{count_seen, seen_at}
 
 -- CPU c is written
 abbrev pub put : World → (c : ℕ) → CpuRecord → World

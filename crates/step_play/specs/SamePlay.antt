@@ -12,10 +12,10 @@ use Rattle.play_rules.specs.Play.{plain_rules, play_spent, play_start, play_text
 use Rattle.play_rules.specs.State.{State}
 use Rattle.core_world.specs.Start.{start_of}
 use Rattle.core_world.specs.World.{World}
-use Rattle.step_rules.specs.Alike.{ComesAlike, EndsAlike, IdlesAlike, LetsGoAlike, OfflinesAlike}
-use Rattle.step_rules.specs.Alike.{WakesAlike}
-use Rattle.step_rules.specs.Seen.{InPlay, resting, state_of}
-use Rattle.step_rules.specs.StepRules.{step_rules}
+use Rattle.step_play.specs.Rules.Alike.{ComesAlike, EndsAlike, IdlesAlike, LetsGoAlike, OfflinesAlike}
+use Rattle.step_play.specs.Rules.Alike.{WakesAlike}
+use Rattle.step_play.specs.Rules.Seen.{InPlay, resting, state_of}
+use Rattle.step_play.specs.Rules.StepRules.{step_rules}
 
 -- the start of a script's play on a core, and its moments under the rules of steps
 abbrev pub core_start : Script → World

@@ -2,12 +2,19 @@
 //! function does nothing; what it says is its contract.
 #![tactic(auto)]
 
+mod activation_laws;
+mod queue_laws;
+mod telling_laws;
+
 ghost use Rattle.step_play.specs.SamePlay.{StepsArePlay};
 
-use core_laws::law_step;
-use core_start::law_start;
-use walk_alone::{law_comes, law_wakes};
-use walk_telling::{law_ends, law_idles, law_lets_go, law_offlines};
+pub use activation_laws::{law_comes, law_wakes};
+use core_laws::{law_start, law_step};
+pub use queue_laws::{
+    law_active_below, law_any_first, law_at_rest, law_covers_alike, law_each_slot, law_each_top,
+    law_found_is_duty, law_named_can_be_taken, law_names_alike, law_quiet_first,
+};
+pub use telling_laws::{law_ends, law_idles, law_lets_go, law_offlines};
 
 /// The play of every script by the rules of steps, whose walks are the core's, is its Play: the
 /// same moments, lines and text, the same count of work, the same last state; and after each moment

@@ -4,7 +4,7 @@ use Rattle.tm_script.specs.declared.syntax.Script.{Script}
 use Rattle.play_rules.specs.Interrupts.{Replies}
 use Rattle.play_rules.specs.Play.{plain_rules, play_start}
 use Rattle.core_world.specs.World.{World}
-use Rattle.step_rules.specs.Seen.{state_of}
+use Rattle.step_play.specs.Rules.Seen.{state_of}
 use Rattle.tm_driver.specs.declared.outcomes.Counts.{Counts}
 use Rattle.tm_driver.specs.OnCore.{core_end}
 use Rattle.tm_driver.specs.Outcomes.{PlaysWhole}

@@ -8,7 +8,7 @@ use Rattle.play_rules.specs.Interrupts.{Replies}
 use Rattle.play_rules.specs.Moments.{AfterEach, last_state}
 use Rattle.core_world.specs.Covered.{machine_of}
 use Rattle.core_world.specs.World.{World}
-use Rattle.core_cover.specs.Headline.{IsWaiting}
+use Rattle.core_facts.specs.Cover.Headline.{IsWaiting}
 use Rattle.step_play.specs.SamePlay.{IsPlayOfSteps, core_start, step_turns}
 
 -- THE CORE that the last moment of the play made of steps leaves

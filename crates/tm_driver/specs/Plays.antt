@@ -6,15 +6,15 @@ use Rattle.play_rules.specs.Interrupts.{Replies}
 use Rattle.play_rules.specs.Jobs.{first_unknown_job}
 use Rattle.play_rules.specs.Moments.{last_state, whole_lines}
 use Rattle.play_rules.specs.Parts.{counted}
-use Rattle.play_jiffies.specs.Jiffies.{EachHasEnded, InItsJiffy}
-use Rattle.play_laws.specs.Settled.{IsSettled}
-use Rattle.play_work.specs.Course.{ComesToItsEnd, times_of}
+use Rattle.play_laws.specs.Jiffies.Jiffies.{EachHasEnded, InItsJiffy}
+use Rattle.play_laws.specs.Answered.Settled.{IsSettled}
+use Rattle.play_laws.specs.Work.Course.{ComesToItsEnd, times_of}
 use Rattle.play_rules.specs.Play.{AfterEachMoment, plain_rules, play_spent, play_start, play_text}
 use Rattle.play_rules.specs.Play.{play_turns}
 use Rattle.play_rules.specs.Tallies.{no_lines, tallied_all}
 use Rattle.play_rules.specs.declared.tally.Tally.{Tally}
 use Rattle.core_world.specs.World.{World}
-use Rattle.step_rules.specs.Seen.{state_of}
+use Rattle.step_play.specs.Rules.Seen.{state_of}
 use Rattle.tm_driver.specs.OnCore.{IsPlayedBySteps, core_end}
 use Rattle.tm_driver.specs.Outcomes.{SaysFault, work_limit}
 use Rattle.tm_driver.specs.declared.outcomes.DriveFault.{DriveFault}

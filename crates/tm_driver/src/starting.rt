@@ -4,10 +4,10 @@ ghost use Rattle.std.specs.Prelude.{◌≡◌, All, IfOk, length};
 ghost use Rattle.tm_script.specs.Grammar.{IsScript};
 ghost use Rattle.wheel_base.specs.Wheels.{no_base};
 ghost use Rattle.cpu_bases.specs.CpuBases.{empty_bases};
-ghost use Rattle.step_rules.specs.Seen.{InPlay, resting};
+ghost use Rattle.step_play.specs.Rules.Seen.{InPlay, resting};
 ghost use Rattle.step_play.specs.SamePlay.{core_start};
 
-use core_start::law_start;
+use core_laws::law_start;
 use core_state::{Core, new_core};
 use cpu_bases::Bases;
 use std::alloc::Global;

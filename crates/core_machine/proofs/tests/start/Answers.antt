@@ -3,7 +3,7 @@ use Rattle.std.specs.FinSet.{contains-empty, empty}
 use Rattle.std.specs.Ordering.{nat_cmp}
 use Rattle.tree_plan.specs.Shape.{IsPlanned, tree_of}
 use Rattle.core_world.specs.Lawful.{IsLawful}
-use Rattle.step_rules.specs.Seen.{InPlay, resting}
+use Rattle.step_play.specs.Rules.Seen.{InPlay, resting}
 use Rattle.step_play.proofs.Starts.{start_in_play}
 use Rattle.core_machine.proofs.tests.start.Goals as goal
 

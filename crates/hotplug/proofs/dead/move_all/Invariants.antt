@@ -1,4 +1,4 @@
-use Rattle.step_rules.specs.StepRules.{step_rules}
+use Rattle.step_play.specs.Rules.StepRules.{step_rules}
 use Rattle.hotplug.specs.Frames.{MayMoveAll}
 use Rattle.hotplug.specs.Settled.{MovedTimes}
 use Rattle.hotplug.proofs.dead.move_all.Given as goal

@@ -1,7 +1,7 @@
 use Rattle.std.proofs.Common.{sym, ap, ◌∙◌, subst}
 use Rattle.tree_plan.specs.Shape.{Shape}
 use Rattle.core_world.specs.Start.{start_of}
-use Rattle.step_rules.specs.Seen.{InPlay, resting}
+use Rattle.step_play.specs.Rules.Seen.{InPlay, resting}
 use Rattle.step_play.proofs.Starts.{core_starts}
 use Rattle.tm_driver.proofs.starting.start_core.Goals as goal
 

@@ -1,7 +1,7 @@
 use Rattle.std.proofs.Common.{ap, ◌∙◌}
 use Rattle.play_rules.specs.Play.{successor}
 use Rattle.core_world.specs.World.{World}
-use Rattle.step_rules.specs.Seen.{state_of}
+use Rattle.step_play.specs.Rules.Seen.{state_of}
 use Rattle.core_machine.proofs.machine.PlayerMachine.go_offline.Goals as goal
 
 pub returns-clause-succeeds : goal.returns-clause-succeeds

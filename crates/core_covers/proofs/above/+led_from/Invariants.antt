@@ -1,4 +1,0 @@
-use Rattle.core_covers.proofs.above.+led_from.Given as goal
-
-abbrev pub decreases-led_from : goal.decreases-led_from
-decreases-led_from g l = l.levels

@@ -1,9 +1,0 @@
-//! Every step keeps what is said of one CPU alone: of its mark, its walk's times, and its wakeup.
-#![tactic(auto)]
-
-ghost use Rattle.core_cpus.specs.Layer.{CpusStayFit};
-
-/// Every step keeps what is said of each CPU alone.
-pub fn law_cpus()
-    ensures { CpusStayFit }
-{}

@@ -1,0 +1,46 @@
+//! Who answers for the timers of an idle CPU: in every lawful world, also while walks and
+//! interrupts are under way. The functions do nothing: what they say are their contracts.
+
+ghost use Rattle.core_facts.specs.Cover.Headline.{EachCovered, EachSettled, FirstSettled};
+ghost use Rattle.core_facts.specs.Cover.Once.{EachOnce};
+ghost use Rattle.core_facts.specs.Cover.Rest.{EachEventRests, EachRests, EachWakes};
+
+/// THE HEADLINE: a global timer that is queued on an online idle CPU is covered.
+pub fn law_covered()
+    ensures { EachCovered }
+{}
+
+/// Where no walk and no interrupt is under way, it is held or woken for.
+pub fn law_settled()
+    ensures { EachSettled }
+{}
+
+/// And so is the CPU's first global timer: the CPU wakes for it itself; or the lowest active group
+/// of its path was told, and leads to an active CPU; or no group of its path is active, the top was
+/// told, and a placed CPU keeps a wakeup for it.
+pub fn law_cover()
+    ensures { FirstSettled }
+{}
+
+/// A timer is queued at most once, and each arming has at most one end.
+pub fn law_once()
+    ensures { EachOnce }
+{}
+
+/// At rest no lock is taken and no CPU is marked, a bit is set exactly where its child is active,
+/// and active groups lead to active CPUs below them.
+pub fn law_rest()
+    ensures { EachRests }
+{}
+
+/// At rest events upwards aren't later than what they stand for, and wakeups aren't later than what
+/// their CPUs, and an idle top, have to be woken for.
+pub fn law_rest_events()
+    ensures { EachEventRests }
+{}
+
+/// At rest with nobody active, some online CPU wakes in time for each pinned or global timer of an
+/// online CPU.
+pub fn law_next_moment()
+    ensures { EachWakes }
+{}

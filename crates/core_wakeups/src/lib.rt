@@ -1,9 +1,0 @@
-//! Every step keeps wakeups and leaf events with the timers that they stand for.
-#![tactic(auto)]
-
-ghost use Rattle.core_wakeups.specs.Layer.{WakeupsStayFit};
-
-/// A CPU that keeps its wakeup is woken in time, or has told its leaf; and every step keeps it so.
-pub fn law_wakeups()
-    ensures { WakeupsStayFit }
-{}

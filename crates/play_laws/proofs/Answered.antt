@@ -1,0 +1,15 @@
+pub mod Ranges
+pub mod Bases
+pub mod Invariant
+pub mod Changes
+pub mod Migrators
+pub mod States
+pub mod Wakes
+pub mod Ends
+pub mod Timers
+pub mod Covered
+pub mod Settles
+pub mod Hotplug
+pub mod Scripts
+pub mod Starts
+pub mod Plays
