@@ -7,3 +7,4 @@ pub mod Covering
 pub mod Settling
 pub mod Queuing
 pub mod Rests
+pub mod Runs

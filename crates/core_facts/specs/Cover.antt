@@ -1,3 +1,4 @@
 pub mod Headline
+pub mod Runs
 pub mod Once
 pub mod Rest

@@ -4,13 +4,29 @@
 ghost use Rattle.core_facts.specs.Cover.Headline.{EachCovered, EachSettled, FirstSettled};
 ghost use Rattle.core_facts.specs.Cover.Once.{EachOnce};
 ghost use Rattle.core_facts.specs.Cover.Rest.{EachEventRests, EachRests, EachWakes};
+ghost use Rattle.core_facts.specs.Cover.Runs.{AlwaysAnswered};
 
-/// THE HEADLINE: a global timer that is queued on an online idle CPU is covered.
+use core_laws::{law_start, law_steps};
+
+/// THE HEADLINE: on every machine, whatever order the CPUs' steps fall in, after each step each
+/// global timer that is queued on an online idle CPU is held, woken for, or carried by a walk or an
+/// interrupt under way; and where none is under way, it is held or woken for.
+pub fn law_always_answered()
+    ensures { AlwaysAnswered }
+{
+    law_start();
+    law_steps();
+    law_covered();
+    law_settled();
+}
+
+/// In every lawful world a global timer that is queued on an online idle CPU is covered: held,
+/// woken for, or carried.
 pub fn law_covered()
     ensures { EachCovered }
 {}
 
-/// Where no walk and no interrupt is under way, it is held or woken for.
+/// In a lawful world where no walk and no interrupt is under way, it is held or woken for.
 pub fn law_settled()
     ensures { EachSettled }
 {}
