@@ -4,7 +4,7 @@
 ghost use Rattle.core_facts.specs.Cover.Headline.{EachCovered, EachSettled, FirstSettled};
 ghost use Rattle.core_facts.specs.Cover.Once.{EachOnce};
 ghost use Rattle.core_facts.specs.Cover.Rest.{EachEventRests, EachRests, EachWakes};
-ghost use Rattle.core_facts.specs.Cover.Runs.{AlwaysAnswered};
+ghost use Rattle.core_facts.specs.Cover.Runs.{AlwaysAnswered, EachLawfulIsAnswered};
 
 use core_laws::{law_start, law_steps};
 
@@ -16,6 +16,14 @@ pub fn law_always_answered()
 {
     law_start();
     law_steps();
+    law_answered();
+}
+
+/// In every lawful world each such timer is held, woken for or carried; and where no walk and no
+/// interrupt is under way, it is held or woken for.
+pub fn law_answered()
+    ensures { EachLawfulIsAnswered }
+{
     law_covered();
     law_settled();
 }

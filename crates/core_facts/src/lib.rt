@@ -22,7 +22,7 @@ ghost use Rattle.core_facts.specs.Walkers.{EachWalkerIs};
 use core_laws::law_step;
 use core_world::{law_quiet, law_sizes};
 pub use cover_laws::{
-    law_always_answered, law_cover, law_covered, law_next_moment, law_once, law_rest,
+    law_always_answered, law_answered, law_cover, law_covered, law_next_moment, law_once, law_rest,
     law_rest_events, law_settled,
 };
 use cpu_bases::{law_bases, law_calls};

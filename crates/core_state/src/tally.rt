@@ -105,7 +105,8 @@ impl Tally {
         }
     }
 
-    /// A CPU is counted with another status.
+    /// A CPU is counted with another status. Most steps change neither its mark nor whether it is
+    /// online, and then nothing is counted anew.
     pub(crate) fn recount<B: TimerBase>(
         &mut self,
         tree: &Tree,
@@ -121,6 +122,9 @@ impl Tally {
     {
         tree.cpu_count();
         let before = cpus[usize::from(cpu.0)].status();
+        if before.mark == status.mark && before.online == status.online {
+            return;
+        }
         self.count_out(before.mark, is_placed_online(tree, cpu, before.online));
         self.count_in(status.mark, is_placed_online(tree, cpu, status.online));
     }

@@ -7,8 +7,7 @@ use Rattle.core_world.specs.declared.step.Step.{Step}
 use Rattle.core_world.specs.Enabled.{Enabled}
 use Rattle.core_world.specs.Steps.{stepped}
 use Rattle.core_world.specs.World.{World}
-use Rattle.core_world.specs.Lists.{EachEnabled, after_all}
-use Rattle.step_laws.specs.Runs.{RunsWhole}
+use Rattle.core_world.specs.Lists.{EachEnabled, IsRun, after_all}
 
 after_more : (w : World) (steps : List Step) (step : Step)
     → after_all w (steps ++ step ∷ []) ≡ stepped (after_all w steps) step
@@ -27,11 +26,11 @@ of_ok (Err e) P is p = absurd (true≢false is)
 
 pub one_more : {A E : Type 0} (r : Result A E) (steps : List Step) (i : ℕ) (d : Step)
     (w v u : World)
-    → i < length steps → RunsWhole (take i steps) w v → Enabled v (get_or steps i d)
+    → i < length steps → IsRun (take i steps) w v → Enabled v (get_or steps i d)
     → is_err r ≡ false → OnOk r (u ≡ stepped v (get_or steps i d))
-    → RunsWhole (take (i + 1) steps) w u
+    → IsRun (take (i + 1) steps) w u
 one_more r steps i d w v u low runs enabled fine made =
-    subst (λ ss. RunsWhole ss w u) (sym (take_more steps i d low))
+    subst (λ ss. IsRun ss w u) (sym (take_more steps i d low))
     (record {
       enabled =
           each_more w (take i steps) (get_or steps i d) runs.enabled

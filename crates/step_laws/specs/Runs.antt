@@ -2,16 +2,11 @@
 use Rattle.std.specs.Prelude.{◌≡◌, ℕ, List, Some, slice_get, take}
 use Rattle.core_world.specs.declared.step.Step.{Step}
 use Rattle.core_world.specs.Enabled.{Enabled}
-use Rattle.core_world.specs.Lists.{EachEnabled, after_all}
+use Rattle.core_world.specs.Lists.{IsRun}
 use Rattle.core_world.specs.World.{World}
 use Rattle.step_laws.specs.declared.running.StepsFault.{StepsFault}
 use Rattle.step_laws.specs.declared.running.StepsFault.TheVariants as faults
 use Rattle.step_core.specs.Wants.{WantsMemory}
-
--- each step was enabled where it stood, and was made
-pub record RunsWhole (steps : List Step) (before after : World) : Type 0 where
-  pub enabled : EachEnabled before steps
-  pub done : after ≡ after_all before steps
 
 -- the steps before this one were made, and it is not
 pub record StopsBefore
@@ -19,7 +14,7 @@ pub record StopsBefore
     Type 0 where
   pub step : Step
   pub there : slice_get steps index ≡ Some step
-  pub made : RunsWhole (take index steps) before after
+  pub made : IsRun (take index steps) before after
   pub why : Why step
 
 -- the step is enabled, and may want memory

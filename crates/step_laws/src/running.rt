@@ -2,9 +2,12 @@
 
 ghost use Rattle.std.specs.Prelude.{IfErr, OnOk};
 ghost use Rattle.core_world.specs.Lawful.{IsLawful};
-ghost use Rattle.step_laws.specs.Runs.{RunsWhole, Stops};
+ghost use Rattle.core_world.specs.Lists.{IsRun};
+ghost use Rattle.core_facts.specs.Cover.Runs.{EachIsAnswered};
+ghost use Rattle.step_laws.specs.Runs.{Stops};
 
 use crate::laws::law_lawful;
+use core_facts::law_answered;
 use core_state::Core;
 use core_world::Step;
 use step_core::{apply, enabled};
@@ -21,7 +24,7 @@ pub enum StepsFault {
 
 /// Makes steps in order, up to the first that isn't enabled where it stands, or that wants memory.
 fn make_each<B: TimerBase>(core: &mut Core<B>, steps: &[Step]) -> Result<(), StepsFault>
-    ensures whole { OnOk result (RunsWhole steps.now core.old core.new) }
+    ensures whole { OnOk result (IsRun steps.now core.old core.new) }
     ensures stops { IfErr result (λ fault. Stops fault steps.now core.old core.new) }
 {
     for (index, step) in steps.iter().enumerate() {
@@ -37,13 +40,16 @@ fn make_each<B: TimerBase>(core: &mut Core<B>, steps: &[Step]) -> Result<(), Ste
 
 /// Makes steps in order. The error names the first step that isn't enabled where it stands, or that
 /// wants memory; the core then stands before that step. Whatever the order of the steps, and also
-/// after a refusal, the core is lawful.
+/// after a refusal, the core is lawful, and each global timer that is queued on an online idle CPU
+/// is held, woken for or carried; where no walk and no interrupt is under way, one of the first two.
 pub fn run_steps<B: TimerBase>(core: &mut Core<B>, steps: &[Step]) -> Result<(), StepsFault>
     ensures lawful { IsLawful core.new }
-    ensures whole { OnOk result (RunsWhole steps.now core.old core.new) }
+    ensures answered { EachIsAnswered core.new }
+    ensures whole { OnOk result (IsRun steps.now core.old core.new) }
     ensures stops { IfErr result (λ fault. Stops fault steps.now core.old core.new) }
 {
     let made = make_each(core, steps);
     law_lawful(core);
+    law_answered();
     made
 }

@@ -7,6 +7,7 @@ use Rattle.tree_plan.specs.Shape.{IsWithinLimits, tree_of}
 use Rattle.coverage.specs.Coverage.{Held, Woken}
 use Rattle.core_world.specs.declared.step.Step.{Step}
 use Rattle.core_world.specs.Covered.{Covered, IsSettled, machine_of}
+use Rattle.core_world.specs.Lawful.{IsLawful}
 use Rattle.core_world.specs.Lists.{EachEnabled, after_all}
 use Rattle.core_world.specs.Start.{start_of}
 use Rattle.core_world.specs.World.{World}
@@ -21,6 +22,10 @@ pub record IsAnswered (w : World) (c wheel : ℕ) : Type 0 where
 -- and so is each global timer that is queued on an online idle CPU
 abbrev pub EachIsAnswered : World → Type 0
 EachIsAnswered w = (c : ℕ) (item : Item) → IsWaiting w c item → IsAnswered w c item.wheel
+
+-- IN EVERY LAWFUL WORLD
+abbrev pub EachLawfulIsAnswered : Type 0
+EachLawfulIsAnswered = (w : World) → IsLawful w → EachIsAnswered w
 
 -- the world in which a machine starts
 abbrev pub start_with : (nodes cpus : ℕ) → Cpus → (timers : ℕ) → World

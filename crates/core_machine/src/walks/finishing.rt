@@ -6,7 +6,7 @@ ghost use Rattle.core_world.specs.Enabled.{Enabled};
 ghost use Rattle.core_world.specs.Steps.{stepped};
 ghost use Rattle.core_world.specs.World.{cpu_of};
 ghost use Rattle.step_play.specs.Rules.Alone.{goes_on, walked_out};
-ghost use Rattle.core_machine.specs.Alone.Lone.{IsLone};
+ghost use Rattle.core_machine.specs.Alone.Lone.{IsLone, IsWalkRun};
 
 use crate::walks::alone::goes_on;
 use core_laws::law_step;
@@ -57,13 +57,14 @@ fn walk_out<B: TimerBase>(core: &mut Core<B>, cpu: CpuId)
     }
 }
 
-/// Makes the steps of a CPU's walk up to its end: then the CPU has no walk, or its walk stands at
+/// Makes the steps of a CPU's walk, each enabled where it stands, up to its end: then the CPU has no walk, or its walk stands at
 /// `Handing`. No other walk goes on: each of them stands at `Handing`.
 pub fn finish_walk<B: TimerBase>(core: &mut Core<B>, cpu: CpuId)
     requires cpu { cpu.0 < length core.old.cpus }
     requires lone { IsLone core.old cpu.0 }
     ensures walked { core.new ≡ walked_out cpu.0 core.old }
     ensures ends { goes_on (cpu_of core.new cpu.0).walk ≡ false }
+    ensures run { IsWalkRun cpu.0 core.old core.new }
 {
     core.tree();
     core.kept();

@@ -9,7 +9,7 @@ ghost use Rattle.step_core.specs.Wants.{WantsMemory};
 ghost use Rattle.step_play.specs.Rules.Alone.{goes_on, walked_out};
 ghost use Rattle.step_play.specs.Rules.StepRules.{come_by_steps, gone_by_steps, idled_by_steps};
 ghost use Rattle.step_play.specs.Rules.StepRules.{woken_by_steps};
-ghost use Rattle.core_machine.specs.Alone.Lone.{IsLone};
+ghost use Rattle.core_machine.specs.Alone.Lone.{IsLone, IsRunOf};
 
 use crate::walks::finishing::finish_walk;
 use core_state::Core;
@@ -38,6 +38,7 @@ fn make_out<B: TimerBase>(core: &mut Core<B>, step: Step, cpu: CpuId)
     requires lone { IsLone (stepped core.old step) cpu.0 }
     ensures walked { core.new ≡ walked_out cpu.0 (stepped core.old step) }
     ensures ends { goes_on (cpu_of core.new cpu.0).walk ≡ false }
+    ensures run { IsRunOf step cpu.0 core.old core.new }
 {
     law_sizes();
     make(core, step);
@@ -51,6 +52,7 @@ pub fn idle<B: TimerBase>(core: &mut Core<B>, cpu: CpuId)
     requires lone { IsLone core.old cpu.0 }
     ensures walked { core.new ≡ idled_by_steps core.old cpu.0 }
     ensures ends { goes_on (cpu_of core.new cpu.0).walk ≡ false }
+    ensures run { IsRunOf (steps.Idle cpu) cpu.0 core.old core.new }
 {
     make_out(core, Step::Idle { cpu }, cpu);
 }
@@ -61,6 +63,7 @@ pub fn wake<B: TimerBase>(core: &mut Core<B>, cpu: CpuId)
     requires lone { IsLone core.old cpu.0 }
     ensures walked { core.new ≡ woken_by_steps core.old cpu.0 }
     ensures ends { goes_on (cpu_of core.new cpu.0).walk ≡ false }
+    ensures run { IsRunOf (steps.Wake cpu) cpu.0 core.old core.new }
 {
     make_out(core, Step::Wake { cpu }, cpu);
 }
@@ -72,6 +75,7 @@ pub fn go_offline<B: TimerBase>(core: &mut Core<B>, cpu: CpuId)
     requires lone { IsLone core.old cpu.0 }
     ensures walked { core.new ≡ gone_by_steps core.old cpu.0 }
     ensures ends { goes_on (cpu_of core.new cpu.0).walk ≡ false }
+    ensures run { IsRunOf (steps.Offline cpu) cpu.0 core.old core.new }
 {
     make_out(core, Step::Offline { cpu }, cpu);
 }
@@ -82,6 +86,7 @@ pub fn come_online<B: TimerBase>(core: &mut Core<B>, cpu: CpuId)
     requires lone { IsLone core.old cpu.0 }
     ensures walked { core.new ≡ come_by_steps core.old cpu.0 }
     ensures ends { goes_on (cpu_of core.new cpu.0).walk ≡ false }
+    ensures run { IsRunOf (steps.Online cpu) cpu.0 core.old core.new }
 {
     make_out(core, Step::Online { cpu }, cpu);
 }
@@ -92,6 +97,7 @@ pub fn reevaluate<B: TimerBase>(core: &mut Core<B>, cpu: CpuId)
     requires lone { IsLone core.old cpu.0 }
     ensures walked { core.new ≡ walked_out cpu.0 (stepped core.old (steps.Reeval cpu)) }
     ensures ends { goes_on (cpu_of core.new cpu.0).walk ≡ false }
+    ensures run { IsRunOf (steps.Reeval cpu) cpu.0 core.old core.new }
 {
     make_out(core, Step::Reeval { cpu }, cpu);
 }
@@ -102,6 +108,7 @@ pub fn carry<B: TimerBase>(core: &mut Core<B>, cpu: CpuId)
     requires lone { IsLone core.old cpu.0 }
     ensures walked { core.new ≡ walked_out cpu.0 (stepped core.old (steps.Carry cpu)) }
     ensures ends { goes_on (cpu_of core.new cpu.0).walk ≡ false }
+    ensures run { IsRunOf (steps.Carry cpu) cpu.0 core.old core.new }
 {
     make_out(core, Step::Carry { cpu }, cpu);
 }
