@@ -39,6 +39,15 @@ pub(crate) fn is_placed_online(tree: &Tree, cpu: CpuId, online: bool) -> bool
     tree.is_placed(cpu) && online
 }
 
+/// Whether a CPU of the one status is counted as one of the other: it has the same mark, and is
+/// online or not in both.
+fn counts_alike(before: CpuStatus, after: CpuStatus) -> bool
+    ensures mark { result ≡ true → before.mark ≡ after.mark }
+    ensures online { result ≡ true → before.online ≡ after.online }
+{
+    before.mark == after.mark && before.online == after.online
+}
+
 impl Tally {
     /// Room for so many CPUs, none of which is counted yet.
     pub fn new(alloc: Global, count: u16) -> Result<Tally, NoMemory>
@@ -122,7 +131,7 @@ impl Tally {
     {
         tree.cpu_count();
         let before = cpus[usize::from(cpu.0)].status();
-        if before.mark == status.mark && before.online == status.online {
+        if counts_alike(before, status) {
             return;
         }
         self.count_out(before.mark, is_placed_online(tree, cpu, before.online));
