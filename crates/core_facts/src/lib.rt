@@ -27,7 +27,9 @@ pub use cover_laws::{
 };
 use cpu_bases::{law_bases, law_calls};
 use tree_plan::{law_cuts, law_paths};
-pub use worked_rows::{row_lost_exchange, row_settled_cover, row_stale_run};
+pub use worked_rows::{
+    row_lost_exchange, row_settled_cover, row_stale_exchange_breaks, row_stale_run,
+};
 
 /// A CPU with a walk is active exactly where the walk is an activation; the other kinds are made by
 /// online idle CPUs, or by a CPU that goes offline.

@@ -1,6 +1,6 @@
 -- rows: lists of steps from the start, and what they leave
 use Rattle.std.specs.Prelude.{◌+◌, map, ◌≡◌, ℕ, List, [], ◌∷◌, ◌++◌, Some, None, true, false}
-use Rattle.std.specs.Prelude.{replicate, option_map}
+use Rattle.std.specs.Prelude.{Option, replicate, option_map}
 use Rattle.std.specs.FinSet.{empty}
 use Rattle.std.specs.List.{range_with_len}
 use Rattle.tm_base.specs.Children.{of_cpu}
@@ -13,9 +13,11 @@ use Rattle.walk_rules.specs.declared.walk.Stage.TheVariants as stages
 use Rattle.core_world.specs.declared.step.Step.{Step}
 use Rattle.core_world.specs.declared.step.Step.TheVariants as steps
 use Rattle.core_world.specs.Enabled.{Enabled}
+use Rattle.core_world.specs.Lawful.{IsLawful}
 use Rattle.core_world.specs.Lists.{EachEnabled, after_all}
 use Rattle.core_world.specs.Start.{start_of}
-use Rattle.core_world.specs.World.{World, cpu_of, group_of}
+use Rattle.core_world.specs.Steps.{swapped}
+use Rattle.core_world.specs.World.{World, cpu_of, group_of, is_active}
 
 -- the tree of one node of so many CPUs, none of them isolated
 abbrev pub one_node_of : ℕ → Shape
@@ -57,6 +59,32 @@ pub record StaleRun : Type 0 where
   pub idle : (cpu_of stale_end 8).idle ≡ true
   pub level : option_map (λ (k : Walk). k.level) (cpu_of stale_end 8).walk ≡ Some 1
   pub stage : option_map (λ (k : Walk). k.stage) (cpu_of stale_end 8).walk ≡ Some stages.LockChild
+
+-- THE STALE EXCHANGE, had it been made: just before CPU 8's exchange at the top fails, with the
+-- word that it read there stale
+abbrev pub before_stale : World
+before_stale =
+    after_all stale_start
+    (steps.Idle (record { 0 = 9 }) ∷ walks 8 9 ++ steps.Idle (record { 0 = 8 }) ∷ walks 9 8 ++
+    steps.Wake (record { 0 = 9 }) ∷ walks 4 9)
+
+abbrev pub exchanged_by : World → (c : ℕ) → Option Walk → World
+exchanged_by w c None = w
+exchanged_by w c (Some k) = swapped w c k true
+
+abbrev pub stale_made : World
+stale_made = exchanged_by before_stale 8 (cpu_of before_stale 8).walk
+
+pub record StaleExchangeBreaks : Type 0 where
+  pub stage : option_map (λ (k : Walk). k.stage) (cpu_of before_stale 8).walk ≡ Some stages.Swap
+  pub fresh : option_map (λ (k : Walk). k.fresh) (cpu_of before_stale 8).walk ≡ Some false
+  -- CPU 9 is active, and so is its leaf, whose bit is gone at the top; and CPU 9's walk is over
+  pub awake : is_active (cpu_of stale_made 9) ≡ true
+  pub leaf : (group_of stale_made 1).active ≡ 2
+  pub top : (group_of stale_made 2).active ≡ 1
+  pub over : (cpu_of stale_made 9).walk ≡ None
+  -- so the invariant doesn't hold
+  pub unlawful : IsLawful stale_made → ⊥
 
 -- LOST-EXCHANGE: CPU 8 idles and reads the word of its leaf and its own; CPU 9 idles and makes its
 -- exchange there, which makes that reading stale; so the exchange of CPU 8 fails
