@@ -93,7 +93,7 @@ def line_of(text, at):
     return text.count("\n", 0, at) + 1
 
 
-CITE = re.compile(r"`(\w+)/specs/(\w+):\s+([^`]+)`((?:(?:,|;| and| with|, with| or)?\s+`[^`/:]+`(?:\s+there)?)*)")
+CITE = re.compile(r"`(\w+)/specs/([\w/]+):\s+([^`]+)`((?:(?:,|;| and| with|, with| or)?\s+`[^`/:]+`(?:\s+there)?)*)")
 
 
 def check_cites(path, text):
@@ -104,7 +104,7 @@ def check_cites(path, text):
             if re.fullmatch(r"[^\s.]+", name) and "::" not in name:
                 if it[1] != "crate":
                     check_definition(path, number, it[1], it[2], name)
-    for it in re.finditer(r"`(\w+)/specs/(\w+)`", text):
+    for it in re.finditer(r"`(\w+)/specs/([\w/]+)`", text):
         if not os.path.isfile(f"crates/{it[1]}/specs/{it[2]}.antt"):
             fault(path, line_of(text, it.start()), f"there is no crates/{it[1]}/specs/{it[2]}.antt")
     for it in re.finditer(r"`((?:examples|docs|man|bench)/[\w./-]+)`", text):
@@ -147,7 +147,7 @@ def check_tables(path, text):
 
 
 def everywhere(name):
-    return any(name in names_of(it) for it in glob.glob("crates/*/specs/*.antt"))
+    return any(name in names_of(it) for it in glob.glob("crates/*/specs/**/*.antt", recursive=True))
 
 
 def check_claims(path, text):
