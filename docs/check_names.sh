@@ -8,15 +8,18 @@
 #                                         behind a name stands for the file cited last
 # - | File | `name`, `name` | ..          in docs/DEFINITIONS.md below a heading '## crate': the same of that crate; an
 #                                         empty first field stands for the file above
-# - `crate::function`: `clause`, ..       in README.md and docs/PROOFS.md, in the last field of a table whose head ends
+# - `crate::function`: `clause`, ..       in README.md and docs/CLAIMS.md, in the last field of a table whose head ends
 #                                         with | Clause |: the function stands in that crate's src/, and its contract has
 #                                         each of these clauses. `function` alone is of the crate named last in that
-#                                         table; [`name`] is a definition, and is looked for in the specs of any crate
+#                                         field, or else by the heading; [`name`] is a definition, and is looked for in
+#                                         the specs of any crate
 # - `crate::Name` ..                      in any page: the crate's src/ has an item of that name
 # - `examples/NAME`, `docs/NAME` ..       in any page: the file is there
 # - a picture of an example               in README.md the block before 'This is `examples/NAME.tmig`', in docs/FORMATS.md
 #                                         the block behind '`examples/NAME.tmig`': it has each line of the script and of
 #                                         the report, in order
+# - ```rust                               in docs/USE.md below a heading '## crate': the block's lines stand, one after the
+#                                         other, in crates/crate/src/tests.rt
 # - `NAME` under '## Examples'            in README.md: it is one of examples/, and each of examples/ is named there
 #
 # docs/check_names.sh --missing lists, besides, each definition of a crate's specs/ that docs/DEFINITIONS.md doesn't have.
@@ -152,10 +155,13 @@ def everywhere(name):
 
 def check_claims(path, text):
     """The last field of each row of a table whose head is | Claim | Clause |."""
-    within, crate = False, None
+    within, heading = False, None
     for number, line in enumerate(text.split("\n"), 1):
+        if line.startswith("## "):
+            heading = line[3:].strip()
+        crate = heading if heading in crates else None
         if not line.startswith("|"):
-            within, crate = False, None
+            within = False
             continue
         cells = [it.strip() for it in line.strip().strip("|").split("|")]
         if cells[-1] == "Clause":
@@ -212,6 +218,19 @@ def check_pictures():
         check_picture("docs/FORMATS.md", text, it[1], it[2])
 
 
+def check_uses():
+    """Each block of code of docs/USE.md stands in the tests of the crate of its heading."""
+    path = "docs/USE.md"
+    text = read(path)
+    for part in re.finditer(r"^## (\w+)\n(.*?)(?=^## |\Z)", text, re.M | re.S):
+        tests = f"crates/{part[1]}/src/tests.rt"
+        lines = [it.strip() for it in read(tests).split("\n")] if os.path.isfile(tests) else []
+        for it in re.finditer(r"^```rust\n(.*?)\n```$", part[2], re.M | re.S):
+            block = [line.strip() for line in it[1].split("\n")]
+            if not any(lines[at : at + len(block)] == block for at in range(len(lines))):
+                fault(path, line_of(text, part.start(2) + it.start()), f"{tests} hasn't these lines")
+
+
 def check_examples():
     text = read("README.md")
     part = text[text.index("## Examples"):]
@@ -223,6 +242,7 @@ def check_examples():
 
 
 check_pictures()
+check_uses()
 check_examples()
 pages = ["README.md", *sorted(glob.glob("docs/*.md"))]
 for page in pages:
@@ -230,7 +250,7 @@ for page in pages:
     check_cites(page, text)
     check_items(page, text)
 check_tables("docs/DEFINITIONS.md", read("docs/DEFINITIONS.md"))
-for page in ("README.md", "docs/PROOFS.md"):
+for page in ("README.md", "docs/CLAIMS.md"):
     check_claims(page, read(page))
 
 if "--missing" in sys.argv[1:]:

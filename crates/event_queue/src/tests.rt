@@ -72,3 +72,22 @@ fn a_look_takes_the_least_expiry_then_the_lowest_child_untried(
     assert_eq!(rt; events.due(61, &tried), Some((6, event(61, 6, false))));
     Ok(())
 }
+
+// As docs/USE.md shows it; by hand from the rule.
+#[test]
+fn the_first_event_is_ignored_and_the_next_one_is_due(rt: HostRuntime) -> Result<(), Fail> {
+    // Child 0 has a timer of CPU 8 at jiffy 61, and child 1 one of CPU 9 at 40.
+    let mut events = Events::new();
+    events.set(0, event(61, 8, false));
+    events.set(1, event(40, 9, false));
+    assert_eq!(rt; events.first(), Some((1, event(40, 9, false))));
+    // CPU 9 wakes, and runs its timers itself: its event is ignored.
+    events.mark(1);
+    assert_eq!(rt; events.first(), Some((0, event(61, 8, false))));
+    // At 61 a look finds CPU 8; once that was tried, nobody.
+    let mut tried = CpuSet::new();
+    assert_eq!(rt; events.due(61, &tried), Some((0, event(61, 8, false))));
+    tried.add(CpuId(8));
+    assert_eq!(rt; events.due(61, &tried), None);
+    Ok(())
+}

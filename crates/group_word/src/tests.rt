@@ -66,3 +66,23 @@ fn the_role_is_taken_where_free_and_passed_to_the_lowest(rt: HostRuntime) -> Res
     assert!(rt; looks(empty, 0));
     Ok(())
 }
+
+// As docs/USE.md shows it; by hand from the rule.
+#[test]
+fn two_children_join_and_the_migrator_leaves(rt: HostRuntime) -> Result<(), Fail> {
+    let asleep = GroupState {
+        active: 0,
+        migrator: None,
+        seq: 0,
+    };
+    // Child 3 joins, and is migrator; the group was asleep, so its parent is next. Child 5 joins.
+    let (one, was_asleep) = activated(asleep, 3);
+    let (two, _) = activated(one, 5);
+    assert!(rt; was_asleep && looks(two, 3));
+    // All of it is one word, for one exchange.
+    assert_eq!(rt; unpack(pack(two)), Some(two));
+    // Child 3 leaves, since nobody below it is awake: the role passes on.
+    let left = swapped(two, 3, false);
+    assert_eq!(rt; left.migrator, Some(5));
+    Ok(())
+}

@@ -17,6 +17,19 @@ fn add_walks(steps: &mut Vec<Step>, times: u8, cpu: u16) -> Result<(), NoMemory>
     Ok(())
 }
 
+/// A global timer on a CPU, for jiffy 60.
+fn arm(cpu: u16) -> Step {
+    Step::Arm {
+        cpu: CpuId(cpu),
+        timer: TimerId(0),
+        class: Class::Global,
+        expires: 60,
+        job: 0,
+        arg: 0,
+        line: 0,
+    }
+}
+
 fn check_group(rt: &impl Abort, core: &Core<ListBase>, g: u16, active: u8, migrator: Option<u8>) {
     assert!(rt; g < core.tree().group_count());
     assert_eq!(rt; core.active(GroupId(g)), active, "of group {g}");
@@ -117,24 +130,21 @@ fn the_last_placed_cpu_stays_online(rt: HostRuntime) -> Result<(), Fail> {
     Ok(())
 }
 
-// A CPU goes idle with a global timer, and tells it to the other CPU of its group.
+// As docs/USE.md shows it: a CPU goes idle with a global timer, and tells it to the other CPU of its
+// group.
 #[test]
 fn an_idle_cpu_tells_its_timer(rt: HostRuntime) -> Result<(), Fail> {
+    // One node of two CPUs, with one timer. At jiffy 10 CPU 1 arms it for 60, and goes idle.
     let mut core = one_node_core(rt.alloc(), 2, 1)?;
     let mut steps = Vec::new(rt.alloc());
     steps.push(Step::Clock { now: 10 })?;
-    steps.push(Step::Arm {
-        cpu: CpuId(1),
-        timer: TimerId(0),
-        class: Class::Global,
-        expires: 60,
-        job: 0,
-        arg: 0,
-        line: 0,
-    })?;
+    steps.push(arm(1))?;
     steps.push(Step::Idle { cpu: CpuId(1) })?;
+    // Its walk takes eight steps; steps of other CPUs may come between any two of them.
     add_walks(&mut steps, 8, 1)?;
     assert_eq!(&rt; run_steps(&mut core, steps.as_slice()), Ok(()));
+    // The headline holds of every core. Here CPU 1 sleeps on, since its group's migrator is CPU 0.
+    law_covered(&core);
     check_group(&rt, &core, 0, 1, Some(0));
     assert!(&rt; 1 < core.tree().cpu_count());
     assert_eq!(&rt; core.walk(CpuId(1)).is_none(), true);
@@ -160,15 +170,7 @@ fn in_mid_walk(rt: &impl Abort, alloc: Global) -> Result<Core<ListBase>, NoMemor
     let mut core = one_node_core(alloc, 10, 1)?;
     let mut steps = Vec::new(alloc);
     steps.push(Step::Clock { now: 10 })?;
-    steps.push(Step::Arm {
-        cpu: CpuId(0),
-        timer: TimerId(0),
-        class: Class::Global,
-        expires: 60,
-        job: 0,
-        arg: 0,
-        line: 0,
-    })?;
+    steps.push(arm(0))?;
     steps.push(Step::Idle { cpu: CpuId(9) })?;
     add_walks(&mut steps, 4, 9)?;
     assert_eq!(rt; run_steps(&mut core, steps.as_slice()), Ok(()));
@@ -208,15 +210,7 @@ fn a_core_taken_apart_in_mid_walk_goes_on(rt: HostRuntime) -> Result<(), Fail> {
 fn a_cpu_that_has_marked_another_stays_inside(rt: HostRuntime) -> Result<(), Fail> {
     let mut core = one_node_core(rt.alloc(), 2, 1)?;
     let mut steps = Vec::new(rt.alloc());
-    steps.push(Step::Arm {
-        cpu: CpuId(1),
-        timer: TimerId(0),
-        class: Class::Global,
-        expires: 60,
-        job: 0,
-        arg: 0,
-        line: 0,
-    })?;
+    steps.push(arm(1))?;
     steps.push(Step::Idle { cpu: CpuId(1) })?;
     add_walks(&mut steps, 8, 1)?;
     steps.push(Step::Clock { now: 70 })?;

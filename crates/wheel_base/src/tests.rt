@@ -185,3 +185,24 @@ fn both_bases_answer_random_calls_alike(rt: HostRuntime) -> Result<(), Fail> {
     }
     Ok(())
 }
+
+// As docs/USE.md shows it. By the rule of the wheel a delay of 20 gets the jiffy behind its expiry,
+// and one of 100 the end of its granule of 8.
+#[test]
+#[tactic(auto, unfolding(wheel_core::specs::PlainBase::item_of))]
+fn a_wheel_keeps_two_timers_and_one_is_cancelled(rt: HostRuntime) -> Result<(), Fail> {
+    let mut wheel = WheelBase::new(rt.alloc())?;
+    // Room for two timers: no other call takes memory.
+    wheel.reserve(2)?;
+    // It is jiffy 10. Timer 0 is for 30, and timer 1 for 110; the two numbers behind are yours.
+    wheel.forward(10);
+    wheel.add(0, 30, 0, 0);
+    wheel.add(1, 110, 0, 0);
+    assert_eq!(rt; wheel.first(), Some(31));
+    // Timer 0 is cancelled. At jiffy 112 timer 1 goes out, and then nothing more.
+    wheel.remove(0);
+    let out = wheel.take_next(112);
+    assert_eq!(rt; out.map(|item| item.id), Some(1));
+    assert_eq!(rt; wheel.take_next(112), None);
+    Ok(())
+}
