@@ -57,7 +57,8 @@ fn new_machine(alloc: Global, nodes: u8, cpus: u8, timers: u16) -> Result<Core<W
     new_core(alloc, tree, bases, timers)
 }
 
-/// The same for numbers that are only tested here.
+/// The core of so many nodes of so many CPUs, at jiffy 0, where these numbers are within their
+/// limits; others are refused as want of memory is.
 pub(crate) fn start(
     alloc: Global,
     nodes: u8,

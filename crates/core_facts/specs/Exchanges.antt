@@ -66,6 +66,6 @@ EachStaysPast = (w : World) (step : Step) (c level : ℕ) (k j : Walk) → Enabl
     (cpu_of w c).walk ≡ Some k → (cpu_of (stepped w step) c).walk ≡ Some j → IsPast level k →
     IsPast level j
 
--- and so it makes none there
+-- a walk that is past its exchange at a level makes none there
 abbrev pub NoneIsPast : Type 0
 NoneIsPast = (level : ℕ) (k : Walk) → IsPast level k → Exchanges k → k.level ≢ level

@@ -29,7 +29,7 @@ abbrev pub LevelsStayFit : Type 0
 LevelsStayFit = (w : World) (step : Step) → IsLawful w → Enabled w step → LevelsFit w →
     LevelsFit (stepped w step)
 
--- the same of a walk's step, stage by stage
+-- a walk's step, stage by stage, leaves walks at levels that fit
 abbrev pub EachStageFitsLevels : Type 0
 EachStageFitsLevels = (w : World) (c : ℕ) (k : Walk) (stage : Stage) → IsLawful w →
     MayStepAt w c k stage → LevelsFit w → LevelsFit (walked w c k stage)

@@ -19,8 +19,8 @@ pub fn law_always_answered()
     law_answered();
 }
 
-/// In every lawful world each such timer is held, woken for or carried; and where no walk and no
-/// interrupt is under way, it is held or woken for.
+/// In every lawful world each global timer that is queued on an online idle CPU is held, woken for
+/// or carried; and where no walk and no interrupt is under way, it is held or woken for.
 pub fn law_answered()
     ensures { EachLawfulIsAnswered }
 {
@@ -34,14 +34,15 @@ pub fn law_covered()
     ensures { EachCovered }
 {}
 
-/// In a lawful world where no walk and no interrupt is under way, it is held or woken for.
+/// In a lawful world where no walk and no interrupt is under way, each global timer that is queued
+/// on an online idle CPU is held or woken for.
 pub fn law_settled()
     ensures { EachSettled }
 {}
 
-/// And so is the CPU's first global timer: the CPU wakes for it itself; or the lowest active group
-/// of its path was told, and leads to an active CPU; or no group of its path is active, the top was
-/// told, and a placed CPU keeps a wakeup for it.
+/// At rest the first global timer of an online idle CPU is held or woken for: the CPU wakes for it
+/// itself; or the lowest active group of its path was told, and leads to an active CPU; or no group
+/// of its path is active, the top was told, and a placed CPU keeps a wakeup for it.
 pub fn law_cover()
     ensures { FirstSettled }
 {}

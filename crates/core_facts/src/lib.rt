@@ -1,5 +1,6 @@
 //! What holds of every lawful world, read out of the invariant: of walks and their CPUs, locks and
-//! marks, and the ranges of numbers. The functions do nothing: what they say are their contracts.
+//! marks, and the ranges of numbers; and what each step leaves, of worlds, walks and journals. The
+//! functions do nothing: what they say are their contracts.
 #![tactic(auto)]
 
 mod cover_laws;

@@ -47,7 +47,8 @@ pub fn law_step()
     law_origins();
 }
 
-/// And after every list of steps each of which is enabled where it stands.
+/// After every list of steps each of which is enabled where it stands, in a world that was lawful,
+/// the world is lawful.
 pub fn law_steps()
     ensures { ListsStayLawful }
 {

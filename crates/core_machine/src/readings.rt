@@ -1,5 +1,5 @@
-//! What a play asks of a core that stands still: each function is the reading of its name in the
-//! rules of steps, and none looks at a CPU more than once.
+//! What a play asks of a core that stands still. Most functions are the reading of their name in
+//! the rules of steps; the others say of a CPU what these readings need.
 
 mod cpu;
 mod looks;

@@ -41,7 +41,7 @@ pub record WorldFits (w : World) : Type 0 where
   pub played : AllPlayed w
   pub levels : LevelsFit w
 
--- and after each step that is enabled
+-- each step that is enabled leads to a world that fits as a core keeps it
 abbrev pub StaysFit : World → Type 0
 StaysFit w = (step : Step) → Enabled w step → WorldFits (stepped w step)
 

@@ -41,12 +41,13 @@ abbrev pub wheel_in : (now : ℕ) → Class → CpuBases → Item → ℕ
 wheel_in now class to item =
     (item_queued (now + 1) class item.id item.expires item.job item.arg to).wheel
 
--- of the first of a class, where there is one
+-- WHEEL EXPIRIES: that of the first timer of a class, as it comes to these bases, where there is
+-- one
 abbrev pub wheel_taken : (now : ℕ) → Class → (from to : CpuBases) → Option ℕ
 wheel_taken now class from to =
     option_map (wheel_in now class to) (oldest_in (base_of class from).items)
 
--- and of what moves first from one CPU to another
+-- WHEEL EXPIRIES: that of the timer that moves first from one CPU to another, where there is one
 abbrev pub wheel_moved : World → (from to : ℕ) → Option ℕ
 wheel_moved w from to =
     option_map (λ (found : Class × Item). wheel_in w.clock found.0 (cpu_of w to).bases found.1)

@@ -87,7 +87,7 @@ impl<B: TimerBase> CoreCpu<B> {
         self.status
     }
 
-    /// Whether its walk has read a group's word and is going to exchange it.
+    /// Whether the CPU's walk has read a group's word and is going to exchange it.
     pub(crate) fn reads(&self) -> bool
         ensures { result ≡ option_map_or (λ (k : Walk). is_reading k.stage) self.now.walk false }
     {
@@ -104,14 +104,14 @@ impl<B: TimerBase> CoreCpu<B> {
         self.status = status;
     }
 
-    /// Its timers.
+    /// The CPU's timers.
     pub fn bases(&self) -> &Bases<B>
         ensures { result.now.plain ≡ self.now.bases }
     {
         &self.bases
     }
 
-    /// Its first events.
+    /// The CPU's first events.
     pub(crate) fn events(&self) -> NextEvents
         ensures events { result ≡ events_of self.now.bases }
         ensures in_range { result.next < 2 ^ 48 }

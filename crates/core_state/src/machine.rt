@@ -67,7 +67,7 @@ impl<B: TimerBase> Core<B> {
         self.cpus[usize::from(cpu.0)].status()
     }
 
-    /// Another one in its place.
+    /// Puts another status in the place of a CPU's: all that the CPU is besides its timers.
     pub fn set(&mut self, cpu: CpuId, status: CpuStatus)
         requires cpu { cpu.0 < length self.old.cpus }
         requires in_range { IsInRange status.walk }

@@ -13,7 +13,7 @@ use tm_base::{Class, CpuId, Jiffy, NoMemory, TIME_LIMIT, TimerId};
 use wheel_core::{Item, TimerBase};
 
 impl<B: TimerBase> CoreCpu<B> {
-    /// The class of the first timer to move from it.
+    /// The class of the first timer to move from a CPU.
     pub(crate) fn class_to_move(&self) -> Option<Class>
         ensures { result ≡ option_map (λ first. first.0) (first_moved self.now.bases) }
     {
@@ -69,7 +69,7 @@ fn hand_over<B: TimerBase>(
     Ok(Some(wheel))
 }
 
-/// The same with the CPU that takes first.
+/// The first timer of a class goes to a CPU from another one; the CPU that takes it comes first.
 fn take_over<B: TimerBase>(
     to: &mut CoreCpu<B>,
     from: &mut CoreCpu<B>,
@@ -89,7 +89,7 @@ fn take_over<B: TimerBase>(
     hand_over(from, to, now, class, by)
 }
 
-/// The same from a CPU to a higher one.
+/// The first timer of a class goes from a CPU to one of a higher number.
 fn move_up<B: TimerBase>(
     cpus: &mut Vec<CoreCpu<B>>,
     from: CpuId,
@@ -116,7 +116,7 @@ fn move_up<B: TimerBase>(
     hand_over(&mut low[giver], &mut high[0], now, class, to)
 }
 
-/// The same from a CPU to a lower one.
+/// The first timer of a class goes from a CPU to one of a lower number.
 fn move_down<B: TimerBase>(
     cpus: &mut Vec<CoreCpu<B>>,
     from: CpuId,
@@ -143,7 +143,8 @@ fn move_down<B: TimerBase>(
     take_over(&mut low[taker], &mut high[0], now, class, to)
 }
 
-/// The same from a CPU to another one.
+/// The first timer of a class goes from a CPU to another one; answers its wheel expiry there, in
+/// jiffies. Want of memory leaves all as before.
 pub(crate) fn move_between<B: TimerBase>(
     cpus: &mut Vec<CoreCpu<B>>,
     from: CpuId,

@@ -105,7 +105,7 @@ impl<B: TimerBase> Core<B> {
         self.group(group).is_on()
     }
 
-    /// Whether it has none.
+    /// Whether a group has no migrator.
     pub fn is_off(&self, group: GroupId) -> bool
         requires { group.0 < length self.now.groups }
         ensures off { result ≡ is_none (group_of self.now group.0).migrator }
@@ -134,7 +134,8 @@ impl<B: TimerBase> Core<B> {
         self.set(cpu, CpuStatus { walk, ..status });
     }
 
-    /// And a group is changed, by an exchange of its word or not.
+    /// A CPU has another walk, or none, and a group is changed, by an exchange of its word or not;
+    /// an exchange makes the readings of other walks stale.
     pub fn walk_at(
         &mut self,
         group: GroupId,

@@ -27,7 +27,7 @@ fn no_timers(alloc: Global) -> Bases<ListBase>
     )
 }
 
-/// Such bases for so many CPUs.
+/// The bases of so many CPUs, on which nothing is queued.
 fn new_bases(alloc: Global, count: u16) -> Result<Vec<Bases<ListBase>>, NoMemory>
     ensures count { IfOk result (λ bases. length bases.items ≡ count) }
     ensures empty { IfOk result (λ bases. All (λ b. b.plain ≡ empty_bases) bases.items) }

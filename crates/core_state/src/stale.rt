@@ -49,7 +49,7 @@ fn after_exchange(tree: &Tree, cpu: CpuId, group: GroupId, walk: Walk) -> Walk
     }
 }
 
-/// The same of a CPU that may have no walk.
+/// The walk of a CPU after another one's exchange, where it has one.
 fn walk_after(tree: &Tree, cpu: CpuId, group: GroupId, walk: Option<Walk>) -> Option<Walk>
     requires { cpu.0 < cpu_count_of tree.now }
     ensures walk { result ≡ option_map (stale_walk tree.now group.0 cpu.0) walk }
@@ -91,7 +91,7 @@ fn make_all_stale<B: TimerBase>(tree: &Tree, cpus: &mut Vec<CoreCpu<B>>, cpu: Cp
     }
 }
 
-/// And as they were where nothing is exchanged.
+/// Each CPU after a step that exchanges a group's word; as it was where the step exchanges nothing.
 pub(crate) fn if_exchanged<B: TimerBase>(
     tree: &Tree,
     cpus: &mut Vec<CoreCpu<B>>,

@@ -53,7 +53,7 @@ fn new_groups(alloc: Global, tree: &Tree) -> Result<Vec<CoreGroup>, NoMemory>
     Ok(groups)
 }
 
-/// So many timers that are queued nowhere.
+/// Of so many timers the CPUs on which they are queued: none.
 fn new_holders(alloc: Global, count: u16) -> Result<Vec<Option<CpuId>>, NoMemory>
     ensures { IfOk result (λ holders. holders.items ≡ replicate count None) }
 {

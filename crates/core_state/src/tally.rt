@@ -31,7 +31,7 @@ impl Model for Tally {
     ghost view = { λ t. record { marks = t.marks.items; online = t.online } };
 }
 
-/// Whether a CPU is placed and, as said here, online.
+/// Whether a CPU is placed and online; `online` says whether it is online.
 pub(crate) fn is_placed_online(tree: &Tree, cpu: CpuId, online: bool) -> bool
     requires { cpu.0 < cpu_count_of tree.now }
     ensures { result ≡ (is_placed_in tree.now cpu.0 && online) }
@@ -82,7 +82,7 @@ impl Tally {
         }
     }
 
-    /// A CPU with this mark is counted, and whether it is placed and online.
+    /// Counts a CPU in, by its mark and by whether it is placed and online.
     fn count_in(&mut self, mark: Option<u16>, placed_online: bool)
         requires { MayCountIn self.old mark placed_online }
         ensures { TalliesOneMore self.old self.new mark placed_online }
@@ -98,7 +98,7 @@ impl Tally {
         }
     }
 
-    /// It isn't counted any more.
+    /// Counts a CPU out that was counted in by this mark and by whether it is placed and online.
     fn count_out(&mut self, mark: Option<u16>, placed_online: bool)
         requires { MayCountOut self.old mark placed_online }
         ensures { TalliesOneMore self.new self.old mark placed_online }

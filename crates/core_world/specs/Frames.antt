@@ -51,7 +51,7 @@ is_quiet (steps.Release cpu) = true
 is_quiet (steps.Walk cpu) = false
 is_quiet (steps.HandOn cpu to) = false
 
--- such a step leaves all that walks see
+-- a quiet step leaves all that walks see
 abbrev pub QuietSteps : Type 0
 QuietSteps =
     (w : World) (step : Step) → Enabled w step → is_quiet step ≡ true →

@@ -13,7 +13,7 @@ of_class Pinned all = all.pinned
 of_class Global all = all.global
 of_class Deferrable all = all.deferrable
 
--- another one in its place
+-- another one in the place of a class's
 abbrev pub with_class : {A : Type 0} → Class → A → ByClass A → ByClass A
 with_class Pinned one all = record all { pinned = one }
 with_class Global one all = record all { global = one }

@@ -38,7 +38,7 @@ after_call (calls.MoveIn now class timer expires job arg by) cpu =
 after_call calls.Next cpu = cpu
 after_call (calls.WhereIs timer) cpu = cpu
 
--- and with the room: no call but `Reserve` changes it
+-- bases, journal and room after a call: no call but `Reserve` changes the room
 abbrev pub after : BasesCall → RoomyBases → RoomyBases
 after (calls.Reserve timers entries) all = with_room timers entries all
 after call all = on_bases (after_call call) all

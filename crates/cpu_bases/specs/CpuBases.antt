@@ -46,7 +46,7 @@ entry_of act line at class item by = record {
   by = by;
 }
 
--- and that the base of a class was drained
+-- an entry that says that the base of a class was drained
 abbrev pub ticked_entry : (at : ℕ) → Class → CpuId → Entry
 ticked_entry at class by = record {
   act = acts.Ticked;

@@ -36,7 +36,7 @@ queued_after Cancelled queued entry = ended entry.timer.0 queued
 queued_after MovedOut queued entry = ended entry.timer.0 queued
 queued_after Ticked queued entry = queued
 
--- the same after a journal that begins where some are queued
+-- the armings that haven't ended, in order, after a journal that begins where some are queued
 abbrev pub queued_from : List Entry → List Entry → List Entry
 queued_from queued [] = queued
 queued_from queued (entry ∷ journal) = queued_from (queued_after entry.act queued entry) journal

@@ -1,4 +1,4 @@
-//! What a journal says.
+//! What a journal says of a CPU's timers, and which of them come first.
 
 use tm_base::{Class, CpuId, Jiffy, TimerId};
 

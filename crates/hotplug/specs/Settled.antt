@@ -21,7 +21,7 @@ offline_fault w c to =
     else (if is_placed_in w.tree c && not (cpu_of w to).online then Some faults.LastOnline
     else None))
 
--- it leaves; where its walk waits to hand on, it hands on to CPU `to`, which is woken for it
+-- CPU c leaves; where its walk waits to hand on, it hands on to CPU `to`, which is woken for it
 abbrev pub gone_whole : World → (c to : ℕ) → World
 gone_whole w c to =
     if is_waiting (gone_by_steps w c) c

@@ -5,7 +5,7 @@ ghost use Rattle.job_table.specs.Standard.{marker_reply, one_shot_reply, periodi
 use crate::jobs::{Job, JobCall, JobReply};
 use tm_base::Class;
 
-/// Its timer is done after one run.
+/// A job whose timer is done after one run.
 #[derive(Clone, Copy)]
 pub struct OneShot;
 
@@ -17,7 +17,7 @@ impl Job for OneShot {
     }
 }
 
-/// Its timer runs again and again, each time as many jiffies later as it was armed with.
+/// A job whose timer runs again and again, each time as many jiffies later as it was armed with.
 #[derive(Clone, Copy)]
 pub struct Periodic {
     /// The class with which the timer is armed again.
@@ -35,7 +35,7 @@ impl Job for Periodic {
     }
 }
 
-/// It leaves the number that its timer was armed with as its mark.
+/// A job that leaves the number that its timer was armed with as its mark.
 #[derive(Clone, Copy)]
 pub struct Marker;
 

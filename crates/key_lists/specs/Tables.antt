@@ -34,7 +34,7 @@ abbrev pub last_of : List ℕ → Option ℕ
 last_of [] = None
 last_of (k ∷ ks) = Some (unwrap_or (last_of ks) k)
 
--- so many empty lists
+-- the table has this number of lists, all empty
 pub record IsEmptyTable (number : ℕ) (table : KeyTable) : Type 0 where
   pub number_is : table.number ≡ number
   pub empty : (c : ℕ) → c < number → list_of table c ≡ []

@@ -7,7 +7,7 @@ pub(crate) struct Link {
     pub(crate) newer: u32,
 }
 
-/// So many places there are at most, since a link has 32 bits for each.
+/// The most places, since a link has 32 bits for each.
 pub const MOST_PLACES: usize = 1 << 32;
 
 const _: () = prove!(MOST_PLACES == 4_294_967_296);

@@ -1,4 +1,4 @@
-//! The second law of Play: each timer is handed out in its jiffy. Each of these functions does
+//! A law of Play: each timer is handed out in its jiffy. Each of these functions does
 //! nothing; its contract is the law.
 
 ghost use Rattle.play_laws.specs.Jiffies.Jiffies.{EachHasEndedAfterEach, InFirstDrain};
@@ -12,9 +12,9 @@ pub fn law_in_its_jiffy()
     ensures { InItsJiffyAfterEach }
 {}
 
-/// So each arming of such a timer whose wheel expiry has come has its end: handed out in that
-/// jiffy, cancelled, or moved. As long as a timer has no end each drain of its base is before its
-/// wheel expiry, so a deferrable one goes out in the first interrupt of its CPU from then on.
+/// Each arming of a pinned or global timer whose wheel expiry has come has its end: handed out in
+/// that jiffy, cancelled, or moved. As long as a timer has no end each drain of its base is before
+/// its wheel expiry, so a deferrable one goes out in the first interrupt of its CPU from then on.
 pub fn law_ends()
     ensures each_has_ended { EachHasEndedAfterEach }
     ensures in_first_drain { InFirstDrain }

@@ -1,4 +1,4 @@
-//! The third law of Play: its work is bounded; and that its moments go on to the script's end. Each
+//! Of the work of Play, which is bounded, and its moments, which go on to the script's end. Each
 //! of these functions does nothing; its contract is the law.
 
 ghost use Rattle.play_laws.specs.Work.Course.{EachComesToItsEnd};

@@ -8,7 +8,7 @@ pub record IsTimerOf (timers : ℕ) (item : Item) : Type 0 where
   pub known : item.id < timers
   pub narrow : item.id < 2 ^ 16
 
--- the same machine at the same time
+-- a machine of the same timers, CPUs and tree, at the same time
 pub record Same {S : Type 0} (r : Rules S) (old new : S) : Type 0 where
   pub clock : r.clock new ≡ r.clock old
   pub timers : r.timers new ≡ r.timers old
@@ -20,12 +20,12 @@ pub record Same {S : Type 0} (r : Rules S) (old new : S) : Type 0 where
 pub record SameOnline {S : Type 0} (r : Rules S) (old new : S) : Type 0 where
   pub online : (c : ℕ) → r.is_online new c ≡ r.is_online old c
 
--- nor gone idle or woken
+-- no CPU has gone offline or come online, gone idle or woken
 pub record SameFlags {S : Type 0} (r : Rules S) (old new : S) : Type 0 where
   pub online : (c : ℕ) → r.is_online new c ≡ r.is_online old c
   pub idle : (c : ℕ) → r.is_idle new c ≡ r.is_idle old c
 
--- the same machine, perhaps at another time
+-- a machine of the same timers and CPUs, perhaps at another time
 pub record SameBuild {S : Type 0} (r : Rules S) (old new : S) : Type 0 where
   pub timers : r.timers new ≡ r.timers old
   pub cpus : r.cpus new ≡ r.cpus old

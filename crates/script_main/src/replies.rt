@@ -40,7 +40,7 @@ pub(crate) enum Reply {
     WorkSpent { count: u32 },
     /// The report of a play.
     Played(Report),
-    /// Another output.
+    /// The output of a command but `play`: a tree, a script, or the numbers of a day.
     Made(Vec<u8>),
 }
 

@@ -1,5 +1,6 @@
-//! What each walk leaves when it is made alone, from its start to its end: a core in play, and in
-//! it Play's state after the rule of Play that the walk stands for.
+//! What an activation leaves when it is made alone, from its start to its end: a core in play, and
+//! in it Play's state after the rule of Play that the walk stands for. The other walks stand in
+//! `telling_laws`.
 
 ghost use Rattle.step_play.specs.Rules.Alike.{ComesAlike, WakesAlike};
 
@@ -15,7 +16,7 @@ pub fn law_wakes()
     law_below();
 }
 
-/// And so is one that comes online.
+/// A CPU that comes online, with its walk made to its end, has come online as Play has it.
 pub fn law_comes()
     ensures { ComesAlike }
 {

@@ -34,7 +34,7 @@ pub enum OpFault {
     Offline,
     /// Number 4: the CPU is online already.
     AlreadyOnline,
-    /// Number 5: no other CPU is online.
+    /// Number 5: the CPU isn't isolated, and no other CPU that isn't isolated is online.
     LastOnline,
     /// Number 6: the timer is queued, on this CPU.
     Queued { cpu: CpuId },

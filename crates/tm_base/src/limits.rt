@@ -54,7 +54,8 @@ const _: () = prove!(MOST_BYTES == 1 << 22);
 /// version 1 is spent.
 pub const WORK_LIMIT_V1: u32 = 1_000_000;
 
-/// The same for a script of version 2.
+/// Where moments, interrupts and hand-outs together come to this number, the work of a script of
+/// version 2 is spent.
 pub const WORK_LIMIT_V2: u32 = 4_000_000;
 
 const _: () = prove!(WORK_LIMIT_V2 == 4 * WORK_LIMIT_V1);

@@ -9,7 +9,7 @@ pub struct Summary {
     pub moments: u32,
     /// Timers that ran.
     pub runs: u32,
-    /// Those of them that ran on another CPU than the one on which they were queued.
+    /// Timers of `runs` that ran on another CPU than the one on which they were queued.
     pub remote: u32,
     /// Timers armed, by an operation or again by their job.
     pub armed: u32,

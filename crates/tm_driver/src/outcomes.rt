@@ -1,4 +1,4 @@
-//! How a play ends that doesn't come to its end.
+//! How a play ends: what was counted in a whole one, and why another was broken off.
 
 use play_rules::Tally;
 use tm_base::NoMemory;

@@ -27,8 +27,8 @@ answer x n = x / 2 ^ 33 % n
 abbrev pub draw : ℕ → ℕ → ℕ → ℕ
 draw number k n = answer (x_after number (suc k)) n
 
--- The arming of timer i: draws 3 * i to 3 * i + 2 are p, d and a. Its line is the seventh and
--- further ones behind the four lines of the machine and `at 0`.
+-- The arming of timer i: draws 3 * i to 3 * i + 2 are p, d and a. Its line is number 6 + i,
+-- behind the four lines of the machine and `at 0`.
 abbrev pub arming_by : ℕ → ℕ → ℕ → ℕ → ℕ → Op
 arming_by cpus i p d a = record {
   line = 6 + i;

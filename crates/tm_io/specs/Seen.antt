@@ -38,10 +38,10 @@ SinkRefused old new = HasRisen old.refusals new.refusals
 abbrev pub SinkTook : SinkSeen → SinkSeen → Type 0
 SinkTook old new = new.refusals ≡ old.refusals
 
--- the same source, where it doesn't tell its bytes
+-- what is seen of a source that doesn't tell its bytes: its count of faults
 abbrev pub source_untold : SourceSeen → SourceSeen
 source_untold s = record { left = None; faults = s.faults }
 
--- the same sink, where it doesn't tell its bytes
+-- what is seen of a sink that doesn't tell its bytes: its two counts
 abbrev pub sink_untold : SinkSeen → SinkSeen
 sink_untold s = record { held = None; faults = s.faults; refusals = s.refusals }

@@ -106,7 +106,8 @@ pub enum Line {
         line: u32,
         number: u8,
     },
-    /// The same for `OpFault::Queued`, whose number is 6; CPU `holder` has the timer queued.
+    /// The operation on line `line` of the script, by CPU `cpu`, was refused by `OpFault::Queued`,
+    /// whose number is 6; CPU `holder` has the timer queued.
     RefusedQueued {
         now: Jiffy,
         cpu: CpuId,

@@ -72,7 +72,8 @@ abbrev pub AreOpsNumbered : ℕ → List Op → Type 0
 AreOpsNumbered line [] = Unit {0}
 AreOpsNumbered line (o ∷ os) = (o.line ≡ line) × AreOpsNumbered (line + 1) os
 
--- the same for moments, each of which has a line before its operations
+-- each operation of these moments has the number of its line, where the first moment stands on this
+-- line; each moment has a line before its operations
 abbrev pub AreMomentsNumbered : ℕ → List Moment → Type 0
 AreMomentsNumbered line [] = Unit {0}
 AreMomentsNumbered line (m ∷ ms) =

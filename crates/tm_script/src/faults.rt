@@ -8,13 +8,15 @@ use tm_base::NoMemory;
 /// What is wrong with a line of a script.
 #[derive(Clone, Copy, Debug, PartialEq, Eq)]
 pub enum Kind {
-    /// Number 1: the words of the line are none that may stand there, or a line feed is missing.
+    /// Number 1: the words of the line are none that may stand there, or too many or too few, or
+    /// name no class of the version; or a line feed is missing.
     BadLine,
     /// Number 2: a word in the place of a number is no number.
     BadNumber,
-    /// Number 3: a number is outside its limit.
+    /// Number 3: a number is outside its limit, or no CPU is left that isn't isolated.
     OutOfRange,
-    /// Number 4: times don't ascend, or the end is before the last of them.
+    /// Number 4: times or isolated CPUs don't ascend, the end is before the last moment, or an
+    /// operation stands behind `offline` or `online` in its moment.
     OutOfOrder,
     /// Number 5: the text ends where a further line is needed.
     NoEnd,
@@ -25,7 +27,7 @@ pub enum Kind {
 /// Where a text is no script, and what is wrong there.
 #[derive(Clone, Copy, Debug, PartialEq, Eq)]
 pub struct ScriptFault {
-    /// The number of the line at fault, from 1; 0 where no place is told.
+    /// The number of the line at fault, from 1.
     pub line: u32,
     /// What is wrong with it.
     pub kind: Kind,

@@ -12,7 +12,7 @@ use tm_base::{CPU_SET_SIZE, CpuId, CpuSet};
 /// The numbers of isolated CPUs that were read.
 #[derive(Drop)]
 pub struct Named {
-    /// Those that are numbers of CPUs.
+    /// The numbers that are numbers of CPUs.
     pub cpus: CpuSet,
     /// The last number, where there is one.
     pub last: Option<u64>,

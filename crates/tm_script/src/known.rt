@@ -59,7 +59,7 @@ pub struct Known {
     pub last: Option<Jiffy>,
     /// How many operations that moment has so far.
     pub ops: u32,
-    /// Whether its last operation was `offline` or `online`, behind which none may follow.
+    /// Whether the moment's last operation was `offline` or `online`, behind which none may follow.
     pub closed: bool,
 }
 

@@ -11,8 +11,8 @@
 //! timers T
 //! isolated C..                   in version 2 alone: numbers of CPUs, ascending; there may be none
 //! at A                           a moment, after the one before; there may be none
-//! arm C T CLASS DELAY JOB ARG    an operation; CLASS is pinned, global or, in version 2,
-//! deferrable cancel C T
+//! arm C T CLASS DELAY JOB ARG    an operation; CLASS is pinned, global or deferrable (version 2)
+//! cancel C T
 //! idle C
 //! wake C
 //! offline C

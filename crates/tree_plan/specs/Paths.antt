@@ -122,7 +122,7 @@ abbrev pub IsUnder : Shape → ℕ → Child → Type 0
 IsUnder t c (Cpu d) = c ≡ d.0
 IsUnder t c (Group g) = IsBelow t c g.0
 
--- the same two as tests
+-- whether CPU c is below group g
 abbrev pub is_below : Shape → (c g : ℕ) → Bool
 is_below t c g = list_any (λ h. h == g) (path_of t c)
 

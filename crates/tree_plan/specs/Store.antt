@@ -92,7 +92,8 @@ count_before (n ∷ ns) (suc g) = n + count_before ns g
 abbrev pub first_child_of : Shape → ℕ → ℕ
 first_child_of t g = count_before (map length (groups_of t)) g
 
--- the same for each of groups with these numbers of children, where so many children come before
+-- for each group which of all children its first one is, where the groups have these numbers of
+-- children, and so many children come before
 unfoldable pub firsts_from : ℕ → List ℕ → List ℕ
 firsts_from next [] = []
 firsts_from next (n ∷ ns) = next ∷ firsts_from (next + n) ns

@@ -16,7 +16,7 @@ use tm_base::{CpuId, CpuSet, GROUP_SIZE, GroupId, NoMemory};
 /// A group of the tree, without what is active in it.
 #[derive(Clone, Copy, Debug)]
 pub(crate) struct Group {
-    /// Its level, 0 for a leaf.
+    /// The group's level, 0 for a leaf.
     pub(crate) level: u8,
     /// How many groups of its level come before it.
     pub(crate) place: u16,

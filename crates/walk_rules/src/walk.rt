@@ -11,13 +11,13 @@ pub enum WalkKind {
     Activate,
     /// The CPU has gone idle (the kernel's `tmigr_inactive_up`).
     Deactivate,
-    /// The CPU has gone offline: the same, with no event of its own (the kernel's
-    /// `tmigr_cpu_offline`).
+    /// The CPU has gone offline: it leaves its groups like one that goes idle, with no event of its
+    /// own (the kernel's `tmigr_cpu_offline`).
     Offline,
     /// The CPU is idle and its first timer may have changed (the kernel's `tmigr_new_timer_up`).
     Reeval,
-    /// The same, made by another CPU that ran the CPU's timers (the kernel's
-    /// `tmigr_handle_remote_cpu`, its end).
+    /// The CPU is idle, and another one has run its timers and carries its next event upwards (the
+    /// end of the kernel's `tmigr_handle_remote_cpu`).
     Remote {
         /// The CPU that set the mark.
         by: CpuId,

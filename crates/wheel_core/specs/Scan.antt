@@ -31,7 +31,8 @@ pub record IsNextAt (now : ℕ) (items : List Item) (others : Option ℕ) (place
   pub out : slice_get items place ≡ out_at now (least items) items
   pub left : others ≡ least (remove items place)
 
--- the same, or nothing goes out
+-- a scan has found the place of what goes out at a time, and the least expiry of the others; or
+-- nothing goes out
 abbrev pub IsNext : (now : ℕ) → List Item → Scan → Type 0
 IsNext now items scan =
     MatchOption scan.out (out_at now (least items) items ≡ None) (IsNextAt now items scan.others)

@@ -42,8 +42,9 @@ wheel_level_of expires clock =
     if nat_lt expires clock then 0
     else level_of_delay (expires - clock)
 
--- its wheel expiry there: the clock where it asks for the past; the next jiffy at level 0; else
--- the end of the granule, from the cutoff on that of the greatest timeout
+-- the wheel expiry of a timer that asks for an expiry in a base of a clock: the clock where it asks
+-- for the past; the next jiffy at level 0; else the end of the granule, from the cutoff on that of
+-- the greatest timeout (calc_wheel_index, calc_index)
 unfoldable pub wheel_expiry_of : (expires clock : ℕ) → ℕ
 wheel_expiry_of expires clock =
     if nat_lt expires clock then clock

@@ -14,18 +14,21 @@ pub record IsWaiting (w : World) (c : ℕ) (item : Item) : Type 0 where
   pub idle : (cpu_of w c).idle ≡ true
   pub queued : Contains (base_of Global (cpu_of w c).bases).items item
 
--- THE HEADLINE: it is covered
+-- THE HEADLINE: in every lawful world each global timer that is queued on an online idle CPU is
+-- covered
 abbrev pub EachCovered : Type 0
 EachCovered = (w : World) → IsLawful w → (c : ℕ) (item : Item) → IsWaiting w c item →
     Covered w c item.wheel
 
--- and held or woken for where no walk or interrupt is under way
+-- where no walk and no interrupt is under way, each global timer that is queued on an online idle
+-- CPU is held or woken for
 abbrev pub EachSettled : Type 0
 EachSettled = (w : World) → IsLawful w → IsSettled w → (c : ℕ) (item : Item) →
     IsWaiting w c item →
     Held (machine_of w) c item.wheel ⊎ Woken (machine_of w) c item.wheel
 
--- the same of the first of its global timers, or of the time that never comes where it has none
+-- where no walk and no interrupt is under way, the first global timer of an online idle CPU is held
+-- or woken for; or the time that never comes, where it has none
 abbrev pub FirstSettled : Type 0
 FirstSettled = (w : World) → IsLawful w → IsSettled w → (c : ℕ) → (cpu_of w c).online ≡ true →
     (cpu_of w c).idle ≡ true →

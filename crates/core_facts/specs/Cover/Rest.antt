@@ -22,7 +22,7 @@ use Rattle.core_world.specs.World.{World, cpu_of, group_of, is_active, scene_of}
 abbrev pub HasActive : World → (g : ℕ) → Type 0
 HasActive w g = (c : ℕ) × IsBelow w.tree c g × (is_active (cpu_of w c) ≡ true)
 
--- and the group's migrators lead to one
+-- the migrators of the group lead to an active CPU below it
 pub record LeadsDown (w : World) (g : ℕ) : Type 0 where
   pub runner : ℕ
   pub below : IsBelow w.tree runner g

@@ -96,7 +96,7 @@ lost_steps =
 abbrev pub lost_end : World
 lost_end = after_all stale_start lost_steps
 
--- and two steps later, when it has read again
+-- LOST-EXCHANGE: two steps of CPU 8 later, when it has read again and made its exchange
 abbrev pub made_end : World
 made_end = after_all lost_end (walks 2 8)
 

@@ -25,7 +25,7 @@ pub record CpuFits (t : Shape) (c : ℕ) (y : CpuRecord) : Type 0 where
   pub remote : (k : Walk) (by : CpuId) → y.walk ≡ Some k → k.kind ≡ kinds.Remote by →
       y.mark ≡ Some by.0
 
--- and of all
+-- MARKED, FOUND, OFFATREST, 8b, 8c and 9c of the invariant, said of all CPUs
 pub record CpusFit (w : World) : Type 0 where
   pub marked : MarkedHasGroup w
   pub found : HandingFound w

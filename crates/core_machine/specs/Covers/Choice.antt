@@ -51,7 +51,7 @@ choice_of w c =
 abbrev pub waits : CpuRecord → Bool
 waits y = y.online && (y.idle && is_some (first_wheel y))
 
--- its group and CPU are there
+-- the group and the CPU that a cover names are there
 abbrev pub IsThere : World → Cover → Type 0
 IsThere w (covers.Migrator g m) = (g.0 < length w.groups) × (m.0 < length w.cpus)
 IsThere w (covers.Wake d at) = d.0 < length w.cpus

@@ -11,7 +11,7 @@ pub enum Cover {
         group: GroupId,
         cpu: CpuId,
     },
-    /// This CPU wakes in time.
+    /// A CPU wakes in time: itself, or for all of the tree.
     Wake {
         cpu: CpuId,
         /// In jiffies.

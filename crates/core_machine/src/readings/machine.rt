@@ -40,7 +40,7 @@ fn is_up<B: TimerBase>(core: &Core<B>, cpu: CpuId) -> bool
     is_placed(core, cpu) && is_online(core, cpu)
 }
 
-/// Whether it is one, and another CPU than this one.
+/// Whether a CPU is online and placed, and another one than the CPU that would hand on to it.
 fn may_succeed<B: TimerBase>(core: &Core<B>, cpu: CpuId, other: CpuId) -> bool
     requires { other.0 < length core.now.cpus }
     ensures { result ≡ (not (other.0 == cpu.0)

@@ -30,7 +30,8 @@ pub fn make<B: TimerBase>(core: &mut Core<B>, step: Step)
     }
 }
 
-/// Such a step, and then the walk of a CPU to its end; after the step no other walk goes on.
+/// A step that is enabled and wants no memory, and then the walk of a CPU to its end; after the
+/// step no other walk goes on.
 fn make_out<B: TimerBase>(core: &mut Core<B>, step: Step, cpu: CpuId)
     requires enabled { Enabled core.old step }
     requires wants_none { WantsMemory step → ⊥ }

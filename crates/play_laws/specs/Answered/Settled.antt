@@ -43,7 +43,8 @@ IsSettled s =
     → All (λ item. IsAnsweredFor (machine_of s) c item.wheel)
     (base_of Global (cpu_at s c).bases).items
 
--- and so after each moment of every script's play, whatever its jobs answer
+-- SETTLED: after each moment of every script's play, whatever its jobs answer, each global timer
+-- that is queued on an online idle CPU is held or woken for
 abbrev pub SettledAfterEach : Type 0
 SettledAfterEach =
     (jobs : Replies) (script : Script) → IsScript script → AfterEachMoment IsSettled jobs script

@@ -67,7 +67,7 @@ pub record InItsJiffy (s : State) : Type 0 where
   pub none_offline : (c : ℕ) (class : Class) → c < cpu_count s → (cpu_at s c).online ≡ false
       → (base_of class (bases_at s c)).items ≡ []
 
--- and so after each moment of every script's play
+-- IN ITS JIFFY, after each moment of every script's play, whatever its jobs answer
 abbrev pub InItsJiffyAfterEach : Type 0
 InItsJiffyAfterEach =
     (jobs : Replies) (script : Script) → IsScript script → AfterEachMoment InItsJiffy jobs script
@@ -86,8 +86,8 @@ wakes Pinned = true
 wakes Global = true
 wakes Deferrable = false
 
--- each arming of such a timer whose wheel expiry has come has its end in the same journal: it was
--- handed out in that jiffy, cancelled, or moved to another CPU
+-- each arming of a timer that wakes its CPU, whose wheel expiry has come, has its end in the same
+-- journal: it was handed out in that jiffy, cancelled, or moved to another CPU
 abbrev pub EachHasEnded : State → Type 0
 EachHasEnded s = (c i : ℕ) (arming : Entry) → c < cpu_count s
     → slice_get (bases_at s c).journal i ≡ Some arming → is_arming arming.act ≡ true
@@ -105,8 +105,9 @@ pub record StandsAt (journal : List Entry) (i k : ℕ) (arming : Entry) : Type 0
   pub arms : is_arming arming.act ≡ true
   pub no_end : (j : ℕ) (ending : Entry) → IsEndOf journal i j arming ending → k < j
 
--- and so each drain of its base until then was before its wheel expiry. So a deferrable timer that
--- isn't cancelled or moved goes out in the first interrupt of its CPU that isn't before it
+-- IN THE FIRST DRAIN: as long as an arming has no end each drain of its base was before its wheel
+-- expiry. So a deferrable timer that isn't cancelled or moved goes out in the first interrupt of
+-- its CPU that isn't before it
 abbrev pub InFirstDrain : Type 0
 InFirstDrain = (cpu : ℕ) (journal : List Entry) (i k : ℕ) (arming drain : Entry)
     → LegalJournal cpu journal → StandsAt journal i k arming → slice_get journal k ≡ Some drain

@@ -26,7 +26,8 @@ pub record ComesToItsEnd (script : Script) (times : List ℕ) : Type 0 where
   pub goes : GoFrom 0 script.end times
   pub has_all : All (λ (m : Moment). Contains times m.at) script.moments
 
--- and so of every script's play, whatever its jobs answer
+-- the moments of every script's play, whatever its jobs answer, go from jiffy 0 to the script's
+-- end, and each of the script's is one of them
 abbrev pub EachComesToItsEnd : Type 0
 EachComesToItsEnd = (jobs : Replies) (script : Script) → IsScript script
     → ComesToItsEnd script (times_of (play_turns jobs script))
