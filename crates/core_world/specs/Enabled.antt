@@ -28,17 +28,21 @@ pub record IsFree (w : World) (c : ℕ) : Type 0 where
 abbrev pub MarksNobody : World → ℕ → Type 0
 MarksNobody w c = (d : ℕ) → (cpu_of w d).mark ≡ Some c → ⊥
 
+-- Enter: an online CPU that is free begins its interrupt (run_timer_softirq)
 pub record MayEnter (w : World) (c : ℕ) : Type 0 where
   pub is_free : IsFree w c
   pub online : (cpu_of w c).online ≡ true
   pub outside : (cpu_of w c).inside ≡ false
 
+-- Leave: an active CPU ends its interrupt, once it marks nobody
 pub record MayLeave (w : World) (c : ℕ) : Type 0 where
   pub is_free : IsFree w c
   pub inside : (cpu_of w c).inside ≡ true
   pub busy : (cpu_of w c).idle ≡ false
   pub marks_nobody : MarksNobody w c
 
+-- Arm: a CPU that is active, or inside its interrupt, queues a timer that is queued nowhere
+-- (__mod_timer); the expiry is to come, and nothing is behind the base's clock
 pub record MayArm (w : World) (c timer : ℕ) (class : Class) (expires : ℕ) : Type 0 where
   pub is_free : IsFree w c
   pub online : (cpu_of w c).online ≡ true
@@ -49,6 +53,7 @@ pub record MayArm (w : World) (c timer : ℕ) (class : Class) (expires : ℕ) : 
   pub in_time : expires < 2 ^ 47
   pub none_behind : NoneBehind (base_of class (cpu_of w c).bases)
 
+-- Cancel: a timer that is queued on this CPU goes out (timer_delete)
 pub record MayCancel (w : World) (c timer : ℕ) : Type 0 where
   pub is_free : IsFree w c
   pub queued : (class : Class) × (class_in timer (cpu_of w c).bases ≡ Some class)
@@ -60,6 +65,8 @@ MayRun w c class runner =
     ((runner ≡ c) × ((cpu_of w c).inside ≡ true)) ⊎
     ((class ≡ Global) × ((cpu_of w c).mark ≡ Some runner))
 
+-- Hand: the item that goes out next of a base is this timer's, and the runner may run it
+-- (expire_timers)
 pub record MayHand (w : World) (c timer runner : ℕ) : Type 0 where
   pub is_free : IsFree w c
   pub class : Class
@@ -69,11 +76,14 @@ pub record MayHand (w : World) (c timer runner : ℕ) : Type 0 where
   pub timers : item.id ≡ timer
   pub may_run : MayRun w c class runner
 
+-- Ticked: nothing more of a base is due, and the runner may have drained it (__run_timers)
 pub record MayTick (w : World) (c : ℕ) (class : Class) (runner : ℕ) : Type 0 where
   pub is_free : IsFree w c
   pub none_due : next_out w.clock (base_of class (cpu_of w c).bases) ≡ None
   pub may_run : MayRun w c class runner
 
+-- Move: the first timer of an offline CPU is this one, and a placed CPU that is active takes it
+-- (migrate_timer_list)
 pub record MayMove (w : World) (from to timer : ℕ) : Type 0 where
   pub from_free : IsFree w from
   pub from_offline : (cpu_of w from).online ≡ false
@@ -87,16 +97,19 @@ pub record MayMove (w : World) (from to timer : ℕ) : Type 0 where
   pub timers : item.id ≡ timer
   pub none_behind : NoneBehind (base_of class (cpu_of w to).bases)
 
--- the first event of a CPU, in jiffies, or NEVER
+-- the first event of a CPU, in jiffies, or NEVER (fetch_next_timer_interrupt)
 abbrev pub first_event : CpuBases → ℕ
 first_event bases = min (events_of bases).pin (events_of bases).first_global
 
+-- Idle: an active CPU outside its interrupt, whose first event is more than a jiffy ahead
+-- (timer_base_try_to_set_idle)
 pub record MayIdle (w : World) (c : ℕ) : Type 0 where
   pub is_free : IsFree w c
   pub active : is_active (cpu_of w c) ≡ true
   pub outside : (cpu_of w c).inside ≡ false
   pub rests : w.clock + 1 < first_event (cpu_of w c).bases
 
+-- Wake: an online CPU that is idle (timer_clear_idle)
 pub record MayWake (w : World) (c : ℕ) : Type 0 where
   pub is_free : IsFree w c
   pub online : (cpu_of w c).online ≡ true
@@ -107,16 +120,20 @@ abbrev pub MayBeMissed : World → ℕ → Type 0
 MayBeMissed w c = (is_placed_in w.tree c ≡ false) ⊎
     ((d : ℕ) × (d ≢ c) × (is_placed_in w.tree d ≡ true) × ((cpu_of w d).online ≡ true))
 
+-- Offline: an active CPU outside its interrupt that may be missed (tmigr_cpu_offline)
 pub record MayGoOffline (w : World) (c : ℕ) : Type 0 where
   pub is_free : IsFree w c
   pub active : is_active (cpu_of w c) ≡ true
   pub outside : (cpu_of w c).inside ≡ false
   pub missed : MayBeMissed w c
 
+-- Online: an offline CPU whose last walk is over (tmigr_cpu_online)
 pub record MayComeOnline (w : World) (c : ℕ) : Type 0 where
   pub is_free : IsFree w c
   pub offline : (cpu_of w c).online ≡ false
 
+-- Reeval: an idle CPU inside its interrupt that marks nobody carries its next event upwards
+-- (tmigr_cpu_new_timer)
 pub record MayReeval (w : World) (c : ℕ) : Type 0 where
   pub is_free : IsFree w c
   pub online : (cpu_of w c).online ≡ true
@@ -139,6 +156,8 @@ pub record IsDueAtLeaf (w : World) (c : ℕ) : Type 0 where
   pub counts : Counts event
   pub come : event.expiry ≤ w.clock
 
+-- Take: a placed CPU inside its interrupt marks an idle one, whose event in its leaf is due, to run
+-- its timers (tmigr_handle_remote_cpu)
 pub record MayTake (w : World) (c by : ℕ) : Type 0 where
   pub by_in_range : by < length w.cpus
   pub by_placed : is_placed_in w.tree by ≡ true
@@ -150,12 +169,15 @@ pub record MayTake (w : World) (c by : ℕ) : Type 0 where
   pub unmarked : (cpu_of w c).mark ≡ None
   pub due : IsDueAtLeaf w c
 
+-- Carry: the next event of a marked CPU that is still idle is carried upwards (the end of
+-- tmigr_handle_remote_cpu)
 pub record MayCarry (w : World) (c : ℕ) : Type 0 where
   pub is_free : IsFree w c
   pub marked : (by : ℕ) × ((cpu_of w c).mark ≡ Some by)
   pub online : (cpu_of w c).online ≡ true
   pub idle : (cpu_of w c).idle ≡ true
 
+-- Release: a marked CPU that is awake or offline by now loses its mark without a walk
 pub record MayRelease (w : World) (c : ℕ) : Type 0 where
   pub is_free : IsFree w c
   pub marked : (by : ℕ) × ((cpu_of w c).mark ≡ Some by)
@@ -181,12 +203,15 @@ MayGoOn w c k stages.FreeGroup = Unit {0}
 MayGoOn w c k stages.FreeChild = Unit {0}
 MayGoOn w c k stages.Finish = Unit {0}
 
+-- Walk: a CPU's walk makes its next step (walk_groups)
 pub record MayWalk (w : World) (c : ℕ) : Type 0 where
   pub in_range : c < length w.cpus
   pub made : Walk
   pub walk : (cpu_of w c).walk ≡ Some made
   pub may_go_on : MayGoOn w c made made.stage
 
+-- HandOn: a CPU that went offline with an event that comes hands its duty on to another placed CPU,
+-- which is active by then (tmigr_trigger_active)
 pub record MayHandOn (w : World) (c to : ℕ) : Type 0 where
   pub in_range : c < length w.cpus
   pub made : Walk
@@ -197,6 +222,7 @@ pub record MayHandOn (w : World) (c to : ℕ) : Type 0 where
   pub to_placed : is_placed_in w.tree to ≡ true
   pub to_active : is_active (cpu_of w to) ≡ true
 
+-- Clock: time goes on, and stays in range
 pub record MayTime (w : World) (now : ℕ) : Type 0 where
   pub not_back : w.clock ≤ now
   pub in_time : now < 2 ^ 47 - 2

@@ -26,17 +26,19 @@ use Rattle.core_world.specs.declared.step.Step.{Step}
 use Rattle.core_world.specs.declared.step.Step.TheVariants as steps
 use Rattle.core_world.specs.World.{CpuRecord, World, cpu_of, group_of, moved, own}
 
+-- a CPU with this walk, or none
 abbrev pub with_walk : CpuRecord → Option Walk → CpuRecord
 with_walk y k = record y { walk = k }
 
+-- a CPU with these bases
 abbrev pub with_bases : CpuRecord → CpuBases → CpuRecord
 with_bases y bases = record y { bases = bases }
 
--- WALKS: the group of a walk's level, the child number through which it comes there, and the group
--- below
+-- WALKS: the group of a walk's level on the path of its CPU
 abbrev pub here : World → (c : ℕ) → Walk → ℕ
 here w c k = group_on w.tree c k.level
 
+-- the group one level below a walk's
 abbrev pub child_here : World → (c : ℕ) → Walk → ℕ
 child_here w c k = group_on w.tree c (k.level - 1)
 
@@ -53,14 +55,16 @@ walks_on w c k = own w c (with_walk (cpu_of w c) (Some k))
 abbrev pub walks_at : World → (c g : ℕ) → Group → Walk → World
 walks_at w c g x k = moved w g x c (with_walk (cpu_of w c) (Some k)) false
 
--- Swap makes its exchange, or finds the word changed
+-- Swap makes its exchange, or finds the word changed (atomic_try_cmpxchg in tmigr_inactive_up)
 abbrev pub swapped : World → (c : ℕ) → Walk → (fresh : Bool) → World
 swapped w c k true =
     moved w (here w c k) (left_by k.child_on (group_of w (here w c k)) (side w.tree c k.level)) c
     (with_walk (cpu_of w c) (Some (swap_next true k))) true
 swapped w c k false = walks_on w c (swap_next false k)
 
--- what a walk leaves in its CPU's record as it ends
+-- what a walk leaves in its CPU's record as it ends: the wakeup (timer_use_tmigr); of one that went
+-- offline, whether it has to hand on (tmigr_cpu_offline); of one whose timers another CPU ran, that
+-- the mark is gone (tmigr_handle_remote_cpu)
 abbrev pub finished : CpuRecord → Walk → WalkKind → CpuRecord
 finished y k kinds.Activate = with_walk y None
 finished y k kinds.Deactivate = record y { wakeup = min k.pin k.first; walk = None }
@@ -69,7 +73,9 @@ finished y k kinds.Offline =
 finished y k kinds.Reeval = record y { wakeup = min k.pin k.first; inside = false; walk = None }
 finished y k (kinds.Remote by) = record y { mark = None; walk = None }
 
--- what `Walk` makes of the world, where c's walk stands at this stage
+-- what `Walk` makes of the world, where c's walk stands at this stage: Own to Mark are
+-- tmigr_cpu_activate and tmigr_active_up, Read to Swap tmigr_inactive_up, LockChild to FreeChild
+-- tmigr_update_events, and the levels between them walk_groups
 abbrev pub walked : World → (c : ℕ) → Walk → Stage → World
 walked w c k stages.Own =
     walks_at w c (group_on w.tree c 0)
@@ -111,6 +117,7 @@ walked w c k stages.FreeChild =
 walked w c k stages.Finish = own w c (finished (cpu_of w c) k k.kind)
 walked w c k stages.Handing = w
 
+-- what `Walk` makes of the world, where c has this walk or none
 abbrev pub walk_made : World → (c : ℕ) → Option Walk → World
 walk_made w c None = w
 walk_made w c (Some k) = walked w c k k.stage
@@ -129,12 +136,13 @@ begun_where false kinds.Reeval stage pin next =
 begun_where false (kinds.Remote by) stage pin next =
     Some (started (kinds.Remote by) stages.Finish pin next next)
 
--- CPU c with a walk begun, whose `next` is the CPU's, or as given
+-- the walk that CPU c begins, which tells the time `next`
 abbrev pub begins_with : World → (c : ℕ) → WalkKind → Stage → (next : ℕ) → Option Walk
 begins_with w c kind stage next =
     begun_where (is_some (group_at_of w.tree c 0)) kind stage (events_of (cpu_of w c).bases).pin
     next
 
+-- the walk that CPU c begins, which tells the CPU's first event (fetch_next_timer_interrupt)
 abbrev pub begins : World → (c : ℕ) → WalkKind → Stage → Option Walk
 begins w c kind stage = begins_with w c kind stage (events_of (cpu_of w c).bases).next
 
@@ -142,23 +150,25 @@ begins w c kind stage = begins_with w c kind stage (events_of (cpu_of w c).bases
 abbrev pub marker_of : CpuRecord → CpuId
 marker_of y = record { 0 = unwrap_or y.mark 0 }
 
--- the bases after the next due item of this class goes out
+-- the bases after the next due item of this class goes out (expire_timers)
 abbrev pub handed_of : (now : ℕ) → Option Class → CpuId → CpuBases → CpuBases
 handed_of now None runner bases = bases
 handed_of now (Some class) runner bases = handed_out now class runner bases
 
 -- what is moved next from an offline CPU: pinned, then global, then deferrable, in arming order
+-- (timers_dead_cpu, migrate_timer_list)
 abbrev pub first_moved : CpuBases → Option (Class × Item)
 first_moved bases =
     found_or Pinned (oldest_in (base_of Pinned bases).items)
     (found_or Global (oldest_in (base_of Global bases).items)
     (found_or Deferrable (oldest_in (base_of Deferrable bases).items) None))
 
--- the two CPUs after a timer of this class moved
+-- MOVING (migrate_timer_list): the CPU that a timer of this class left
 abbrev pub giver : World → (from to : ℕ) → Class → CpuRecord
 giver w from to class =
     with_bases (cpu_of w from) (moved_out w.clock class (record { 0 = to }) (cpu_of w from).bases)
 
+-- the CPU that the timer came to, armed there anew
 abbrev pub taker : World → (to : ℕ) → Class → Item → CpuRecord
 taker w to class item =
     with_bases (cpu_of w to)
@@ -167,6 +177,7 @@ taker w to class item =
           to;
     }) (cpu_of w to).bases)
 
+-- the world after this timer moved from one CPU to another, or none did
 abbrev pub moved_with : World → (from to : ℕ) → Option (Class × Item) → World
 moved_with w from to None = w
 moved_with w from to (Some (class, item)) =
@@ -175,7 +186,12 @@ moved_with w from to (Some (class, item)) =
           class item);
     }
 
--- WHAT A STEP MAKES OF THE WORLD
+-- WHAT A STEP MAKES OF THE WORLD. Enter and Leave: a CPU's timer interrupt (run_timer_softirq).
+-- Arm: __mod_timer. Cancel: timer_delete. Hand and Ticked: __run_timers. Move: migrate_timer_list.
+-- Idle: timer_base_try_to_set_idle and tmigr_cpu_deactivate. Wake: timer_clear_idle and
+-- tmigr_cpu_activate. Offline: tmigr_cpu_offline; HandOn: tmigr_trigger_active. Online:
+-- tmigr_cpu_online. Reeval: tmigr_cpu_new_timer. Take, Carry and Release: tmigr_handle_remote_cpu.
+-- Walk: one load, store, exchange or lock of walk_groups
 abbrev pub stepped : World → Step → World
 stepped w (steps.Clock now) = record w { clock = now }
 stepped w (steps.Enter cpu) = own w cpu.0 (record (cpu_of w cpu.0) { inside = true })

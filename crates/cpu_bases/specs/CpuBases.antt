@@ -16,7 +16,8 @@ use Rattle.cpu_bases.specs.declared.entry.NextEvents.{NextEvents}
 use Rattle.cpu_bases.specs.ByClass.{ByClass, of_class, with_class}
 use Rattle.cpu_bases.specs.Journals.{Agrees, EachMayFollow}
 
--- a plain base for each class, and the journal of what was done to them
+-- a plain base for each class (struct timer_base: BASE_LOCAL, BASE_GLOBAL, BASE_DEF), and the
+-- journal of what was done to them
 pub record CpuBases : Type 0 where
   pub bases : ByClass PlainBase
   pub journal : List Entry
@@ -82,13 +83,13 @@ queued act line at time class timer expires job arg by cpu =
     changed class (added timer expires job arg (forwarded time (base_of class cpu)))
     (entry_of act line at class (item_queued time class timer expires job arg cpu) by) cpu
 
--- arming, for which the base is forwarded to now
+-- ARMING (__mod_timer), for which the base is forwarded to now
 abbrev pub armed : (now : ℕ) → Class → (timer expires job arg line : ℕ) → CpuId
     → CpuBases → CpuBases
 armed now class timer expires job arg line by cpu =
     queued acts.Armed line now now class timer expires job arg by cpu
 
--- moving in, for which it is forwarded to the next jiffy
+-- moving in (migrate_timer_list), for which the base is forwarded to the next jiffy
 abbrev pub moved_in : (now : ℕ) → Class → (timer expires job arg : ℕ) → CpuId
     → CpuBases → CpuBases
 moved_in now class timer expires job arg by cpu =
@@ -118,6 +119,7 @@ after_cancel (Some (class, item)) now line by cpu =
     changed class (removed item.id (base_of class cpu))
     (entry_of acts.Cancelled line now class item by) cpu
 
+-- CANCELLING (timer_delete): the timer goes out of the base that it is in, where it is queued
 abbrev pub cancelled : (now timer line : ℕ) → CpuId → CpuBases → CpuBases
 cancelled now timer line by cpu = after_cancel (found_in timer cpu) now line by cpu
 
@@ -127,6 +129,8 @@ after_hand_out None now class by cpu = written (ticked_entry now class by) cpu
 after_hand_out (Some item) now class by cpu =
     changed class (taken now (base_of class cpu)) (entry_of acts.Handed 0 now class item by) cpu
 
+-- HANDING OUT (__run_timers, expire_timers): the next due item of a class goes out, or the base
+-- counts as drained
 abbrev pub handed_out : (now : ℕ) → Class → CpuId → CpuBases → CpuBases
 handed_out now class by cpu =
     after_hand_out (next_out now (base_of class cpu)) now class by cpu
@@ -149,6 +153,7 @@ after_move_out (Some item) now class by cpu =
     changed class (removed item.id (base_of class cpu))
     (entry_of acts.MovedOut 0 now class item by) cpu
 
+-- MOVING OUT (migrate_timer_list): the first item of a class in arming order goes out
 abbrev pub moved_out : (now : ℕ) → Class → CpuId → CpuBases → CpuBases
 moved_out now class by cpu = after_move_out (oldest_in (base_of class cpu).items) now class by cpu
 
@@ -157,6 +162,7 @@ moved_out now class by cpu = after_move_out (oldest_in (base_of class cpu).items
 abbrev pub first_of : Class → CpuBases → ℕ
 first_of class cpu = unwrap_or (least (base_of class cpu).items) NEVER
 
+-- FIRST EVENTS of a CPU (fetch_next_timer_interrupt)
 abbrev pub events_of : CpuBases → NextEvents
 events_of cpu =
     let pin = first_of Pinned cpu in

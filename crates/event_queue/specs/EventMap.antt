@@ -6,7 +6,7 @@ use Rattle.std.specs.Option.{option_map}
 use Rattle.tm_base.specs.CpuSet.{Cpus, Contains}
 use Rattle.event_queue.specs.declared.event.Event.{Event}
 
--- the slot of each child
+-- the slot of each child (the kernel's timerqueue of a struct tmigr_group)
 abbrev pub EventMap : Type 0
 EventMap = List (Option Event)
 
@@ -33,7 +33,7 @@ pub record ChangesOnly (old new : EventMap) (k : ℕ) (slot : Option Event) : Ty
   pub changed : event_at new k ≡ slot
   pub others : (j : ℕ) → j ≢ k → event_at new j ≡ event_at old j
 
--- the event, marked as ignored
+-- the event, marked as ignored (struct tmigr_event: ignore)
 abbrev pub as_ignored : Event → Event
 as_ignored e = record e { ignored = true }
 
@@ -46,7 +46,7 @@ abbrev pub Counts : Event → Type 0
 Counts e = e.ignored ≡ false
 
 -- an event that a look at this time takes up: it isn't ignored and not later, and its CPU wasn't
--- tried yet
+-- tried yet (tmigr_next_expired_groupevt)
 pub record IsDue (time : ℕ) (tried : Cpus) (e : Event) : Type 0 where
   pub counts : Counts e
   pub come : e.expiry ≤ time
@@ -58,7 +58,7 @@ pub record Precedes (k : ℕ) (e : Event) (j : ℕ) (f : Event) : Type 0 where
   pub expiry : e.expiry ≤ f.expiry
   pub child : e.expiry ≡ f.expiry → k ≤ j
 
--- e, of child k, is one of the events that fit, and goes before each of them
+-- e, of child k, is one of the events that fit, and goes before each of them (tmigr_next_groupevt)
 pub record IsFirst (Fits : Event → Type 0) (events : EventMap) (k : ℕ) (e : Event) : Type 0 where
   pub there : event_at events k ≡ Some e
   pub fits : Fits e

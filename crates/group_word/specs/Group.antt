@@ -32,18 +32,19 @@ IsLowest active None = NoneActive active
 IsLowest active (Some k) = IsActive active k × ((j : ℕ) → j < k → IsActive active j → ⊥)
 
 -- what becomes of the migrator where child k has joined: the one that there was stays, and where
--- there was none child k takes the role
+-- there was none child k takes the role (tmigr_active_up)
 pub record TakesRole (before : Option ℕ) (k : ℕ) (after : Option ℕ) : Type 0 where
   pub stayed : (m : ℕ) → before ≡ Some m → after ≡ Some m
   pub taken : before ≡ None → after ≡ Some k
 
 -- what becomes of the migrator where child k has left: the role of k passes to the lowest child
--- that remains, or to none, and another migrator stays
+-- that remains, or to none, and another migrator stays (tmigr_inactive_up)
 pub record PassesOn (before : Option ℕ) (k remaining : ℕ) (after : Option ℕ) : Type 0 where
   pub passed : before ≡ Some k → IsLowest remaining after
   pub stayed : before ≢ Some k → after ≡ before
 
 -- a walk from child k looks after the group: it is the migrator, or there is none
+-- (tmigr_check_migrator)
 abbrev pub LooksAfter : Option ℕ → ℕ → Type 0
 LooksAfter None k = Unit {0}
 LooksAfter (Some migrator) k = migrator ≡ k

@@ -6,7 +6,7 @@ use Rattle.std.specs.Option.{option_or}
 use Rattle.group_word.specs.declared.state.GroupState.{GroupState}
 use Rattle.group_word.specs.Group.{GroupLaw}
 
--- a state that a group may have
+-- a state that a group may have (the kernel's union tmigr_state)
 pub record IsLawfulState (s : GroupState) : Type 0 where
   pub eight_children : s.active < 2 ^ 8
   pub group : GroupLaw s.active s.migrator
@@ -24,14 +24,14 @@ without_child active k = bit_and active (bit_not w8 (2 ^ k))
 abbrev pub lowest_child : ℕ → Option ℕ
 lowest_child active = if active == 0 then None else Some (trailing_zeros w8 active)
 
--- the migrator where child k has left, and this set remains
+-- the migrator where child k has left, and this set remains (tmigr_inactive_up)
 abbrev pub migrator_without : Option ℕ → ℕ → ℕ → Option ℕ
 migrator_without None k remaining = None
 migrator_without (Some migrator) k remaining =
     if migrator == k then lowest_child remaining else Some migrator
 
 -- the state after an exchange by which child k joins: the migrator that there was stays, and else
--- the child is it
+-- the child is it (tmigr_active_up)
 abbrev pub activated_state : GroupState → ℕ → GroupState
 activated_state s k = record {
   active = with_child s.active k;
@@ -40,6 +40,7 @@ activated_state s k = record {
 }
 
 -- the state after an exchange by which child k leaves, unless it was found active
+-- (tmigr_inactive_up)
 abbrev pub swapped_state : GroupState → ℕ → Bool → GroupState
 swapped_state s k true = record s { seq = s.seq + 1 }
 swapped_state s k false = record {
@@ -53,7 +54,8 @@ abbrev pub mark_of : Option ℕ → ℕ
 mark_of None = 0
 mark_of (Some migrator) = 2 ^ migrator
 
--- bits 0 to 7 are the active set, 8 to 15 the migrator, 16 to 63 the sequence
+-- bits 0 to 7 are the active set, 8 to 15 the migrator, 16 to 63 the sequence (union tmigr_state,
+-- whose sequence has 16 bits)
 abbrev pub state_word : GroupState → ℕ
 state_word s = s.active + 2 ^ 8 * mark_of s.migrator + 2 ^ 16 * s.seq
 

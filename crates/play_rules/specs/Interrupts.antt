@@ -61,7 +61,7 @@ module _ {S : Type 0} where
 
 module _ {S : Type 0} (r : Rules S) where
   -- JOBS: a job that asks for its timer again gets it armed on the runner, unless it is queued by
-  -- then
+  -- then (__mod_timer, called by the job)
   abbrev pub again : Option Queued → (runner : ℕ) → Item → Class → (delay : ℕ) → S → Replied S
   again None runner item class delay s =
       armed_again class (r.armed s runner (arming_again item class delay))
@@ -94,27 +94,32 @@ module _ {S : Type 0} (jobs : Replies) (r : Rules S) where
   abbrev pub reply_to : (runner : ℕ) → Item → S → Replied S
   reply_to runner item s = answered r (jobs item.job (job_call r s runner item)) runner item s
 
+  -- the job of an item of CPU `home` runs on CPU `runner` (call_timer_fn)
   abbrev pub run_job : (home runner : ℕ) → Item → S → Played S
   run_job home runner item s = ran r s home runner item (reply_to runner item s)
 
+  -- the jobs of these items run one after the other (expire_timers)
   unfoldable pub run_jobs : (home runner : ℕ) → List Item → S → Played S
   run_jobs home runner [] s = silent s
   run_jobs home runner (item ∷ items) s =
       and_then (run_job home runner item s) (run_jobs home runner items)
 
-  -- A DRAIN: all that is due of a base of CPU `home` is taken out, and then its jobs run on CPU
-  -- `runner` in that order
+  -- the jobs of what a drain took out run on CPU `runner` in that order
   abbrev pub run_drained : (home runner : ℕ) → Drained S → Played S
   run_drained home runner out = run_jobs home runner out.items out.state
 
+  -- A DRAIN (__run_timers) of a base of CPU `home`: all that is due is taken out, and then its jobs
+  -- run on CPU `runner` in that order
   abbrev pub drain : (home : ℕ) → Class → (runner : ℕ) → S → Played S
   drain home class runner s = run_drained home runner (r.drained s home class runner)
 
   -- THE LOOK of CPU c: a CPU d that is named is left alone, or its global base is drained by c
+  -- (timer_expire_remote)
   abbrev pub try_where : Bool → (c d : ℕ) → S → Played S
   try_where false c d s = silent s
   try_where true c d s = and_then (drain d Global c (r.taken s c d)) (λ t. silent (r.let_go t c d))
 
+  -- THE LOOK of CPU c: a CPU d that is named is tried (tmigr_handle_remote_cpu)
   abbrev pub try : (c d : ℕ) → S → Played S
   try c d s = try_where (r.takes s c d) c d s
 
@@ -124,7 +129,7 @@ module _ {S : Type 0} (jobs : Replies) (r : Rules S) where
   look_at None c rest tried s = silent s
   look_at (Some d) c rest tried s = and_then (try c d s) (rest (set.insert tried d))
 
-  -- at one group at most n CPUs are tried
+  -- at one group at most n CPUs are tried (tmigr_handle_remote_up)
   unfoldable pub look : (n c level : ℕ) → set.FinSet nat_cmp → S → Played S
   look zero c level tried s = silent s
   look (suc n) c level tried s = look_at (r.named s c level tried) c (look n c level) tried s
@@ -134,15 +139,19 @@ module _ {S : Type 0} (jobs : Replies) (r : Rules S) where
   look_where true c level above s = and_then (look (r.cpus s) c level set.empty s) above
 
   -- from a level on upwards, n levels at most, as long as the CPU looks after its group there
+  -- (tmigr_handle_remote)
   unfoldable pub looks : (n c level : ℕ) → S → Played S
   looks zero c level s = silent s
   looks (suc n) c level s = look_where (r.looks_after s c level) c level (looks n c (level + 1)) s
 
-  -- AN INTERRUPT of CPU c: its three bases, its groups from the leaf upwards, the end
+  -- the drains of a CPU in its interrupt: its pinned base, its global one, its deferrable one
+  -- (run_timer_softirq, run_timer_base)
   abbrev pub drains : (c : ℕ) → S → Played S
   drains c s =
       and_then (and_then (drain c Pinned c s) (drain c Global c)) (drain c Deferrable c)
 
+  -- AN INTERRUPT of CPU c: its three bases, its groups from the leaf upwards, the end
+  -- (run_timer_softirq)
   abbrev pub interrupt : (c : ℕ) → S → Played S
   interrupt c s =
       and_then

@@ -79,6 +79,7 @@ module _ {S : Type 0} (r : Rules S) where
   arm_printed s cpu timer class placed =
       printing (lines.Arm (r.clock s) cpu timer class placed.wheel) placed.state
 
+  -- ARM: a timer that is queued nowhere is queued on the CPU (add_timer)
   abbrev pub arm : CpuId → Arming → S → Played S
   arm cpu arming s = arm_printed s cpu arming.timer arming.class (r.armed s cpu.0 arming)
 
@@ -88,6 +89,7 @@ module _ {S : Type 0} (r : Rules S) where
   cancel_where (Some held) c s =
       printing (lines.Cancel (r.clock s) c.by c.timer held.cpu) (r.cancelled s held.cpu.0 c)
 
+  -- CANCEL: wherever the timer is queued, it goes out (timer_delete)
   abbrev pub cancel : Cancelling → S → Played S
   cancel c s = cancel_where (r.queued s c.timer.0) c s
 
@@ -97,10 +99,12 @@ module _ {S : Type 0} (r : Rules S) where
   idle_where false cpu s =
       printing (lines.Idle (r.clock s) cpu (r.wakeup (r.idled s cpu.0) cpu.0)) (r.idled s cpu.0)
 
+  -- IDLE: a CPU whose first event is at most one jiffy ahead stays active
+  -- (timer_base_try_to_set_idle)
   abbrev pub idle : CpuId → S → Played S
   idle cpu s = idle_where (nat_le (r.first_event s cpu.0) (r.clock s + 1)) cpu s
 
-  -- OFFLINE: where it has to hand on its duty, it hands it on to the lowest other online placed CPU
+  -- the duty is handed on to this CPU, where there is one
   abbrev pub hand_on_to : Option ℕ → CpuId → S → Played S
   hand_on_to None cpu s = silent s
   hand_on_to (Some d) cpu s =
@@ -110,16 +114,21 @@ module _ {S : Type 0} (r : Rules S) where
   hand_on_where false cpu s = silent s
   hand_on_where true cpu s = hand_on_to (r.successor s cpu.0) cpu s
 
+  -- OFFLINE: where the CPU has to hand on its duty, it hands it on to the lowest other online
+  -- placed CPU (tmigr_trigger_active)
   abbrev pub hand_on : CpuId → S → Played S
   hand_on cpu s = hand_on_where (r.hands_on s cpu.0) cpu s
 
+  -- OFFLINE: the CPU leaves, and hands on its duty where it has one (tmigr_cpu_offline)
   abbrev pub offline : CpuId → S → Played S
   offline cpu s =
       and_then (printing (lines.Offline (r.clock s) cpu) (r.gone_offline s cpu.0)) (hand_on cpu)
 
+  -- WAKE: an idle CPU is active again (timer_clear_idle)
   abbrev pub wake : CpuId → S → Played S
   wake cpu s = printing (lines.Wake (r.clock s) cpu) (r.woken s cpu.0)
 
+  -- ONLINE: the CPU comes up active (tmigr_cpu_online)
   abbrev pub online : CpuId → S → Played S
   online cpu s = printing (lines.Online (r.clock s) cpu) (r.come_online s cpu.0)
 
@@ -165,6 +174,7 @@ module _ {S : Type 0} (r : Rules S) where
   moves zero from to s = silent s
   moves (suc n) from to s = move_printed from to (r.moved s from to) (moves n from to) s
 
+  -- MOVING: all timers of a CPU, first to last (timers_dead_cpu)
   abbrev pub move_all : (from to : ℕ) → S → Played S
   move_all from to s = moves (r.queued_on s from) from to s
 

@@ -21,7 +21,7 @@ use Rattle.play_rules.specs.Moments.{AfterEach, Turn, spent_at, turns, whole_lin
 abbrev pub at_clock : (now : ℕ) → State → State
 at_clock now s = record s { clock = now }
 
--- a CPU has an interrupt where it is online, and active or its wakeup has come
+-- a CPU has an interrupt where it is online, and active or its wakeup has come (run_local_timers)
 abbrev pub has_interrupt : State → (c : ℕ) → Bool
 has_interrupt s c =
     (cpu_at s c).online && (not (cpu_at s c).idle || nat_le (cpu_at s c).wakeup s.clock)
@@ -32,15 +32,16 @@ next_interrupt s =
     if list_any (is_active s) (all_cpus s) then s.clock + 1
     else fold (λ least c. min least (cpu_at s c).wakeup) NEVER (all_cpus s)
 
--- the lowest other online placed CPU
+-- the lowest other online placed CPU: to whom a CPU that leaves hands on (tmigr_cpu_offline takes
+-- any)
 abbrev pub successor : State → (c : ℕ) → Option ℕ
 successor s c = find (λ d. not (d == c) && (is_placed s d && (cpu_at s d).online)) (all_cpus s)
 
--- a CPU that went offline has to hand on its duty, where there is one
+-- a CPU that went offline has to hand on its duty, where there is one (tmigr_cpu_offline)
 abbrev pub hands_on : State → (c : ℕ) → Bool
 hands_on s c = has_group s c && nat_lt (duty s c) NEVER
 
--- an idle CPU re-evaluates as its interrupt ends
+-- an idle CPU re-evaluates as its interrupt ends (tmigr_cpu_new_timer)
 abbrev pub ended : State → (c : ℕ) → State
 ended s c = if (cpu_at s c).idle then reevaluated s c else s
 

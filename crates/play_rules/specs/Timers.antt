@@ -46,6 +46,8 @@ drained_base s home class runner most = record {
   state = with_bases s home (drained most s.clock class (record { 0 = runner }) (bases_at s home));
 }
 
+-- A DRAIN at the clock (__run_timers): what goes out of a base of CPU `home` one after the other,
+-- and the state after it
 abbrev pub drained_on : State → (home : ℕ) → Class → (runner : ℕ) → Drained State
 drained_on s home class runner =
     drained_base s home class runner (length (base_of class (bases_at s home)).items)
@@ -60,11 +62,12 @@ abbrev pub armed_item : State → (c : ℕ) → Arming → Item
 armed_item s c a =
     item_queued s.clock a.class a.timer.0 (s.clock + a.delay) a.job a.arg (bases_at s c)
 
+-- ARMING by CPU c (__mod_timer): its base is forwarded to the clock, and the timer is added
 abbrev pub armed_on : State → (c : ℕ) → Arming → Placed State
 armed_on s c a =
     record { wheel = (armed_item s c a).wheel; state = with_bases s c (armed_bases s c a) }
 
--- CANCELLING: the timer goes out of the base of the CPU on which it is queued
+-- CANCELLING (timer_delete): the timer goes out of the base of the CPU on which it is queued
 abbrev pub cancelled_on : State → (home : ℕ) → Cancelling → State
 cancelled_on s home a =
     with_bases s home (cancelled s.clock a.timer.0 a.line a.by (bases_at s home))
@@ -100,6 +103,7 @@ moved_into s to (class, item) = record {
 abbrev pub moved_one : State → (from to : ℕ) → Class × Item → Moved State
 moved_one s from to (class, item) = moved_into (moved_out_of s from to class) to (class, item)
 
+-- MOVING (migrate_timer_list): the first timer to move goes from one CPU to another
 abbrev pub moved : State → (from to : ℕ) → Option (Moved State)
 moved s from to = option_map (moved_one s from to) (first_to_move (bases_at s from))
 
@@ -109,8 +113,8 @@ count_on s c =
     + (length (base_of Global (bases_at s c)).items
     + length (base_of Deferrable (bases_at s c)).items)
 
--- the controlling CPU: the lowest online active placed CPU, or the lowest online placed one, which
--- is then activated
+-- the controlling CPU (timers_dead_cpu moves to the one that does the hotplug work): the lowest
+-- online active placed CPU, or the lowest online placed one, which is then activated
 abbrev pub controller : State → Option ℕ
 controller s =
     option_or
