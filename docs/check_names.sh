@@ -6,8 +6,6 @@
 # - `crate/specs/File: name`, `name` ..   in any page: each name is stated in crates/crate/specs/File.antt. Further
 #                                         names stand in the same quotes, or in quotes behind a comma; the word 'there'
 #                                         behind a name stands for the file cited last
-# - | File | `name`, `name` | ..          in docs/DEFINITIONS.md below a heading '## crate': the same of that crate; an
-#                                         empty first field stands for the file above
 # - `crate::function`: `clause`, ..       in README.md and docs/CLAIMS.md, in the last field of a table whose head ends
 #                                         with | Clause |: the function stands in that crate's src/, and its contract has
 #                                         each of these clauses. `function` alone is of the crate named last in that
@@ -22,9 +20,9 @@
 #                                         other, in crates/crate/src/tests.rt
 # - `NAME` under '## Examples'            in README.md: it is one of examples/, and each of examples/ is named there
 #
-# docs/check_names.sh --missing lists, besides, each definition of a crate's specs/ that docs/DEFINITIONS.md doesn't have.
+# docs/DEFINITIONS.md is printed from the definitions, by docs/print_definitions.sh, which has a check of its own.
 cd "$(dirname "$0")/.." || exit 1
-exec python3 - "$@" <<'PYTHON'
+exec python3 - <<'PYTHON'
 import glob, os, re, sys
 
 crates = [line.split(":")[0].split()[0] for line in open("crates.txt") if line.strip() and not line.startswith("#")]
@@ -53,14 +51,6 @@ def names_of(path):
         found |= set(re.findall(r"^\s+(?:pub )?(\w+)\s*:", text, re.M))
         stated[path] = found
     return stated[path]
-
-
-def definitions_of(path):
-    """The definitions alone, without fields and cases, for --missing."""
-    short = r"^\s*(?:abbrev|unfoldable)(?: pub)? ([^\s:({]+)"
-    long = r"^\s*(?:pub )?(?:record|data) ([A-Z][^\s:({]*)"
-    plain = r"^pub (?!(?:mod|use|record|data)\b)([^\s:({]+)"
-    return {name for heads in (short, long, plain) for name in re.findall(heads, read(path), re.M)} - {"pub"}
 
 
 sources = {}
@@ -125,28 +115,6 @@ def check_items(path, text):
         for name in (it[2], it[3]):
             if name and not re.search(rf"\b(?:fn|struct|enum|trait|const|type|mod|union) {name}\b|^\s+{name}\b", source_of(it[1]), re.M):
                 fault(path, line_of(text, it.start()), f"crate {it[1]} has no {name}")
-
-
-def check_tables(path, text):
-    crate = file = None
-    for number, line in enumerate(text.split("\n"), 1):
-        if line.startswith("## "):
-            crate, file = line[3:].strip(), None
-        cells = line.strip().strip("|").split("|")
-        if not line.startswith("|") or crate not in crates or len(cells) < 3:
-            continue
-        head = cells[0].strip()
-        if head in ("File", "") and not head or set(head) <= set("-"):
-            pass
-        elif head != "File":
-            file = head.rstrip(" *")
-            if not os.path.isfile(f"crates/{crate}/specs/{file}.antt"):
-                fault(path, number, f"there is no crates/{crate}/specs/{file}.antt")
-                file = None
-        if file and head != "File":
-            for name in re.findall(r"`([^`]+)`", cells[1]):
-                for part in re.split(r"\s+to\s+", name):
-                    check_definition(path, number, crate, file, part)
 
 
 def everywhere(name):
@@ -244,23 +212,13 @@ def check_examples():
 check_pictures()
 check_uses()
 check_examples()
-pages = ["README.md", *sorted(glob.glob("docs/*.md"))]
+pages = ["README.md", *sorted(it for it in glob.glob("docs/*.md") if it != "docs/DEFINITIONS.md")]
 for page in pages:
     text = read(page)
     check_cites(page, text)
     check_items(page, text)
-check_tables("docs/DEFINITIONS.md", read("docs/DEFINITIONS.md"))
 for page in ("README.md", "docs/CLAIMS.md"):
     check_claims(page, read(page))
-
-if "--missing" in sys.argv[1:]:
-    told = read("docs/DEFINITIONS.md")
-    for crate in crates:
-        part = re.search(rf"^## {crate}\n(.*?)(?=^## |\Z)", told, re.M | re.S)
-        for path in sorted(glob.glob(f"crates/{crate}/specs/*.antt")):
-            lacks = sorted(it for it in definitions_of(path) if f"`{it}`" not in (part[1] if part else ""))
-            if lacks:
-                print(f"{path}: {' '.join(lacks)}")
 
 faults = list(dict.fromkeys(faults))
 for it in faults:

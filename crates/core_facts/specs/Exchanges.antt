@@ -15,6 +15,7 @@ use Rattle.core_world.specs.World.{World, cpu_of}
 abbrev pub past_exchange : ℕ
 past_exchange = 5
 
+-- the place of a stage among those of a level
 abbrev pub place_of : Stage → ℕ
 place_of stages.Own = 0
 place_of stages.Up = 1
@@ -55,6 +56,7 @@ pub record HasGoneOn (k j : Walk) : Type 0 where
   pub further : (k.stage ≡ stages.Swap → k.fresh ≡ true) → StandsFurther k j
   pub exchanged : Exchanges k → IsPast k.level j
 
+-- a step of a walk leads on but where its exchange fails, and past the exchange where that holds
 abbrev pub EachGoesOn : Type 0
 EachGoesOn = (w : World) (cpu : CpuId) (k j : Walk) → Enabled w (steps.Walk cpu) →
     (cpu_of w cpu.0).walk ≡ Some k → (cpu_of (stepped w (steps.Walk cpu)) cpu.0).walk ≡ Some j →

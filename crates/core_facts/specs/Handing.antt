@@ -15,6 +15,7 @@ pub record IsPlacedOnline (w : World) (d : ℕ) : Type 0 where
   pub placed : is_placed_in w.tree d ≡ true
   pub online : (cpu_of w d).online ≡ true
 
+-- some placed CPU is online
 abbrev pub SomePlacedOnline : World → Type 0
 SomePlacedOnline w = (d : ℕ) × IsPlacedOnline w d
 
@@ -28,9 +29,11 @@ pub record HandsOn (w : World) (c : ℕ) (k : Walk) : Type 0 where
   pub holds_none : (g : ℕ) → (group_of w g).lock ≢ Some c
   pub another : (d : ℕ) × (d ≢ c) × IsPlacedOnline w d
 
+-- in every lawful world a walk that hands on is as `HandsOn` says
 abbrev pub EachHandsOn : Type 0
 EachHandsOn = (w : World) → IsLawful w → (c : ℕ) (k : Walk) → (cpu_of w c).walk ≡ Some k →
     k.stage ≡ stages.Handing → HandsOn w c k
 
+-- in every lawful world some placed CPU is online
 abbrev pub EachHasPlaced : Type 0
 EachHasPlaced = (w : World) → IsLawful w → SomePlacedOnline w

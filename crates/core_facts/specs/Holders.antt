@@ -15,6 +15,7 @@ pub record MakesTelling (w : World) (c : ℕ) : Type 0 where
   pub walk : (cpu_of w c).walk ≡ Some made
   pub tells : Tells made.kind
 
+-- locks and the walks that hold them fit
 pub record LocksAreHeld (w : World) : Type 0 where
   -- a lock names a CPU exactly where that CPU's walk is between taking it and giving it back
   pub held : (g c : ℕ) →
@@ -29,5 +30,6 @@ pub record LocksAreHeld (w : World) : Type 0 where
       k.stage ≡ stages.FreeChild → group_under w.tree c k.level ≡ Some g →
       (group_of w g).lock ≡ Some c
 
+-- in every lawful world locks and the walks that hold them fit
 abbrev pub EachLockIsHeld : Type 0
 EachLockIsHeld = (w : World) → IsLawful w → LocksAreHeld w

@@ -19,12 +19,15 @@ pub record FitsLevel (t : Shape) (c level : ℕ) (best : Option Event) : Type 0 
   pub alone : (HasGroup t c → ⊥) → level ≡ 0
   pub at_leaf : level ≡ 0 → best ≡ None
 
+-- each walk stands at a level that fits its CPU
 abbrev pub LevelsFit : World → Type 0
 LevelsFit w = (c : ℕ) (k : Walk) → (cpu_of w c).walk ≡ Some k → FitsLevel w.tree c k.level k.best
 
+-- at the start walks stand at levels that fit
 abbrev pub LevelsStartFit : Type 0
 LevelsStartFit = (t : Shape) (timers : ℕ) → LevelsFit (start_of t timers)
 
+-- each enabled step of a lawful world leaves walks at levels that fit
 abbrev pub LevelsStayFit : Type 0
 LevelsStayFit = (w : World) (step : Step) → IsLawful w → Enabled w step → LevelsFit w →
     LevelsFit (stepped w step)
@@ -38,5 +41,6 @@ EachStageFitsLevels = (w : World) (c : ℕ) (k : Walk) (stage : Stage) → IsLaw
 abbrev pub IsLowWalk : World → Type 0
 IsLowWalk w = (c : ℕ) (k : Walk) → (cpu_of w c).walk ≡ Some k → k.level < 3
 
+-- in a planned tree, in every lawful world, walks whose levels fit stand below level 3
 abbrev pub EachLevelIsLow : Type 0
 EachLevelIsLow = (w : World) → IsPlanned w.tree → IsLawful w → LevelsFit w → IsLowWalk w

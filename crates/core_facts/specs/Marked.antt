@@ -19,6 +19,7 @@ pub record MarkIs (w : World) (c b : ℕ) : Type 0 where
   pub goes_on : (k : Walk) → (cpu_of w b).walk ≡ Some k → k.kind ≢ kinds.Reeval
   pub has_group : HasGroup w.tree c
 
+-- marks, the CPUs that set them and the walks made for them fit
 pub record MarksFit (w : World) : Type 0 where
   pub mark : (c b : ℕ) → (cpu_of w c).mark ≡ Some b → MarkIs w c b
   -- a Remote walk is made by the CPU that set the mark
@@ -29,5 +30,6 @@ pub record MarksFit (w : World) : Type 0 where
   pub ending : (b : ℕ) (k : Walk) → (cpu_of w b).walk ≡ Some k → k.kind ≡ kinds.Reeval →
       MarksNobody w b
 
+-- in every lawful world marks fit
 abbrev pub EachMarkFits : Type 0
 EachMarkFits = (w : World) → IsLawful w → MarksFit w

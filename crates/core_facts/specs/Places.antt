@@ -30,6 +30,7 @@ pub record StandsAtGroup (w : World) (c : ℕ) (k : Walk) : Type 0 where
   pub goes_on : (k.stage ≡ stages.FreeGroup) ⊎ (k.stage ≡ stages.FreeChild) → k.over ≡ false →
       GoesOn w.tree c k.level
 
+-- what a walk's step names is there: its group, child, slot and next level
 pub record PlacesFit (w : World) : Type 0 where
   pub in_tree : (c : ℕ) (k : Walk) → (cpu_of w c).walk ≡ Some k → HasGroup w.tree c →
       StandsAtGroup w c k
@@ -40,5 +41,6 @@ pub record PlacesFit (w : World) : Type 0 where
   pub stages_of : (c : ℕ) (k : Walk) → (cpu_of w c).walk ≡ Some k → k.stage ≢ stages.Finish →
       HasGroup w.tree c
 
+-- in every lawful world what a walk's step names is there
 abbrev pub EachPlaceFits : Type 0
 EachPlaceFits = (w : World) → IsLawful w → PlacesFit w

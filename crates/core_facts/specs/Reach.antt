@@ -33,9 +33,11 @@ only c = record {
   cpu = λ d. d == c;
 }
 
+-- a reach that has the queues and the journal of its CPU besides
 abbrev pub with_timers : Reach → Reach
 with_timers r = record r { queues = true; journals = true }
 
+-- what a step may change: time, a group, queues, journals, who is online; and of which CPUs
 abbrev pub reach_of : Step → Reach
 reach_of (steps.Clock now) = record (only 0) { time = true; cpu = λ d. false }
 reach_of (steps.Enter cpu) = only cpu.0

@@ -14,6 +14,7 @@ pub record MayStepAt (w : World) (c : ℕ) (k : Walk) (stage : Stage) : Type 0 w
   pub at : k.stage ≡ stage
   pub may_go_on : MayGoOn w c k stage
 
+-- what a walk's step at a stage where it may be made makes of a lawful world is lawful
 abbrev pub EachStageLawful : Type 0
 EachStageLawful = (w : World) (c : ℕ) (k : Walk) (stage : Stage) → IsLawful w →
     MayStepAt w c k stage → IsLawful (walked w c k stage)

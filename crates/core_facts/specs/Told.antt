@@ -30,6 +30,8 @@ pub record HasToldOwn (w : World) (c leaf : ℕ) (k : Walk) : Type 0 where
   pub slot : SaysOf c k.next (event_at (group_of w leaf).events (side w.tree c 0))
   pub next : k.next ≡ next_for k.kind (events_of (cpu_of w c).bases).next
 
+-- in every lawful world, as a walk that isn't an activation finishes, its CPU's slot in the leaf
+-- says what the CPU's timers say
 abbrev pub EachHasToldOwn : Type 0
 EachHasToldOwn = (w : World) → IsLawful w → (c leaf : ℕ) (k : Walk) →
     (cpu_of w c).walk ≡ Some k → k.stage ≡ stages.Finish → group_at_of w.tree c 0 ≡ Some leaf →

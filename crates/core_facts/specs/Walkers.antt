@@ -28,6 +28,7 @@ pub record IsOff (y : CpuRecord) : Type 0 where
   pub wakeup : y.wakeup ≡ NEVER
   pub leaving : (k : Walk) → y.walk ≡ Some k → k.kind ≡ kinds.Offline
 
+-- CPUs and the kinds of their walks fit; who is active keeps no wakeup, and who is offline is off
 pub record WalkersAre (w : World) : Type 0 where
   pub walker : (c : ℕ) (k : Walk) → (cpu_of w c).walk ≡ Some k → WalkerIs k.kind (cpu_of w c)
   -- a CPU with a walk is active exactly where that is an activation
@@ -37,5 +38,6 @@ pub record WalkersAre (w : World) : Type 0 where
   pub awake : (c : ℕ) → is_active (cpu_of w c) ≡ true → (cpu_of w c).wakeup ≡ NEVER
   pub offline : (c : ℕ) → (cpu_of w c).online ≡ false → IsOff (cpu_of w c)
 
+-- in every lawful world CPUs and the kinds of their walks fit
 abbrev pub EachWalkerIs : Type 0
 EachWalkerIs = (w : World) → IsLawful w → WalkersAre w

@@ -6,6 +6,7 @@ use Rattle.core_state.specs.declared.change.GroupChange.{GroupChange}
 use Rattle.core_state.specs.declared.change.GroupChange.TheVariants as changes
 use Rattle.core_state.specs.Status.{EventFits}
 
+-- a group after a change that a walk's step makes
 abbrev pub changed : GroupChange → Group → Group
 changed (changes.Mark child) x = with_mark x child
 changed (changes.Join child) x = joined_by x child

@@ -45,7 +45,7 @@ pub record WorldFits (w : World) : Type 0 where
 abbrev pub StaysFit : World → Type 0
 StaysFit w = (step : Step) → Enabled w step → WorldFits (stepped w step)
 
--- THE LAW
+-- THE LAW (no public clause cites it)
 abbrev pub WorldsStayFit : Type 0
 WorldsStayFit = (w : World) → WorldFits w → StaysFit w
 
@@ -63,6 +63,7 @@ abbrev pub holds : Option CpuId → (c : ℕ) → Bool
 holds None c = false
 holds (Some d) c = d.0 == c
 
+-- the CPU that is noted for a timer
 abbrev pub noted : List (Option CpuId) → (timer : ℕ) → Option CpuId
 noted holders timer = slice_index_or holders timer None
 
@@ -71,6 +72,8 @@ abbrev pub IsHeld : World → List (Option CpuId) → Type 0
 IsHeld w holders =
     (timer c : ℕ) → is_queued timer (cpu_of w c).bases ≡ holds (noted holders timer) c
 
+-- all that a core keeps: its world fits, timers are queued where they are noted, and all CPUs are
+-- counted
 pub record IsKept (w : World) (holders : List (Option CpuId)) (tally : CpuTally) : Type 0 where
   pub fits : WorldFits w
   pub held : IsHeld w holders

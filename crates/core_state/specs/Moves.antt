@@ -10,24 +10,29 @@ use Rattle.cpu_bases.specs.CpuBases.{oldest_in}
 use Rattle.core_world.specs.Steps.{first_moved, with_bases}
 use Rattle.core_world.specs.World.{CpuRecord, World, cpu_of, no_cpu}
 
--- the first of a class isn't queued where it comes to, and nothing is behind the clock there
+-- the first of a class isn't queued where it comes to, and nothing is behind the clock there (no
+-- public clause cites it)
 pub record MayTakeIn (class : Class) (from to : CpuBases) : Type 0 where
   pub not_queued : IfSome (oldest_in (base_of class from).items)
       (λ item. class_in item.id to ≡ None)
   pub none_behind : NoneBehind (base_of class to)
 
+-- the CPU from which the first timer of a class has gone (no public clause cites it)
 abbrev pub after_giving : (now : ℕ) → Class → CpuId → CpuRecord → CpuRecord
 after_giving now class by from = with_bases from (moved_out now class by from.bases)
 
+-- bases into which an item has come, where there is one (no public clause cites it)
 abbrev pub taken_in : (now : ℕ) → Class → CpuId → Option Item → CpuBases → CpuBases
 taken_in now class by None bases = bases
 taken_in now class by (Some item) bases =
     moved_in now class item.id item.expires item.job item.arg by bases
 
+-- the CPU to which the first timer of a class of another one has come (no public clause cites it)
 abbrev pub after_taking : (now : ℕ) → Class → CpuId → CpuRecord → CpuRecord → CpuRecord
 after_taking now class by from to =
     with_bases to (taken_in now class by (oldest_in (base_of class from.bases).items) to.bases)
 
+-- all CPUs after the first timer of a class went from one to another (no public clause cites it)
 abbrev pub after_moving : (now : ℕ) → Class → (from to : CpuId) → List CpuRecord → List CpuRecord
 after_moving now class from to cpus =
     slice_set (slice_set cpus from.0
@@ -42,7 +47,7 @@ wheel_in now class to item =
     (item_queued (now + 1) class item.id item.expires item.job item.arg to).wheel
 
 -- WHEEL EXPIRIES: that of the first timer of a class, as it comes to these bases, where there is
--- one
+-- one (no public clause cites it)
 abbrev pub wheel_taken : (now : ℕ) → Class → (from to : CpuBases) → Option ℕ
 wheel_taken now class from to =
     option_map (wheel_in now class to) (oldest_in (base_of class from).items)

@@ -13,6 +13,7 @@ use Rattle.walk_rules.specs.Stages.{at_stage}
 use Rattle.core_world.specs.World.{CpuRecord, World, cpu_of}
 use Rattle.core_state.specs.declared.status.CpuStatus.{CpuStatus}
 
+-- what a CPU is besides its timers
 abbrev pub status_of : CpuRecord → CpuStatus
 status_of y = record {
   online = y.online;
@@ -35,6 +36,7 @@ record_of status bases = record {
   walk = status.walk;
 }
 
+-- a CPU with another status, and its timers as they are
 abbrev pub with_status : CpuRecord → CpuStatus → CpuRecord
 with_status y status = record_of status y.bases
 
@@ -49,18 +51,21 @@ abbrev pub EventFits : Option Event → Type 0
 EventFits None = Unit {0}
 EventFits (Some e) = FitsWord e
 
+-- a walk's time to tell has 48 bits, and a word can hold its best event
 pub record WalkRanges (k : Walk) : Type 0 where
   pub next : k.next < 2 ^ 48
   pub best : EventFits k.best
 
+-- a walk is in range, where there is one
 abbrev pub IsInRange : Option Walk → Type 0
 IsInRange None = Unit {0}
 IsInRange (Some k) = WalkRanges k
 
--- what a walk leaves in its CPU as it ends
+-- what a walk leaves in its CPU as it ends (no public clause cites it)
 abbrev pub handing_walk : Walk → Option Walk
 handing_walk k = if k.first == NEVER then None else Some (at_stage k stages.Handing)
 
+-- what a walk leaves of its CPU's status as it ends (no public clause cites it)
 abbrev pub finished_status : CpuStatus → Walk → WalkKind → CpuStatus
 finished_status status k kinds.Activate = record status { walk = None }
 finished_status status k kinds.Deactivate =

@@ -41,11 +41,12 @@ pub record TalliesFirst (t : Shape) (cpus : List CpuRecord) (n : ℕ) (tally : C
 abbrev pub IsTallied : Shape → List CpuRecord → CpuTally → Type 0
 IsTallied t cpus tally = TalliesFirst t cpus (length cpus) tally
 
--- one where it is so, and none where not
+-- one where it is so, and none where not (no public clause cites it)
 abbrev pub one_if : Bool → ℕ
 one_if so = if so then 1 else 0
 
--- after it counts one CPU more than before, one with this mark, placed and online or not
+-- after it counts one CPU more than before, one with this mark, placed and online or not (no public
+-- clause cites it)
 pub record TalliesOneMore (before after : CpuTally) (mark : Option ℕ) (placed_online : Bool)
     : Type 0 where
   pub each : length after.marks ≡ length before.marks
@@ -53,13 +54,15 @@ pub record TalliesOneMore (before after : CpuTally) (mark : Option ℕ) (placed_
       → slice_index_or after.marks c 0 ≡ slice_index_or before.marks c 0 + one_if (names mark c)
   pub online : after.online ≡ before.online + one_if placed_online
 
--- the numbers stay in range with one CPU more, of this mark, placed and online or not
+-- the numbers stay in range with one CPU more, of this mark, placed and online or not (no public
+-- clause cites it)
 pub record MayCountIn (tally : CpuTally) (mark : Option ℕ) (placed_online : Bool) : Type 0 where
   pub marks : (c : ℕ) → c < length tally.marks
       → slice_index_or tally.marks c 0 + one_if (names mark c) < 2 ^ 16
   pub online : tally.online + one_if placed_online < 2 ^ 16
 
--- the numbers stay in range with one CPU less, of this mark, placed and online or not
+-- the numbers stay in range with one CPU less, of this mark, placed and online or not (no public
+-- clause cites it)
 pub record MayCountOut (tally : CpuTally) (mark : Option ℕ) (placed_online : Bool) : Type 0 where
   pub marks : (c : ℕ) → c < length tally.marks
       → one_if (names mark c) ≤ slice_index_or tally.marks c 0

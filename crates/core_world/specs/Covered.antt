@@ -25,6 +25,8 @@ abbrev pub live_expiry : Option Event → Option ℕ
 live_expiry None = None
 live_expiry (Some e) = if e.ignored then None else Some e.expiry
 
+-- the wakeup that a CPU keeps: it is online and idle, outside its interrupt, and no walk of its own
+-- is going to set another one
 abbrev pub kept_wakeup : CpuRecord → Option ℕ
 kept_wakeup y =
     if y.online && (y.idle && (not y.inside && is_undisturbed y.walk)) then Some y.wakeup else None

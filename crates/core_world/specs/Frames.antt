@@ -22,6 +22,8 @@ pub record ChangesOnly (t : Shape) (old new : Scene) (c g : ℕ) (exchanges : Bo
   pub stale : exchanges ≡ true → (d : ℕ) (k : Walk) → d ≢ c → old.walk d ≡ Some k →
       is_reading k.stage ≡ true → group_at_of t d k.level ≡ Some g → new.fresh d ≡ false
 
+-- what a step of the form `moved` changes: its CPU, its group, and the readings that its exchange
+-- makes stale
 pub record MovedLaws (w : World) (g : ℕ) (x : Group) (c : ℕ) (y : CpuRecord) (exchanges : Bool) :
     Type 0 where
   pub changes : ChangesOnly w.tree (scene_of w) (scene_of (moved w g x c y exchanges)) c g exchanges
@@ -72,5 +74,6 @@ pub record SameSize (old new : World) : Type 0 where
   pub cpus : length new.cpus ≡ length old.cpus
   pub timers : new.timers ≡ old.timers
 
+-- no step changes the tree, the number of timers, or how many CPUs, groups and slots there are
 abbrev pub SizesStay : Type 0
 SizesStay = (w : World) (step : Step) → SameSize w (stepped w step)

@@ -14,6 +14,7 @@ use Rattle.core_world.specs.Timers.{NoNever, TimersHold, TimesHold}
 use Rattle.core_world.specs.Wakeups.{NoWakeupAwake, OffAtRest, OwnEvent, WakeupsHold, WalkTimesHold}
 use Rattle.core_world.specs.World.{World, scene_of}
 
+-- THE WHOLE INVARIANT: its parts, by name
 pub record IsLawful (w : World) : Type 0 where
   -- the tree, and how much there is
   pub hierarchy : IsHierarchy w.tree

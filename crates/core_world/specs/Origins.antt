@@ -19,6 +19,7 @@ pub record WasArmed (w : World) (time : ℕ) : Type 0 where
   pub arming : (entry.act ≡ acts.Armed) ⊎ (entry.act ≡ acts.MovedIn)
   pub wheel : entry.wheel ≡ time
 
+-- part 11a: a time is the wheel expiry of an arming, or NEVER
 abbrev pub HasOrigin : World → ℕ → Type 0
 HasOrigin w time = (time ≡ NEVER) ⊎ WasArmed w time
 
@@ -28,6 +29,7 @@ pub record WalkOrigins (w : World) (k : Walk) : Type 0 where
   pub next : HasOrigin w k.next
   pub first : HasOrigin w k.first
 
+-- part 11a: wakeups, and the times that walks carry, are wheel expiries of armings, or NEVER
 pub record TimesHaveOrigins (w : World) : Type 0 where
   pub wakeups : (c : ℕ) → c < length w.cpus → HasOrigin w (cpu_of w c).wakeup
   pub walks : (c : ℕ) (k : Walk) → (cpu_of w c).walk ≡ Some k → WalkOrigins w k

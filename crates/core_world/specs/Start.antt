@@ -8,6 +8,7 @@ use Rattle.walk_rules.specs.Scene.{Group}
 use Rattle.cpu_bases.specs.CpuBases.{empty_bases}
 use Rattle.core_world.specs.World.{CpuRecord, World}
 
+-- a CPU at the start: online and active, with no walk, no mark and nothing queued
 abbrev pub start_cpu : CpuRecord
 start_cpu = record {
   online = true;
@@ -28,6 +29,8 @@ start_group children = record {
   events = replicate 8 None;
 }
 
+-- THE START of a machine of this tree and so many timers: every CPU is active, and all children of
+-- each group are
 abbrev pub start_of : Shape → (timers : ℕ) → World
 start_of t timers = record {
   tree = t;

@@ -44,6 +44,8 @@ pub record WakeupHolds (w : World) (c : ℕ) : Type 0 where
   pub global : ((cpu_of w c).wakeup ≤ (events_of (cpu_of w c).bases).first_global) ⊎
       HasLeafEvent w c (events_of (cpu_of w c).bases).first_global
 
+-- part 8a: a kept wakeup isn't past the CPU's first pinned timer, and it or the event in the leaf
+-- isn't past its first global one
 abbrev pub WakeupsHold : World → Type 0
 WakeupsHold w = (c : ℕ) → Keeps (cpu_of w c) → WakeupHolds w c
 
@@ -56,10 +58,13 @@ next_for kinds.Offline next = NEVER
 next_for kinds.Reeval next = next
 next_for (kinds.Remote by) next = next
 
+-- part 8b: what a walk has to wake its CPU for is what the CPU's timers say; of one that goes
+-- offline nothing is told
 pub record WalkTimes (y : CpuRecord) (k : Walk) : Type 0 where
   pub pin : k.pin ≡ (events_of y.bases).pin
   pub next : k.next ≡ next_for k.kind (events_of y.bases).next
 
+-- part 8b, of every walk
 abbrev pub WalkTimesHold : World → Type 0
 WalkTimesHold w = (c : ℕ) (k : Walk) → (cpu_of w c).walk ≡ Some k → WalkTimes (cpu_of w c) k
 
@@ -99,5 +104,6 @@ pub record IsAtRest (y : CpuRecord) : Type 0 where
   pub idle : y.idle ≡ true
   pub outside : y.inside ≡ false
 
+-- an offline CPU is idle and outside its interrupt
 abbrev pub OffAtRest : World → Type 0
 OffAtRest w = (c : ℕ) → (cpu_of w c).online ≡ false → IsAtRest (cpu_of w c)

@@ -44,9 +44,11 @@ no_cpu = record {
   walk = None;
 }
 
+-- the group of a number
 abbrev pub group_of : World → ℕ → Group
 group_of w g = slice_index_or w.groups g no_group
 
+-- the CPU of a number
 abbrev pub cpu_of : World → ℕ → CpuRecord
 cpu_of w c = slice_index_or w.cpus c no_cpu
 
@@ -89,6 +91,8 @@ is_reading stages.Handing = false
 abbrev pub reads_at : Shape → (g c : ℕ) → Walk → Bool
 reads_at t g c k = is_reading k.stage && option_map_or (λ h. h == g) (group_at_of t c k.level) false
 
+-- the walk of CPU c after an exchange of the word of group g by another CPU: a reading of that word
+-- isn't fresh any more
 abbrev pub stale_walk : Shape → (g c : ℕ) → Walk → Walk
 stale_walk t g c k = if reads_at t g c k then record k { fresh = false } else k
 
@@ -96,10 +100,12 @@ stale_walk t g c k = if reads_at t g c k then record k { fresh = false } else k
 abbrev pub stale : Shape → (g c : ℕ) → CpuRecord → CpuRecord
 stale t g c y = record y { walk = option_map (stale_walk t g c) y.walk }
 
+-- these CPUs, of numbers from c on, after an exchange of the word of group g
 abbrev pub all_stale : Shape → (g c : ℕ) → List CpuRecord → List CpuRecord
 all_stale t g c [] = []
 all_stale t g c (y ∷ ys) = stale t g c y ∷ all_stale t g (suc c) ys
 
+-- all CPUs after a step that exchanges the word of group g, or exchanges nothing
 abbrev pub stale_if : Shape → (exchanges : Bool) → (g : ℕ) → List CpuRecord → List CpuRecord
 stale_if t true g ys = all_stale t g 0 ys
 stale_if t false g ys = ys

@@ -80,6 +80,7 @@ pub record WakesItself (t : Machine) (c wheel : ℕ) : Type 0 where
   pub keeps : t.wakeup c ≡ Some at
   pub in_time : at ≤ wheel
 
+-- WOKEN: the CPU wakes in time itself, or some CPU of the tree wakes for the top by then
 abbrev pub Woken : (t : Machine) (c wheel : ℕ) → Type 0
 Woken t c wheel = WakesItself t c wheel ⊎ TopWakes t c wheel
 

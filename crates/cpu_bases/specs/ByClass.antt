@@ -2,6 +2,7 @@
 use Rattle.tm_base.specs.declared.names.Class.{Class}
 use Rattle.tm_base.specs.declared.names.Class.TheVariants.{Pinned, Global, Deferrable}
 
+-- what there is one of for each class
 pub record ByClass (A : Type 0) : Type 0 where
   pub pinned : A
   pub global : A

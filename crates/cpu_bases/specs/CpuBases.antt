@@ -22,6 +22,7 @@ pub record CpuBases : Type 0 where
   pub bases : ByClass PlainBase
   pub journal : List Entry
 
+-- the base of a class
 abbrev pub base_of : Class → CpuBases → PlainBase
 base_of class cpu = of_class class cpu.bases
 
@@ -62,6 +63,7 @@ ticked_entry at class by = record {
   by = by;
 }
 
+-- the bases with one more entry in their journal
 abbrev pub written : Entry → CpuBases → CpuBases
 written entry cpu = record cpu { journal = cpu.journal ++ entry ∷ [] }
 
@@ -77,6 +79,7 @@ abbrev pub item_queued : (time : ℕ) → Class → (timer expires job arg : ℕ
 item_queued time class timer expires job arg cpu =
     placed (forwarded time (base_of class cpu)).clock timer expires job arg
 
+-- QUEUEING, with its entry: the base of a class is forwarded to a time, and a timer is added
 abbrev pub queued : Act → (line at time : ℕ) → Class → (timer expires job arg : ℕ) → CpuId
     → CpuBases → CpuBases
 queued act line at time class timer expires job arg by cpu =
@@ -100,15 +103,18 @@ abbrev pub found_or : Class → Option Item → Option (Class × Item) → Optio
 found_or class (Some item) others = Some (class, item)
 found_or class None others = others
 
+-- LOOKING UP: the class and item of a queued timer, none where it isn't queued
 abbrev pub found_in : (timer : ℕ) → CpuBases → Option (Class × Item)
 found_in timer cpu =
     found_or Pinned (item_of timer cpu.bases.pinned.items)
     (found_or Global (item_of timer cpu.bases.global.items)
     (found_or Deferrable (item_of timer cpu.bases.deferrable.items) None))
 
+-- LOOKING UP: the class of a queued timer
 abbrev pub class_in : (timer : ℕ) → CpuBases → Option Class
 class_in timer cpu = option_map (λ found. found.0) (found_in timer cpu)
 
+-- LOOKING UP: the item of a queued timer
 abbrev pub item_in : (timer : ℕ) → CpuBases → Option Item
 item_in timer cpu = option_map (λ found. found.1) (found_in timer cpu)
 
@@ -147,6 +153,7 @@ abbrev pub oldest_in : List Item → Option Item
 oldest_in [] = None
 oldest_in (item ∷ items) = Some item
 
+-- MOVING OUT: this item goes out, where there is one, with its entry
 abbrev pub after_move_out : Option Item → (now : ℕ) → Class → CpuId → CpuBases → CpuBases
 after_move_out None now class by cpu = cpu
 after_move_out (Some item) now class by cpu =
@@ -204,6 +211,7 @@ pub record RoomyBases : Type 0 where
 abbrev pub on_bases : (CpuBases → CpuBases) → RoomyBases → RoomyBases
 on_bases change all = record all { plain = change all.plain }
 
+-- how many timers are queued in the base that has most
 abbrev pub most_queued : ByClass PlainBase → ℕ
 most_queued bases =
     max (length bases.pinned.items)

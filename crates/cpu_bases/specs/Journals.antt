@@ -89,6 +89,7 @@ MayHand cpu Pinned by = by ≡ cpu
 MayHand cpu Global by = Unit {0}
 MayHand cpu Deferrable by = by ≡ cpu
 
+-- what was handed out, was so by a CPU that may
 abbrev pub HandedByRight : (cpu : ℕ) → Act → Entry → Type 0
 HandedByRight cpu Handed entry = MayHand cpu entry.class entry.by.0
 HandedByRight cpu Armed entry = Unit {0}
@@ -116,6 +117,7 @@ pub record QueuedTimer : Type 0 where
   pub job : ℕ
   pub arg : ℕ
 
+-- what an item and the arming of its timer both say, by the item
 abbrev pub told_by_item : Item → QueuedTimer
 told_by_item item = record {
   timer = item.id;
@@ -125,6 +127,7 @@ told_by_item item = record {
   arg = item.arg;
 }
 
+-- what an item and the arming of its timer both say, by the entry
 abbrev pub told_by_entry : Entry → QueuedTimer
 told_by_entry entry = record {
   timer = entry.timer.0;

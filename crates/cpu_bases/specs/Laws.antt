@@ -28,6 +28,7 @@ is_arming Cancelled = false
 is_arming MovedOut = false
 is_arming Ticked = false
 
+-- whether an act ends an arming
 abbrev pub is_end : Act → Bool
 is_end Handed = true
 is_end Cancelled = true
@@ -62,6 +63,7 @@ pub record EndFits (cpu : ℕ) (arming ending : Entry) : Type 0 where
   pub on_time : ending.act ≡ Handed → arming.wheel ≤ ending.at
   pub by_right : HandedByRight cpu ending.act ending
 
+-- in a legal journal each end of an arming fits it
 abbrev pub EachEndFits : Type 0
 EachEndFits = (cpu : ℕ) (journal : List Entry) (i j : ℕ) (arming ending : Entry)
     → LegalJournal cpu journal → IsEndOf journal i j arming ending → EndFits cpu arming ending
@@ -72,6 +74,7 @@ WasArmed class journal item =
     (entry : Entry) × Contains journal entry × (is_arming entry.act ≡ true)
     × (entry.class ≡ class) × (told_by_entry entry ≡ told_by_item item)
 
+-- each queued item was armed as it stands, in the base of its class
 abbrev pub EachWasArmed : Type 0
 EachWasArmed = (cpu : CpuBases) (class : Class) → IsConsistent cpu
     → All (WasArmed class cpu.journal) (base_of class cpu).items
@@ -82,9 +85,11 @@ IsQueuedAs cpu arming =
     (item : Item) × (item_of arming.timer.0 (base_of arming.class cpu).items ≡ Some item)
     × (told_by_item item ≡ told_by_entry arming)
 
+-- the arming at place i of a journal has an end
 abbrev pub HasEnd : List Entry → (i : ℕ) → Entry → Type 0
 HasEnd journal i arming = (j : ℕ) × (ending : Entry) × IsEndOf journal i j arming ending
 
+-- each arming is queued as it says, or has an end
 abbrev pub QueuedOrEnded : Type 0
 QueuedOrEnded = (cpu : CpuBases) (i : ℕ) (arming : Entry) → IsConsistent cpu
     → slice_get cpu.journal i ≡ Some arming → is_arming arming.act ≡ true
@@ -120,22 +125,26 @@ pub record MayQueue (now : ℕ) (class : Class) (timer expires : ℕ) (cpu : Cpu
   pub not_queued : class_in timer cpu ≡ None
   pub none_behind : NoneBehind (base_of class cpu)
 
+-- arming keeps bases consistent, and what stands in their journal
 abbrev pub ArmingKeeps : Type 0
 ArmingKeeps = (now : ℕ) (class : Class) (timer expires job arg line : ℕ) (by : CpuId)
     (cpu : CpuBases) → IsConsistent cpu → MayQueue now class timer expires cpu
     → let new = armed now class timer expires job arg line by cpu in
     IsConsistent new × Keeps now cpu new
 
+-- moving in keeps bases consistent, and what stands in their journal
 abbrev pub MovingInKeeps : Type 0
 MovingInKeeps = (now : ℕ) (class : Class) (timer expires job arg : ℕ) (by : CpuId)
     (cpu : CpuBases) → IsConsistent cpu → MayQueue now class timer expires cpu
     → let new = moved_in now class timer expires job arg by cpu in
     IsConsistent new × Keeps now cpu new
 
+-- cancelling keeps bases consistent, and what stands in their journal
 abbrev pub CancellingKeeps : Type 0
 CancellingKeeps = (now timer line : ℕ) (by : CpuId) (cpu : CpuBases) → IsConsistent cpu
     → let new = cancelled now timer line by cpu in IsConsistent new × Keeps now cpu new
 
+-- moving out keeps bases consistent, and what stands in their journal
 abbrev pub MovingOutKeeps : Type 0
 MovingOutKeeps = (now : ℕ) (class : Class) (by : CpuId) (cpu : CpuBases) → IsConsistent cpu
     → let new = moved_out now class by cpu in IsConsistent new × Keeps now cpu new
@@ -149,6 +158,7 @@ pub record HandsOut (now : ℕ) (class : Class) (by : ℕ) (old new : CpuBases) 
   pub others : (other : Class) → same_class class other ≡ false
       → base_of other new ≡ base_of other old
 
+-- handing out keeps bases consistent, and says what went out
 abbrev pub HandingOutKeeps : Type 0
 HandingOutKeeps = (now : ℕ) (class : Class) (by : CpuId) (cpu : CpuBases)
     → now < TIME_LIMIT - 1 → IsConsistent cpu
@@ -163,6 +173,7 @@ pub record DrainsAll (now : ℕ) (class : Class) (by : ℕ) (old new : CpuBases)
   pub none_due : NoneDue now (base_of class new).items
   pub none_behind : NotAhead now (base_of class old) → NoneBehind (base_of class new)
 
+-- a drain of at least as many items as are queued leaves nothing due
 abbrev pub DrainIsWhole : Type 0
 DrainIsWhole = (most now : ℕ) (class : Class) (by : CpuId) (cpu : CpuBases)
     → now < TIME_LIMIT - 1 → IsConsistent cpu → length (base_of class cpu).items ≤ most

@@ -23,6 +23,7 @@ redone Cancelled entry base = removed entry.timer.0 base
 redone MovedOut entry base = removed entry.timer.0 base
 redone Ticked entry base = base
 
+-- the bases after an entry of a journal, played again
 abbrev pub redo : Entry → ByClass PlainBase → ByClass PlainBase
 redo entry bases =
     with_class entry.class (redone entry.act entry (of_class entry.class bases)) bases
@@ -47,6 +48,7 @@ Says MovedOut entry base =
     IsSomeAnd (oldest_in base.items) (λ item. told_by_item item ≡ told_by_entry entry)
 Says Ticked entry base = next_out entry.at base ≡ None
 
+-- each entry says what the base of its class gives where it stands
 abbrev pub EachSays : List Entry → ByClass PlainBase → Type 0
 EachSays [] bases = Unit {0}
 EachSays (entry ∷ journal) bases =

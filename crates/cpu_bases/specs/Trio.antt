@@ -15,6 +15,7 @@ plains trio = record {
   deferrable = trio.deferrable.plain;
 }
 
+-- three bases without their room, with a journal
 abbrev pub plain_of : ByClass RoomyBase → List Entry → CpuBases
 plain_of trio journal = record { bases = plains trio; journal = journal }
 
@@ -32,6 +33,7 @@ abbrev pub without_oldest : Option Item → RoomyBase → RoomyBase
 without_oldest None base = base
 without_oldest (Some item) base = on_plain (removed item.id) base
 
+-- three bases without the oldest item of a class, or as they were where none goes out
 abbrev pub without_item : Class → Option Item → ByClass RoomyBase → ByClass RoomyBase
 without_item class out trio = with_class class (without_oldest out (of_class class trio)) trio
 

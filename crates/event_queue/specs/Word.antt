@@ -9,6 +9,7 @@ abbrev pub slot_word : Option Event → ℕ
 slot_word None = 0
 slot_word (Some e) = e.expiry + 2 ^ 48 * e.cpu.0 + 2 ^ 58 * from_bool e.ignored + 2 ^ 59
 
+-- the event in the bits of a word: the expiry below, then CPU and whether it is ignored
 abbrev pub event_of : ℕ → Event
 event_of word = record {
   expiry = word % 2 ^ 48;

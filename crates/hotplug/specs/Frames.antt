@@ -29,6 +29,8 @@ pub record MayActivate (w : World) (d : ℕ) : Type 0 where
   pub online : (cpu_of w d).online ≡ true
   pub lone : IsLone w d
 
+-- what making CPU d active leaves: d is active and free, its timers and all other CPUs are as they
+-- were
 pub record Activated (w : World) (d : ℕ) (v : World) : Type 0 where
   pub tree : v.tree ≡ w.tree
   pub clock : v.clock ≡ w.clock

@@ -28,6 +28,7 @@ gone_whole w c to =
     then handed_on_by_steps (gone_by_steps w c) c to
     else gone_by_steps w c
 
+-- the CPU to which CPU c hands its duty on, where it has to
 abbrev pub heir_at : World → (c : ℕ) → (to : CpuId) → Option CpuId
 heir_at w c to = if is_waiting (gone_by_steps w c) c then Some to else None
 
@@ -53,6 +54,7 @@ moved_to w dead None = w
 moved_to w dead (Some to) =
     moved_times (step_rules.queued_on w dead) dead to.0 (made_active w to.0)
 
+-- all timers of an offline CPU have moved to its heir
 abbrev pub moved_off : World → (dead : ℕ) → World
 moved_off w dead = moved_to w dead (heir_of w dead)
 
@@ -72,6 +74,7 @@ pub record MovedSome (old : World) (dead : ℕ) (new : World) : Type 0 where
 abbrev pub IsWhole : CpuBases → Type 0
 IsWhole bases = (class : Class) → NoneBehind (base_of class bases)
 
+-- no queued wheel expiry of any CPU is below its base's clock
 abbrev pub AllWhole : World → Type 0
 AllWhole w = (c : ℕ) → IsWhole (cpu_of w c).bases
 

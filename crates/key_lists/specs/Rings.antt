@@ -8,9 +8,11 @@ use Rattle.key_lists.specs.Tables.{KeyTable}
 abbrev pub no_link : Link
 no_link = record { older = 0; newer = 0 }
 
+-- the place of the next newer key in the ring of a place
 abbrev pub newer_of : List Link → ℕ → ℕ
 newer_of s i = (slice_index_or s i no_link).newer
 
+-- the place of the next older key in the ring of a place
 abbrev pub older_of : List Link → ℕ → ℕ
 older_of s i = (slice_index_or s i no_link).older
 
@@ -19,6 +21,7 @@ abbrev pub walk : ℕ → (ℕ → ℕ) → (n c a : ℕ) → List ℕ
 walk zero f n c a = []
 walk (suc m) f n c a = if f a == c then [] else (f a - n) ∷ walk m f n c (f a)
 
+-- the keys of list c, from the oldest to the newest, as its ring of links keeps them
 abbrev pub keys_of : (n : ℕ) → List Link → ℕ → List ℕ
 keys_of n s c = walk (length s) (newer_of s) n c c
 
@@ -27,6 +30,7 @@ abbrev pub values_below : ℕ → (ℕ → List ℕ) → List (List ℕ)
 values_below zero f = []
 values_below (suc n) f = f 0 ∷ values_below n (λ i. f (suc i))
 
+-- the table of n lists that these links keep
 abbrev pub table_of : ℕ → List Link → KeyTable
 table_of n s = record { lists = values_below n (keys_of n s); number = n; room = length s - n }
 

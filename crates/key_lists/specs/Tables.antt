@@ -8,6 +8,7 @@ pub record KeyTable : Type 0 where
   pub number : ℕ
   pub room : ℕ
 
+-- the list of a number
 abbrev pub list_of : KeyTable → ℕ → List ℕ
 list_of table c = slice_index_or table.lists c []
 
@@ -26,10 +27,12 @@ abbrev pub without : ℕ → List ℕ → List ℕ
 without key [] = []
 without key (k ∷ ks) = if k == key then ks else k ∷ without key ks
 
+-- the first key of a list, if it has one
 abbrev pub first_of : List ℕ → Option ℕ
 first_of [] = None
 first_of (k ∷ ks) = Some k
 
+-- the last key of a list, if it has one
 abbrev pub last_of : List ℕ → Option ℕ
 last_of [] = None
 last_of (k ∷ ks) = Some (unwrap_or (last_of ks) k)

@@ -26,9 +26,11 @@ pub record Replied (S : Type 0) : Type 0 where
   pub reply : ShownReply
   pub state : S
 
+-- a number as the id of a CPU
 abbrev pub cpu_id : ℕ → CpuId
 cpu_id c = record { 0 = c }
 
+-- a number as the id of a timer
 abbrev pub timer_id : ℕ → TimerId
 timer_id t = record { 0 = t }
 
@@ -53,9 +55,11 @@ arming_again item class delay =
     }
 
 module _ {S : Type 0} where
+  -- this reply is shown, and this is the state after it
   abbrev pub replied : ShownReply → S → Replied S
   replied reply s = record { reply = reply; state = s }
 
+  -- the reply of a timer that was armed again: its class and wheel expiry
   abbrev pub armed_again : Class → Placed S → Replied S
   armed_again class placed = replied (shown.Again class placed.wheel) placed.state
 
@@ -67,12 +71,15 @@ module _ {S : Type 0} (r : Rules S) where
       armed_again class (r.armed s runner (arming_again item class delay))
   again (Some held) runner item class delay s = replied (shown.Skip held.cpu) s
 
+  -- what comes of a job's answer: the timer is done, a mark is shown, or the timer is armed again
   abbrev pub answered : JobReply → (runner : ℕ) → Item → S → Replied S
   answered replies.Done runner item s = replied shown.Done s
   answered (replies.Mark n) runner item s = replied (shown.Mark n) s
   answered (replies.Again class delay) runner item s =
       again (r.queued s item.id) runner item class delay s
 
+  -- what a job is told: its timer, the number that it was armed with, the present jiffy, the CPU
+  -- that runs it
   abbrev pub job_call : S → (runner : ℕ) → Item → JobCall
   job_call s runner item =
       record { timer = timer_id item.id; arg = item.arg; now = r.clock s; runner = cpu_id runner }
@@ -82,6 +89,7 @@ module _ {S : Type 0} (r : Rules S) where
   run_line s home runner item reply =
       lines.Run (r.clock s) (cpu_id runner) (timer_id item.id) (cpu_id home) item.wheel reply
 
+  -- the job was run: one line, one more of work, and the state after its answer
   abbrev pub ran : S → (home runner : ℕ) → Item → Replied S → Played S
   ran s home runner item answer =
       record {
@@ -91,6 +99,7 @@ module _ {S : Type 0} (r : Rules S) where
       }
 
 module _ {S : Type 0} (jobs : Replies) (r : Rules S) where
+  -- what comes of the answer of an item's job
   abbrev pub reply_to : (runner : ℕ) → Item → S → Replied S
   reply_to runner item s = answered r (jobs item.job (job_call r s runner item)) runner item s
 
@@ -134,6 +143,7 @@ module _ {S : Type 0} (jobs : Replies) (r : Rules S) where
   look zero c level tried s = silent s
   look (suc n) c level tried s = look_at (r.named s c level tried) c (look n c level) tried s
 
+  -- the CPU looks at its group at this level and goes on above, or doesn't look after it and ends
   abbrev pub look_where : Bool → (c level : ℕ) → (S → Played S) → S → Played S
   look_where false c level above s = silent s
   look_where true c level above s = and_then (look (r.cpus s) c level set.empty s) above
@@ -158,6 +168,7 @@ module _ {S : Type 0} (jobs : Replies) (r : Rules S) where
       (and_then (and_then (counting (r.entered s c)) (drains c)) (looks (r.levels s) c 0))
       (λ t. silent (r.ended t c))
 
+  -- the interrupt of CPU c, where it is due one
   abbrev pub interrupt_where : Bool → (c : ℕ) → S → Played S
   interrupt_where false c s = silent s
   interrupt_where true c s = interrupt c s

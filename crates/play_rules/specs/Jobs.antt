@@ -13,10 +13,12 @@ abbrev pub lacks_job : (jobs : ℕ) → What → Bool
 lacks_job jobs (whats.Arm timer class delay job arg) = nat_le jobs job
 lacks_job jobs what = false
 
+-- the job that an operation names; 0 where it names none
 abbrev pub job_of : What → ℕ
 job_of (whats.Arm timer class delay job arg) = job
 job_of what = 0
 
+-- the job that an operation names, and its line
 abbrev pub unknown_job : Op → UnknownJob
 unknown_job o = record { line = o.line; job = job_of o.what }
 
@@ -29,6 +31,7 @@ unfoldable pub unknown_in_ops : (jobs : ℕ) → List Op → Option UnknownJob
 unknown_in_ops jobs [] = None
 unknown_in_ops jobs (o ∷ os) = option_or (unknown_job_of jobs o) (unknown_in_ops jobs os)
 
+-- the first `arm` operation of these moments whose job isn't in a table of so many jobs
 unfoldable pub first_unknown_job : (jobs : ℕ) → List Moment → Option UnknownJob
 first_unknown_job jobs [] = None
 first_unknown_job jobs (m ∷ ms) = option_or (unknown_in_ops jobs m.ops) (first_unknown_job jobs ms)

@@ -48,6 +48,7 @@ module _ {S : Type 0} (r : Rules S) where
 
 -- a moment, and those behind it unless it is the last
 module _ {S : Type 0} where
+  -- the moments from this one on, where it is the last or others come
   abbrev pub turn_then : (is_last : Bool) → (S → List (Turn S)) → Turn S → List (Turn S)
   turn_then true rest t = t ∷ []
   turn_then false rest t = t ∷ rest t.played.state
@@ -63,6 +64,7 @@ module _ {S : Type 0} (jobs : Replies) (r : Rules S) where
   abbrev pub moment_now : List Moment → (now : ℕ) → S → Played S
   moment_now ms now s = moment (having_interrupt r s) (moment_at now ms) s
 
+  -- the moment that is played at the time now
   abbrev pub turn : List Moment → (now : ℕ) → S → Turn S
   turn ms now s = record { at = now; played = moment_now ms now (r.at_clock now s) }
 
@@ -79,10 +81,12 @@ module _ {S : Type 0} (jobs : Replies) (r : Rules S) where
 abbrev pub turn_lines : {S : Type 0} → List (Turn S) → List Line
 turn_lines ts = flat_map (λ t. t.played.lines) ts
 
+-- the state that the last of these moments leaves
 abbrev pub last_state : {S : Type 0} → S → List (Turn S) → S
 last_state s [] = s
 last_state s (t ∷ ts) = last_state t.played.state ts
 
+-- a fact holds after each of these moments
 abbrev pub AfterEach : {S : Type 0} → (S → Type 0) → List (Turn S) → Type 0
 AfterEach P ts = All (λ t. P t.played.state) ts
 
@@ -107,10 +111,12 @@ left_or t None others = others
 left_or t (Some held) others = lines.Left (timer_id t) held.cpu held.class held.wheel ∷ others
 
 module _ {S : Type 0} (r : Rules S) where
+  -- the lines of the timers that are still queued, of n timers from number t on
   unfoldable pub left : (n t : ℕ) → S → List Line
   left zero t s = []
   left (suc n) t s = left_or t (r.queued s t) (left n (t + 1) s)
 
+  -- the last lines of a report: the timers that are still queued, and the end
   abbrev pub closing : (end : ℕ) → S → List Line
   closing end s = left (r.timers s) 0 s ++ lines.End end ∷ []
 

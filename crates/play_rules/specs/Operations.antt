@@ -26,6 +26,7 @@ use Rattle.play_rules.specs.Interrupts.{cpu_id}
 abbrev pub shown_number : OpFault → ℕ
 shown_number fault = unwrap_or (fault_number fault) 0
 
+-- the line of a refused operation
 abbrev pub refused_line : OpFault → (now line : ℕ) → CpuId → Line
 refused_line (faults.Queued holder) now line cpu =
     lines.RefusedQueued now cpu line (shown_number (faults.Queued holder)) holder
@@ -36,27 +37,31 @@ abbrev pub leaving : What → CpuId → Option ℕ
 leaving whats.Offline cpu = Some cpu.0
 leaving what cpu = None
 
+-- the CPU that this operation takes offline, if there is one that does
 abbrev pub leaving_by : Option Op → Option ℕ
 leaving_by None = None
 leaving_by (Some o) = leaving o.what o.cpu
 
+-- the CPU that the last of these operations takes offline
 abbrev pub leaver : List Op → Option ℕ
 leaver os = leaving_by (slice_get os (length os - 1))
 
 module _ {S : Type 0} (r : Rules S) where
-  -- REFUSALS: the first that applies
+  -- REFUSALS: the CPU is offline, or idle where it would have to be active
   abbrev pub not_active : S → (c : ℕ) → Option OpFault
   not_active s c =
       if r.is_online s c
       then if r.is_idle s c then Some faults.NotActive else None
       else Some faults.Offline
 
+  -- REFUSALS: the CPU is offline, or active where it would have to be idle
   abbrev pub not_idle : S → (c : ℕ) → Option OpFault
   not_idle s c =
       if r.is_online s c
       then if r.is_idle s c then None else Some faults.NotIdle
       else Some faults.Offline
 
+  -- REFUSALS: the timer is queued on a CPU
   abbrev pub held_by : Option Queued → Option OpFault
   held_by queued = option_map (λ held. faults.Queued held.cpu) queued
 
@@ -65,6 +70,7 @@ module _ {S : Type 0} (r : Rules S) where
   last_online s c =
       if r.is_placed s c && is_none (r.successor s c) then Some faults.LastOnline else None
 
+  -- the first refusal that applies to an operation
   abbrev pub refusal : What → (c : ℕ) → S → Option OpFault
   refusal (whats.Arm timer class delay job arg) c s =
       option_or (not_active s c) (held_by (r.queued s timer.0))
@@ -110,6 +116,7 @@ module _ {S : Type 0} (r : Rules S) where
   hand_on_to (Some d) cpu s =
       printing (lines.Handed (r.clock s) cpu (cpu_id d)) (r.handed_on s cpu.0 d)
 
+  -- the CPU hands on its duty to its successor, or has none
   abbrev pub hand_on_where : Bool → CpuId → S → Played S
   hand_on_where false cpu s = silent s
   hand_on_where true cpu s = hand_on_to (r.successor s cpu.0) cpu s
@@ -150,13 +157,16 @@ module _ {S : Type 0} (r : Rules S) where
   done whats.Offline line cpu s = offline cpu s
   done whats.Online line cpu s = online cpu s
 
+  -- an operation is done, unless it is refused: then its line is told
   abbrev pub done_unless : Option OpFault → Op → S → Played S
   done_unless None o s = done o.what o.line o.cpu s
   done_unless (Some fault) o s = printing (refused_line fault (r.clock s) o.line o.cpu) s
 
+  -- one operation of the script: refused, or done
   abbrev pub operation : Op → S → Played S
   operation o s = done_unless (refusal o.what o.cpu.0 s) o s
 
+  -- operations, in the order of their lines
   unfoldable pub operations : List Op → S → Played S
   operations [] s = silent s
   operations (o ∷ os) s = and_then (operation o s) (operations os)
@@ -170,6 +180,7 @@ module _ {S : Type 0} (r : Rules S) where
       (lines.Moved (r.clock s) m.mover.timer (cpu_id from) (cpu_id to) m.mover.wheel) m.state)
       rest
 
+  -- MOVING: at most n timers of a CPU, first to last
   unfoldable pub moves : (n from to : ℕ) → S → Played S
   moves zero from to s = silent s
   moves (suc n) from to s = move_printed from to (r.moved s from to) (moves n from to) s
@@ -190,9 +201,11 @@ module _ {S : Type 0} (r : Rules S) where
   clear_where zero from s = silent s
   clear_where (suc n) from s = moves_to (r.controller s) from s
 
+  -- the timers of a CPU that is offline move to the controlling CPU
   abbrev pub clear : (from : ℕ) → S → Played S
   clear from s = if r.is_online s from then silent s else clear_where (r.queued_on s from) from s
 
+  -- the timers of the CPU that went offline in this moment move, where one did
   abbrev pub clear_after : Option ℕ → S → Played S
   clear_after None s = silent s
   clear_after (Some c) s = clear c s
@@ -202,9 +215,12 @@ module _ {S : Type 0} (r : Rules S) where
   cover_or None c s others = others
   cover_or (Some a) c s others = lines.Cover (r.clock s) (cpu_id c) a.wheel a.cover ∷ others
 
+  -- the lines that tell who answers for the first global timer of an idle CPU, of n CPUs from CPU c
+  -- on
   unfoldable pub cover_lines : (n c : ℕ) → S → List Line
   cover_lines zero c s = []
   cover_lines (suc n) c s = cover_or (r.cover s c) c s (cover_lines n (c + 1) s)
 
+  -- the `cover` lines of a moment
   abbrev pub covers : S → Played S
   covers s = lines_told (cover_lines (r.cpus s) 0 s) s

@@ -19,7 +19,7 @@ MayDrain (inside r) home class runner = (home ≡ r) × (runner ≡ r)
 MayDrain (serving r d) home class runner = (home ≡ d) × (class ≡ Global) × (runner ≡ r)
 MayDrain (handing c) home class runner = ⊥
 
--- the CPU whose interrupt it is runs the jobs
+-- the CPU whose interrupt it is runs the jobs (no public clause cites it)
 abbrev pub MayRunIn : Phase → (runner : ℕ) → Type 0
 MayRunIn resting runner = ⊥
 MayRunIn (inside r) runner = runner ≡ r

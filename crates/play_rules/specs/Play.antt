@@ -18,6 +18,7 @@ use Rattle.play_rules.specs.Covers.{cover_of}
 use Rattle.play_rules.specs.Interrupts.{Replies}
 use Rattle.play_rules.specs.Moments.{AfterEach, Turn, spent_at, turns, whole_lines}
 
+-- the state at another time
 abbrev pub at_clock : (now : ℕ) → State → State
 at_clock now s = record s { clock = now }
 
@@ -45,6 +46,8 @@ hands_on s c = has_group s c && nat_lt (duty s c) NEVER
 abbrev pub ended : State → (c : ℕ) → State
 ended s c = if (cpu_at s c).idle then reevaluated s c else s
 
+-- THE RULES OF PLAY, the plain machine's: each question and change of `Rules`, by the definitions
+-- of this crate
 abbrev pub plain_rules : Rules State
 plain_rules = record {
   clock = λ s. s.clock;
@@ -88,10 +91,12 @@ plain_rules = record {
 abbrev pub play_start : Script → State
 play_start script = start (tree_of script.nodes script.cpus script.isolated) script.timers
 
+-- the moments of a script's play
 abbrev pub play_turns : Replies → Script → List (Turn State)
 play_turns jobs script =
     turns jobs plain_rules (script.end + 1) script.end 0 script.moments (play_start script)
 
+-- the text of a script's play
 abbrev pub play_text : Replies → Script → List ℕ
 play_text jobs script =
     report_text (whole_lines plain_rules script.end (play_start script) (play_turns jobs script))

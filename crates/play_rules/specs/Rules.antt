@@ -26,6 +26,8 @@ pub record Moved (S : Type 0) : Type 0 where
   pub mover : Mover
   pub state : S
 
+-- THE RULES of a machine that is played on, over states S: what a play asks of it, and what its
+-- changes leave
 pub record Rules (S : Type 0) : Type 0 where
   -- THE MACHINE: its clock, how many timers, CPUs and levels of groups it has, and each CPU's flags
   pub clock : S → ℕ

@@ -26,6 +26,7 @@ pub record State : Type 0 where
   pub cpus : List Cpu
   pub migrators : List (Option ℕ)
 
+-- a CPU at the start: online and active, with nothing queued
 abbrev pub new_cpu : Cpu
 new_cpu = record { online = true; idle = false; wakeup = NEVER; told = NEVER; bases = empty_bases }
 
@@ -40,9 +41,11 @@ start tree timers = record {
   migrators = replicate (group_count_of tree) (Some 0);
 }
 
+-- how many CPUs there are
 abbrev pub cpu_count : State → ℕ
 cpu_count s = length s.cpus
 
+-- the numbers of all CPUs, ascending
 abbrev pub all_cpus : State → List ℕ
 all_cpus s = range_with_len 0 (cpu_count s)
 
@@ -50,12 +53,15 @@ all_cpus s = range_with_len 0 (cpu_count s)
 abbrev pub cpu_at : State → ℕ → Cpu
 cpu_at s c = slice_index_or s.cpus c new_cpu
 
+-- the state with another CPU of this number
 abbrev pub with_cpu : State → ℕ → Cpu → State
 with_cpu s c cpu = record s { cpus = slice_set s.cpus c cpu }
 
+-- the state with other bases of a CPU
 abbrev pub with_bases : State → ℕ → CpuBases → State
 with_bases s c bases = with_cpu s c (record (cpu_at s c) { bases = bases })
 
+-- a CPU is active where it is online and not idle
 abbrev pub is_active : State → ℕ → Bool
 is_active s c = (cpu_at s c).online && not (cpu_at s c).idle
 

@@ -26,10 +26,12 @@ no_lines = record {
 abbrev pub one_more : ℕ → ℕ
 one_more n = min (2 ^ 32 - 1) (n + 1)
 
+-- one more where it is so
 abbrev pub one_more_if : Bool → ℕ → ℕ
 one_more_if true n = one_more n
 one_more_if false n = n
 
+-- whether a job armed its timer again
 abbrev pub armed_again : ShownReply → Bool
 armed_again (shown.Again class wheel) = true
 armed_again reply = false
@@ -57,5 +59,6 @@ tallied t (lines.RefusedQueued now cpu line number holder) =
 tallied t (lines.Left timer cpu class wheel) = record t { left = one_more t.left }
 tallied t line = t
 
+-- what is counted after these lines
 abbrev pub tallied_all : Tally → List Line → Tally
 tallied_all t ls = fold tallied t ls

@@ -15,6 +15,7 @@ use Rattle.play_rules.specs.Rules.{Drained, Moved, Placed}
 use Rattle.play_rules.specs.State.{State, all_cpus, cpu_at, with_bases}
 use Rattle.play_rules.specs.Hierarchy.{is_placed, woken}
 
+-- the bases of CPU c
 abbrev pub bases_at : State → (c : ℕ) → CpuBases
 bases_at s c = (cpu_at s c).bases
 
@@ -22,12 +23,15 @@ bases_at s c = (cpu_at s c).bases
 abbrev pub holder_of : State → (timer : ℕ) → Option ℕ
 holder_of s timer = find (λ c. is_some (class_in timer (bases_at s c))) (all_cpus s)
 
+-- where a timer is queued: the CPU, its class and its wheel expiry
 abbrev pub queued_as : (c : ℕ) → Class × Item → Queued
 queued_as c found = record { cpu = record { 0 = c }; class = found.0; wheel = found.1.wheel }
 
+-- where a timer is queued on CPU c, if it is
 abbrev pub queued_at : State → (timer c : ℕ) → Option Queued
 queued_at s timer c = option_map (queued_as c) (found_in timer (bases_at s c))
 
+-- WHERE a timer is queued, if it is: the CPU, its class and its wheel expiry
 abbrev pub queued_on : State → (timer : ℕ) → Option Queued
 queued_on s timer = option_and_then (queued_at s timer) (holder_of s timer)
 
@@ -36,10 +40,12 @@ abbrev pub item_then : Option Item → List Item → List Item
 item_then None rest = []
 item_then (Some item) rest = item ∷ rest
 
+-- A DRAIN: what goes out of a base at the time now, one after the other, at most n items
 unfoldable pub due_items : (n now : ℕ) → PlainBase → List Item
 due_items zero now base = []
 due_items (suc n) now base = item_then (next_out now base) (due_items n now (taken now base))
 
+-- A DRAIN of at most so many items of a base of CPU `home`, by CPU `runner`
 abbrev pub drained_base : State → (home : ℕ) → Class → (runner most : ℕ) → Drained State
 drained_base s home class runner most = record {
   items = due_items most s.clock (base_of class (bases_at s home));
@@ -58,6 +64,7 @@ armed_bases s c a =
     armed s.clock a.class a.timer.0 (s.clock + a.delay) a.job a.arg a.line
     (record { 0 = c }) (bases_at s c)
 
+-- ARMING by CPU c: the item that the timer becomes
 abbrev pub armed_item : State → (c : ℕ) → Arming → Item
 armed_item s c a =
     item_queued s.clock a.class a.timer.0 (s.clock + a.delay) a.job a.arg (bases_at s c)
@@ -77,11 +84,13 @@ abbrev pub oldest_of_class : Class → CpuBases → Option (Class × Item)
 oldest_of_class class bases =
     option_map (λ item. (class, item)) (oldest_in (base_of class bases).items)
 
+-- MOVING: the first timer to move, with its class
 abbrev pub first_to_move : CpuBases → Option (Class × Item)
 first_to_move bases =
     option_or (oldest_of_class Pinned bases)
     (option_or (oldest_of_class Global bases) (oldest_of_class Deferrable bases))
 
+-- MOVING: the state after the first timer of a class left
 abbrev pub moved_out_of : State → (from to : ℕ) → Class → State
 moved_out_of s from to class =
     with_bases s from (moved_out s.clock class (record { 0 = to }) (bases_at s from))
@@ -100,6 +109,7 @@ moved_into s to (class, item) = record {
       (record { 0 = to }) (bases_at s to));
 }
 
+-- MOVING: this timer goes from one CPU to another
 abbrev pub moved_one : State → (from to : ℕ) → Class × Item → Moved State
 moved_one s from to (class, item) = moved_into (moved_out_of s from to class) to (class, item)
 
@@ -107,6 +117,7 @@ moved_one s from to (class, item) = moved_into (moved_out_of s from to class) to
 abbrev pub moved : State → (from to : ℕ) → Option (Moved State)
 moved s from to = option_map (moved_one s from to) (first_to_move (bases_at s from))
 
+-- how many timers are queued on CPU c
 abbrev pub count_on : State → (c : ℕ) → ℕ
 count_on s c =
     length (base_of Pinned (bases_at s c)).items
@@ -121,5 +132,6 @@ controller s =
     (find (λ d. is_placed s d && ((cpu_at s d).online && not (cpu_at s d).idle)) (all_cpus s))
     (find (λ d. is_placed s d && (cpu_at s d).online) (all_cpus s))
 
+-- the controlling CPU is active: it is woken where it was idle
 abbrev pub controlling : State → (d : ℕ) → State
 controlling s d = if (cpu_at s d).idle then woken s d else s

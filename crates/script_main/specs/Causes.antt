@@ -38,6 +38,7 @@ pub record HasScriptText (left : Option (List ℕ)) (script : Script) : Type 0 w
   pub has : HasFew left bytes
   pub spelled : Spells bytes script
 
+-- the script that a command has: read from the source, or made by a recipe
 abbrev pub IsScriptBy : Option Recipe → Option (List ℕ) → Script → Type 0
 IsScriptBy None left script = HasScriptText left script
 IsScriptBy (Some recipe) left script = script ≡ script_by recipe

@@ -30,12 +30,12 @@ pub record WritesFront (text : List ℕ) (old new : SinkSeen) : Type 0 where
 abbrev pub Writes : List ℕ → SinkSeen → SinkSeen → Type 0
 Writes text old new = WritesAll text old new ⊎ WritesFront text old new
 
--- memory was wanting for the text itself, and nothing was put
+-- memory was wanting for the text itself, and nothing was put (no public clause cites it)
 abbrev pub EndsUnwritten : SinkSeen → SinkSeen → (status : ℕ) → Type 0
 EndsUnwritten old new status = (new ≡ old) × (status ≡ NO_MEMORY)
 
 -- all of a text was written, with one status; or the sink broke before, with another; or memory was
--- wanting, for the sink or for the text itself
+-- wanting, for the sink or for the text itself (no public clause cites it)
 pub data EndsWith (text : List ℕ) (all broken : ℕ) (old new : SinkSeen) (status : ℕ)
     : Type 0 where
   whole : WritesAll text old new → status ≡ all → EndsWith text all broken old new status
@@ -44,6 +44,8 @@ pub data EndsWith (text : List ℕ) (all broken : ℕ) (old new : SinkSeen) (sta
       → status ≡ NO_MEMORY → EndsWith text all broken old new status
   unwritten : EndsUnwritten old new status → EndsWith text all broken old new status
 
+-- how writing a reply ended: all of it was taken, or the sink broke, with the status of each (no
+-- public clause cites it)
 abbrev pub EndsAs : Reply → SinkSeen → SinkSeen → (status : ℕ) → Type 0
 EndsAs reply old new status =
     EndsWith (reply_text reply) (status_written reply) (status_broken reply) old new status

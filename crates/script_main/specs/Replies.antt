@@ -26,6 +26,7 @@ use Rattle.script_main.specs.Texts.{usage_text, read_fault_text, too_long_text, 
 use Rattle.script_main.specs.Texts.{job_unknown_text, work_spent_text}
 use Rattle.script_main.specs.Scripts.{Brings, IsOutput, KnowsJobs, spent_by}
 
+-- the text of a reply
 abbrev pub reply_text : Reply → List ℕ
 reply_text Usage = usage_text
 reply_text ReadFault = read_fault_text
@@ -93,11 +94,12 @@ abbrev pub IsReplyBy : Replies → (table : ℕ) → Option Command → SourceSe
 IsReplyBy jobs table None s t reply = reply ≡ Usage
 IsReplyBy jobs table (Some command) s t reply = IsReplyOf jobs table command s t reply
 
+-- the reply that these words and the source call for
 abbrev pub IsReply : Replies → (table : ℕ) → List (String Global) → SourceSeen → SourceSeen
     → Reply → Type 0
 IsReply jobs table words s t reply = IsReplyBy jobs table (command_of words) s t reply
 
--- the status where all of the reply was written
+-- the status where all of the reply was written (no public clause cites it)
 abbrev pub status_written : Reply → ℕ
 status_written Usage = USAGE
 status_written ReadFault = READ_FAULT
@@ -108,7 +110,8 @@ status_written (WorkSpent count) = WORK_SPENT
 status_written (Played text) = DONE
 status_written (Made text) = DONE
 
--- the status where the sink failed or took nothing: an earlier cause stays
+-- the status where the sink failed or took nothing: an earlier cause stays (no public clause cites
+-- it)
 abbrev pub status_broken : Reply → ℕ
 status_broken Usage = USAGE
 status_broken ReadFault = READ_FAULT

@@ -37,6 +37,7 @@ pub record MakesScript (r : Recipe) (s t : SourceSeen) (script : Script) : Type 
   pub made : script ≡ script_by r
   pub untouched : t ≡ s
 
+-- a command has this script: it read it, or made it by its recipe
 abbrev pub BringsBy : Option Recipe → SourceSeen → SourceSeen → Script → Type 0
 BringsBy None s t script = ReadsScript s t script
 BringsBy (Some r) s t script = MakesScript r s t script

@@ -6,14 +6,17 @@ use Rattle.tm_script.specs.declared.faults.Kind.TheVariants.{BadLine, BadNumber,
 use Rattle.tm_script.specs.declared.faults.Kind.TheVariants.{OutOfOrder, NoEnd, TooManyLines}
 use Rattle.tm_script.specs.declared.faults.ScriptFault.{ScriptFault}
 
+-- the text of status 2
 abbrev pub usage_text : List ℕ
 usage_text =
     codes "usage: tmig play | tree | generate NUMBER CPUS TIMERS MOMENTS"
     ++ codes " | day NUMBER CPUS TIMERS MOMENTS\n"
 
+-- the text of status 3
 abbrev pub read_fault_text : List ℕ
 read_fault_text = codes "read fault\n"
 
+-- the text of status 7
 abbrev pub too_long_text : List ℕ
 too_long_text = codes "input too long\n"
 
@@ -26,14 +29,17 @@ kind_number OutOfOrder = 4
 kind_number NoEnd = 5
 kind_number TooManyLines = 6
 
+-- the text of status 1: the line at fault, and the kind of the fault
 unfoldable pub refused_text : ScriptFault → List ℕ
 refused_text fault =
     codes "script refused line " ++ decimal fault.line
     ++ codes " kind " ++ decimal (kind_number fault.kind) ++ codes "\n"
 
+-- the text of status 8: the line, and the job that it names
 unfoldable pub job_unknown_text : (line job : ℕ) → List ℕ
 job_unknown_text line job =
     codes "job unknown line " ++ decimal line ++ codes " job " ++ decimal job ++ codes "\n"
 
+-- the text of status 6: the work that was enough
 unfoldable pub work_spent_text : (count : ℕ) → List ℕ
 work_spent_text count = codes "work spent " ++ decimal count ++ codes "\n"

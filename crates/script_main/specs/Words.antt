@@ -12,6 +12,7 @@ use Rattle.script_main.specs.declared.commands.Command.{Command}
 use Rattle.script_main.specs.declared.commands.Command.TheVariants.{Play, Tree, Generate, Day}
 
 infixl 10 ◌>>=◌
+-- what comes of a value, where there is one
 abbrev pub ◌>>=◌ : {A B : Type 0} → Option A → (A → Option B) → Option B
 o >>= f = option_and_then f o
 
@@ -54,7 +55,7 @@ command_of (word ∷ number ∷ cpus ∷ timers ∷ moments ∷ []) =
     >>= making_command (string_bytes word)
 command_of _ = None
 
--- a recipe within the limits of `generate`
+-- a recipe within the limits of `generate` (no public clause cites it)
 pub record IsRecipe (r : Recipe) : Type 0 where
   pub some_cpus : 1 ≤ r.cpus
   pub few_cpus : r.cpus ≤ MOST_CPUS_V1

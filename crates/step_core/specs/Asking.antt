@@ -1,4 +1,4 @@
--- parts of what steps are enabled by
+-- parts of what steps are enabled by (no public clause cites it)
 use Rattle.std.specs.Prelude.{◌≡◌, ℕ, ◌<◌, Some, true, length}
 use Rattle.tm_base.specs.declared.names.Class.{Class}
 use Rattle.wheel_core.specs.declared.item.Item.{Item}

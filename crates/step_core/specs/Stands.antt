@@ -1,4 +1,4 @@
--- where a walk stands as it makes a step
+-- where a walk stands as it makes a step (no public clause cites it)
 use Rattle.std.specs.Prelude.{◌≡◌, ℕ, ◌<◌, Some, length}
 use Rattle.walk_rules.specs.declared.walk.Walk.{Walk}
 use Rattle.walk_rules.specs.declared.walk.Stage.{Stage}

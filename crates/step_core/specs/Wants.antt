@@ -2,6 +2,7 @@
 use Rattle.core_world.specs.declared.step.Step.{Step}
 use Rattle.core_world.specs.declared.step.Step.TheVariants as steps
 
+-- the steps that may want memory: those that arm, cancel, hand out, tick and move
 abbrev pub WantsMemory : Step → Type 0
 WantsMemory (steps.Clock now) = ⊥
 WantsMemory (steps.Enter cpu) = ⊥

@@ -22,6 +22,8 @@ pub record MayWant (w : World) (step : Step) : Type 0 where
   pub enabled : Enabled w step
   pub wants : WantsMemory step
 
+-- a list of steps stops before the step that the fault names: it isn't enabled there, or wanted
+-- memory
 abbrev pub Stops : StepsFault → List Step → (before after : World) → Type 0
 Stops (faults.NotEnabled index) steps before after =
     StopsBefore steps index (λ step. Enabled after step → ⊥) before after

@@ -21,6 +21,7 @@ use Rattle.step_play.specs.Rules.StepRules.{step_rules}
 abbrev pub core_start : Script → World
 core_start script = start_of (tree_of script.nodes script.cpus script.isolated) script.timers
 
+-- the moments of a script's play by the rules of steps
 abbrev pub step_turns : Replies → Script → List (Turn World)
 step_turns jobs script =
     turns jobs step_rules (script.end + 1) script.end 0 script.moments (core_start script)
@@ -30,6 +31,7 @@ abbrev pub step_lines : Replies → Script → List Line
 step_lines jobs script =
     whole_lines step_rules script.end (core_start script) (step_turns jobs script)
 
+-- the lines of a script's Play
 abbrev pub play_lines : Replies → Script → List Line
 play_lines jobs script =
     whole_lines plain_rules script.end (play_start script) (play_turns jobs script)
@@ -38,6 +40,7 @@ play_lines jobs script =
 abbrev pub part_seen : Played World → Played State
 part_seen p = record { lines = p.lines; work = p.work; state = state_of p.state }
 
+-- a moment of the play by steps, as Play sees it
 abbrev pub turn_seen : Turn World → Turn State
 turn_seen t = record { at = t.at; played = part_seen t.played }
 
@@ -56,13 +59,15 @@ pub record IsPlayOfSteps (jobs : Replies) (script : Script) : Type 0 where
 abbrev pub StepsArePlay : Type 0
 StepsArePlay = (jobs : Replies) (script : Script) → IsScript script → IsPlayOfSteps jobs script
 
--- what the walks owe it: those of CPUs that become active, and those that tell
+-- what the walks owe it: those of CPUs that become active, and those that tell (no public clause
+-- cites it)
 pub record WalksTell : Type 0 where
   pub idles : IdlesAlike
   pub goes : OfflinesAlike
   pub ends : EndsAlike
   pub lets_go : LetsGoAlike
 
+-- what the six kinds of walks owe the play by steps (no public clause cites it)
 pub record Walks : Type 0 where
   pub wakes : WakesAlike
   pub comes : ComesAlike

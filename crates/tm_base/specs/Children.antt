@@ -5,9 +5,11 @@ use Rattle.tm_base.specs.declared.names.GroupId.{GroupId}
 use Rattle.tm_base.specs.declared.names.Child.{Child}
 use Rattle.tm_base.specs.declared.names.Child.TheVariants.{Cpu, Group}
 
+-- the CPU of a number as a child of a group
 abbrev pub of_cpu : ℕ → Child
 of_cpu c = Cpu (record { 0 = c })
 
+-- the group of a number as a child of a group
 abbrev pub of_group : ℕ → Child
 of_group g = Group (record { 0 = g })
 

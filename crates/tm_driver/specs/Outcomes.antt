@@ -25,14 +25,14 @@ abbrev pub script_turns : {S : Type 0} → Replies → Rules S → Script → S 
 script_turns jobs r script start =
     turns jobs r (script.end + 1) script.end 0 script.moments start
 
--- these lines were told, and the machine is in this state
+-- these lines were told, and the machine is in this state (no public clause cites it)
 pub record ToldLines {S : Type 0}
     (ls : List Line) (last : S) (old new : Progress) (after : S) : Type 0 where
   pub text : new.text ≡ old.text ++ report_text ls
   pub tally : new.tally ≡ tallied_all old.tally ls
   pub state : after ≡ last
 
--- all moments were played, and the work stayed below the limit
+-- all moments were played, and the work stayed below the limit (no public clause cites it)
 pub record PlaysOut {S : Type 0} (limit : ℕ) (ts : List (Turn S)) (start : S)
     (old new : Progress) (after : S) : Type 0 where
   pub told : ToldLines (turn_lines ts) (last_state start ts) old new after
@@ -44,14 +44,14 @@ pub record BreaksOff {S : Type 0}
   pub spent : option_map counted (spent_at limit 0 ts) ≡ Some count
   pub text : new ≡ old ++ report_text (turn_lines (finished limit 0 ts))
 
--- the moments were broken off by their work, or by want of memory
+-- the moments were broken off by their work, or by want of memory (no public clause cites it)
 abbrev pub EndsEarly : {S : Type 0} → (limit : ℕ) → List (Turn S) → DriveFault
     → (old new : List ℕ) → Type 0
 EndsEarly limit ts (BadJob line job) old new = ⊥
 EndsEarly limit ts (WorkSpent count) old new = BreaksOff limit count ts old new
 EndsEarly limit ts NoMemory old new = (more : List ℕ) × (new ≡ old ++ more)
 
--- all of a play was told: its moments, and what is left
+-- all of a play was told: its moments, and what is left (no public clause cites it)
 pub record TellsAll {S : Type 0} (r : Rules S) (jobs : Replies) (script : Script) (start : S)
     (old new : Progress) (after : S) : Type 0 where
   pub told : ToldLines (whole_lines r script.end start (script_turns jobs r script start))

@@ -37,6 +37,8 @@ pub record LawsHold (jobs : Replies) (script : Script) : Type 0 where
   pub in_its_jiffy : AfterEachMoment InItsJiffy jobs script
   pub ended : AfterEachMoment EachHasEnded jobs script
 
+-- THE LAWS hold of the play of every script of the grammar, whatever its jobs answer (no public
+-- clause cites it)
 abbrev pub LawsHoldOfEach : Type 0
 LawsHoldOfEach = (jobs : Replies) (script : Script) → IsScript script → LawsHold jobs script
 

@@ -37,6 +37,7 @@ arming_by cpus i p d a = record {
       (if p == 0 then 2 else 1) (50 + a);
 }
 
+-- the arming of timer i in the script made from a number
 unfoldable pub arming : ℕ → ℕ → ℕ → Op
 arming number cpus i =
     let k = 3 * i in

@@ -4,6 +4,8 @@ use Rattle.tm_report.specs.Words.{number_word, class_word, time_word}
 use Rattle.tm_report.specs.declared.lines.ShownReply.{ShownReply}
 use Rattle.tm_report.specs.declared.lines.ShownReply.TheVariants.{Done, Mark, Again, Skip}
 
+-- the words of a job's reply, each with the space before it: `done`, `mark N`, `again CLASS W`,
+-- `skip D`
 abbrev pub reply_words : ShownReply → List ℕ
 reply_words Done = codes " done"
 reply_words (Mark number) = codes " mark" ++ number_word number

@@ -20,6 +20,7 @@ pub record MomentFacts (s : Script) (k : ℕ) (m : Moment) : Type 0 where
   pub hotplug_last : (i : ℕ) (o : Op) → slice_get m.ops i ≡ Some o → i + 1 < length m.ops
       → is_hotplug o.what ≡ false
 
+-- what holds of every script of the grammar, for those who play it
 pub record ScriptFacts (s : Script) : Type 0 where
   pub some_cpus : 1 ≤ cpu_count s
   pub few_cpus : cpu_count s ≤ MOST_CPUS_V2

@@ -31,6 +31,7 @@ use Rattle.tm_script.specs.Judge.{word_of, kind_behind}
 
 -- ---- what a line says
 
+-- the commands of a script, each by its first word
 abbrev pub all_commands : List Command
 all_commands =
     Tmig ∷ Nodes ∷ Cpus ∷ Timers ∷ Isolated ∷ At ∷ End
@@ -40,12 +41,15 @@ all_commands =
 unfoldable pub command_of : List ℕ → Option Command
 command_of word = find (λ command. bytes_eq word (word_of command)) all_commands
 
+-- word i of a line
 abbrev pub word_at : List (List ℕ) → ℕ → List ℕ
 word_at words i = slice_index_or words i []
 
+-- the number that word i of a line spells
 abbrev pub number_at : List (List ℕ) → ℕ → ℕ
 number_at words i = value_of (word_at words i)
 
+-- the class that a word names
 unfoldable pub class_named : List ℕ → Class
 class_named word =
     if bytes_eq word (codes "pinned") then Pinned
@@ -107,10 +111,12 @@ known_after k (Operation cpu done) =
     record k { line = k.line + 1; ops = k.ops + 1; closed = is_hotplug done }
 known_after k (Ending end) = record k { line = k.line + 1; place = Over }
 
+-- what a line says, where it has no fault
 abbrev pub said_or : Option Kind → Said → Result Said Kind
 said_or None said = Ok said
 said_or (Some kind) said = Err kind
 
+-- what a line says by its command and the words behind it, or its first kind of fault
 abbrev pub heard_behind : Known → Option Command → List (List ℕ) → Result Said Kind
 heard_behind k None words = Err BadLine
 heard_behind k (Some command) words =
@@ -121,6 +127,7 @@ unfoldable pub heard : Known → List (List ℕ) → Result Said Kind
 heard k [] = Err BadLine
 heard k (first ∷ behind) = heard_behind k (command_of first) behind
 
+-- a fault of this kind, on the line that is read
 abbrev pub fault_at : Known → Kind → Option ScriptFault
 fault_at k kind = Some (record { line = k.line; kind = kind })
 
@@ -135,6 +142,7 @@ abbrev pub fault_at_end : Known → List ℕ → Option ScriptFault
 fault_at_end k (b ∷ bs) = fault_at k BadLine
 fault_at_end k [] = if is_over k.place then None else fault_at k NoEnd
 
+-- the fault of this line, or else what later ones have
 abbrev pub fault_or : Known → Result Said Kind → (Known → Option ScriptFault) → Option ScriptFault
 fault_or k (Err kind) later = fault_at k kind
 fault_or k (Ok said) later = later (known_after k said)

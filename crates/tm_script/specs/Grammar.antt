@@ -35,6 +35,7 @@ pub record IsArm (version timers timer : ℕ) (class : Class) (delay job arg : �
   pub job_in_range : job < 256
   pub arg_in_range : arg < 2 ^ 32
 
+-- an operation is one of the grammar, in this version and where there are so many timers
 abbrev pub IsWhat : ℕ → ℕ → What → Type 0
 IsWhat version timers (Arm timer class delay job arg) =
     IsArm version timers timer.0 class delay job arg

@@ -61,15 +61,19 @@ pub data Slot : Type 0 where
   one_of : (choices : List (List ℕ)) → Slot
   number : (least bound : ℕ) → Slot
 
+-- the place of a word that names a CPU
 abbrev pub cpu : Known → Slot
 cpu k = number 0 (k.nodes * k.cpus)
 
+-- the place of a word that names a timer
 abbrev pub timer : Known → Slot
 timer k = number 0 k.timers
 
+-- the place of a word that names a jiffy
 abbrev pub time : Slot
 time = number 0 SCRIPT_TIME_LIMIT
 
+-- the words of classes that a version has
 abbrev pub class_words : ℕ → List (List ℕ)
 class_words version =
     codes "pinned" ∷ codes "global" ∷ (if version == 1 then [] else (codes "deferrable" ∷ []))
@@ -141,6 +145,7 @@ is_machine k Cpus (cpus ∷ _) = nat_le (k.nodes * cpus) (most_cpus k.version)
 is_machine k Isolated named = leaves_some (k.nodes * k.cpus) named
 is_machine k _ _ = true
 
+-- whether a command is an operation
 abbrev pub is_operation : Command → Bool
 is_operation Arm = true
 is_operation Cancel = true

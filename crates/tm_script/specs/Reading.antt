@@ -40,6 +40,7 @@ use Rattle.tm_script.specs.Faults.{command_of, known_after, beginning, is_over, 
 
 -- a step, and what follows it where it gave something
 infixl 10 ◌>>=◌
+-- what comes of an answer, unless it is a fault
 abbrev pub ◌>>=◌ : {A B E : Type 0} → Result A E → (A → Result B E) → Result B E
 (Ok x) >>= f = f x
 (Err e) >>= f = Err e
@@ -61,15 +62,18 @@ abbrev pub front : List (List ℕ) → Result (List ℕ × List (List ℕ)) Kind
 front (v ∷ w ∷ ws) = Ok (v, w ∷ ws)
 front _ = Err BadLine
 
+-- the number that a word spells
 unfoldable pub number_in : List ℕ → Result ℕ Kind
 number_in word = if is_number word then Ok (value_of word) else Err BadNumber
 
+-- the version that a word names
 unfoldable pub version_in : List ℕ → Result ℕ Kind
 version_in word =
     if bytes_eq word (codes "1") then Ok 1
     else if bytes_eq word (codes "2") then Ok 2
     else Err BadLine
 
+-- the class that a word names, in a version
 unfoldable pub class_in : ℕ → List ℕ → Result Class Kind
 class_in version word =
     if bytes_eq word (codes "pinned") then Ok Pinned
@@ -83,6 +87,7 @@ operation_of word =
     find (λ command. bytes_eq word (word_of command))
     (Arm ∷ Cancel ∷ Idle ∷ Wake ∷ Offline ∷ Online ∷ [])
 
+-- a number that is at least `least` and below `bound`
 unfoldable pub within : ℕ → ℕ → ℕ → Result ℕ Kind
 within least bound n = if nat_le least n && nat_lt n bound then Ok n else Err OutOfRange
 
@@ -98,6 +103,7 @@ with_number count s n = record {
   falls = s.falls || not (is_after s.last n);
 }
 
+-- no isolated CPU was read yet
 abbrev pub no_numbers : Named
 no_numbers = record { cpus = empty; last = None; far = false; falls = false }
 
@@ -105,6 +111,7 @@ no_numbers = record { cpus = empty; last = None; far = false; falls = false }
 unfoldable pub spares : ℕ → CpuNumbers → Bool
 spares count cpus = list_any (λ c. not (contains cpus c)) (range_with_len 0 count)
 
+-- the isolated CPUs of which these numbers were read
 unfoldable pub isolated_by : ℕ → Named → Result CpuNumbers Kind
 isolated_by count s =
     if s.far || not (spares count s.cpus) then Err OutOfRange
@@ -127,6 +134,7 @@ pub record ArmParts : Type 0 where
   pub job : List ℕ
   pub arg : List ℕ
 
+-- the words of an `arm` line, in order
 unfoldable pub arm_parts : List (List ℕ) → Result ArmParts Kind
 arm_parts words = do
   cpu ← front words
@@ -144,9 +152,11 @@ arm_parts words = do
     arg = arg;
   })
 
+-- how many CPUs the machine has
 abbrev pub count_in : Known → ℕ
 count_in k = k.nodes * k.cpus
 
+-- what an `arm` line says
 unfoldable pub arm_in : Known → List (List ℕ) → Result Said Kind
 arm_in k words = do
   parts ← arm_parts words
@@ -161,6 +171,7 @@ arm_in k words = do
       then Ok (Operation (record { 0 = cpu }) (what.Arm (record { 0 = timer }) class delay job arg))
       else Err OutOfRange
 
+-- what a `cancel` line says
 unfoldable pub cancel_in : Known → List (List ℕ) → Result Said Kind
 cancel_in k words = do
   first ← front words
@@ -178,11 +189,13 @@ field_in least bound words = do
   n ← number_in word
   within least bound n
 
+-- what the `cpus` line says
 unfoldable pub cpus_in : Known → List (List ℕ) → Result Said Kind
 cpus_in k words = do
   n ← field_in 1 (MOST_NODE_CPUS + 1) words
   if nat_le (k.nodes * n) (most_cpus k.version) then Ok (CpuCount n) else Err OutOfRange
 
+-- what a line says that names one CPU
 unfoldable pub cpu_in : Known → List (List ℕ) → What → Result Said Kind
 cpu_in k words done = do
   n ← field_in 0 (count_in k) words
@@ -204,28 +217,33 @@ words_in k Wake ws = cpu_in k ws what.Wake
 words_in k Offline ws = cpu_in k ws what.Offline
 words_in k Online ws = cpu_in k ws what.Online
 
+-- whether a line stands where times and operations allow it
 abbrev pub in_order : Known → Said → Bool
 in_order k (Opening at) = is_after k.last at
 in_order k (Ending end) = is_reached k.last end
 in_order k (Operation cpu done) = not k.closed
 in_order k _ = true
 
+-- whether there is room for a line
 abbrev pub in_room : Known → Said → Bool
 in_room k (Operation cpu done) = nat_le k.line MOST_LINES && not (nat_le MOST_OPS k.ops)
 in_room k _ = nat_le k.line MOST_LINES && true
 
+-- what a line says, where it is in order and there is room
 abbrev pub placed : Known → Said → Result Said Kind
 placed k said =
     if not (in_order k said) then Err OutOfOrder
     else if not (in_room k said) then Err TooManyLines
     else Ok said
 
+-- what a line says, by its command and the words behind it
 abbrev pub line_behind : Known → Option Command → List (List ℕ) → Result Said Kind
 line_behind k None ws = Err BadLine
 line_behind k (Some command) ws =
     if may_stand k.place (is_some k.last) command
     then words_in k command ws >>= placed k else Err BadLine
 
+-- what a line says, by its words
 unfoldable pub line_in : Known → List (List ℕ) → Result Said Kind
 line_in k [] = Err BadLine
 line_in k (first ∷ behind) = line_behind k (command_of first) behind
@@ -241,6 +259,7 @@ abbrev pub closed_with : List Moment → Option ℕ → List Op → List Moment
 closed_with moments None ops = moments
 closed_with moments (Some at) ops = moments ++ record { at = at; ops = ops } ∷ []
 
+-- the moments of a draft, the open one too
 abbrev pub closed_moments : Draft → List Moment
 closed_moments d = closed_with d.moments d.known.last d.ops
 
@@ -264,6 +283,7 @@ draft_after d (Ending end) =
     }
 draft_after d said = record d { known = known_after d.known said }
 
+-- the script of a draft
 abbrev pub script_of : Draft → Script
 script_of d = record {
   version = d.known.version;
@@ -275,6 +295,7 @@ script_of d = record {
   end = d.end;
 }
 
+-- a fault of this kind, on the line that is read
 abbrev pub fault_in : Known → Kind → ScriptFault
 fault_in k kind = record { line = k.line; kind = kind }
 
@@ -283,6 +304,7 @@ unfoldable pub finished : Draft → List ℕ → Result Script ScriptFault
 finished d (b ∷ bs) = Err (fault_in d.known BadLine)
 finished d [] = if is_over d.known.place then Ok (script_of d) else Err (fault_in d.known NoEnd)
 
+-- reading goes on behind a line without fault, and ends at one with a fault
 abbrev pub go_on : Draft → Result Said Kind → (Draft → Result Script ScriptFault)
     → Result Script ScriptFault
 go_on d (Err kind) rest = Err (fault_in d.known kind)
@@ -299,6 +321,7 @@ abbrev pub Fails : ReadScript → Result Script ScriptFault → Type 0
 Fails (Refused fault) read = read ≡ Err fault
 Fails NoMemory read = Unit {0}
 
+-- a function gives what reading gives, or says that memory was wanting
 abbrev pub Gives : Result Script ReadScript → Result Script ScriptFault → Type 0
 Gives (Ok s) read = read ≡ Ok s
 Gives (Err e) read = Fails e read

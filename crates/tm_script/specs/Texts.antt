@@ -24,6 +24,7 @@ what_line cpu Wake = spaced (codes "wake" ∷ decimal cpu ∷ [])
 what_line cpu Offline = spaced (codes "offline" ∷ decimal cpu ∷ [])
 what_line cpu Online = spaced (codes "online" ∷ decimal cpu ∷ [])
 
+-- the line of an operation
 abbrev pub op_line : Op → List ℕ
 op_line o = what_line o.cpu.0 o.what
 
@@ -54,9 +55,11 @@ head_lines s =
     ∷ number_line (codes "cpus") s.cpus ∷ number_line (codes "timers") s.timers
     ∷ (if s.version == 1 then [] else (isolated_line (cpu_count s) s.isolated ∷ []))
 
+-- all lines of a script
 abbrev pub script_lines : Script → List (List ℕ)
 script_lines s =
     head_lines s ++ (flat_map moment_lines s.moments ++ number_line (codes "end") s.end ∷ [])
 
+-- THE TEXT of a script: each line with its line feed
 abbrev pub script_text : Script → List ℕ
 script_text s = flat_map ended (script_lines s)

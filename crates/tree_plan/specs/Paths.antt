@@ -36,9 +36,11 @@ node_of t c = c / t.cpus
 abbrev pub node_levels_of : Shape → ℕ
 node_levels_of t = levels_for t.cpus
 
+-- how many groups the tree has
 abbrev pub group_count_of : Shape → ℕ
 group_count_of t = length (groups_of t)
 
+-- how many levels of groups the tree has
 abbrev pub level_count_of : Shape → ℕ
 level_count_of t = length t.levels
 
@@ -54,15 +56,19 @@ place_in [] g = 0
 place_in (level ∷ above) g =
     if nat_lt g (length level) then g else place_in above (g - length level)
 
+-- the level of group g, 0 for a leaf
 abbrev pub level_of : Shape → ℕ → ℕ
 level_of t g = level_in t.levels g
 
+-- the place of group g in its level, from 0
 abbrev pub place_of : Shape → ℕ → ℕ
 place_of t g = place_in t.levels g
 
+-- the children of group g, by their child numbers
 unfoldable pub children_of : Shape → ℕ → List Child
 children_of t g = slice_index_or (groups_of t) g []
 
+-- how many children group g has
 abbrev pub child_count_of : Shape → ℕ → ℕ
 child_count_of t g = length (children_of t g)
 
@@ -79,6 +85,8 @@ unfoldable pub bit_in : Shape → Child → Option ℕ → ℕ
 bit_in t m None = 0
 bit_in t m (Some g) = position_or_len (same_child m) (children_of t g)
 
+-- the child number of a child in its parent; 0 where it has none (the kernel: childmask, a bit of
+-- that number)
 unfoldable pub bit_of : Shape → Child → ℕ
 bit_of t m = bit_in t m (parent_of t m)
 
@@ -126,6 +134,7 @@ IsUnder t c (Group g) = IsBelow t c g.0
 abbrev pub is_below : Shape → (c g : ℕ) → Bool
 is_below t c g = list_any (λ h. h == g) (path_of t c)
 
+-- whether CPU c is this child or below it
 abbrev pub is_under : Shape → ℕ → Child → Bool
 is_under t c (Cpu d) = c == d.0
 is_under t c (Group g) = is_below t c g.0

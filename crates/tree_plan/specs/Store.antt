@@ -25,6 +25,7 @@ lengths_of (suc n) m = min 8 m ∷ lengths_of n (m - 8)
 abbrev pub groups_for : ℕ → ℕ
 groups_for m = (m + 7) / 8
 
+-- how many children each group has into which a row of m members is cut
 abbrev pub run_lengths : ℕ → List ℕ
 run_lengths m = lengths_of (groups_for m) m
 
@@ -108,6 +109,7 @@ abbrev pub seat_link : Cpus → List Link → ℕ → Option Link
 seat_link isolated links c =
     if contains isolated c then None else slice_get links (length (placed_from isolated 0 c))
 
+-- the links of the first n CPUs, out of those of the placed ones; none for an isolated CPU
 abbrev pub seat_links : Cpus → List Link → (n : ℕ) → List (Option Link)
 seat_links isolated links n = map (seat_link isolated links) (range_with_len 0 n)
 

@@ -19,6 +19,7 @@ pub data Side : Type 0 where
   swapping : Side
   after : Side
 
+-- whether a stage of a walk that leaves stands before its exchange, at it, or after it
 abbrev pub side_of_exchange : Stage → Option Side
 side_of_exchange stages.Own = None
 side_of_exchange stages.Up = None
@@ -50,6 +51,7 @@ clears_at t c level child_on fresh over (Some swapping) =
 clears_at t c level child_on fresh over (Some after) =
     if over then None else option_map of_group (group_at_of t c level)
 
+-- the child whose bit a walk of CPU c is going to clear, where it is one that leaves
 abbrev pub clears_by : Shape → (c : ℕ) → (fresh : Bool) → Option Walk → Option Child
 clears_by t c fresh None = None
 clears_by t c fresh (Some k) =

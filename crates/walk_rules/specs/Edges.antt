@@ -34,6 +34,7 @@ edge_level level stages.FreeChild = None
 edge_level level stages.Finish = None
 edge_level level stages.Handing = None
 
+-- the level of the edge at which an activation stands, if it is one
 abbrev pub edge_of : Option Walk → Option ℕ
 edge_of None = None
 edge_of (Some k) = edge_level k.level k.stage
@@ -42,6 +43,7 @@ edge_of (Some k) = edge_level k.level k.stage
 abbrev pub stand : Shape → Scene → ℕ → Option Child
 stand t s c = option_and_then (child_towards t c) (edge_of (s.walk c))
 
+-- the group to which the edge leads at which CPU c's activation stands
 abbrev pub heading : Shape → Scene → ℕ → Option ℕ
 heading t s c = option_and_then (group_at_of t c) (edge_of (s.walk c))
 
@@ -73,6 +75,7 @@ passed_levels level stages.FreeChild = 0
 passed_levels level stages.Finish = 0
 passed_levels level stages.Handing = 0
 
+-- how many edges of its path an activation has passed
 abbrev pub passed_of : Option Walk → ℕ
 passed_of None = 0
 passed_of (Some k) = passed_levels k.level k.stage

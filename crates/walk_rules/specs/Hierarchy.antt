@@ -23,6 +23,7 @@ at_top t c l = is_none (group_at_of t c (suc l))
 abbrev pub HasGroup : Shape → ℕ → Type 0
 HasGroup t c = (g : ℕ) × (group_at_of t c 0 ≡ Some g)
 
+-- what walks rely on in a tree
 pub record IsHierarchy (t : Shape) : Type 0 where
   -- at each level of a path there is a child through which it comes into the group, the child's
   -- parent

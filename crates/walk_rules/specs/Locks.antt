@@ -29,6 +29,7 @@ group_lock t c level stages.FreeChild = None
 group_lock t c level stages.Finish = None
 group_lock t c level stages.Handing = None
 
+-- the group one level below a walk, whose lock it holds at this stage
 abbrev pub child_lock : Shape → (c level : ℕ) → Stage → Option ℕ
 child_lock t c level stages.Own = None
 child_lock t c level stages.Up = None
@@ -48,6 +49,7 @@ child_lock t c level stages.FreeChild = group_under t c level
 child_lock t c level stages.Finish = None
 child_lock t c level stages.Handing = None
 
+-- CPU c holds the lock of group g, by the stage of its walk
 abbrev pub HoldsBy : Shape → (c : ℕ) → Option Walk → ℕ → Type 0
 HoldsBy t c None g = ⊥
 HoldsBy t c (Some k) g = (group_lock t c k.level k.stage ≡ Some g) ⊎ (child_lock t c k.level

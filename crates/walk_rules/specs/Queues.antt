@@ -66,6 +66,7 @@ will_tell_by t c None = None
 will_tell_by t c (Some k) =
     if is_past_swap k.stage then (if k.over then None else group_at_of t c k.level) else None
 
+-- the group whose first event a walk of CPU c still has to bring up to its parent
 abbrev pub tells_by : Shape → (c : ℕ) → Option Walk → Option ℕ
 tells_by t c None = None
 tells_by t c (Some k) = if is_up_to_store k.stage then group_under t c k.level else None
@@ -148,6 +149,7 @@ is_past_sight stages.FreeChild = false
 is_past_sight stages.Finish = false
 is_past_sight stages.Handing = false
 
+-- whether a walk at this stage is about to take a lock
 abbrev pub is_locking : Stage → Bool
 is_locking stages.Own = false
 is_locking stages.Up = false

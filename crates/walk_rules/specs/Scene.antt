@@ -16,6 +16,7 @@ pub record Group : Type 0 where
   pub lock : Option ℕ
   pub events : EventMap
 
+-- what stands for a group that isn't there
 abbrev pub no_group : Group
 no_group = record { active = 0; migrator = None; lock = None; events = [] }
 

@@ -16,6 +16,7 @@ use Rattle.walk_rules.specs.Scene.{Scene}
 abbrev pub Tells : WalkKind → Type 0
 Tells kind = kind ≢ kinds.Activate
 
+-- whether a walk takes its child out of the active sets: its CPU goes idle or offline
 abbrev pub is_leaving : WalkKind → Bool
 is_leaving kinds.Activate = false
 is_leaving kinds.Deactivate = true

@@ -9,6 +9,7 @@ use Rattle.wheel_core.specs.declared.item.Item.{Item}
 use Rattle.wheel_core.specs.WheelExpiry.{granularity}
 use Rattle.wheel_core.specs.PlainBase.{item_of}
 
+-- a key with its item
 abbrev pub Entry : Type 0
 Entry = ℕ × Item
 
@@ -17,6 +18,7 @@ pub record Files : Type 0 where
   pub filed : List Entry
   pub room : ℕ
 
+-- the items of these entries
 abbrev pub items_of : List Entry → List Item
 items_of filed = map (λ (e : Entry). e.1) filed
 
@@ -37,18 +39,22 @@ abbrev pub mark_of : List Entry → ℕ
 mark_of [] = 0
 mark_of (e ∷ filed) = 1
 
+-- the first entry, if there is one
 abbrev pub first_entry : List Entry → Option Entry
 first_entry [] = None
 first_entry (e ∷ filed) = Some e
 
+-- the last entry, if there is one
 abbrev pub last_entry : List Entry → Option Entry
 last_entry [] = None
 last_entry (e ∷ filed) = Some (unwrap_or (last_entry filed) e)
 
+-- an entry has this key
 abbrev pub HasKey : ℕ → List Entry → Type 0
 HasKey key [] = ⊥
 HasKey key (e ∷ filed) = (e.0 ≡ key) ⊎ HasKey key filed
 
+-- the item of a key
 abbrev pub item_under : ℕ → List Entry → Option Item
 item_under key [] = None
 item_under key (e ∷ filed) = if e.0 == key then Some e.1 else item_under key filed
@@ -65,6 +71,7 @@ pub record IsKeyOf (id : ℕ) (filed : List Entry) (key : ℕ) : Type 0 where
   pub item_is : item_of id (items_of filed) ≡ Some item
   pub id_is : item.id ≡ id
 
+-- the entries without the first that has this key
 abbrev pub without_key : ℕ → List Entry → List Entry
 without_key key [] = []
 without_key key (e ∷ filed) = if e.0 == key then filed else e ∷ without_key key filed
@@ -77,12 +84,15 @@ Slots = List (Option Item)
 abbrev pub no_item : Item
 no_item = record { id = 0; expires = 0; wheel = 0; level = 0; job = 0; arg = 0 }
 
+-- the item at a key of the slab
 abbrev pub item_at : Slots → ℕ → Item
 item_at slots key = unwrap_or (slice_index_or slots key None) no_item
 
+-- these keys with their items
 abbrev pub filed_at : Slots → List ℕ → List Entry
 filed_at slots keys = map (λ key. (key, item_at slots key)) keys
 
+-- the entries in arming order, and how many the slab has room for
 abbrev pub files_of : Slab Item → KeyTable → Files
 files_of items armed = record {
   filed = filed_at items.slots (list_of armed 0);
@@ -106,6 +116,8 @@ AreClassed class slots keys table =
     (number : ℕ) → number < table.number
     → list_of table number ≡ filter (λ key. class (item_at slots key) == number) keys
 
+-- items are filed three times: one list in arming order, one for each of 576 buckets, and one for
+-- each value of the low bits of an id; a mark is set exactly where a bucket has an entry
 pub record IsFiled (items : Slab Item) (armed buckets names : KeyTable) (mask : ℕ)
     (marks : List ℕ) : Type 0 where
   pub one : armed.number ≡ 1

@@ -18,6 +18,7 @@ pub record IsNear (time : ℕ) (item : Item) : Type 0 where
   pub from : time ≤ item.wheel
   pub near : item.wheel < time + 64 * granularity item.level
 
+-- each of these entries is near a time
 abbrev pub AreNear : (time : ℕ) → List Entry → Type 0
 AreNear time filed = (e : Entry) → Among e filed → IsNear time e.1
 
@@ -42,5 +43,6 @@ pub record LeastBelow (level : ℕ) (filed : List Entry) (wheel : ℕ) : Type 0 
   pub wheel_is : entry.1.wheel ≡ wheel
   pub least : (e : Entry) → Among e filed → e.1.level < level → wheel ≤ e.1.wheel
 
+-- the least wheel expiry of the entries below a level, if there are any
 abbrev pub IsLeastBelow : (level : ℕ) → List Entry → Option ℕ → Type 0
 IsLeastBelow level filed best = MatchOption best (NoneBelow level filed) (LeastBelow level filed)

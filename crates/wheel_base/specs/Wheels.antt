@@ -12,6 +12,8 @@ seen_as files clock capacity = record {
   capacity = capacity;
 }
 
+-- what a wheel keeps: the least expiry is known, the items are sound and near the clock, they are
+-- no more than the capacity, and there is memory for that (no public clause cites it)
 pub record KeepsWheel (files : Files) (clock : ℕ) (first : Option ℕ) (capacity : ℕ) : Type 0 where
   pub known : first ≡ least (items_of files.filed)
   pub sound : IsSound (items_of files.filed)

@@ -54,6 +54,7 @@ clock_forwarded now clock None = if nat_lt clock now then now else clock
 clock_forwarded now clock (Some wheel) =
     if nat_lt clock now then (if nat_le wheel now then wheel else now) else clock
 
+-- FORWARDING: the base with that clock (forward_timer_base)
 abbrev pub forwarded : (now : ℕ) → PlainBase → PlainBase
 forwarded now base = record base { clock = clock_forwarded now base.clock (least base.items) }
 
@@ -69,6 +70,7 @@ placed clock id expires job arg = record {
   arg = arg;
 }
 
+-- ADDING: the base with the item at the end of the list (internal_add_timer)
 abbrev pub added : (id expires job arg : ℕ) → PlainBase → PlainBase
 added id expires job arg base =
     record base { items = base.items ++ placed base.clock id expires job arg ∷ [] }
@@ -82,6 +84,7 @@ abbrev pub without : (id : ℕ) → List Item → List Item
 without id [] = []
 without id (item ∷ items) = if item.id == id then items else item ∷ without id items
 
+-- REMOVING: the base without the item of an id (timer_delete)
 abbrev pub removed : (id : ℕ) → PlainBase → PlainBase
 removed id base = record base { items = without id base.items }
 
@@ -109,6 +112,7 @@ abbrev pub out_at : (now : ℕ) → Option ℕ → List Item → Option Item
 out_at now None items = None
 out_at now (Some wheel) items = if nat_le wheel now then first_out wheel items else None
 
+-- HAND-OUT: what goes out next of a base at a time
 abbrev pub next_out : (now : ℕ) → PlainBase → Option Item
 next_out now base = out_at now (least base.items) base.items
 
@@ -118,6 +122,7 @@ after_out base None = base
 after_out base (Some item) =
     record { items = without item.id base.items; clock = max base.clock (item.wheel + 1) }
 
+-- HAND-OUT: the base after what goes out next; as it was where nothing does (__run_timers)
 abbrev pub taken : (now : ℕ) → PlainBase → PlainBase
 taken now base = after_out base (next_out now base)
 

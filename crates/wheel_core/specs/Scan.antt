@@ -17,10 +17,13 @@ pub record NoneOut (wheel : ℕ) (items : List Item) (others : Option ℕ) : Typ
   pub out : first_out wheel items ≡ None
   pub left : others ≡ least items
 
+-- the place of what goes out first of a wheel expiry, with the least expiry of the others; or no
+-- item has that expiry, and this is the least of all
 abbrev pub MatchOut : (wheel : ℕ) → List Item → Option ℕ → Option ℕ → Type 0
 MatchOut wheel items None others = NoneOut wheel items others
 MatchOut wheel items (Some place) others = IsOut wheel items place others
 
+-- a scan found what goes out first of a wheel expiry, or that no item has it
 abbrev pub IsScan : (wheel : ℕ) → List Item → Scan → Type 0
 IsScan wheel items scan = MatchOut wheel items scan.out scan.others
 

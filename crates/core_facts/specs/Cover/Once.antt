@@ -35,5 +35,6 @@ pub record IsOnce (w : World) : Type 0 where
       IsEndOf (cpu_of w c).bases.journal i j arming one →
       IsEndOf (cpu_of w c).bases.journal i k arming other → IsOneEnd c j k arming one
 
+-- in every lawful world each timer is queued at most once, and each arming has at most one end
 abbrev pub EachOnce : Type 0
 EachOnce = (w : World) → IsLawful w → IsOnce w

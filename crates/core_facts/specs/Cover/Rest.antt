@@ -54,9 +54,12 @@ pub record EventsRest (w : World) : Type 0 where
   -- past its first global one
   pub wakeups : (c : ℕ) → (cpu_of w c).online ≡ true → (cpu_of w c).idle ≡ true → WakeupHolds w c
 
+-- in every lawful world at rest groups rest: no lock is taken, no CPU is marked, bits are right and
+-- migrators lead
 abbrev pub EachRests : Type 0
 EachRests = (w : World) → IsLawful w → IsSettled w → GroupsRest w
 
+-- in every lawful world at rest no event upwards is late, and no wakeup is
 abbrev pub EachEventRests : Type 0
 EachEventRests = (w : World) → IsLawful w → IsSettled w → EventsRest w
 

@@ -30,6 +30,7 @@ one_node_of cpus = record {
       (map of_cpu (range_with_len 0 cpus) ∷ []);
 }
 
+-- so many steps of CPU c's walk
 abbrev pub walks : (n c : ℕ) → List Step
 walks n c = replicate n (steps.Walk (record { 0 = c }))
 
@@ -41,12 +42,15 @@ stale_steps =
     steps.Idle (record { 0 = 9 }) ∷ walks 8 9 ++ steps.Idle (record { 0 = 8 }) ∷ walks 9 8 ++
     steps.Wake (record { 0 = 9 }) ∷ walks 4 9 ++ walks 3 8
 
+-- STALE-EXCHANGE and LOST-EXCHANGE: the start of one node of ten CPUs
 abbrev pub stale_start : World
 stale_start = start_of (one_node_of 10) 0
 
+-- STALE-EXCHANGE: the world after these steps
 abbrev pub stale_end : World
 stale_end = after_all stale_start stale_steps
 
+-- STALE-EXCHANGE: each step is enabled where it stands, and this is what they leave
 pub record StaleRun : Type 0 where
   pub tree : tree_of 1 10 empty ≡ one_node_of 10
   pub enabled : EachEnabled stale_start stale_steps
@@ -93,6 +97,7 @@ lost_steps =
     steps.Idle (record { 0 = 8 }) ∷ walks 2 8 ++ steps.Idle (record { 0 = 9 }) ∷ walks 3 9
     ++ walks 1 8
 
+-- LOST-EXCHANGE: the world after these steps
 abbrev pub lost_end : World
 lost_end = after_all stale_start lost_steps
 
@@ -100,6 +105,7 @@ lost_end = after_all stale_start lost_steps
 abbrev pub made_end : World
 made_end = after_all lost_end (walks 2 8)
 
+-- LOST-EXCHANGE: each step is enabled where it stands, and this is what they leave
 pub record LostExchange : Type 0 where
   pub enabled : EachEnabled stale_start lost_steps
   -- CPU 9 alone has left the active set, and waits for the lock
@@ -125,12 +131,15 @@ cover_steps =
     steps.Clock 10 ∷ steps.Arm (record { 0 = 1 }) (record { 0 = 0 }) Global 60 0 0 0 ∷
     steps.Idle (record { 0 = 1 }) ∷ walks 8 1
 
+-- SETTLED-COVER: the start of one node of two CPUs, with one timer
 abbrev pub cover_start : World
 cover_start = start_of (one_node_of 2) 1
 
+-- SETTLED-COVER: the world after these steps
 abbrev pub cover_end : World
 cover_end = after_all cover_start cover_steps
 
+-- SETTLED-COVER: each step is enabled where it stands, and this is what they leave
 pub record SettledCover : Type 0 where
   pub tree : tree_of 1 2 empty ≡ one_node_of 2
   pub enabled : EachEnabled cover_start cover_steps

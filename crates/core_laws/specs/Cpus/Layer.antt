@@ -15,7 +15,8 @@ use Rattle.core_world.specs.Wakeups.{IsAtRest, NoWakeupAwake, OffAtRest, WalkTim
 use Rattle.core_world.specs.World.{CpuRecord, World, is_active, scene_of}
 use Rattle.core_laws.specs.Walks.Fit.{WalksFit}
 
--- MARKED, FOUND, OFFATREST, 8b, 8c and 9c of the invariant, said of one CPU
+-- MARKED, FOUND, OFFATREST, 8b, 8c and 9c of the invariant, said of one CPU (no public clause cites
+-- it)
 pub record CpuFits (t : Shape) (c : ℕ) (y : CpuRecord) : Type 0 where
   pub marked : (b : ℕ) → y.mark ≡ Some b → HasGroup t c
   pub found : (k : Walk) → y.walk ≡ Some k → k.stage ≡ stages.Handing → k.first ≢ NEVER

@@ -6,6 +6,7 @@ use Rattle.core_world.specs.Steps.{stepped}
 use Rattle.core_world.specs.World.{World}
 use Rattle.core_laws.specs.Cpus.Layer.{CpusFit}
 
+-- SOMEPLACED and 9b of the invariant: a placed CPU is online, and marks name who may have set them
 pub record MarksFit (w : World) : Type 0 where
   pub some_placed : SomePlaced w
   pub markers : MarkersFit w

@@ -9,6 +9,7 @@ use Rattle.core_world.specs.World.{World, scene_of}
 use Rattle.core_laws.specs.Walks.Fit.{WalksFit}
 use Rattle.core_laws.specs.Timers.Layer.{TimersFit}
 
+-- 11 of the invariant: times come from armings, events from CPUs below
 pub record OriginsFit (w : World) : Type 0 where
   pub times : TimesHaveOrigins w
   pub events : EventsHaveOrigins w

@@ -7,6 +7,8 @@ use Rattle.core_world.specs.Steps.{stepped}
 use Rattle.core_world.specs.Timers.{TimersHold, TimesHold}
 use Rattle.core_world.specs.World.{World}
 
+-- 10 and TIMES of the invariant: journals are legal, each timer is on one CPU, and times are in
+-- range
 pub record TimersFit (w : World) : Type 0 where
   pub timers : TimersHold w
   pub times : TimesHold w

@@ -17,6 +17,7 @@ use Rattle.core_laws.specs.Walks.Fit.{WalksFit}
 use Rattle.core_laws.specs.Edges.Layer.{EdgesFit}
 use Rattle.core_laws.specs.Cpus.Layer.{CpusFit}
 
+-- 7 and NONEVER of the invariant: an idle top is answered
 pub record TopsFit (w : World) : Type 0 where
   pub no_never : NoNever w
   pub answered : TopAnswered w

@@ -12,6 +12,7 @@ use Rattle.core_laws.specs.Walks.Fit.{WalksFit}
 use Rattle.core_laws.specs.Edges.Layer.{EdgesFit}
 use Rattle.core_laws.specs.Cpus.Layer.{CpusFit}
 
+-- 8a and OWNEVENT of the invariant: kept wakeups and leaf events are in time
 pub record WakeupsFit (w : World) : Type 0 where
   pub wakeups : WakeupsHold w
   pub own_event : OwnEvent w

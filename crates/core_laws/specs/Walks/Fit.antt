@@ -18,7 +18,7 @@ pub record WalksFit (t : Shape) (s : Scene) : Type 0 where
   pub walkers : WalkersFit s
 
 -- the kind of one walk of CPU c fits its stage and level, its flags fit its stage, and its CPU fits
--- its kind
+-- its kind (no public clause cites it)
 pub record IsFit (t : Shape) (c : ℕ) (online idle : Bool) (k : Walk) : Type 0 where
   pub in_tree : HasGroup t c → StandsInTree t c k
   pub alone : (HasGroup t c → ⊥) → StandsAlone k

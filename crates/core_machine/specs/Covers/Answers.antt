@@ -21,6 +21,7 @@ abbrev pub waker_of : (t : Machine) (c wheel : ℕ) → Woken t c wheel → ℕ
 waker_of t c wheel (inl own) = c
 waker_of t c wheel (inr top) = top.wakes.waker
 
+-- when a CPU that is woken for wakes, or the CPU that wakes for it
 abbrev pub time_of : (t : Machine) (c wheel : ℕ) → Woken t c wheel → ℕ
 time_of t c wheel (inl own) = own.at
 time_of t c wheel (inr top) = top.wakes.at

@@ -14,9 +14,11 @@ use Rattle.step_play.specs.Rules.StepRules.{time_at_top}
 use Rattle.core_machine.specs.declared.answers.cover.Cover.{Cover}
 use Rattle.core_machine.specs.declared.answers.cover.Cover.TheVariants as covers
 
+-- the cover by the migrators of group g, which lead to CPU m
 abbrev pub by_migrator : (g m : ℕ) → Cover
 by_migrator g m = covers.Migrator (record { 0 = g }) (record { 0 = m })
 
+-- the cover by the wakeup of CPU d
 abbrev pub by_wakeup : World → (d : ℕ) → Cover
 by_wakeup w d = covers.Wake (record { 0 = d }) (cpu_of w d).wakeup
 
@@ -32,6 +34,7 @@ choice_for w c wheel =
     if nat_le (cpu_of w c).wakeup wheel then Some (by_wakeup w c)
     else choice_above w c (lowest_active_group (state_of w) c)
 
+-- the choice for the wheel expiry of the first global timer, where there is one
 abbrev pub choice_where : World → (c : ℕ) → Option ℕ → Option Cover
 choice_where w c None = None
 choice_where w c (Some wheel) = choice_for w c wheel
@@ -62,7 +65,7 @@ shown w (covers.Migrator g m) =
     lines.Migrator (level_of w.tree g.0) (place_of w.tree g.0) (record { 0 = m.0 })
 shown w (covers.Wake d at) = lines.Wake (record { 0 = d.0 }) at
 
--- a child of the tree is there
+-- a child of the tree is there (no public clause cites it)
 abbrev pub IsInWorld : World → Child → Type 0
 IsInWorld w (sorts.Cpu d) = d.0 < length w.cpus
 IsInWorld w (sorts.Group g) = g.0 < length w.groups

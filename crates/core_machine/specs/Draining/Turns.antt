@@ -10,7 +10,7 @@ use Rattle.core_world.specs.Steps.{stepped}
 use Rattle.core_world.specs.World.{World}
 use Rattle.step_play.specs.Rules.StepRules.{items_due}
 
--- a runner may hand out timers of a class of a CPU
+-- a runner may hand out timers of a class of a CPU (no public clause cites it)
 pub record Drains (w : World) (home : ℕ) (class : Class) (runner : ℕ) : Type 0 where
   pub free : IsFree w home
   pub may : MayRun w home class runner
@@ -40,6 +40,6 @@ pub record DrainedSome (old : World) (home : ℕ) (class : Class) (runner : ℕ)
 abbrev pub timer_of : Class × Item → TimerId
 timer_of found = record { 0 = found.1.id }
 
--- a timer that came to a wheel expiry
+-- a timer that came to a wheel expiry (no public clause cites it)
 abbrev pub mover_at : TimerId → (wheel : ℕ) → Mover
 mover_at timer wheel = record { timer = timer; wheel = wheel }

@@ -25,6 +25,7 @@ IsOnTime Pinned at wheel = at ≡ wheel
 IsOnTime Global at wheel = at ≡ wheel
 IsOnTime Deferrable at wheel = wheel ≤ at
 
+-- an entry that says that a timer was handed out says that it was so on time
 abbrev pub HandedOnTime : Act → Entry → Type 0
 HandedOnTime acts.Handed entry = IsOnTime entry.class entry.at entry.wheel
 HandedOnTime acts.Armed entry = Unit {0}
@@ -94,6 +95,8 @@ EachHasEnded s = (c i : ℕ) (arming : Entry) → c < cpu_count s
     → wakes arming.class ≡ true → arming.wheel ≤ s.clock
     → HasEndOnTime (bases_at s c).journal i arming
 
+-- after each moment of every script's play each arming of a timer that wakes its CPU, whose wheel
+-- expiry has come, has its end
 abbrev pub EachHasEndedAfterEach : Type 0
 EachHasEndedAfterEach =
     (jobs : Replies) (script : Script) → IsScript script → AfterEachMoment EachHasEnded jobs script

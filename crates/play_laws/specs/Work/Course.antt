@@ -7,6 +7,7 @@ use Rattle.play_rules.specs.Interrupts.{Replies}
 use Rattle.play_rules.specs.Moments.{Turn}
 use Rattle.play_rules.specs.Play.{play_turns}
 
+-- the times of these moments
 abbrev pub times_of : {S : Type 0} → List (Turn S) → List ℕ
 times_of ts = map (λ t. t.at) ts
 

@@ -6,10 +6,11 @@ use Rattle.text_words.specs.Words.{ended}
 use Rattle.tm_script.specs.Texts.{number_line}
 use Rattle.tm_driver.specs.declared.numbers.Summary.{Summary}
 
--- the line of a number behind its word
+-- the line of a number behind its word (no public clause cites it)
 abbrev pub entry_line : Bor (List ℕ) × ℕ → List ℕ
 entry_line (word, n) = number_line word.now n
 
+-- the lines of a day: each number with its name
 abbrev pub day_lines : Summary → List (List ℕ)
 day_lines s =
     number_line (codes "moments") s.moments ∷ number_line (codes "runs") s.runs
@@ -19,5 +20,6 @@ day_lines s =
     ∷ number_line (codes "refused") s.refused ∷ number_line (codes "left") s.left
     ∷ number_line (codes "end") s.end ∷ []
 
+-- THE TEXT of a day
 unfoldable pub day_text : Summary → List ℕ
 day_text s = flat_map ended (day_lines s)

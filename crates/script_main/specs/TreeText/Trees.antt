@@ -19,11 +19,13 @@ standing t g None = codes " top"
 standing t g (Some p) =
     codes " parent " ++ group_name t p ++ codes " bit " ++ decimal (bit_of t (of_group g))
 
+-- the line of a group: its name, where it stands, and how many children it has
 unfoldable pub group_line : Shape → ℕ → List ℕ
 group_line t g =
     codes "group " ++ group_name t g ++ standing t g (parent_of t (of_group g))
     ++ codes " children " ++ decimal (child_count_of t g)
 
+-- the line of a tree: how many levels and groups it has
 unfoldable pub measures_line : Shape → List ℕ
 measures_line t =
     codes "levels " ++ decimal (level_count_of t) ++ codes " groups " ++ decimal (group_count_of t)
@@ -32,5 +34,6 @@ measures_line t =
 abbrev pub group_lines : Shape → List (List ℕ)
 group_lines t = map (group_line t) (range_with_len 0 (group_count_of t))
 
+-- THE TEXT of a tree
 unfoldable pub tree_text : Shape → List ℕ
 tree_text t = flat_map ended (measures_line t ∷ group_lines t)

@@ -31,6 +31,7 @@ pub record ActiveBelow (w : World) : Type 0 where
   pub parent : (m : Child) (g : ℕ) → parent_of w.tree m ≡ Some g →
       is_on (scene_of w) m ≡ true → is_some (group_of w g).migrator ≡ true
 
+-- in a world at rest a group has a migrator exactly where an active CPU is below it
 abbrev pub EachActiveBelow : Type 0
 EachActiveBelow = (w : World) → AtRest w → ActiveBelow w
 
@@ -53,6 +54,8 @@ abbrev pub EachSlot : Type 0
 EachSlot = (w : World) → AtRest w → (g k : ℕ) →
     Leftmost (told_by w) (λ d. IsBelowIdle w g k d) (live w g k)
 
+-- in a world at rest the first event of a group names, of the CPUs below its inactive children, the
+-- leftmost of those that told the least
 abbrev pub AnyFirst : Type 0
 AnyFirst = (w : World) → AtRest w → (g : ℕ) →
     Leftmost (told_by w) (λ d. (k : ℕ) × IsBelowIdle w g k d) (first w g)
@@ -61,6 +64,8 @@ AnyFirst = (w : World) → AtRest w → (g : ℕ) →
 abbrev pub NoneDue : World → Cpus → Type 0
 NoneDue w tried = (d : ℕ) → contains tried d ≡ true → w.clock < told_by w d
 
+-- in a world at rest a look names by the queue whom Play names, whichever CPUs were tried that have
+-- nothing due
 abbrev pub NamesAlike : Type 0
 NamesAlike = (w : World) → AtRest w → (c level : ℕ) (tried : Cpus) → NoneDue w tried →
     named_by_queue w c level tried ≡ named (state_of w) c level
@@ -78,6 +83,8 @@ pub record TopSeen (w : World) (top : ℕ) : Type 0 where
   pub first : (group_of w top).migrator ≡ None →
       expiry_of (first w top) ≡ least_told (state_of w) (all_cpus (state_of w))
 
+-- in a world at rest the top is active where a placed CPU is, and else its first event is the least
+-- that was told
 abbrev pub EachTop : Type 0
 EachTop = (w : World) → AtRest w → (top : ℕ) → IsTop w.tree top → TopSeen w top
 
@@ -86,6 +93,8 @@ abbrev pub found_in : World → (g : ℕ) → ℕ
 found_in w g =
     if is_none (group_of w g).migrator then fold first_of NEVER (group_of w g).events else NEVER
 
+-- in a world at rest what a walk finds at the top is the duty that all CPUs with a group have in
+-- common
 abbrev pub FoundIsDuty : Type 0
 FoundIsDuty = (w : World) → AtRest w → (c level g : ℕ) → group_at_of w.tree c level ≡ Some g →
     at_top w.tree c level ≡ true → found_in w g ≡ common_duty (state_of w)

@@ -22,6 +22,7 @@ abbrev pub WakesAlike : Type 0
 WakesAlike = (ph : Phase) (w : World) (c : ℕ) → InPlay ph w → MayWake w c →
     Plays ph (woken_by_steps w c) (woken (state_of w) c)
 
+-- a CPU that comes online by steps has come online as Play has it
 abbrev pub ComesAlike : Type 0
 ComesAlike = (w : World) (c : ℕ) → InPlay resting w → MayComeOnline w c →
     Plays resting (come_by_steps w c) (come_online (state_of w) c)
@@ -37,6 +38,7 @@ pub record GoesAlike (w : World) (c : ℕ) : Type 0 where
   pub plays : Plays (if is_waiting (gone_by_steps w c) c then handing c else resting)
       (gone_by_steps w c) (gone_offline (state_of w) c)
 
+-- a CPU that goes offline by steps has gone as Play has it
 abbrev pub OfflinesAlike : Type 0
 OfflinesAlike = (w : World) (c : ℕ) → InPlay resting w → MayGoOffline w c → GoesAlike w c
 

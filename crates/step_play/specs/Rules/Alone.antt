@@ -29,6 +29,7 @@ is_handing stages.FreeGroup = false
 is_handing stages.FreeChild = false
 is_handing stages.Finish = false
 
+-- whether a walk, where there is one, goes on: it stands at any stage but Handing
 abbrev pub goes_on : Option Walk → Bool
 goes_on None = false
 goes_on (Some k) = if is_handing k.stage then false else true

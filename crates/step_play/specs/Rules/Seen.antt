@@ -25,6 +25,7 @@ cpu_seen w c = record {
   bases = (cpu_of w c).bases;
 }
 
+-- what Play sees in a world of the core: a state of Play
 abbrev pub state_of : World → State
 state_of w = record {
   clock = w.clock;
@@ -41,12 +42,14 @@ is_inside (inside r) c = c == r
 is_inside (serving r d) c = c == r
 is_inside (handing h) c = false
 
+-- the CPU that has marked CPU c, in a phase
 abbrev pub marker_in : Phase → ℕ → Option ℕ
 marker_in resting c = None
 marker_in (inside r) c = None
 marker_in (serving r d) c = if c == d then Some r else None
 marker_in (handing h) c = None
 
+-- whether CPU c is handing on its duty, in a phase
 abbrev pub hands_in : Phase → ℕ → Bool
 hands_in resting c = false
 hands_in (inside r) c = false

@@ -32,9 +32,11 @@ use Rattle.step_play.specs.Rules.Live.{expiry_of, first_due_in, live, told_by}
 use Rattle.step_play.specs.Rules.Seen.{state_of}
 use Rattle.core_world.specs.Lists.{after_all}
 
+-- a number as the id of a CPU
 abbrev cpu_id : ℕ → CpuId
 cpu_id c = record { 0 = c }
 
+-- a number as the id of a timer
 abbrev timer_id : ℕ → TimerId
 timer_id t = record { 0 = t }
 
@@ -44,17 +46,20 @@ hands home class runner items =
     map (λ item. steps.Hand (cpu_id home) (timer_id item.id) (cpu_id runner)) items
     ++ steps.Ticked (cpu_id home) class (cpu_id runner) ∷ []
 
+-- all that is due of a base of CPU `home`, in order of hand-out
 abbrev pub items_due : World → (home : ℕ) → Class → List Item
 items_due w home class =
     due_items (length (base_of class (cpu_of w home).bases).items) w.clock
     (base_of class (cpu_of w home).bases)
 
+-- A DRAIN by steps: a Hand for each due item, and then Ticked
 abbrev pub drained_by_steps : World → (home : ℕ) → Class → (runner : ℕ) → Drained World
 drained_by_steps w home class runner = record {
   items = items_due w home class;
   state = after_all w (hands home class runner (items_due w home class));
 }
 
+-- ARMING by a step
 abbrev pub armed_by_steps : World → (c : ℕ) → Arming → Placed World
 armed_by_steps w c a = record {
   wheel = (armed_item (state_of w) c a).wheel;
@@ -63,6 +68,7 @@ armed_by_steps w c a = record {
       (steps.Arm (cpu_id c) a.timer a.class (w.clock + a.delay) a.job a.arg a.line);
 }
 
+-- CANCELLING by a step
 abbrev pub cancelled_by_steps : World → (home : ℕ) → Cancelling → World
 cancelled_by_steps w home a = stepped w (steps.Cancel (cpu_id home) a.timer a.by a.line)
 
@@ -71,6 +77,8 @@ abbrev pub named_at : World → FinSet nat_cmp → (g : ℕ) → Option ℕ
 named_at w tried g =
     option_map (λ e. e.cpu.0) (first_due_in w.clock tried (group_of w g).events)
 
+-- whom a look of CPU c at a level names, by the group's queue, besides those that were tried
+-- (tmigr_handle_remote_up)
 abbrev pub named_by_queue : World → (c level : ℕ) → FinSet nat_cmp → Option ℕ
 named_by_queue w c level tried = option_and_then (named_at w tried) (group_at_of w.tree c level)
 
@@ -88,6 +96,7 @@ let_go_by_steps w d =
     then walked_out d (stepped w (steps.Carry (cpu_id d)))
     else stepped w (steps.Release (cpu_id d))
 
+-- THE END of an interrupt: an idle CPU re-evaluates by a walk, an active one leaves
 abbrev pub ended_by_steps : World → (c : ℕ) → World
 ended_by_steps w c =
     if (cpu_of w c).idle
@@ -98,12 +107,15 @@ ended_by_steps w c =
 abbrev pub idled_by_steps : World → (c : ℕ) → World
 idled_by_steps w c = walked_out c (stepped w (steps.Idle (cpu_id c)))
 
+-- WAKE by steps: Wake, and its walk made to its end
 abbrev pub woken_by_steps : World → (c : ℕ) → World
 woken_by_steps w c = walked_out c (stepped w (steps.Wake (cpu_id c)))
 
+-- OFFLINE by steps: Offline, and its walk made to its end, or until it waits to hand on
 abbrev pub gone_by_steps : World → (c : ℕ) → World
 gone_by_steps w c = walked_out c (stepped w (steps.Offline (cpu_id c)))
 
+-- ONLINE by steps: Online, and its walk made to its end
 abbrev pub come_by_steps : World → (c : ℕ) → World
 come_by_steps w c = walked_out c (stepped w (steps.Online (cpu_id c)))
 
@@ -115,6 +127,7 @@ made_active w d = if (cpu_of w d).idle then woken_by_steps w d else w
 abbrev pub is_waiting : World → (c : ℕ) → Bool
 is_waiting w c = if is_none (cpu_of w c).walk then false else not (goes_on (cpu_of w c).walk)
 
+-- CPU d is made active, and CPU c hands its duty on to it
 abbrev pub handed_on_by_steps : World → (c d : ℕ) → World
 handed_on_by_steps w c d = stepped (made_active w d) (steps.HandOn (cpu_id c) (cpu_id d))
 
@@ -132,23 +145,29 @@ abbrev pub event_at_top : World → (c : ℕ) → Option ℕ → ℕ
 event_at_top w c None = expiry_of None
 event_at_top w c (Some top) = expiry_of (live w top (side w.tree c (level_count_of w.tree - 1)))
 
+-- the expiry of the top's event towards CPU c, as the slot shows it
 abbrev pub time_at_top : World → (c : ℕ) → ℕ
 time_at_top w c = event_at_top w c (group_at_of w.tree c (level_count_of w.tree - 1))
 
+-- who covers CPU c by others: the CPU to which the migrators lead from the lowest active group of
+-- its path; where there is none, the lowest CPU that wakes by the time at the top
 abbrev pub cover_above : World → (c : ℕ) → Option ℕ → Option ShownCover
 cover_above w c None =
     option_map (by_wakeup (state_of w)) (waker_by (state_of w) (time_at_top w c))
 cover_above w c (Some g) = option_map (by_migrator (state_of w) g) (led_to (state_of w) g)
 
+-- who covers CPU c for a wheel expiry: itself where its wakeup is in time, else others
 abbrev pub cover_for : World → (c wheel : ℕ) → Option ShownCover
 cover_for w c wheel =
     if nat_le (cpu_of w c).wakeup wheel then Some (by_wakeup (state_of w) c)
     else cover_above w c (lowest_active_group (state_of w) c)
 
+-- who covers CPU c for the wheel expiry of its first global timer, where it has one
 abbrev pub cover_where : World → (c : ℕ) → Option ℕ → Option Answerer
 cover_where w c None = None
 cover_where w c (Some wheel) = option_map (answerer wheel) (cover_for w c wheel)
 
+-- who covers CPU c, which is online and idle and has a global timer, by the queues of its core
 abbrev pub cover_by_queue : World → (c : ℕ) → Option Answerer
 cover_by_queue w c =
     if (cpu_of w c).online && (cpu_of w c).idle
