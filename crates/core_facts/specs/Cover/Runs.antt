@@ -19,11 +19,12 @@ pub record IsAnswered (w : World) (c wheel : ℕ) : Type 0 where
   pub covered : Covered w c wheel
   pub settled : IsSettled w → Held (machine_of w) c wheel ⊎ Woken (machine_of w) c wheel
 
--- and so is each global timer that is queued on an online idle CPU
+-- each global timer that is queued on an online idle CPU is held, woken for or carried; and where
+-- no walk and no interrupt is under way, held or woken for
 abbrev pub EachIsAnswered : World → Type 0
 EachIsAnswered w = (c : ℕ) (item : Item) → IsWaiting w c item → IsAnswered w c item.wheel
 
--- IN EVERY LAWFUL WORLD
+-- IN EVERY LAWFUL WORLD each global timer of an online idle CPU is held, woken for or carried
 abbrev pub EachLawfulIsAnswered : Type 0
 EachLawfulIsAnswered = (w : World) → IsLawful w → EachIsAnswered w
 
@@ -31,8 +32,8 @@ EachLawfulIsAnswered = (w : World) → IsLawful w → EachIsAnswered w
 abbrev pub start_with : (nodes cpus : ℕ) → Cpus → (timers : ℕ) → World
 start_with nodes cpus isolated timers = start_of (tree_of nodes cpus isolated) timers
 
--- THE LAW: on every machine, after every front of every list of steps, each of which is enabled
--- where it stands
+-- THE HEADLINE: on every machine, after every front of every list of steps, each of which is enabled
+-- where it stands, each global timer of an online idle CPU is held, woken for or carried
 abbrev pub AlwaysAnswered : Type 0
 AlwaysAnswered = (nodes cpus timers : ℕ) (isolated : Cpus) →
     IsWithinLimits nodes cpus isolated → timers ≤ 2 ^ 16 → (steps : List Step) →

@@ -72,13 +72,17 @@ before_stale =
     (steps.Idle (record { 0 = 9 }) ∷ walks 8 9 ++ steps.Idle (record { 0 = 8 }) ∷ walks 9 8 ++
     steps.Wake (record { 0 = 9 }) ∷ walks 4 9)
 
+-- THE STALE EXCHANGE: the world after the exchange of CPU c's walk, made as if its reading were
+-- fresh
 abbrev pub exchanged_by : World → (c : ℕ) → Option Walk → World
 exchanged_by w c None = w
 exchanged_by w c (Some k) = swapped w c k true
 
+-- THE STALE EXCHANGE, made by CPU 8 with the word that it had read
 abbrev pub stale_made : World
 stale_made = exchanged_by before_stale 8 (cpu_of before_stale 8).walk
 
+-- THE STALE EXCHANGE: what it would leave, and that this is no lawful world
 pub record StaleExchangeBreaks : Type 0 where
   pub stage : option_map (λ (k : Walk). k.stage) (cpu_of before_stale 8).walk ≡ Some stages.Swap
   pub fresh : option_map (λ (k : Walk). k.fresh) (cpu_of before_stale 8).walk ≡ Some false

@@ -18,6 +18,6 @@ walk_times n c = replicate n (steps.Walk (record { 0 = c }))
 abbrev pub IsWalkRun : (c : ℕ) → (before after : World) → Type 0
 IsWalkRun c before after = (n : ℕ) × IsRun (walk_times n c) before after
 
--- and so is a step with some of them behind it
+-- a step, and some steps of CPU c's walk behind it, are a run from one world to the other
 abbrev pub IsRunOf : Step → (c : ℕ) → (before after : World) → Type 0
 IsRunOf step c before after = (n : ℕ) × IsRun (step ∷ walk_times n c) before after

@@ -57,8 +57,9 @@ fn walk_out<B: TimerBase>(core: &mut Core<B>, cpu: CpuId)
     }
 }
 
-/// Makes the steps of a CPU's walk, each enabled where it stands, up to its end: then the CPU has no walk, or its walk stands at
-/// `Handing`. No other walk goes on: each of them stands at `Handing`.
+/// Makes the steps of a CPU's walk, each enabled where it stands, up to its end: then the CPU has
+/// no walk, or its walk stands at `Handing`. No other walk goes on: each of them stands at
+/// `Handing`.
 pub fn finish_walk<B: TimerBase>(core: &mut Core<B>, cpu: CpuId)
     requires cpu { cpu.0 < length core.old.cpus }
     requires lone { IsLone core.old cpu.0 }
