@@ -3,9 +3,9 @@
 # changes nothing, and ends with status 1 where something isn't so, which it tells with its place. It looks at these
 # forms:
 #
-# - `crate/specs/File: name`, `name` ..   in any page: each name is stated in crates/crate/specs/File.antt. Further
-#                                         names stand in the same quotes, or in quotes behind a comma; the word 'there'
-#                                         behind a name stands for the file cited last
+# - `crate/specs/File: name`, `name` ..   in any page: each name is stated in crates/crate/specs/File.antt, where File may
+#                                         begin with folders. Further names stand in the same quotes, or in quotes behind
+#                                         a comma; the word 'there' behind a name stands for the file cited last
 # - `crate::function`: `clause`, ..       in README.md and docs/CLAIMS.md, in the last field of a table whose head ends
 #                                         with | Clause |: the function stands in that crate's src/, and its contract has
 #                                         each of these clauses. `function` alone is of the crate named last in that
