@@ -29,7 +29,8 @@ pub use cover_laws::{
 use cpu_bases::{law_bases, law_calls};
 use tree_plan::{law_cuts, law_paths};
 pub use worked_rows::{
-    row_lost_exchange, row_settled_cover, row_stale_exchange_breaks, row_stale_run,
+    row_carried_alone, row_early_read_breaks, row_forgotten_event, row_lost_exchange,
+    row_settled_cover, row_stale_exchange_breaks, row_stale_run,
 };
 
 /// A CPU with a walk is active exactly where the walk is an activation; the other kinds are made by

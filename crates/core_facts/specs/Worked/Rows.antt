@@ -1,23 +1,26 @@
 -- rows: lists of steps from the start, and what they leave
 use Rattle.std.specs.Prelude.{◌+◌, map, ◌≡◌, ℕ, List, [], ◌∷◌, ◌++◌, Some, None, true, false}
-use Rattle.std.specs.Prelude.{Option, replicate, option_map}
+use Rattle.std.specs.Prelude.{Option, replicate, option_map, slice_set}
 use Rattle.std.specs.FinSet.{empty}
 use Rattle.std.specs.List.{range_with_len}
 use Rattle.tm_base.specs.Children.{of_cpu}
 use Rattle.tm_base.specs.declared.names.TheConstants.{NEVER}
 use Rattle.tm_base.specs.declared.names.Class.TheVariants.{Global}
 use Rattle.event_queue.specs.EventMap.{event_at}
+use Rattle.cpu_bases.specs.CpuBases.{events_of}
 use Rattle.tree_plan.specs.Shape.{Shape, levels_for, levels_from, tree_of}
 use Rattle.walk_rules.specs.declared.walk.Walk.{Walk}
 use Rattle.walk_rules.specs.declared.walk.Stage.TheVariants as stages
+use Rattle.coverage.specs.Coverage.{Held, Woken}
 use Rattle.core_world.specs.declared.step.Step.{Step}
 use Rattle.core_world.specs.declared.step.Step.TheVariants as steps
+use Rattle.core_world.specs.Covered.{Carried, Covered, machine_of}
 use Rattle.core_world.specs.Enabled.{Enabled}
 use Rattle.core_world.specs.Lawful.{IsLawful}
 use Rattle.core_world.specs.Lists.{EachEnabled, after_all}
 use Rattle.core_world.specs.Start.{start_of}
 use Rattle.core_world.specs.Steps.{swapped}
-use Rattle.core_world.specs.World.{World, cpu_of, group_of, is_active}
+use Rattle.core_world.specs.World.{CpuRecord, World, cpu_of, group_of, is_active}
 
 -- the tree of one node of so many CPUs, none of them isolated
 abbrev pub one_node_of : ℕ → Shape
@@ -94,6 +97,26 @@ pub record StaleExchangeBreaks : Type 0 where
   -- so the invariant doesn't hold
   pub unlawful : IsLawful stale_made → ⊥
 
+-- THE EARLY READ: there too, had CPU 8 read its leaf before it read the top's word: what it saw of
+-- the leaf is as old as before, and the word that it read is the last
+abbrev pub with_last_word : CpuRecord → CpuRecord
+with_last_word y = record y { walk = option_map (λ (k : Walk). record k { fresh = true }) y.walk }
+
+abbrev pub read_early : World
+read_early = record before_stale {
+  cpus = slice_set before_stale.cpus 8 (with_last_word (cpu_of before_stale 8));
+}
+
+pub record EarlyReadBreaks : Type 0 where
+  pub stage : option_map (λ (k : Walk). k.stage) (cpu_of read_early 8).walk ≡ Some stages.Swap
+  pub fresh : option_map (λ (k : Walk). k.fresh) (cpu_of read_early 8).walk ≡ Some true
+  -- it saw its leaf asleep, which is awake, and no walk is on its way there
+  pub saw : option_map (λ (k : Walk). k.child_on) (cpu_of read_early 8).walk ≡ Some false
+  pub leaf : (group_of read_early 1).active ≡ 2
+  pub over : (cpu_of read_early 9).walk ≡ None
+  -- so the invariant doesn't hold
+  pub unlawful : IsLawful read_early → ⊥
+
 -- LOST-EXCHANGE: CPU 8 idles and reads the word of its leaf and its own; CPU 9 idles and makes its
 -- exchange there, which makes that reading stale; so the exchange of CPU 8 fails
 abbrev pub lost_steps : List Step
@@ -155,3 +178,37 @@ pub record SettledCover : Type 0 where
   pub told : event_at (group_of cover_end 0).events 1 ≡
       Some (record { expiry = 61; cpu = record { 0 = 1 }; ignored = false })
   pub wakeup : (cpu_of cover_end 1).wakeup ≡ NEVER
+
+-- THE FORGOTTEN EVENT: the same, but that the group has lost the event that CPU 1 told
+abbrev pub forgotten : World
+forgotten = record cover_end {
+  groups =
+      slice_set cover_end.groups 0 (record (group_of cover_end 0) {
+        events = slice_set (group_of cover_end 0).events 1 None;
+      });
+}
+
+pub record ForgottenEvent : Type 0 where
+  -- CPU 1 is idle with its timer at 61; no walk is under way, and CPU 0 is awake
+  pub idle : (cpu_of forgotten 1).idle ≡ true
+  pub first : (events_of (cpu_of forgotten 1).bases).first_global ≡ 61
+  pub done : (cpu_of forgotten 1).walk ≡ None
+  pub awake : is_active (cpu_of forgotten 0) ≡ true
+  -- nobody answers for it, in none of the ways
+  pub uncovered : Covered forgotten 1 61 → ⊥
+
+-- CARRIED ALONE: the same up to where CPU 1 goes idle: its walk has told nothing yet
+abbrev pub cover_begun : World
+cover_begun =
+    after_all cover_start
+    (steps.Clock 10
+    ∷ steps.Arm (record { 0 = 1 }) (record { 0 = 0 }) Global 60 0 0 0
+    ∷ steps.Idle (record { 0 = 1 }) ∷ [])
+
+pub record CarriedAlone : Type 0 where
+  pub idle : (cpu_of cover_begun 1).idle ≡ true
+  pub first : (events_of (cpu_of cover_begun 1).bases).first_global ≡ 61
+  -- its walk answers for the timer, and nobody else yet
+  pub carried : Carried cover_begun 1 61
+  pub not_held : Held (machine_of cover_begun) 1 61 → ⊥
+  pub not_woken : Woken (machine_of cover_begun) 1 61 → ⊥
