@@ -1,6 +1,7 @@
 //! Lists of steps.
 
 ghost use Rattle.std.specs.Prelude.{IfErr, OnOk};
+ghost use Rattle.core_world.specs.Frames.{SameSize};
 ghost use Rattle.core_world.specs.Lawful.{IsLawful};
 ghost use Rattle.core_world.specs.Lists.{IsRun};
 ghost use Rattle.core_facts.specs.Cover.Runs.{EachIsAnswered};
@@ -9,7 +10,7 @@ ghost use Rattle.step_laws.specs.Runs.{Stops};
 use crate::laws::law_lawful;
 use core_facts::law_answered;
 use core_state::Core;
-use core_world::Step;
+use core_world::{Step, law_sizes};
 use step_core::{apply, enabled};
 use wheel_core::TimerBase;
 
@@ -39,16 +40,19 @@ fn make_each<B: TimerBase>(core: &mut Core<B>, steps: &[Step]) -> Result<(), Ste
 }
 
 /// Makes steps in order. The error names the first step that isn't enabled where it stands, or that
-/// wants memory; the core then stands before that step. Whatever the order of the steps, and also
-/// after a refusal, the core is lawful, and each global timer that is queued on an online idle CPU
-/// is held, woken for or carried; where no walk and no interrupt is under way, one of the first two.
+/// wants memory; the core then stands before that step. The tree, and how many groups, CPUs and
+/// timers there are, stay. Whatever the order of the steps, and also after a refusal, the core is
+/// lawful, and each global timer that is queued on an online idle CPU is held, woken for or carried;
+/// where no walk and no interrupt is under way, it is held or woken for.
 pub fn run_steps<B: TimerBase>(core: &mut Core<B>, steps: &[Step]) -> Result<(), StepsFault>
     ensures lawful { IsLawful core.new }
     ensures answered { EachIsAnswered core.new }
+    ensures stays { SameSize core.old core.new }
     ensures whole { OnOk result (IsRun steps.now core.old core.new) }
     ensures stops { IfErr result (λ fault. Stops fault steps.now core.old core.new) }
 {
     let made = make_each(core, steps);
+    law_sizes();
     law_lawful(core);
     law_answered();
     made
