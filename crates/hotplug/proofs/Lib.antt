@@ -5,3 +5,4 @@ pub mod Leaving
 pub mod Moving
 pub mod Heirs
 pub mod Bases
+pub mod Runs

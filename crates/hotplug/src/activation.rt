@@ -3,9 +3,10 @@
 ghost use Rattle.std.specs.Prelude.{◌≡◌};
 ghost use Rattle.step_play.specs.Rules.StepRules.{made_active};
 ghost use Rattle.hotplug.specs.Frames.{Activated, MayActivate};
+ghost use Rattle.hotplug.specs.Runs.{Reaches};
 
-use core_state::Core;
 use core_machine::walks::wake;
+use core_state::Core;
 use tm_base::CpuId;
 use wheel_core::TimerBase;
 
@@ -14,6 +15,7 @@ pub(crate) fn make_active<B: TimerBase>(core: &mut Core<B>, cpu: CpuId)
     requires { MayActivate core.old cpu.0 }
     ensures made { core.new ≡ made_active core.old cpu.0 }
     ensures active { Activated core.old cpu.0 core.new }
+    ensures run { Reaches core.old core.new }
 {
     if !core.status(cpu).idle {
         return;

@@ -6,14 +6,15 @@ ghost use Rattle.core_world.specs.World.{cpu_of};
 ghost use Rattle.play_rules.specs.Machines.{after_move};
 ghost use Rattle.step_play.specs.Rules.StepRules.{step_rules};
 ghost use Rattle.hotplug.specs.Frames.{MayMoveAll};
+ghost use Rattle.hotplug.specs.Runs.{Reaches};
 ghost use Rattle.hotplug.specs.Settled.{AllWhole, MovedSome, SomeOnline, heir_of, moved_off};
 ghost use Rattle.hotplug.specs.Settled.{MovedTimes};
 
 use crate::activation::make_active;
 use core_laws::law_step;
-use core_state::Core;
 use core_machine::readings::controller;
 use core_machine::timers::first_timer;
+use core_state::Core;
 use tm_base::{CpuId, NoMemory};
 use wheel_core::TimerBase;
 
@@ -31,6 +32,7 @@ fn move_next<B: TimerBase>(core: &mut Core<B>, from: CpuId, to: CpuId) -> Result
         step_rules.queued_on core.new from.0 ≡ 0) }
     ensures same { IfOk result (λ more. more ≡ false → core.new ≡ core.old) }
     ensures err { OnErr result (core.new ≡ core.old) }
+    ensures run { Reaches core.old core.new }
 {
     law_step();
     core.tree();
@@ -48,6 +50,7 @@ fn move_all<B: TimerBase>(core: &mut Core<B>, from: CpuId, to: CpuId) -> Result<
     ensures moved { MovedTimes core.old from.0 to.0 core.new }
     ensures none_left { OnOk result (step_rules.queued_on core.new from.0 ≡ 0) }
     ensures may { MayMoveAll core.new from.0 to.0 }
+    ensures run { Reaches core.old core.new }
 {
     while move_next(core, from, to)? {}
     Ok(())
@@ -82,6 +85,7 @@ pub fn move_dead<B: TimerBase>(core: &mut Core<B>, dead: CpuId) -> Result<Option
     ensures err { OnErr result (MovedSome core.old dead.0 core.new) }
     ensures settled { IsSettled core.new }
     ensures whole { AllWhole core.new }
+    ensures run { Reaches core.old core.new }
 {
     let Some(heir) = heir_of(core, dead) else {
         return Ok(None);

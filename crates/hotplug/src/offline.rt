@@ -6,13 +6,14 @@ ghost use Rattle.tree_plan.specs.Paths.{is_placed_in};
 ghost use Rattle.core_world.specs.Covered.{IsSettled};
 ghost use Rattle.step_play.specs.Rules.StepRules.{handed_on_by_steps};
 ghost use Rattle.hotplug.specs.Frames.{Waits};
+ghost use Rattle.hotplug.specs.Runs.{Reaches};
 ghost use Rattle.hotplug.specs.Settled.{AllWhole, gone_whole, heir_at, offline_fault};
 
 use crate::activation::make_active;
-use core_state::Core;
 use core_machine::readings::hands_on;
-use core_world::Step;
 use core_machine::walks::make;
+use core_state::Core;
+use core_world::Step;
 use tm_base::{CpuId, OpFault};
 use wheel_core::TimerBase;
 
@@ -40,6 +41,7 @@ fn hand_on<B: TimerBase>(core: &mut Core<B>, cpu: CpuId, to: CpuId)
     ensures handed { core.new ≡ handed_on_by_steps core.old cpu.0 to.0 }
     ensures settled { IsSettled core.new }
     ensures whole { AllWhole core.old → AllWhole core.new }
+    ensures run { Reaches core.old core.new }
 {
     make_active(core, to);
     make(core, Step::HandOn { cpu, to });
@@ -57,6 +59,7 @@ fn leave<B: TimerBase>(core: &mut Core<B>, cpu: CpuId, to: CpuId) -> Option<CpuI
     ensures heir { result ≡ heir_at core.old cpu.0 to }
     ensures settled { IsSettled core.new }
     ensures whole { AllWhole core.old → AllWhole core.new }
+    ensures run { Reaches core.old core.new }
 {
     core_machine::walks::go_offline(core, cpu);
     if hands_on(core, cpu) {
@@ -89,6 +92,7 @@ pub fn go_offline<B: TimerBase>(
     ensures heir { IfOk result (λ heir. heir ≡ heir_at core.old cpu.0 to) }
     ensures settled { IsSettled core.new }
     ensures whole { AllWhole core.old → AllWhole core.new }
+    ensures run { Reaches core.old core.new }
 {
     if let Some(fault) = offline_fault(core, cpu, to) {
         return Err(fault);

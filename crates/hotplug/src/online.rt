@@ -3,10 +3,11 @@
 ghost use Rattle.std.specs.Prelude.{◌≡◌, ◌<◌, MatchResult, None, OnErr, OnOk, Some, length};
 ghost use Rattle.core_world.specs.Covered.{IsSettled};
 ghost use Rattle.step_play.specs.Rules.StepRules.{come_by_steps};
+ghost use Rattle.hotplug.specs.Runs.{Reaches};
 ghost use Rattle.hotplug.specs.Settled.{AllWhole, online_fault};
 
-use core_state::Core;
 use core_machine::walks::come_online;
+use core_state::Core;
 use tm_base::{CpuId, OpFault};
 use wheel_core::TimerBase;
 
@@ -22,6 +23,7 @@ pub fn go_online<B: TimerBase>(core: &mut Core<B>, cpu: CpuId) -> Result<(), OpF
     ensures come { OnOk result (core.new ≡ come_by_steps core.old cpu.0) }
     ensures settled { IsSettled core.new }
     ensures whole { AllWhole core.old → AllWhole core.new }
+    ensures run { Reaches core.old core.new }
 {
     if core.status(cpu).online {
         return Err(OpFault::AlreadyOnline);

@@ -1,9 +1,9 @@
 use super::*;
-use core_state::one_node_core;
 use core_machine::readings::holder;
+use core_machine::walks::{finish_walk, is_alone};
+use core_state::one_node_core;
 use core_world::Step;
 use std::test::Fail;
-use core_machine::walks::{finish_walk, is_alone};
 use step_laws::{is_settled, run_steps};
 use tm_base::{Class, CpuId, OpFault, TimerId};
 

@@ -1,8 +1,9 @@
 //! A step, and the walk that it begins made to its end.
 
-ghost use Rattle.std.specs.Prelude.{◌≡◌, ◌<◌, false, length};
+ghost use Rattle.std.specs.Prelude.{◌≡◌, ◌<◌, ◌∷◌, [], false, length};
 ghost use Rattle.core_world.specs.declared.step.Step.TheVariants as steps;
 ghost use Rattle.core_world.specs.Enabled.{Enabled};
+ghost use Rattle.core_world.specs.Lists.{IsRun};
 ghost use Rattle.core_world.specs.Steps.{stepped};
 ghost use Rattle.core_world.specs.World.{cpu_of};
 ghost use Rattle.step_core.specs.Wants.{WantsMemory};
@@ -22,7 +23,8 @@ use wheel_core::TimerBase;
 pub fn make<B: TimerBase>(core: &mut Core<B>, step: Step)
     requires enabled { Enabled core.old step }
     requires wants_none { WantsMemory step → ⊥ }
-    ensures { core.new ≡ stepped core.old step }
+    ensures made { core.new ≡ stepped core.old step }
+    ensures run { IsRun (step ∷ []) core.old core.new }
 {
     match apply(core, step) {
         Ok(()) => {}

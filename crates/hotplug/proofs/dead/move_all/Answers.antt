@@ -1,4 +1,5 @@
 use Rattle.hotplug.proofs.Heirs.{moved_more}
+use Rattle.hotplug.proofs.Runs.{onwards}
 use Rattle.hotplug.proofs.dead.move_all.Goals as goal
 
 pub loop-preserved : goal.loop-preserved
@@ -7,4 +8,7 @@ loop-preserved g c = record {
       c.loop.invariant.moved c.in_ok-move_next.ensures.moved
       (c.in_ok-move_next.ensures.fewer c.if-branch.true);
   may = c.in_ok-move_next.ensures.may;
+  run =
+      onwards c.args.core.now c.loop.core c.move_next.new.core c.loop.invariant.run
+      c.move_next.ensures.run;
 }

@@ -1,5 +1,6 @@
 use Rattle.step_play.specs.Rules.StepRules.{step_rules}
 use Rattle.hotplug.specs.Frames.{MayMoveAll}
+use Rattle.hotplug.specs.Runs.{Reaches}
 use Rattle.hotplug.specs.Settled.{MovedTimes}
 use Rattle.hotplug.proofs.dead.move_all.Given as goal
 
@@ -7,6 +8,7 @@ abbrev pub invariant-loop : goal.invariant-loop
 invariant-loop g l = record {
   moved : MovedTimes l.fn.core l.from.0 l.to.0 l.core;
   may : MayMoveAll l.core l.from.0 l.to.0;
+  run : Reaches l.fn.core l.core;
 }
 
 abbrev pub decreases-loop : goal.decreases-loop

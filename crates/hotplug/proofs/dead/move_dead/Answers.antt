@@ -1,4 +1,5 @@
 use Rattle.hotplug.proofs.Heirs.{heir_activates, heir_moved, heir_ready, none_dead}
+use Rattle.hotplug.proofs.Runs.{onwards}
 use Rattle.hotplug.proofs.dead.move_dead.Goals as goal
 
 pub returns-in_default-clause-none_left : goal.returns-in_default-clause-none_left
@@ -23,3 +24,13 @@ returns-clause-moved g c =
     c.requires.settled c.requires.offline c.requires.whole c.make_active.new.core
     c.make_active.ensures.made c.make_active.ensures.active c.move_all.new.core
     c.in_ok-move_all.ensures.moved c.in_ok-move_all.ensures.none_left
+
+pub returns-in_err-move_all-clause-run : goal.returns-in_err-move_all-clause-run
+returns-in_err-move_all-clause-run g c =
+    onwards c.args.core.now c.make_active.new.core c.move_all.new.core c.make_active.ensures.run
+    c.move_all.ensures.run
+
+pub returns-clause-run : goal.returns-clause-run
+returns-clause-run g c =
+    onwards c.args.core.now c.make_active.new.core c.move_all.new.core c.make_active.ensures.run
+    c.move_all.ensures.run

@@ -1,5 +1,6 @@
 use Rattle.std.proofs.Common.{sym, ◌∙◌}
 use Rattle.hotplug.proofs.Leaving.{leaves_bases, leaves_low, leaves_settled, leaves_waits}
+use Rattle.hotplug.proofs.Runs.{by_walk, onwards}
 use Rattle.hotplug.proofs.offline.leave.Goals as goal
 
 pub hands_on-requires : goal.hands_on-requires
@@ -35,3 +36,9 @@ returns-clause-whole g c =
     leaves_bases c.args.core.now c.args.cpu.0 c.args.to.0 c.requires.cpu c.requires.to
     c.requires.another c.requires.placed c.requires.settled c.requires.allowed
     c.go_offline.new.core c.go_offline.ensures.walked
+
+pub returns-then-hands_on-clause-run : goal.returns-then-hands_on-clause-run
+returns-then-hands_on-clause-run g c =
+    onwards c.args.core.now c.go_offline.new.core c.hand_on.new.core
+    (by_walk _ c.args.cpu.0 c.args.core.now c.go_offline.new.core c.go_offline.ensures.run)
+    c.hand_on.ensures.run

@@ -28,7 +28,7 @@ make-requires-clause-enabled g c =
 pub returns : goal.returns
 returns g c =
     let w = c.args.core.now in
-    let is : c.make.new.core ≡ handed_on_by_steps w c.args.cpu.0 c.args.to.0 = c.make.ensures
+    let is : c.make.new.core ≡ handed_on_by_steps w c.args.cpu.0 c.args.to.0 = c.make.ensures.made
     ∙ ap (λ (v : World). stepped v (steps.HandOn c.args.cpu c.args.to)) c.make_active.ensures in
     let left = subst (Leaves resting w) (sym is)
     (hands c.law_wakes.ensures w c.args.cpu.0 c.args.to.0 c.requires.fit c.requires.successor

@@ -10,6 +10,6 @@ make-requires-clause-enabled g c =
 
 pub returns-clause-fit : goal.returns-clause-fit
 returns-clause-fit g c =
-    subst (InPlay resting) (sym c.make.ensures)
+    subst (InPlay resting) (sym c.make.ensures.made)
     (time_goes c.law_step.ensures c.args.now c.args.core.now c.requires.fit c.requires.not_back
     c.requires.in_time)

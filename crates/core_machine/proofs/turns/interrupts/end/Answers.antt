@@ -36,7 +36,7 @@ pub returns-else-is_idle : goal.returns-else-is_idle
 returns-else-is_idle g c =
     let w = c.args.core.now in
     let d = c.args.cpu.0 in
-    let is : c.make.new.core ≡ ended_by_steps w d = c.make.ensures
+    let is : c.make.new.core ≡ ended_by_steps w d = c.make.ensures.made
     ∙ sym (cond-false (cpu_of w d).idle (walked_out d (stepped w (steps.Reeval c.args.cpu)))
     (stepped w (steps.Leave c.args.cpu)) (sym c.is_idle.ensures ∙ c.if-is_idle.false)) in
     let left = subst (LeavesOnline resting w) (sym is)

@@ -12,6 +12,6 @@ make-requires-clause-enabled g c =
 pub returns : goal.returns
 returns g c =
     let w = c.args.core.now in
-    let left = subst (LeavesOnline (inside c.args.cpu.0) w) (sym c.make.ensures)
+    let left = subst (LeavesOnline (inside c.args.cpu.0) w) (sym c.make.ensures.made)
     (enters w c.law_step.ensures c.args.cpu.0 c.requires.fit c.requires.online) in
-    record { fit = left.fit; state = c.make.ensures; same = left.same; online = left.online }
+    record { fit = left.fit; state = c.make.ensures.made; same = left.same; online = left.online }

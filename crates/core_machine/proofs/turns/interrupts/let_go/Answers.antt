@@ -42,7 +42,7 @@ returns-else-sleeps g c =
     let w = c.args.core.now in
     let d = c.args.other.0 in
     let y = cpu_of w d in
-    let is : c.make.new.core ≡ let_go_by_steps w d = c.make.ensures
+    let is : c.make.new.core ≡ let_go_by_steps w d = c.make.ensures.made
     ∙ sym (cond-false (y.online && y.idle) (walked_out d (stepped w (steps.Carry c.args.other)))
     (stepped w (steps.Release c.args.other)) (sym c.sleeps.ensures ∙ c.if-sleeps.false)) in
     let left = subst (LeavesOnline (inside c.args.cpu.0) w) (sym is)

@@ -13,7 +13,7 @@ make-requires-clause-enabled g c =
 pub returns : goal.returns
 returns g c =
     let w = c.args.core.now in
-    let left = subst (LeavesOnline (serving c.args.cpu.0 c.args.other.0) w) (sym c.make.ensures)
+    let left = subst (LeavesOnline (serving c.args.cpu.0 c.args.other.0) w) (sym c.make.ensures.made)
     (takes w c.law_step.ensures c.args.cpu.0 c.args.other.0 c.requires.fit c.requires.placed
     c.requires.cpu c.requires.takes) in
-    record { fit = left.fit; state = c.make.ensures; same = left.same; online = left.online }
+    record { fit = left.fit; state = c.make.ensures.made; same = left.same; online = left.online }
