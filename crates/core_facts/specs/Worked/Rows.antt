@@ -97,16 +97,18 @@ pub record StaleExchangeBreaks : Type 0 where
   -- so the invariant doesn't hold
   pub unlawful : IsLawful stale_made → ⊥
 
--- THE EARLY READ: there too, had CPU 8 read its leaf before it read the top's word: what it saw of
--- the leaf is as old as before, and the word that it read is the last
+-- a CPU whose walk has read the last word of its group
 abbrev pub with_last_word : CpuRecord → CpuRecord
 with_last_word y = record y { walk = option_map (λ (k : Walk). record k { fresh = true }) y.walk }
 
+-- THE EARLY READ: just before CPU 8's exchange at the top, had it read its leaf before the top's
+-- word: what it saw of the leaf is as old as before, and the word that it read is the last
 abbrev pub read_early : World
 read_early = record before_stale {
   cpus = slice_set before_stale.cpus 8 (with_last_word (cpu_of before_stale 8));
 }
 
+-- that the invariant doesn't hold there
 pub record EarlyReadBreaks : Type 0 where
   pub stage : option_map (λ (k : Walk). k.stage) (cpu_of read_early 8).walk ≡ Some stages.Swap
   pub fresh : option_map (λ (k : Walk). k.fresh) (cpu_of read_early 8).walk ≡ Some true
@@ -188,6 +190,7 @@ forgotten = record cover_end {
       });
 }
 
+-- that nobody answers for the timer then
 pub record ForgottenEvent : Type 0 where
   -- CPU 1 is idle with its timer at 61; no walk is under way, and CPU 0 is awake
   pub idle : (cpu_of forgotten 1).idle ≡ true
@@ -205,6 +208,7 @@ cover_begun =
     ∷ steps.Arm (record { 0 = 1 }) (record { 0 = 0 }) Global 60 0 0 0
     ∷ steps.Idle (record { 0 = 1 }) ∷ [])
 
+-- that the walk answers for the timer, and nothing else does
 pub record CarriedAlone : Type 0 where
   pub idle : (cpu_of cover_begun 1).idle ≡ true
   pub first : (events_of (cpu_of cover_begun 1).bases).first_global ≡ 61
