@@ -1,1 +1,1 @@
-mod Groups
+pub mod Groups
