@@ -5,8 +5,8 @@ ghost use Rattle.play_rules.specs.Moments.{next_moment};
 ghost use Rattle.step_play.specs.Rules.StepRules.{step_rules};
 ghost use Rattle.tm_driver.specs.Following.{moments_past};
 
-use core_state::Core;
 use core_machine::readings::next_interrupt;
+use core_state::Core;
 use tm_base::Jiffy;
 use tm_script::{Moment, Script};
 use wheel_core::TimerBase;
