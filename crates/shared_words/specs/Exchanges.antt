@@ -1,5 +1,5 @@
 -- the word of a group's state, as exchanges read it
-use Rattle.std.specs.Prelude.{ℕ, ◌-◌, ◌/◌, ◌^◌, ◌<◌, ◌==◌, Bool, not, bit_and}
+use Rattle.std.specs.Prelude.{◌≡◌, ℕ, ◌-◌, ◌/◌, ◌^◌, ◌<◌, ◌==◌, Bool, not, bit_and}
 use Rattle.group_word.specs.declared.state.GroupState.{GroupState}
 use Rattle.group_word.specs.State.{IsStateOf, activated_state, state_word, swapped_state}
 

@@ -6,10 +6,14 @@ use Rattle.shared_words.specs.Exchanges.{HasRoom}
 use Rattle.shared_words.proofs.tests.an_exchange_changes_the_set_and_raises_the_sequence.Goals as goal
 
 room : (active seq : ℕ) (migrator : Option ℕ) → active < 2 ^ 8 → GroupLaw active migrator
-    → seq < 2 ^ 48 - 1 → HasRoom (state_word (record { active = active; migrator = migrator; seq = seq }))
+    → seq < 2 ^ 48 - 1
+    → HasRoom (state_word (record { active = active; migrator = migrator; seq = seq }))
 room active seq migrator eight law low = (
   record { active = active; migrator = migrator; seq = seq },
-  record { lawful = record { eight_children = eight; group = law; sequence = omega arith }; spelled = refl },
+  record {
+    lawful = record { eight_children = eight; group = law; sequence = omega arith };
+    spelled = refl;
+  },
   low,
 )
 
