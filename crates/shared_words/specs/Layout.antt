@@ -21,5 +21,6 @@ index_of l (Slot g k) = 3 + WORDS_OF_GROUP * g.0 + k
 index_of l (Cpu c) = 1 + WORDS_OF_GROUP * l.groups + c.0
 index_of l (Timer t) = 1 + WORDS_OF_GROUP * l.groups + l.cpus + t.0
 
+-- how many words there are, word 0 among them
 abbrev pub count_of : Layout → ℕ
 count_of l = 1 + WORDS_OF_GROUP * l.groups + l.cpus + l.timers

@@ -9,6 +9,7 @@ use Rattle.event_queue.specs.Word.{slot_word}
 use Rattle.shared_words.specs.declared.spot.Spot.{Spot}
 use Rattle.shared_words.specs.declared.spot.TheConstants.{CLASSES}
 
+-- a CPU by its number
 abbrev pub cpu_number : CpuId → ℕ
 cpu_number c = c.0
 
@@ -17,6 +18,7 @@ abbrev pub lock_word : Option ℕ → ℕ
 lock_word None = 0
 lock_word (Some c) = 1 + c
 
+-- the CPU whose walk holds a lock with this word
 abbrev pub holder_of : ℕ → Option ℕ
 holder_of word = if word == 0 then None else Some ((word - 1) % 2 ^ 16)
 
@@ -32,6 +34,7 @@ class_number Pinned = 0
 class_number Global = 1
 class_number Deferrable = 2
 
+-- and back: the class of a number
 abbrev pub class_of : ℕ → Class
 class_of number =
     if number == 0 then Pinned else if number == 1 then Global else Deferrable
@@ -40,10 +43,12 @@ class_of number =
 abbrev pub FitsSpot : Spot → Type 0
 FitsSpot s = s.cpu.0 < 2 ^ 16
 
+-- the word of a timer that is queued there, or nowhere
 abbrev pub spot_word : Option Spot → ℕ
 spot_word None = 0
 spot_word (Some s) = 1 + CLASSES * s.cpu.0 + class_number s.class
 
+-- and back: where a timer with this word is queued
 abbrev pub spot_of : ℕ → Option Spot
 spot_of word = if word == 0 then None else Some (record {
   cpu = record { 0 = (word - 1) / CLASSES % 2 ^ 16 };
