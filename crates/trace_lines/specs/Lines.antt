@@ -1,0 +1,208 @@
+-- the lines of a trace
+use Rattle.std.specs.Prelude.{ℕ, ◌-◌, List, [], ◌∷◌, Bool, true, false, option_map}
+use Rattle.std.specs.Prelude.{◌&&◌, ◌||◌, ◌==◌, nat_lt, codes, Option, Some, None, is_some}
+use Rattle.std.specs.Prelude.{Result, Ok, Err, bytes_eq, if◌then◌else◌}
+use Rattle.std.specs.List.{list_all}
+use Rattle.std.specs.Char.{is_ascii_digit}
+use Rattle.tm_base.specs.declared.limits.TheConstants.{CPU_SET_SIZE}
+use Rattle.tm_base.specs.declared.names.CpuId.{CpuId}
+use Rattle.trace_lines.specs.declared.faults.LineFault.{LineFault}
+use Rattle.trace_lines.specs.declared.faults.LineFault.TheVariants.{NoEvent, BadCpu}
+use Rattle.trace_lines.specs.declared.events.Joining.{Joining}
+use Rattle.trace_lines.specs.declared.events.Exchange.{Exchange}
+use Rattle.trace_lines.specs.declared.events.CpuEvent.{CpuEvent}
+use Rattle.trace_lines.specs.declared.events.CpuKind.{CpuKind}
+use Rattle.trace_lines.specs.declared.events.CpuKind.TheVariants as kinds
+use Rattle.trace_lines.specs.declared.events.Update.{Update}
+use Rattle.trace_lines.specs.declared.events.Expiries.{Expiries}
+use Rattle.trace_lines.specs.declared.happenings.EventName.{EventName}
+use Rattle.trace_lines.specs.declared.happenings.EventName.TheVariants as names
+use Rattle.trace_lines.specs.declared.events.Happening.{Happening}
+use Rattle.trace_lines.specs.declared.events.Happening.TheVariants.{GroupMade, GroupJoined}
+use Rattle.trace_lines.specs.declared.events.Happening.TheVariants.{CpuJoined}
+use Rattle.trace_lines.specs.declared.events.Happening.TheVariants.{Exchanged, CpuTold, Updated}
+use Rattle.trace_lines.specs.declared.events.Happening.TheVariants.{Handling}
+use Rattle.trace_lines.specs.declared.events.Line.{Line}
+use Rattle.trace_lines.specs.declared.events.Line.TheVariants.{Remark, Loss, Foreign, Told}
+use Rattle.trace_lines.specs.declared.numbers.Base.TheVariants.{Ten}
+use Rattle.trace_lines.specs.Parts.{before, behind, bracketed, parts_of}
+use Rattle.trace_lines.specs.Numbers.{number_of}
+use Rattle.trace_lines.specs.Fields.{◌>>=◌, bit_at, expiry_at, mask_at, number_at, place_at}
+use Rattle.trace_lines.specs.Fields.{pointer_at}
+
+-- ---- what the events say, by the parts behind their names
+
+unfoldable pub joining_in : ℕ → List (List ℕ) → Result Joining LineFault
+joining_in child parts = do
+  bit ← bit_at (codes "groupmask=") parts
+  parent ← place_at (codes "parent=") parts
+  children ← number_at (codes "num_children=") 255 parts
+  Ok (record { child = child; bit = bit; parent = parent; children = children })
+
+-- the migrator's bit; a trace has ff for none
+abbrev pub migrator_of : ℕ → ℕ
+migrator_of mask = if mask == 255 then 0 else mask
+
+unfoldable pub exchange_in : Bool → List (List ℕ) → Result Exchange LineFault
+exchange_in joins parts = do
+  place ← place_at (codes "group=") parts
+  active ← mask_at (codes "active=") 255 parts
+  migrator ← mask_at (codes "migrator=") 255 parts
+  parent ← pointer_at (codes "parent=") parts
+  bit ← bit_at (codes "childmask=") parts
+  Ok (record {
+    place = place;
+    active = active;
+    migrator = migrator_of migrator;
+    parent = parent;
+    bit = bit;
+    joins = joins;
+  })
+
+unfoldable pub cpu_event_in : CpuKind → List (List ℕ) → Result CpuEvent LineFault
+cpu_event_in kind parts = do
+  cpu ← number_at (codes "cpu=") (CPU_SET_SIZE - 1) parts
+  leaf ← pointer_at (codes "parent=") parts
+  Ok (record { kind = kind; cpu = record { 0 = cpu }; leaf = leaf })
+
+unfoldable pub expiries_in : List (List ℕ) → Result Expiries LineFault
+expiries_in parts = do
+  stored ← expiry_at (codes "nextevt=") parts
+  first ← expiry_at (codes "next_expiry=") parts
+  child_first ← expiry_at (codes "child_evt_expiry=") parts
+  Ok (record { stored = stored; first = first; child_first = child_first })
+
+unfoldable pub update_in : List (List ℕ) → Result Update LineFault
+update_in parts = do
+  child ← pointer_at (codes "child=") parts
+  group ← pointer_at (codes "group=") parts
+  level ← number_at (codes "group_lvl=") 255 parts
+  child_active ← mask_at (codes "child_active=") 255 parts
+  expiries ← expiries_in parts
+  Ok (record {
+    child = child;
+    group = group;
+    level = level;
+    child_active = child_active;
+    expiries = expiries;
+  })
+
+unfoldable pub cpu_kind_of : List ℕ → Option CpuKind
+cpu_kind_of name =
+    if bytes_eq name (codes "tmigr_cpu_online:") then Some kinds.Online
+    else if bytes_eq name (codes "tmigr_cpu_active:") then Some kinds.Awake
+    else if bytes_eq name (codes "tmigr_cpu_idle:") then Some kinds.Asleep
+    else if bytes_eq name (codes "tmigr_cpu_offline:") then Some kinds.Offline
+    else if bytes_eq name (codes "tmigr_cpu_new_timer:") then Some kinds.NewTimer
+    else if bytes_eq name (codes "tmigr_cpu_new_timer_idle:") then Some kinds.StillAsleep
+    else if bytes_eq name (codes "tmigr_handle_remote_cpu:") then Some kinds.RunElsewhere
+    else None
+
+-- the event of this name
+unfoldable pub event_of : List ℕ → Option EventName
+event_of name =
+    if bytes_eq name (codes "tmigr_group_set:") then Some names.GroupSet
+    else if bytes_eq name (codes "tmigr_connect_child_parent:") then Some names.ConnectGroup
+    else if bytes_eq name (codes "tmigr_connect_cpu_parent:") then Some names.ConnectCpu
+    else if bytes_eq name (codes "tmigr_group_set_cpu_active:") then Some names.SetActive
+    else if bytes_eq name (codes "tmigr_group_set_cpu_inactive:") then Some names.SetInactive
+    else if bytes_eq name (codes "tmigr_update_events:") then Some names.UpdateEvents
+    else if bytes_eq name (codes "tmigr_handle_remote:") then Some names.HandleRemote
+    else option_map names.OfCpu (cpu_kind_of name)
+
+unfoldable pub handling_in : List (List ℕ) → Result ℕ LineFault
+handling_in parts = pointer_at (codes "group=") parts
+
+unfoldable pub group_joining_in : List (List ℕ) → Result Joining LineFault
+group_joining_in parts = pointer_at (codes "group=") parts >>= λ child. joining_in child parts
+
+unfoldable pub cpu_joining_in : List (List ℕ) → Result Joining LineFault
+cpu_joining_in parts =
+    number_at (codes "cpu=") (CPU_SET_SIZE - 1) parts >>= λ cpu. joining_in cpu parts
+
+-- what an event says
+unfoldable pub happening_of : EventName → List (List ℕ) → Result Happening LineFault
+happening_of names.GroupSet parts = place_at (codes "group=") parts >>= λ x. Ok (GroupMade x)
+happening_of names.ConnectGroup parts = group_joining_in parts >>= λ x. Ok (GroupJoined x)
+happening_of names.ConnectCpu parts = cpu_joining_in parts >>= λ x. Ok (CpuJoined x)
+happening_of names.SetActive parts = exchange_in true parts >>= λ x. Ok (Exchanged x)
+happening_of names.SetInactive parts = exchange_in false parts >>= λ x. Ok (Exchanged x)
+happening_of names.UpdateEvents parts = update_in parts >>= λ x. Ok (Updated x)
+happening_of names.HandleRemote parts = handling_in parts >>= λ x. Ok (Handling x)
+happening_of (names.OfCpu kind) parts = cpu_event_in kind parts >>= λ x. Ok (CpuTold x)
+
+-- ---- a line, by its parts
+
+-- others were lost: CPU:N [LOST .., or ##### CPU N buffer started
+unfoldable pub is_loss : List (List ℕ) → Bool
+is_loss [] = false
+is_loss (first ∷ []) = false
+is_loss (first ∷ second ∷ rest) =
+    if bytes_eq first (codes "#####") then bytes_eq second (codes "CPU")
+    else is_some (behind (codes "CPU:") first) && bytes_eq second (codes "[LOST")
+
+abbrev pub cpu_of_number : Option ℕ → Result CpuId LineFault
+cpu_of_number None = Err BadCpu
+cpu_of_number (Some cpu) = if nat_lt cpu CPU_SET_SIZE then Ok (record { 0 = cpu }) else Err BadCpu
+
+unfoldable pub cpu_in : List ℕ → Result CpuId LineFault
+cpu_in digits = cpu_of_number (number_of Ten digits)
+
+abbrev pub head_from : Option (List ℕ) → List (List ℕ)
+    → Result (CpuId × List (List ℕ)) LineFault → Result (CpuId × List (List ℕ)) LineFault
+head_from None parts rest = rest
+head_from (Some digits) parts rest = cpu_in digits >>= λ cpu. Ok (cpu, parts)
+
+-- the first CPU in square brackets, and the parts behind it
+abbrev pub head_in : List (List ℕ) → Result (CpuId × List (List ℕ)) LineFault
+head_in [] = Err NoEvent
+head_in (p ∷ ps) = head_from (bracketed p) ps (head_in ps)
+
+abbrev pub are_digits_or_dots : List ℕ → Bool
+are_digits_or_dots bytes = list_all (λ b. is_ascii_digit b || b == 46) bytes
+
+abbrev pub is_time : Option (List ℕ) → Bool
+is_time None = false
+is_time (Some []) = false
+is_time (Some (c ∷ cs)) = are_digits_or_dots (c ∷ cs)
+
+-- digits and dots, and a colon at the end
+abbrev pub is_stamp : List ℕ → Bool
+is_stamp part = is_time (before (codes ":") part)
+
+-- the parts behind the time, before which there may be flags
+abbrev pub stamped_in : List (List ℕ) → Result (List (List ℕ)) LineFault
+stamped_in [] = Err NoEvent
+stamped_in (p ∷ []) = if is_stamp p then Ok [] else Err NoEvent
+stamped_in (p ∷ q ∷ ps) =
+    if is_stamp p then Ok (q ∷ ps) else if is_stamp q then Ok ps else Err NoEvent
+
+-- an event of this CPU, where its name is known
+abbrev pub told_in : CpuId → Option EventName → List (List ℕ) → Result Line LineFault
+told_in cpu None parts = Ok (Foreign cpu)
+told_in cpu (Some name) parts = happening_of name parts >>= λ x. Ok (Told cpu x)
+
+-- the parts from the name on
+abbrev pub named_in : CpuId → List (List ℕ) → Result Line LineFault
+named_in cpu [] = Ok (Foreign cpu)
+named_in cpu (name ∷ parts) = told_in cpu (event_of name) parts
+
+abbrev pub event_in : List (List ℕ) → Result Line LineFault
+event_in parts = do
+  head ← head_in parts
+  named ← stamped_in head.1
+  named_in head.0 named
+
+abbrev pub has_none : List (List ℕ) → Bool
+has_none [] = true
+has_none (p ∷ ps) = false
+
+abbrev pub is_remark : List ℕ → Bool
+is_remark line = is_some (behind (codes "#") line) || has_none (parts_of line)
+
+-- what a line says
+unfoldable pub line_of : List ℕ → Result Line LineFault
+line_of line =
+    if is_loss (parts_of line) then Ok Loss
+    else if is_remark line then Ok Remark
+    else event_in (parts_of line)

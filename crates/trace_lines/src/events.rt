@@ -1,0 +1,133 @@
+//! What the lines of a trace say.
+
+use tm_base::CpuId;
+
+/// The expiry of an event that there isn't (the kernel's `KTIME_MAX`).
+pub const NO_EXPIRY: u64 = 9_223_372_036_854_775_807;
+
+/// A group as a line names it.
+#[derive(Clone, Copy)]
+pub struct Place {
+    /// The group's pointer.
+    pub group: u64,
+    /// Its level, 0 for a leaf.
+    pub level: u8,
+    /// Its node, or none at the levels across nodes.
+    pub node: Option<u64>,
+}
+
+/// A child was hung below a parent (`tmigr_connect_child_parent`, `tmigr_connect_cpu_parent`).
+#[derive(Clone, Copy)]
+pub struct Joining {
+    /// The child's pointer, or the CPU's number.
+    pub child: u64,
+    /// The child's number in the parent, 0 to 7.
+    pub bit: u8,
+    /// The parent.
+    pub parent: Place,
+    /// How many children the parent has counted.
+    pub children: u8,
+}
+
+/// An exchange on a group's state (`tmigr_group_set_cpu_active`, `tmigr_group_set_cpu_inactive`).
+#[derive(Clone, Copy)]
+pub struct Exchange {
+    /// The group.
+    pub place: Place,
+    /// The set of active children after the exchange: bit k stands for child k.
+    pub active: u8,
+    /// The migrator's bit after it, or 0 where there is none.
+    pub migrator: u8,
+    /// The group's parent, or 0 for the top.
+    pub parent: u64,
+    /// The number of the child from which the walk comes, 0 to 7.
+    pub bit: u8,
+    /// Whether the walk is one of an activation.
+    pub joins: bool,
+}
+
+/// What a line says of a CPU of the hierarchy.
+#[derive(Clone, Copy)]
+pub enum CpuKind {
+    /// `tmigr_cpu_online`: the CPU comes online.
+    Online,
+    /// `tmigr_cpu_active`: it wakes, and its walk of activation begins.
+    Awake,
+    /// `tmigr_cpu_idle`: its walk of deactivation has ended.
+    Asleep,
+    /// `tmigr_cpu_offline`: the same for a CPU that goes offline.
+    Offline,
+    /// `tmigr_cpu_new_timer`: an idle CPU tells another first expiry.
+    NewTimer,
+    /// `tmigr_cpu_new_timer_idle`: an idle CPU has looked at its timers again.
+    StillAsleep,
+    /// `tmigr_handle_remote_cpu`: another CPU runs its timers.
+    RunElsewhere,
+}
+
+/// What a line says of a CPU of the hierarchy.
+#[derive(Clone, Copy)]
+pub struct CpuEvent {
+    pub kind: CpuKind,
+    /// The CPU that is named.
+    pub cpu: CpuId,
+    /// Its leaf.
+    pub leaf: u64,
+}
+
+/// Expiries in nanoseconds; `NO_EXPIRY` for none.
+#[derive(Clone, Copy)]
+pub struct Expiries {
+    /// What is stored for the child.
+    pub stored: u64,
+    /// The group's cached first expiry after that.
+    pub first: u64,
+    /// The expiry of the child's event; 0 at a leaf.
+    pub child_first: u64,
+}
+
+/// An event was put into a group's queue, or taken out (`tmigr_update_events`).
+#[derive(Clone, Copy)]
+pub struct Update {
+    /// The child's pointer, 0 at a leaf.
+    pub child: u64,
+    /// The group.
+    pub group: u64,
+    /// The group's level.
+    pub level: u8,
+    /// The child's active set, 0 at a leaf.
+    pub child_active: u8,
+    pub expiries: Expiries,
+}
+
+/// What an event of timer migration says.
+#[derive(Clone, Copy)]
+pub enum Happening {
+    /// `tmigr_group_set`: a group was made.
+    GroupMade(Place),
+    /// `tmigr_connect_child_parent`.
+    GroupJoined(Joining),
+    /// `tmigr_connect_cpu_parent`.
+    CpuJoined(Joining),
+    /// `tmigr_group_set_cpu_active`, `tmigr_group_set_cpu_inactive`.
+    Exchanged(Exchange),
+    /// The events of a CPU.
+    CpuTold(CpuEvent),
+    /// `tmigr_update_events`.
+    Updated(Update),
+    /// `tmigr_handle_remote`: a CPU comes to a group, by its pointer, to run timers of others.
+    Handling(u64),
+}
+
+/// A line of a trace.
+#[derive(Clone, Copy)]
+pub enum Line {
+    /// Nothing, or a remark: its first character is `#`.
+    Remark,
+    /// Lines were lost here.
+    Loss,
+    /// An event of another name, of this CPU.
+    Foreign(CpuId),
+    /// An event of timer migration, of this CPU.
+    Told(CpuId, Happening),
+}
