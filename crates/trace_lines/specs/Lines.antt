@@ -32,12 +32,12 @@ use Rattle.trace_lines.specs.Fields.{pointer_at}
 
 -- ---- what the events say, by the parts behind their names
 
-unfoldable pub joining_in : ℕ → List (List ℕ) → Result Joining LineFault
-joining_in child parts = do
+unfoldable pub joining_in : List (List ℕ) → Result Joining LineFault
+joining_in parts = do
   bit ← bit_at (codes "groupmask=") parts
   parent ← place_at (codes "parent=") parts
   children ← number_at (codes "num_children=") 255 parts
-  Ok (record { child = child; bit = bit; parent = parent; children = children })
+  Ok (record { bit = bit; parent = parent; children = children })
 
 -- the migrator's bit; a trace has ff for none
 abbrev pub migrator_of : ℕ → ℕ
@@ -113,18 +113,23 @@ event_of name =
 unfoldable pub handling_in : List (List ℕ) → Result ℕ LineFault
 handling_in parts = pointer_at (codes "group=") parts
 
-unfoldable pub group_joining_in : List (List ℕ) → Result Joining LineFault
-group_joining_in parts = pointer_at (codes "group=") parts >>= λ child. joining_in child parts
+unfoldable pub group_joining_in : List (List ℕ) → Result Happening LineFault
+group_joining_in parts = do
+  child ← pointer_at (codes "group=") parts
+  joining ← joining_in parts
+  Ok (GroupJoined child joining)
 
-unfoldable pub cpu_joining_in : List (List ℕ) → Result Joining LineFault
-cpu_joining_in parts =
-    number_at (codes "cpu=") (CPU_SET_SIZE - 1) parts >>= λ cpu. joining_in cpu parts
+unfoldable pub cpu_joining_in : List (List ℕ) → Result Happening LineFault
+cpu_joining_in parts = do
+  cpu ← number_at (codes "cpu=") (CPU_SET_SIZE - 1) parts
+  joining ← joining_in parts
+  Ok (CpuJoined (record { 0 = cpu }) joining)
 
 -- what an event says
 unfoldable pub happening_of : EventName → List (List ℕ) → Result Happening LineFault
 happening_of names.GroupSet parts = place_at (codes "group=") parts >>= λ x. Ok (GroupMade x)
-happening_of names.ConnectGroup parts = group_joining_in parts >>= λ x. Ok (GroupJoined x)
-happening_of names.ConnectCpu parts = cpu_joining_in parts >>= λ x. Ok (CpuJoined x)
+happening_of names.ConnectGroup parts = group_joining_in parts
+happening_of names.ConnectCpu parts = cpu_joining_in parts
 happening_of names.SetActive parts = exchange_in true parts >>= λ x. Ok (Exchanged x)
 happening_of names.SetInactive parts = exchange_in false parts >>= λ x. Ok (Exchanged x)
 happening_of names.UpdateEvents parts = update_in parts >>= λ x. Ok (Updated x)

@@ -19,8 +19,6 @@ pub struct Place {
 /// A child was hung below a parent (`tmigr_connect_child_parent`, `tmigr_connect_cpu_parent`).
 #[derive(Clone, Copy)]
 pub struct Joining {
-    /// The child's pointer, or the CPU's number.
-    pub child: u64,
     /// The child's number in the parent, 0 to 7.
     pub bit: u8,
     /// The parent.
@@ -105,10 +103,10 @@ pub struct Update {
 pub enum Happening {
     /// `tmigr_group_set`: a group was made.
     GroupMade(Place),
-    /// `tmigr_connect_child_parent`.
-    GroupJoined(Joining),
-    /// `tmigr_connect_cpu_parent`.
-    CpuJoined(Joining),
+    /// `tmigr_connect_child_parent`: this group, by its pointer.
+    GroupJoined(u64, Joining),
+    /// `tmigr_connect_cpu_parent`: this CPU.
+    CpuJoined(CpuId, Joining),
     /// `tmigr_group_set_cpu_active`, `tmigr_group_set_cpu_inactive`.
     Exchanged(Exchange),
     /// The events of a CPU.

@@ -35,14 +35,13 @@ pub enum EventName {
 
 /// A child with its parent.
 #[tactic(auto, unfolding(crate::specs::Lines::joining_in))]
-fn read_joining(bytes: &[u8], child: u64) -> Result<Joining, LineFault>
-    ensures { result ≡ joining_in child (parts_of bytes.now) }
+fn read_joining(bytes: &[u8]) -> Result<Joining, LineFault>
+    ensures { result ≡ joining_in (parts_of bytes.now) }
 {
     let bit = bit_at(bytes, b"groupmask=")?;
     let parent = place_at(bytes, b"parent=")?;
     let children = number_at(bytes, b"num_children=", 255)?;
     Ok(Joining {
-        child,
         bit,
         parent,
         children: children as u8,
@@ -185,20 +184,22 @@ fn read_handling(bytes: &[u8]) -> Result<u64, LineFault>
 
 /// A group that was hung below its parent.
 #[tactic(auto, unfolding(crate::specs::Lines::group_joining_in))]
-fn read_group_joining(bytes: &[u8]) -> Result<Joining, LineFault>
+fn read_group_joining(bytes: &[u8]) -> Result<Happening, LineFault>
     ensures { result ≡ group_joining_in (parts_of bytes.now) }
 {
     let child = pointer_at(bytes, b"group=")?;
-    read_joining(bytes, child)
+    let joining = read_joining(bytes)?;
+    Ok(Happening::GroupJoined(child, joining))
 }
 
 /// A CPU that was hung below its leaf.
 #[tactic(auto, unfolding(crate::specs::Lines::cpu_joining_in))]
-fn read_cpu_joining(bytes: &[u8]) -> Result<Joining, LineFault>
+fn read_cpu_joining(bytes: &[u8]) -> Result<Happening, LineFault>
     ensures { result ≡ cpu_joining_in (parts_of bytes.now) }
 {
     let cpu = number_at(bytes, b"cpu=", u64::from(CPU_SET_SIZE) - 1)?;
-    read_joining(bytes, cpu)
+    let joining = read_joining(bytes)?;
+    Ok(Happening::CpuJoined(CpuId(cpu as u16), joining))
 }
 
 /// What the event of this name says.
@@ -208,8 +209,8 @@ pub fn read_happening(name: EventName, bytes: &[u8]) -> Result<Happening, LineFa
 {
     match name {
         EventName::GroupSet => Ok(Happening::GroupMade(place_at(bytes, b"group=")?)),
-        EventName::ConnectGroup => Ok(Happening::GroupJoined(read_group_joining(bytes)?)),
-        EventName::ConnectCpu => Ok(Happening::CpuJoined(read_cpu_joining(bytes)?)),
+        EventName::ConnectGroup => read_group_joining(bytes),
+        EventName::ConnectCpu => read_cpu_joining(bytes),
         EventName::SetActive => Ok(Happening::Exchanged(read_exchange(bytes, true)?)),
         EventName::SetInactive => Ok(Happening::Exchanged(read_exchange(bytes, false)?)),
         EventName::UpdateEvents => Ok(Happening::Updated(read_update(bytes)?)),

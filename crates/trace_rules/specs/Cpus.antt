@@ -1,0 +1,161 @@
+-- the other events: of CPUs, of queues, of the tree
+use Rattle.std.specs.Prelude.{ℕ, ◌==◌, ◌&&◌, ◌||◌, not, nat_lt, Bool, true, false, List}
+use Rattle.std.specs.Prelude.{Option, Some, None, if◌then◌else◌}
+use Rattle.tm_base.specs.declared.names.CpuId.{CpuId}
+use Rattle.trace_lines.specs.declared.events.TheConstants.{NO_EXPIRY}
+use Rattle.trace_lines.specs.declared.events.Place.{Place}
+use Rattle.trace_lines.specs.declared.events.Joining.{Joining}
+use Rattle.trace_lines.specs.declared.events.Update.{Update}
+use Rattle.trace_lines.specs.declared.events.CpuEvent.{CpuEvent}
+use Rattle.trace_lines.specs.declared.events.CpuKind.{CpuKind}
+use Rattle.trace_lines.specs.declared.events.CpuKind.TheVariants.{Online, Awake, Asleep, Offline}
+use Rattle.trace_lines.specs.declared.events.CpuKind.TheVariants.{NewTimer, StillAsleep}
+use Rattle.trace_lines.specs.declared.events.CpuKind.TheVariants.{RunElsewhere}
+use Rattle.trace_rules.specs.declared.rules.Rule.{Rule}
+use Rattle.trace_rules.specs.declared.rules.Rule.TheVariants as rules
+use Rattle.trace_rules.specs.declared.seen.Spot.{Spot}
+use Rattle.trace_rules.specs.declared.seen.Walk.{Walk}
+use Rattle.trace_rules.specs.declared.seen.Walk.TheVariants.{Unknown, Closed, Rising, Falling}
+use Rattle.trace_rules.specs.declared.seen.Walk.TheVariants.{Ending, Hung}
+use Rattle.trace_rules.specs.declared.seen.GroupSeen.{GroupSeen}
+use Rattle.trace_rules.specs.declared.seen.CpuSeen.{CpuSeen}
+use Rattle.trace_rules.specs.Seen.{Sight, cpu_at, group_at}
+use Rattle.trace_rules.specs.Tree.{parent_fits}
+use Rattle.trace_rules.specs.Walks.{may_end, may_rest, quiet}
+use Rattle.trace_rules.specs.Exchanges.{spot_of, with_cpu, with_group}
+
+abbrev pub is_awake : Option Bool → Bool
+is_awake None = false
+is_awake (Some awake) = awake
+
+abbrev pub is_asleep : Option Bool → Bool
+is_asleep None = false
+is_asleep (Some awake) = not awake
+
+-- a CPU falls asleep at the end of its walk, and where it was awake
+abbrev pub sleep_fault : Option Bool → Walk → Option Rule
+sleep_fault active walk =
+    if not (may_end walk) then Some rules.Walk
+    else if is_asleep active then Some rules.Cpu
+    else None
+
+-- what follows only for a CPU that sleeps, written by one that isn't in a walk
+abbrev pub woken_fault : Option Bool → Walk → Option Rule
+woken_fault active walk =
+    if not (may_rest walk) then Some rules.Walk
+    else if is_awake active then Some rules.Cpu
+    else None
+
+abbrev pub state_fault : CpuKind → Option Bool → Walk → Option Rule
+state_fault Asleep active walk = sleep_fault active walk
+state_fault Offline active walk = sleep_fault active walk
+state_fault Online active walk = if may_rest walk then None else Some rules.Walk
+state_fault Awake active walk = woken_fault active walk
+state_fault NewTimer active walk = woken_fault active walk
+state_fault StillAsleep active walk = woken_fault active walk
+state_fault RunElsewhere active walk = woken_fault active walk
+
+-- the line is that of another CPU
+abbrev pub is_elsewhere : CpuKind → Bool
+is_elsewhere RunElsewhere = true
+is_elsewhere Online = false
+is_elsewhere Awake = false
+is_elsewhere Asleep = false
+is_elsewhere Offline = false
+is_elsewhere NewTimer = false
+is_elsewhere StillAsleep = false
+
+-- what an event of a CPU breaks
+abbrev pub cpu_fault : Sight → CpuId → CpuEvent → Option Rule
+cpu_fault s own t =
+    if not (parent_fits (cpu_at s t.cpu).leaf t.leaf) then Some rules.Tree
+    else if not (is_elsewhere t.kind) && not (t.cpu.0 == own.0) then Some rules.Cpu
+    else state_fault t.kind (cpu_at s t.cpu).active (cpu_at s own).walk
+
+abbrev pub active_after : CpuKind → Option Bool
+active_after Awake = Some true
+active_after Online = None
+active_after Asleep = Some false
+active_after Offline = Some false
+active_after NewTimer = Some false
+active_after StillAsleep = Some false
+active_after RunElsewhere = Some false
+
+abbrev pub walk_told : CpuKind → CpuEvent → Walk → Walk
+walk_told Awake t walk = Rising (record { group = t.leaf; from = 0; surely = true })
+walk_told Asleep t walk = Closed
+walk_told Offline t walk = Closed
+walk_told Online t walk = quiet walk
+walk_told NewTimer t walk = quiet walk
+walk_told StillAsleep t walk = quiet walk
+walk_told RunElsewhere t walk = quiet walk
+
+unfoldable pub with_named : Sight → CpuEvent → Sight
+with_named s t =
+    with_cpu s (record (cpu_at s t.cpu) { leaf = Some t.leaf; active = active_after t.kind })
+
+unfoldable pub with_writer : Sight → ℕ → CpuId → CpuEvent → Sight
+with_writer s line own t =
+    with_cpu s
+    (record (cpu_at s own) { walk = walk_told t.kind t (cpu_at s own).walk; last = line })
+
+abbrev pub learned_cpu : Sight → ℕ → CpuId → CpuEvent → Sight
+learned_cpu s line own t = with_writer (with_named s t) line own t
+
+-- the CPU did something else than walk
+unfoldable pub moved : Sight → ℕ → CpuId → Sight
+moved s line own =
+    with_cpu s (record (cpu_at s own) { walk = quiet (cpu_at s own).walk; last = line })
+
+abbrev pub is_level : Option Spot → ℕ → Bool
+is_level None level = true
+is_level (Some spot) level = spot.level == level
+
+-- the CPU's walk of activation has to go on
+abbrev pub must_rise : Walk → Bool
+must_rise (Rising next) = next.surely
+must_rise Unknown = false
+must_rise Closed = false
+must_rise (Falling next) = false
+must_rise Ending = false
+must_rise (Hung next) = false
+
+-- what an update of a group's queue breaks
+abbrev pub update_fault : Sight → CpuId → Update → Option Rule
+update_fault s own u =
+    if not (is_level (group_at s u.group).spot u.level) then Some rules.Tree
+    else if must_rise (cpu_at s own).walk then Some rules.Walk
+    else if not (u.child_active == 0) then Some rules.Event
+    else if u.expiries.stored == NO_EXPIRY then None
+    else if nat_lt u.expiries.stored u.expiries.first
+        || (not (u.child == 0) && not (u.expiries.child_first == u.expiries.stored))
+    then Some rules.Event
+    else None
+
+abbrev pub hung : ℕ → Joining → Walk
+hung child j = Hung (record { group = j.parent.group; from = child; surely = false })
+
+unfoldable pub learned_place : Sight → Place → Sight
+learned_place s place =
+    with_group s (record (group_at s place.group) { spot = Some (spot_of place) })
+
+unfoldable pub with_link : Sight → ℕ → Joining → Sight
+with_link s child j =
+    with_group s
+    (record (group_at s child) { parent = Some j.parent.group; bit = Some j.bit; told = false })
+
+unfoldable pub with_hung : Sight → ℕ → CpuId → ℕ → Joining → Sight
+with_hung s line own child j =
+    with_cpu s (record (cpu_at s own) { walk = hung child j; last = line })
+
+abbrev pub learned_group_link : Sight → ℕ → CpuId → ℕ → Joining → Sight
+learned_group_link s line own child j =
+    with_hung (with_link (learned_place s j.parent) child j) line own child j
+
+unfoldable pub with_leaf : Sight → CpuId → Joining → Sight
+with_leaf s cpu j =
+    with_cpu s
+    (record (cpu_at s cpu) { leaf = Some j.parent.group; bit = Some j.bit; told = false })
+
+abbrev pub learned_cpu_link : Sight → ℕ → CpuId → CpuId → Joining → Sight
+learned_cpu_link s line own cpu j = moved (with_leaf (learned_place s j.parent) cpu j) line own

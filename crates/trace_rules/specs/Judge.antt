@@ -1,0 +1,207 @@
+-- the fold over the lines of a trace
+use Rattle.std.specs.Prelude.{◌≡◌, ℕ, ◌+◌, ◌==◌, not, nat_lt, Bool, true, false, List, [], ◌∷◌}
+use Rattle.std.specs.Prelude.{Option, Some, None, is_some, Result, Ok, Err, if◌then◌else◌}
+use Rattle.std.specs.Prelude.{count_by}
+use Rattle.text_words.specs.Words.{lines_of}
+use Rattle.tm_base.specs.declared.names.CpuId.{CpuId}
+use Rattle.trace_lines.specs.declared.faults.LineFault.{LineFault}
+use Rattle.trace_lines.specs.declared.events.Happening.{Happening}
+use Rattle.trace_lines.specs.declared.events.Happening.TheVariants.{GroupMade, GroupJoined}
+use Rattle.trace_lines.specs.declared.events.Happening.TheVariants.{CpuJoined, Exchanged, CpuTold}
+use Rattle.trace_lines.specs.declared.events.Happening.TheVariants.{Updated, Handling}
+use Rattle.trace_lines.specs.declared.events.Line.{Line}
+use Rattle.trace_lines.specs.declared.events.Line.TheVariants.{Remark, Loss, Foreign, Told}
+use Rattle.trace_lines.specs.Lines.{line_of}
+use Rattle.trace_rules.specs.declared.rules.Rule.{Rule}
+use Rattle.trace_rules.specs.declared.rules.Rule.TheVariants as rules
+use Rattle.trace_rules.specs.declared.judge.Tally.{Tally}
+use Rattle.trace_rules.specs.declared.judge.Course.{Course}
+use Rattle.trace_rules.specs.declared.judge.Misfit.{Misfit}
+use Rattle.trace_rules.specs.declared.judge.Verdict.{Verdict}
+use Rattle.trace_rules.specs.declared.judge.Verdict.TheVariants.{Fits, Broken, NoTrace}
+use Rattle.trace_rules.specs.Seen.{Sight, cpu_at}
+use Rattle.trace_rules.specs.Tree.{cpu_joining_fault, group_joining_fault, spot_fits}
+use Rattle.trace_rules.specs.Walks.{may_rest}
+use Rattle.trace_rules.specs.Exchanges.{exchange_fault, late_line, learned_exchange, with_cpu}
+use Rattle.trace_rules.specs.Cpus.{cpu_fault, learned_cpu, learned_cpu_link, learned_group_link}
+use Rattle.trace_rules.specs.Cpus.{learned_place, moved, update_fault}
+use Rattle.trace_rules.specs.Rests.{at_rest, rest_fits}
+
+-- ---- one event
+
+-- the CPU looks after others in the middle of its walk
+abbrev pub handling_fault : Sight → CpuId → Option Rule
+handling_fault s cpu = if may_rest (cpu_at s cpu).walk then None else Some rules.Walk
+
+-- the rule that an event's own line breaks
+unfoldable pub fault_of : Sight → CpuId → Happening → Option Rule
+fault_of s cpu (GroupMade place) = if spot_fits s place then None else Some rules.Tree
+fault_of s cpu (GroupJoined child j) = group_joining_fault s child j
+fault_of s cpu (CpuJoined joined j) = cpu_joining_fault s joined j
+fault_of s cpu (Exchanged e) = exchange_fault s cpu e
+fault_of s cpu (CpuTold t) = cpu_fault s cpu t
+fault_of s cpu (Updated u) = update_fault s cpu u
+fault_of s cpu (Handling group) = handling_fault s cpu
+
+-- the line of the late exchange that an exchange doesn't explain
+unfoldable pub late_fault : Sight → CpuId → Happening → Option ℕ
+late_fault s cpu (Exchanged e) = late_line s cpu e
+late_fault s cpu (GroupMade place) = None
+late_fault s cpu (GroupJoined child j) = None
+late_fault s cpu (CpuJoined joined j) = None
+late_fault s cpu (CpuTold t) = None
+late_fault s cpu (Updated u) = None
+late_fault s cpu (Handling group) = None
+
+-- what is known after an event
+unfoldable pub learned : Sight → ℕ → CpuId → Happening → Sight
+learned s line cpu (GroupMade place) = moved (learned_place s place) line cpu
+learned s line cpu (GroupJoined child j) = learned_group_link s line cpu child j
+learned s line cpu (CpuJoined joined j) = learned_cpu_link s line cpu joined j
+learned s line cpu (Exchanged e) = learned_exchange s line cpu e
+learned s line cpu (CpuTold t) = learned_cpu s line cpu t
+learned s line cpu (Updated u) = moved s line cpu
+learned s line cpu (Handling group) = moved s line cpu
+
+abbrev pub rest_misfit : ℕ → Bool → Option Misfit
+rest_misfit line true = None
+rest_misfit line false = Some (record { line = line; rule = rules.Rest })
+
+abbrev pub misfit_by : Option Rule → Option ℕ → ℕ → Bool → Option Misfit
+misfit_by (Some rule) late line fits = Some (record { line = line; rule = rule })
+misfit_by None (Some late) line fits = Some (record { line = late; rule = rules.Exchange })
+misfit_by None None line fits = rest_misfit line fits
+
+-- where an event leaves the rules: by its own line, by a late exchange that it doesn't explain, or
+-- by what is known after it
+unfoldable pub told_misfit : Sight → ℕ → CpuId → Happening → Option Misfit
+told_misfit s line cpu h =
+    misfit_by (fault_of s cpu h) (late_fault s cpu h) line (rest_fits (learned s line cpu h))
+
+-- ---- one line
+
+abbrev pub no_sight : Sight
+no_sight = record { groups = []; cpus = [] }
+
+-- the number of the CPU's last line
+abbrev pub noted : Sight → ℕ → CpuId → Sight
+noted s line cpu = with_cpu s (record (cpu_at s cpu) { last = line })
+
+unfoldable pub seen_after : Sight → ℕ → Line → Sight
+seen_after s line Remark = s
+seen_after s line Loss = no_sight
+seen_after s line (Foreign cpu) = noted s line cpu
+seen_after s line (Told cpu h) = learned s line cpu h
+
+unfoldable pub line_misfit : Sight → ℕ → Line → Option Misfit
+line_misfit s line Remark = None
+line_misfit s line Loss = None
+line_misfit s line (Foreign cpu) = None
+line_misfit s line (Told cpu h) = told_misfit s line cpu h
+
+abbrev pub MOST : ℕ
+MOST = 18446744073709551615
+
+-- one more, or the same at the end of the type
+abbrev pub counted : ℕ → ℕ
+counted n = if nat_lt n MOST then n + 1 else n
+
+abbrev pub counted_if : Bool → ℕ → ℕ
+counted_if true n = counted n
+counted_if false n = n
+
+abbrev pub is_exchange : Line → Bool
+is_exchange (Told cpu (Exchanged e)) = true
+is_exchange (Told cpu (GroupMade place)) = false
+is_exchange (Told cpu (GroupJoined child j)) = false
+is_exchange (Told cpu (CpuJoined joined j)) = false
+is_exchange (Told cpu (CpuTold t)) = false
+is_exchange (Told cpu (Updated u)) = false
+is_exchange (Told cpu (Handling group)) = false
+is_exchange Remark = false
+is_exchange Loss = false
+is_exchange (Foreign cpu) = false
+
+abbrev pub is_told : Line → Bool
+is_told (Told cpu h) = true
+is_told Remark = false
+is_told Loss = false
+is_told (Foreign cpu) = false
+
+abbrev pub is_loss_line : Line → Bool
+is_loss_line Loss = true
+is_loss_line Remark = false
+is_loss_line (Foreign cpu) = false
+is_loss_line (Told cpu h) = false
+
+abbrev pub rests_after : Line → Sight → Bool
+rests_after (Told cpu h) s = at_rest s
+rests_after Remark s = false
+rests_after Loss s = false
+rests_after (Foreign cpu) s = false
+
+-- the counts after a line, and what is known then
+unfoldable pub tally_after : Tally → Line → Sight → Tally
+tally_after t said s = record {
+  lines = counted t.lines;
+  events = counted_if (is_told said) t.events;
+  exchanges = counted_if (is_exchange said) t.exchanges;
+  rests = counted_if (rests_after said s) t.rests;
+  losses = counted_if (is_loss_line said) t.losses;
+}
+
+-- ---- the trace
+
+abbrev pub no_tally : Tally
+no_tally = record { lines = 0; events = 0; exchanges = 0; rests = 0; losses = 0 }
+
+abbrev pub start : Course
+start = record { seen = no_sight; tally = no_tally }
+
+abbrev pub verdict_of : Option Misfit → Option Verdict
+verdict_of None = None
+verdict_of (Some misfit) = Some (Broken misfit)
+
+-- what a line decides; its number is one more than the lines before it
+abbrev pub said_verdict : Course → Result Line LineFault → Option Verdict
+said_verdict k (Err fault) = Some (NoTrace (counted k.tally.lines) fault)
+said_verdict k (Ok said) = verdict_of (line_misfit k.seen (counted k.tally.lines) said)
+
+abbrev pub said_after : Course → Result Line LineFault → Course
+said_after k (Err fault) = k
+said_after k (Ok said) = record {
+  seen = seen_after k.seen (counted k.tally.lines) said;
+  tally = tally_after k.tally said (seen_after k.seen (counted k.tally.lines) said);
+}
+
+unfoldable pub text_verdict : Course → List ℕ → Option Verdict
+text_verdict k text = said_verdict k (line_of text)
+
+unfoldable pub text_after : Course → List ℕ → Course
+text_after k text = said_after k (line_of text)
+
+-- how many groups have an exchange that nothing explains yet
+abbrev pub late_count : Sight → ℕ
+late_count s = count_by (λ g. is_some g.late) s.groups
+
+abbrev pub verdict_or : Option Verdict → Verdict → Verdict
+verdict_or None later = later
+verdict_or (Some verdict) later = verdict
+
+-- what is said of a trace whose lines are these, from here on
+abbrev pub judged : Course → List (List ℕ) → Verdict
+judged k [] = Fits k.tally (late_count k.seen)
+judged k (text ∷ texts) = verdict_or (text_verdict k text) (judged (text_after k text) texts)
+
+-- each line fits, by what was seen before it
+abbrev pub EachFits : Course → List (List ℕ) → Type 0
+EachFits k [] = Unit {0}
+EachFits k (text ∷ texts) = (text_verdict k text ≡ None) × EachFits (text_after k text) texts
+
+abbrev pub EachLineFits : List ℕ → Type 0
+EachLineFits bytes = EachFits start (lines_of bytes)
+
+abbrev pub IsFitting : Verdict → Type 0
+IsFitting (Fits tally late) = Unit {0}
+IsFitting (Broken misfit) = ⊥
+IsFitting (NoTrace line fault) = ⊥

@@ -1,0 +1,57 @@
+-- what was seen of a machine so far
+use Rattle.std.specs.Prelude.{ℕ, ◌==◌, List, [], ◌∷◌, ◌++◌, Bool, false, find, position, slice_set}
+use Rattle.std.specs.Prelude.{Option, Some, None}
+use Rattle.tm_base.specs.declared.names.CpuId.{CpuId}
+use Rattle.trace_rules.specs.declared.seen.GroupSeen.{GroupSeen}
+use Rattle.trace_rules.specs.declared.seen.CpuSeen.{CpuSeen}
+use Rattle.trace_rules.specs.declared.seen.Walk.TheVariants.{Unknown}
+
+-- the groups and CPUs of which something was seen
+pub record Sight : Type 0 where
+  pub groups : List GroupSeen
+  pub cpus : List CpuSeen
+
+abbrev pub unknown_group : ℕ → GroupSeen
+unknown_group pointer = record {
+  pointer = pointer;
+  spot = None;
+  parent = None;
+  bit = None;
+  told = false;
+  word = None;
+  late = None;
+}
+
+abbrev pub unknown_cpu : CpuId → CpuSeen
+unknown_cpu cpu = record {
+  cpu = cpu;
+  leaf = None;
+  bit = None;
+  told = false;
+  active = None;
+  walk = Unknown;
+  last = 0;
+}
+
+abbrev pub or_else : {X : Type 0} → Option X → X → X
+or_else None x = x
+or_else (Some y) x = y
+
+-- what was seen of a group
+abbrev pub group_at : Sight → ℕ → GroupSeen
+group_at s pointer = or_else (find (λ g. g.pointer == pointer) s.groups) (unknown_group pointer)
+
+-- what was seen of a CPU
+abbrev pub cpu_at : Sight → CpuId → CpuSeen
+cpu_at s cpu = or_else (find (λ c. c.cpu.0 == cpu.0) s.cpus) (unknown_cpu cpu)
+
+-- in the place of what was there, or at the end
+abbrev pub put_at : {X : Type 0} → Option ℕ → List X → X → List X
+put_at None xs x = xs ++ x ∷ []
+put_at (Some i) xs x = slice_set xs i x
+
+abbrev pub put_group : List GroupSeen → GroupSeen → List GroupSeen
+put_group gs g = put_at (position (λ h. h.pointer == g.pointer) gs) gs g
+
+abbrev pub put_cpu : List CpuSeen → CpuSeen → List CpuSeen
+put_cpu cs c = put_at (position (λ d. d.cpu.0 == c.cpu.0) cs) cs c

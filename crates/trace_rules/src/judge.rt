@@ -1,0 +1,330 @@
+//! The fold over the lines of a trace.
+
+ghost use Rattle.std.specs.Prelude.{◌≡◌, IfOk, OnOk, None};
+ghost use Rattle.text_words.specs.Words.{lines_of};
+ghost use Rattle.trace_rules.specs.Judge.{counted, counted_if, fault_of};
+ghost use Rattle.trace_rules.specs.Judge.{is_exchange, is_loss_line, is_told, judged, late_count};
+ghost use Rattle.trace_rules.specs.Judge.{late_fault, learned, line_misfit, rests_after, seen_after};
+ghost use Rattle.trace_rules.specs.Judge.{start, tally_after, text_after, text_verdict, told_misfit};
+ghost use Rattle.trace_rules.specs.Judge.{handling_fault, noted};
+ghost use Rattle.trace_rules.specs.Cpus.{learned_place, moved};
+
+use crate::Rule;
+use crate::cpus::{cpu_fault, learn_cpu, learn_cpu_link, learn_group_link, learn_place, move_on};
+use crate::cpus::update_fault;
+use crate::exchanges::{exchange_fault, late_line, learn_exchange};
+use crate::rests::{at_rest, rest_fits};
+use crate::seen::{CpuSeen, Seen};
+use crate::tree::{cpu_joining_fault, group_joining_fault, spot_fits};
+use crate::walks::may_rest;
+use std::alloc::Global;
+use text_words::cut;
+use tm_base::{CpuId, NoMemory};
+use trace_lines::{Happening, Line, LineFault, Place, read_line};
+
+/// How much of a trace was read and checked.
+#[derive(Clone, Copy)]
+pub struct Tally {
+    /// Lines of any kind.
+    pub lines: u64,
+    /// Events of timer migration.
+    pub events: u64,
+    /// Exchanges on groups among them.
+    pub exchanges: u64,
+    /// Events after which no walk was under way.
+    pub rests: u64,
+    /// Places where lines were lost.
+    pub losses: u64,
+}
+
+/// Where a trace leaves the rules.
+#[derive(Clone, Copy)]
+pub struct Misfit {
+    /// The line, from 1.
+    pub line: u64,
+    /// The rule that it breaks.
+    pub rule: Rule,
+}
+
+/// What is said of a trace.
+#[derive(Clone, Copy)]
+pub enum Verdict {
+    /// Each line fits. In so many groups the last exchange follows from none that was seen; the
+    /// line of another may come after the trace's end.
+    Fits(Tally, usize),
+    /// A line breaks a rule.
+    Broken(Misfit),
+    /// This line, from 1, is none of a trace.
+    NoTrace(u64, LineFault),
+}
+
+/// What was read of a trace so far.
+#[derive(Drop)]
+pub struct Course {
+    pub seen: Seen,
+    pub tally: Tally,
+}
+
+/// The rule that an event's own line breaks.
+#[tactic(auto, unfolding(crate::specs::Judge::fault_of))]
+fn fault_of(seen: &Seen, cpu: CpuId, happening: &Happening) -> Option<Rule>
+    ensures { result ≡ fault_of seen.now cpu happening.now }
+{
+    match happening {
+        Happening::GroupMade(place) => {
+            if spot_fits(seen, place) {
+                None
+            } else {
+                Some(Rule::Tree)
+            }
+        }
+        Happening::GroupJoined(child, joining) => group_joining_fault(seen, *child, joining),
+        Happening::CpuJoined(joined, joining) => cpu_joining_fault(seen, *joined, joining),
+        Happening::Exchanged(exchange) => exchange_fault(seen, cpu, exchange),
+        Happening::CpuTold(event) => cpu_fault(seen, cpu, event),
+        Happening::Updated(update) => update_fault(seen, cpu, update),
+        Happening::Handling(_) => handling_fault(seen, cpu),
+    }
+}
+
+/// The rule that looking after others breaks.
+fn handling_fault(seen: &Seen, cpu: CpuId) -> Option<Rule>
+    ensures { result ≡ handling_fault seen.now cpu }
+{
+    let own = seen.cpu(cpu);
+    if may_rest(own.walk) {
+        None
+    } else {
+        Some(Rule::Walk)
+    }
+}
+
+/// The line of the late exchange that an event doesn't explain.
+#[tactic(auto, unfolding(crate::specs::Judge::late_fault))]
+fn late_fault(seen: &Seen, cpu: CpuId, happening: &Happening) -> Option<u64>
+    ensures { result ≡ late_fault seen.now cpu happening.now }
+{
+    match happening {
+        Happening::Exchanged(exchange) => late_line(seen, cpu, exchange),
+        _ => None,
+    }
+}
+
+/// Keeps where a new group stands.
+fn learn_group(seen: &mut Seen, line: u64, cpu: CpuId, place: &Place) -> Result<(), NoMemory>
+    ensures { OnOk result (seen.new ≡ moved (learned_place seen.old place.now) line cpu) }
+{
+    learn_place(seen, place)?;
+    move_on(seen, line, cpu)?;
+    Ok(())
+}
+
+/// Keeps what an event shows.
+#[tactic(auto, unfolding(crate::specs::Judge::learned))]
+fn learn(
+    seen: &mut Seen,
+    line: u64,
+    cpu: CpuId,
+    happening: &Happening,
+) -> Result<(), NoMemory>
+    ensures { OnOk result (seen.new ≡ learned seen.old line cpu happening.now) }
+{
+    match happening {
+        Happening::GroupMade(place) => learn_group(seen, line, cpu, place),
+        Happening::GroupJoined(child, joining) => {
+            learn_group_link(seen, line, cpu, *child, joining)
+        }
+        Happening::CpuJoined(joined, joining) => {
+            learn_cpu_link(seen, line, cpu, *joined, joining)
+        }
+        Happening::Exchanged(exchange) => learn_exchange(seen, line, cpu, exchange),
+        Happening::CpuTold(event) => learn_cpu(seen, line, cpu, event),
+        Happening::Updated(_) | Happening::Handling(_) => move_on(seen, line, cpu),
+    }
+}
+
+/// Keeps what an event shows, and answers where it leaves the rules.
+#[tactic(auto, unfolding(crate::specs::Judge::told_misfit))]
+fn take_told(
+    seen: &mut Seen,
+    line: u64,
+    cpu: CpuId,
+    happening: &Happening,
+) -> Result<Option<Misfit>, NoMemory>
+    ensures misfit { IfOk result (λ m. m ≡ told_misfit seen.old line cpu happening.now) }
+    ensures after { IfOk result (λ m. m ≡ None
+        → seen.new ≡ learned seen.old line cpu happening.now) }
+{
+    if let Some(rule) = fault_of(seen, cpu, happening) {
+        return Ok(Some(Misfit { line, rule }));
+    }
+    if let Some(late) = late_fault(seen, cpu, happening) {
+        let rule = Rule::Exchange;
+        return Ok(Some(Misfit { line: late, rule }));
+    }
+    learn(seen, line, cpu, happening)?;
+    if rest_fits(seen) {
+        Ok(None)
+    } else {
+        let rule = Rule::Rest;
+        Ok(Some(Misfit { line, rule }))
+    }
+}
+
+/// Keeps the number of a CPU's last line.
+fn note_line(seen: &mut Seen, line: u64, cpu: CpuId) -> Result<(), NoMemory>
+    ensures { OnOk result (seen.new ≡ noted seen.old line cpu) }
+{
+    let own = seen.cpu(cpu);
+    seen.put_cpu(CpuSeen { last: line, ..own })
+}
+
+/// Keeps what a line shows, and answers where it leaves the rules.
+#[tactic(auto, unfolding(crate::specs::Judge::line_misfit, crate::specs::Judge::seen_after))]
+fn take_line(
+    alloc: Global,
+    seen: &mut Seen,
+    line: u64,
+    said: &Line,
+) -> Result<Option<Misfit>, NoMemory>
+    ensures misfit { IfOk result (λ m. m ≡ line_misfit seen.old line said.now) }
+    ensures after { IfOk result (λ m. m ≡ None → seen.new ≡ seen_after seen.old line said.now) }
+{
+    match said {
+        Line::Remark => Ok(None),
+        Line::Loss => {
+            *seen = Seen::new(alloc);
+            Ok(None)
+        }
+        Line::Foreign(cpu) => {
+            note_line(seen, line, *cpu)?;
+            Ok(None)
+        }
+        Line::Told(cpu, happening) => take_told(seen, line, *cpu, happening),
+    }
+}
+
+/// One more, or the same at the end of the type.
+fn counted(n: u64) -> u64
+    ensures { result ≡ counted n }
+{
+    if n < u64::MAX { n + 1 } else { n }
+}
+
+fn counted_if(counts: bool, n: u64) -> u64
+    ensures { result ≡ counted_if counts n }
+{
+    if counts { counted(n) } else { n }
+}
+
+fn is_exchange(said: &Line) -> bool
+    ensures { result ≡ is_exchange said.now }
+{
+    match said {
+        Line::Told(_, happening) => match happening {
+            Happening::Exchanged(_) => true,
+            _ => false,
+        },
+        _ => false,
+    }
+}
+
+fn is_told(said: &Line) -> bool
+    ensures { result ≡ is_told said.now }
+{
+    match said {
+        Line::Told(_, _) => true,
+        _ => false,
+    }
+}
+
+fn is_loss_line(said: &Line) -> bool
+    ensures { result ≡ is_loss_line said.now }
+{
+    match said {
+        Line::Loss => true,
+        _ => false,
+    }
+}
+
+fn rests_after(said: &Line, seen: &Seen) -> bool
+    ensures { result ≡ rests_after said.now seen.now }
+{
+    match said {
+        Line::Told(_, _) => at_rest(seen),
+        _ => false,
+    }
+}
+
+/// The counts after a line.
+#[tactic(auto, unfolding(crate::specs::Judge::tally_after))]
+fn tally_after(tally: Tally, said: &Line, seen: &Seen) -> Tally
+    ensures { result ≡ tally_after tally said.now seen.now }
+{
+    Tally {
+        lines: counted(tally.lines),
+        events: counted_if(is_told(said), tally.events),
+        exchanges: counted_if(is_exchange(said), tally.exchanges),
+        rests: counted_if(rests_after(said, seen), tally.rests),
+        losses: counted_if(is_loss_line(said), tally.losses),
+    }
+}
+
+/// Takes a line, and answers what it decides.
+#[tactic(auto, unfolding(crate::specs::Judge::text_verdict, crate::specs::Judge::text_after))]
+fn take_text(
+    alloc: Global,
+    course: &mut Course,
+    text: &[u8],
+) -> Result<Option<Verdict>, NoMemory>
+    ensures verdict { IfOk result (λ v. v ≡ text_verdict course.old text.now) }
+    ensures after { IfOk result (λ v. v ≡ None → course.new ≡ text_after course.old text.now) }
+{
+    let line = counted(course.tally.lines);
+    match read_line(text) {
+        Ok(said) => {
+            if let Some(misfit) = take_line(alloc, &mut course.seen, line, &said)? {
+                return Ok(Some(Verdict::Broken(misfit)));
+            }
+            course.tally = tally_after(course.tally, &said, &course.seen);
+            Ok(None)
+        }
+        Err(fault) => Ok(Some(Verdict::NoTrace(line, fault))),
+    }
+}
+
+/// How many groups have an exchange that nothing explains yet.
+fn late_count(seen: &Seen) -> usize
+    ensures { result ≡ late_count seen.now }
+{
+    seen.groups().iter().filter(|g| g.late.is_some()).count()
+}
+
+/// What is said of a trace. A misfit names the first line at which one is found, and the first rule
+/// there in the order of `Rule`; an exchange that no other explains is found at the next one on its
+/// group, and named by its own line. The only error is want of memory.
+pub fn check_trace(alloc: Global, bytes: &[u8]) -> Result<Verdict, NoMemory>
+    ensures exact { IfOk result (λ v. v ≡ judged start (lines_of bytes.now)) }
+{
+    let mut course = Course {
+        seen: Seen::new(alloc),
+        tally: Tally {
+            lines: 0,
+            events: 0,
+            exchanges: 0,
+            rests: 0,
+            losses: 0,
+        },
+    };
+    let mut rest = bytes;
+    while let Some((text, after)) = cut(rest, b'\n') {
+        if let Some(verdict) = take_text(alloc, &mut course, text)? {
+            return Ok(verdict);
+        }
+        rest = after;
+    }
+    if let Some(verdict) = take_text(alloc, &mut course, rest)? {
+        return Ok(verdict);
+    }
+    Ok(Verdict::Fits(course.tally, late_count(&course.seen)))
+}
