@@ -1,5 +1,5 @@
 -- the fold over the lines of a trace
-use Rattle.std.specs.Prelude.{◌≡◌, ℕ, ◌+◌, ◌==◌, not, nat_lt, Bool, true, false, List, [], ◌∷◌}
+use Rattle.std.specs.Prelude.{◌≡◌, ◌⊎◌, ℕ, ◌+◌, ◌==◌, not, nat_lt, Bool, true, false, List, [], ◌∷◌}
 use Rattle.std.specs.Prelude.{Option, Some, None, is_some, Result, Ok, Err, if◌then◌else◌}
 use Rattle.std.specs.Prelude.{count_by}
 use Rattle.text_words.specs.Words.{lines_of}
@@ -205,3 +205,13 @@ abbrev pub IsFitting : Verdict → Type 0
 IsFitting (Fits tally late) = Unit {0}
 IsFitting (Broken misfit) = ⊥
 IsFitting (NoTrace line fault) = ⊥
+
+-- the first line that doesn't fit decides this
+abbrev pub IsFirstAt : Course → List (List ℕ) → Verdict → Type 0
+IsFirstAt k [] verdict = ⊥
+IsFirstAt k (text ∷ texts) verdict =
+    (text_verdict k text ≡ Some verdict)
+    ⊎ ((text_verdict k text ≡ None) × IsFirstAt (text_after k text) texts verdict)
+
+abbrev pub IsFirstFault : List ℕ → Verdict → Type 0
+IsFirstFault bytes verdict = IsFirstAt start (lines_of bytes) verdict

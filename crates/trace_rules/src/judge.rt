@@ -1,11 +1,12 @@
 //! The fold over the lines of a trace.
 
-ghost use Rattle.std.specs.Prelude.{◌≡◌, IfOk, OnOk, None};
+ghost use Rattle.std.specs.Prelude.{◌≡◌, ◌↔◌, IfOk, OnOk, None};
 ghost use Rattle.text_words.specs.Words.{lines_of};
 ghost use Rattle.trace_rules.specs.Judge.{counted, counted_if, fault_of};
 ghost use Rattle.trace_rules.specs.Judge.{is_exchange, is_loss_line, is_told, judged, late_count};
 ghost use Rattle.trace_rules.specs.Judge.{late_fault, learned, line_misfit, rests_after, seen_after};
 ghost use Rattle.trace_rules.specs.Judge.{start, tally_after, text_after, text_verdict, told_misfit};
+ghost use Rattle.trace_rules.specs.Judge.{EachLineFits, IsFirstFault, IsFitting};
 ghost use Rattle.trace_rules.specs.Judge.{handling_fault, noted};
 ghost use Rattle.trace_rules.specs.Cpus.{learned_place, moved};
 
@@ -300,11 +301,9 @@ fn late_count(seen: &Seen) -> usize
     seen.groups().iter().filter(|g| g.late.is_some()).count()
 }
 
-/// What is said of a trace. A misfit names the first line at which one is found, and the first rule
-/// there in the order of `Rule`; an exchange that no other explains is found at the next one on its
-/// group, and named by its own line. The only error is want of memory.
-pub fn check_trace(alloc: Global, bytes: &[u8]) -> Result<Verdict, NoMemory>
-    ensures exact { IfOk result (λ v. v ≡ judged start (lines_of bytes.now)) }
+/// What the function on lists says of a trace.
+fn judge_lines(alloc: Global, bytes: &[u8]) -> Result<Verdict, NoMemory>
+    ensures { IfOk result (λ v. v ≡ judged start (lines_of bytes.now)) }
 {
     let mut course = Course {
         seen: Seen::new(alloc),
@@ -327,4 +326,16 @@ pub fn check_trace(alloc: Global, bytes: &[u8]) -> Result<Verdict, NoMemory>
         return Ok(verdict);
     }
     Ok(Verdict::Fits(course.tally, late_count(&course.seen)))
+}
+
+/// What is said of a trace. A misfit names the first line at which one is found, and the first rule
+/// there in the order of `Rule`; an exchange that no other explains is found at the next one on its
+/// group, and named by its own line. The only error is want of memory.
+pub fn check_trace(alloc: Global, bytes: &[u8]) -> Result<Verdict, NoMemory>
+    ensures exact { IfOk result (λ v. v ≡ judged start (lines_of bytes.now)) }
+    ensures fits { IfOk result (λ v. IsFitting v ↔ EachLineFits bytes.now) }
+    ensures first { IfOk result (λ v. (IsFitting v → ⊥) → IsFirstFault bytes.now v) }
+{
+    let verdict = judge_lines(alloc, bytes)?;
+    Ok(verdict)
 }

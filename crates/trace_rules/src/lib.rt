@@ -15,3 +15,6 @@ pub mod words;
 
 pub use judge::{Course, Misfit, Tally, Verdict, check_trace};
 pub use rules::Rule;
+
+#[cfg(test)]
+mod tests;

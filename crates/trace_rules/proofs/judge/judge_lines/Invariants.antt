@@ -1,7 +1,7 @@
 use Rattle.std.proofs.Common.{◌≡◌, length}
 use Rattle.text_words.specs.Words.{lines_of}
 use Rattle.trace_rules.specs.Judge.{judged, start}
-use Rattle.trace_rules.proofs.judge.check_trace.Given as goal
+use Rattle.trace_rules.proofs.judge.judge_lines.Given as goal
 
 abbrev pub invariant-loop-text : goal.invariant-loop-text
 invariant-loop-text l = judged l.course (lines_of l.rest) ≡ judged start (lines_of l.fn.bytes)

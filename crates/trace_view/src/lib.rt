@@ -1,0 +1,16 @@
+//! The command `linux` of tmigview: it reads a kernel's trace, and writes whether each line follows
+//! the rules.
+#![tactic(auto)]
+
+mod commands;
+mod statuses;
+mod texts;
+
+pub use commands::run_view;
+pub use statuses::{
+    FITS, MISFIT, MOST_TRACE_BYTES, NO_MEMORY, NO_TRACE, READ_FAULT, TOO_LONG, USAGE, WRITE_FAULT,
+};
+pub use texts::{print_verdict, usage_text};
+
+#[cfg(test)]
+mod tests;
