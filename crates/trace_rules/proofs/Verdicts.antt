@@ -60,9 +60,10 @@ first_at k (t ∷ ts) n =
 
 pub fits_law : (texts : List (List ℕ)) (v : Verdict) → v ≡ judged start texts
     → IsFitting v ↔ EachFits start texts
-fits_law texts v e =
-    (λ h. fits_each start texts (subst IsFitting e h),
-     λ h. subst IsFitting (sym e) (each_fits start texts h))
+fits_law texts v e = (
+  λ h. fits_each start texts (subst IsFitting e h),
+  λ h. subst IsFitting (sym e) (each_fits start texts h),
+)
 
 pub first_law : (texts : List (List ℕ)) (v : Verdict) → v ≡ judged start texts
     → (IsFitting v → ⊥) → IsFirstAt start texts v

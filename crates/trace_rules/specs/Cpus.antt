@@ -128,7 +128,7 @@ update_fault s own u =
     else if not (u.child_active == 0) then Some rules.Event
     else if u.expiries.stored == NO_EXPIRY then None
     else if nat_lt u.expiries.stored u.expiries.first
-        || (not (u.child == 0) && not (u.expiries.child_first == u.expiries.stored))
+    || (not (u.child == 0) && not (u.expiries.child_first == u.expiries.stored))
     then Some rules.Event
     else None
 

@@ -39,7 +39,7 @@ bit_is_right s cpu e = bit_from (came_from (cpu_at s cpu).walk e) s cpu e
 abbrev pub place_fault : Sight → Exchange → Option Rule
 place_fault s e =
     if not (spot_fits s e.place) || not (parent_fits (group_at s e.place.group).parent e.parent)
-        || not (is_below e.place.level (group_at s e.parent).spot)
+    || not (is_below e.place.level (group_at s e.parent).spot)
     then Some rules.Tree
     else if not (node_fits e.place.node (group_at s e.parent).spot) then Some rules.Node
     else None
@@ -53,9 +53,9 @@ abbrev pub exchange_fault : Sight → CpuId → Exchange → Option Rule
 exchange_fault s cpu e =
     if is_none (state_of (word_after e)) then Some rules.Group
     else fault_or (place_fault s e)
-      (if not (allows (cpu_at s cpu) e) then Some rules.Walk
-       else if not (bit_is_right s cpu e) then Some rules.Tree
-       else None)
+    (if not (allows (cpu_at s cpu) e) then Some rules.Walk
+    else if not (bit_is_right s cpu e) then Some rules.Tree
+    else None)
 
 abbrev pub word_if : Option Word → Exchange → Option Word
 word_if None e = None

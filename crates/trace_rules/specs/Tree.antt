@@ -79,8 +79,8 @@ spot_fault (Some spot) parent =
 abbrev pub group_joining_fault : Sight → ℕ → Joining → Option Rule
 group_joining_fault s child j =
     if not (spot_fits s j.parent) || nat_lt GROUP_SIZE j.children
-        || not (parent_fits (group_at s child).parent j.parent.group)
-        || not (groups_free s.groups j.parent.group j.bit child)
+    || not (parent_fits (group_at s child).parent j.parent.group)
+    || not (groups_free s.groups j.parent.group j.bit child)
     then Some rules.Tree
     else spot_fault (group_at s child).spot j.parent
 
@@ -88,7 +88,7 @@ group_joining_fault s child j =
 abbrev pub cpu_joining_fault : Sight → CpuId → Joining → Option Rule
 cpu_joining_fault s cpu j =
     if not (spot_fits s j.parent) || not (j.parent.level == 0) || nat_lt GROUP_SIZE j.children
-        || not (parent_fits (cpu_at s cpu).leaf j.parent.group)
-        || not (cpus_free s.cpus j.parent.group j.bit cpu)
+    || not (parent_fits (cpu_at s cpu).leaf j.parent.group)
+    || not (cpus_free s.cpus j.parent.group j.bit cpu)
     then Some rules.Tree
     else None

@@ -2,9 +2,11 @@
 
 ghost use Rattle.std.specs.Prelude.{◌≡◌, OnOk};
 ghost use Rattle.trace_rules.specs.Cpus.{active_after, cpu_fault, is_asleep, is_awake, learned_cpu};
-ghost use Rattle.trace_rules.specs.Cpus.{learned_cpu_link, learned_group_link, learned_place, moved};
+ghost use Rattle.trace_rules.specs.Cpus.{learned_cpu_link, learned_group_link, learned_place};
+ghost use Rattle.trace_rules.specs.Cpus.{moved};
 ghost use Rattle.trace_rules.specs.Cpus.{with_hung, with_leaf, with_link, with_named, with_writer};
-ghost use Rattle.trace_rules.specs.Cpus.{hung, is_elsewhere, is_level, must_rise, state_fault, update_fault, walk_told};
+ghost use Rattle.trace_rules.specs.Cpus.{hung, is_elsewhere, is_level, must_rise, state_fault};
+ghost use Rattle.trace_rules.specs.Cpus.{update_fault, walk_told};
 
 use crate::Rule;
 use crate::exchanges::spot_of;
@@ -142,12 +144,7 @@ fn learn_writer(seen: &mut Seen, line: u64, own: CpuId, event: &CpuEvent) -> Res
 }
 
 /// Keeps what an event of a CPU shows.
-pub fn learn_cpu(
-    seen: &mut Seen,
-    line: u64,
-    own: CpuId,
-    event: &CpuEvent,
-) -> Result<(), NoMemory>
+pub fn learn_cpu(seen: &mut Seen, line: u64, own: CpuId, event: &CpuEvent) -> Result<(), NoMemory>
     ensures { OnOk result (seen.new ≡ learned_cpu seen.old line own event.now) }
 {
     learn_named(seen, event)?;

@@ -2,7 +2,8 @@
 
 ghost use Rattle.std.specs.Prelude.{◌≡◌, OnOk};
 ghost use Rattle.trace_rules.specs.Exchanges.{bit_is_right, child_after, cpu_after, exchange_fault};
-ghost use Rattle.trace_rules.specs.Exchanges.{group_after, is_resolved, late_line, learned_exchange};
+ghost use Rattle.trace_rules.specs.Exchanges.{group_after, is_resolved, late_line};
+ghost use Rattle.trace_rules.specs.Exchanges.{learned_exchange};
 ghost use Rattle.trace_rules.specs.Exchanges.{place_fault, settled, spot_of, word_before, told_by};
 ghost use Rattle.trace_rules.specs.Exchanges.{learned_child, learned_group, learned_walk};
 ghost use Rattle.trace_rules.specs.Exchanges.{source_seen, word_seen};
@@ -24,8 +25,7 @@ fn bit_is_right(seen: &Seen, cpu: CpuId, exchange: &Exchange) -> bool
     match came_from(own.walk, exchange) {
         Some(from) => {
             if from == 0 {
-                bit_fits(own.bit, exchange.bit)
-                    && cpus_free(seen.cpus(), group, exchange.bit, cpu)
+                bit_fits(own.bit, exchange.bit) && cpus_free(seen.cpus(), group, exchange.bit, cpu)
             } else {
                 let child = seen.group(from);
                 bit_fits(child.bit, exchange.bit)
@@ -234,12 +234,7 @@ fn learn_child(seen: &mut Seen, from: Option<u64>, exchange: &Exchange) -> Resul
 
 /// Keeps what an exchange shows of its group.
 #[tactic(auto, unfolding(crate::specs::Exchanges::learned_group))]
-fn learn_group(
-    seen: &mut Seen,
-    line: u64,
-    cpu: CpuId,
-    exchange: &Exchange,
-) -> Result<(), NoMemory>
+fn learn_group(seen: &mut Seen, line: u64, cpu: CpuId, exchange: &Exchange) -> Result<(), NoMemory>
     ensures { OnOk result (seen.new ≡ learned_group seen.old line cpu exchange.now) }
 {
     let group = seen.group(exchange.place.group);

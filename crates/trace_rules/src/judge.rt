@@ -4,15 +4,18 @@ ghost use Rattle.std.specs.Prelude.{◌≡◌, ◌↔◌, IfOk, OnOk, None};
 ghost use Rattle.text_words.specs.Words.{lines_of};
 ghost use Rattle.trace_rules.specs.Judge.{counted, counted_if, fault_of};
 ghost use Rattle.trace_rules.specs.Judge.{is_exchange, is_loss_line, is_told, judged, late_count};
-ghost use Rattle.trace_rules.specs.Judge.{late_fault, learned, line_misfit, rests_after, seen_after};
-ghost use Rattle.trace_rules.specs.Judge.{start, tally_after, text_after, text_verdict, told_misfit};
+ghost use Rattle.trace_rules.specs.Judge.{late_fault, learned, line_misfit, rests_after};
+ghost use Rattle.trace_rules.specs.Judge.{seen_after};
+ghost use Rattle.trace_rules.specs.Judge.{start, tally_after, text_after, text_verdict};
+ghost use Rattle.trace_rules.specs.Judge.{told_misfit};
 ghost use Rattle.trace_rules.specs.Judge.{EachLineFits, IsFirstFault, IsFitting};
 ghost use Rattle.trace_rules.specs.Judge.{handling_fault, noted};
 ghost use Rattle.trace_rules.specs.Cpus.{learned_place, moved};
 
 use crate::Rule;
-use crate::cpus::{cpu_fault, learn_cpu, learn_cpu_link, learn_group_link, learn_place, move_on};
-use crate::cpus::update_fault;
+use crate::cpus::{
+    cpu_fault, learn_cpu, learn_cpu_link, learn_group_link, learn_place, move_on, update_fault,
+};
 use crate::exchanges::{exchange_fault, late_line, learn_exchange};
 use crate::rests::{at_rest, rest_fits};
 use crate::seen::{CpuSeen, Seen};
@@ -26,7 +29,7 @@ use trace_lines::{Happening, Line, LineFault, Place, read_line};
 /// How much of a trace was read and checked.
 #[derive(Clone, Copy)]
 pub struct Tally {
-    /// Lines of any kind.
+    /// Lines of any kind, with what stands behind the last line feed.
     pub lines: u64,
     /// Events of timer migration.
     pub events: u64,
@@ -122,12 +125,7 @@ fn learn_group(seen: &mut Seen, line: u64, cpu: CpuId, place: &Place) -> Result<
 
 /// Keeps what an event shows.
 #[tactic(auto, unfolding(crate::specs::Judge::learned))]
-fn learn(
-    seen: &mut Seen,
-    line: u64,
-    cpu: CpuId,
-    happening: &Happening,
-) -> Result<(), NoMemory>
+fn learn(seen: &mut Seen, line: u64, cpu: CpuId, happening: &Happening) -> Result<(), NoMemory>
     ensures { OnOk result (seen.new ≡ learned seen.old line cpu happening.now) }
 {
     match happening {
@@ -273,11 +271,7 @@ fn tally_after(tally: Tally, said: &Line, seen: &Seen) -> Tally
 
 /// Takes a line, and answers what it decides.
 #[tactic(auto, unfolding(crate::specs::Judge::text_verdict, crate::specs::Judge::text_after))]
-fn take_text(
-    alloc: Global,
-    course: &mut Course,
-    text: &[u8],
-) -> Result<Option<Verdict>, NoMemory>
+fn take_text(alloc: Global, course: &mut Course, text: &[u8]) -> Result<Option<Verdict>, NoMemory>
     ensures verdict { IfOk result (λ v. v ≡ text_verdict course.old text.now) }
     ensures after { IfOk result (λ v. v ≡ None → course.new ≡ text_after course.old text.now) }
 {

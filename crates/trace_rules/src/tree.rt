@@ -3,8 +3,10 @@
 ghost use Rattle.std.specs.Prelude.{◌≡◌, ◌==◌, not};
 ghost use Rattle.std.specs.List.{list_all};
 ghost use Rattle.trace_rules.specs.Tree.{bit_fits, cpu_stands, cpus_free, cpu_joining_fault};
-ghost use Rattle.trace_rules.specs.Tree.{group_stands, groups_free, is_below, node_fits, parent_fits};
-ghost use Rattle.trace_rules.specs.Tree.{group_joining_fault, same_pointer, spot_fault, spot_fits, spot_is};
+ghost use Rattle.trace_rules.specs.Tree.{group_stands, groups_free, is_below, node_fits};
+ghost use Rattle.trace_rules.specs.Tree.{parent_fits};
+ghost use Rattle.trace_rules.specs.Tree.{group_joining_fault, same_pointer, spot_fault, spot_fits};
+ghost use Rattle.trace_rules.specs.Tree.{spot_is};
 
 use crate::Rule;
 use crate::seen::{CpuSeen, GroupSeen, Seen, Spot};

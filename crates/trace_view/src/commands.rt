@@ -38,11 +38,7 @@ fn is_linux(words: &[String]) -> bool
 }
 
 /// Does what the words say, up to what is to be written. It reads the source only for the command.
-fn reply_to<S: Source>(
-    alloc: Global,
-    words: &[String],
-    source: &mut S,
-) -> Result<Reply, NoMemory>
+fn reply_to<S: Source>(alloc: Global, words: &[String], source: &mut S) -> Result<Reply, NoMemory>
     ensures reply { IfOk result
         (λ reply. IsReply reply words.now (S.seen source.old) (S.seen source.new)) }
     ensures unbroken { OnErr result (SourceUnbroken (S.seen source.old) (S.seen source.new)) }
@@ -98,7 +94,8 @@ fn status_of(reply: Reply) -> u8
 /// Writes a reply, and answers the status that says how that went: the reply's own where all of
 /// it was written.
 fn write_reply<K: Sink>(alloc: Global, reply: Reply, sink: &mut K) -> u8
-    ensures { IsEnd (reply_text reply) (status_of reply) (K.seen sink.old) (K.seen sink.new) result }
+    ensures { IsEnd (reply_text reply) (status_of reply)
+        (K.seen sink.old) (K.seen sink.new) result }
 {
     let Ok(text) = make_text(alloc, reply) else {
         return NO_MEMORY;

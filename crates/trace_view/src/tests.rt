@@ -10,7 +10,9 @@ fn a_misfit_names_its_line_and_its_rule(rt: HostRuntime) -> Result<(), Fail> {
         line: 68,
         rule: Rule::Rest,
     };
-    let text = print_verdict(rt.alloc(), Verdict::Broken(misfit)).ok().ok_or("no memory")?;
+    let text = print_verdict(rt.alloc(), Verdict::Broken(misfit))
+        .ok()
+        .ok_or("no memory")?;
     let want = b"line 68: with no walk under way a child's bit says whether it is active\n";
     assert!(rt; text.as_slice() == want.as_slice());
     let refused = Verdict::NoTrace(1, LineFault::NoEvent);

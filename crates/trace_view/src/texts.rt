@@ -96,7 +96,10 @@ fn push_fits(text: &mut Vec<u8>, tally: Tally, late: u64) -> Result<(), NoMemory
 {
     push_tally(text, tally)?;
     push_count(text, b"\nopen: late exchanges ", late)?;
-    push_bytes(text, b"\nnot checked: what queues hold, wakeups, timers, times\n")?;
+    push_bytes(
+        text,
+        b"\nnot checked: what queues hold, wakeups, timers, times\n",
+    )?;
     Ok(())
 }
 
