@@ -1,0 +1,11 @@
+//! Delayed work over the timers of one CPU: works that are queued with a delay, become ready when
+//! their timer goes out, and run one by one; and the story of every queueing.
+#![tactic(auto)]
+
+mod ledger;
+mod standing;
+mod stories;
+
+pub use ledger::Ledger;
+pub use standing::{End, Placed, Standing};
+pub use stories::Stories;
