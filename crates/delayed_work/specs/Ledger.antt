@@ -36,6 +36,10 @@ new_ledger count = record { standings = replicate count Free; ready = []; story 
 abbrev pub standing_of : (work : ℕ) → LedgerState → Standing
 standing_of work ledger = slice_index_or ledger.standings work Free
 
+abbrev pub is_free : Standing → Bool
+is_free Free = true
+is_free _ = false
+
 abbrev pub is_waiting : Standing → Bool
 is_waiting (Waiting number) = true
 is_waiting _ = false

@@ -5,7 +5,9 @@
 mod ledger;
 mod standing;
 mod stories;
+mod works;
 
 pub use ledger::Ledger;
 pub use standing::{End, Placed, Standing};
 pub use stories::Stories;
+pub use works::Works;

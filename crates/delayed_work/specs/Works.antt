@@ -1,0 +1,182 @@
+-- works over the timers of one CPU, as plain data, and what each call makes of them
+use Rattle.std.specs.Prelude.{◌≡◌, ℕ, zero, suc, ◌+◌, ◌<◌, ◌≤◌, ◌==◌, Bool, List, [], ◌∷◌, length}
+use Rattle.std.specs.Prelude.{Option, Some, None, is_some, if◌then◌else◌}
+use Rattle.tm_base.specs.declared.limits.TheConstants.{MOST_TIMERS}
+use Rattle.tm_base.specs.declared.names.Class.TheVariants.{Pinned, Global, Deferrable}
+use Rattle.tm_base.specs.declared.names.CpuId.{CpuId}
+use Rattle.wheel_core.specs.declared.item.Item.{Item}
+use Rattle.wheel_core.specs.PlainBase.{NoneBehind, item_of, next_out}
+use Rattle.cpu_bases.specs.CpuBases.{CpuBases, IsConsistent, NotAhead, armed, base_of, cancelled}
+use Rattle.cpu_bases.specs.CpuBases.{drained, handed_out, item_queued}
+use Rattle.job_table.specs.declared.jobs.JobCall.{JobCall}
+use Rattle.job_table.specs.declared.jobs.JobReply.{JobReply}
+use Rattle.job_table.specs.declared.jobs.JobReply.TheVariants.{Again}
+use Rattle.key_lists.specs.Tables.{first_of}
+use Rattle.delayed_work.specs.declared.standing.Standing.{Standing}
+use Rattle.delayed_work.specs.declared.standing.Standing.TheVariants as standings
+use Rattle.delayed_work.specs.declared.standing.Placed.{Placed}
+use Rattle.delayed_work.specs.declared.standing.Placed.TheVariants.{Waiting, Ready, Pending}
+use Rattle.delayed_work.specs.declared.standing.End.TheVariants as ends
+use Rattle.delayed_work.specs.Ledger.{IsSound, LedgerState, accepted_ready, accepted_waiting}
+use Rattle.delayed_work.specs.Ledger.{come_ready, ended, is_waiting, new_ledger, standing_of}
+
+-- the bases, of which the global one has the timers of the works that wait; how the works stand;
+-- and the last time at which a call changed something
+pub record WorksState : Type 0 where
+  pub bases : CpuBases
+  pub ledger : LedgerState
+  pub time : ℕ
+
+-- so many free works over bases
+abbrev pub new_works : CpuBases → (count : ℕ) → WorksState
+new_works bases count = record { bases = bases; ledger = new_ledger count; time = 0 }
+
+-- the one CPU there is
+abbrev pub first_cpu : CpuId
+first_cpu = record { 0 = 0 }
+
+-- QUEUEING (queue_delayed_work): a free work is ready at once where the delay is 0; else its timer
+-- is armed for so many jiffies from now
+abbrev pub placed_free : (now work delay job arg : ℕ) → CpuBases → Placed
+placed_free now work delay job arg bases =
+    if delay == 0 then Ready
+    else Waiting (item_queued now Global work (now + delay) job arg bases).wheel
+
+abbrev pub bases_queued : (now work delay job arg line : ℕ) → CpuBases → CpuBases
+bases_queued now work delay job arg line bases =
+    if delay == 0 then bases
+    else armed now Global work (now + delay) job arg line first_cpu bases
+
+abbrev pub ledger_queued : (work delay job arg : ℕ) → LedgerState → LedgerState
+ledger_queued work delay job arg ledger =
+    if delay == 0 then accepted_ready work job arg ledger else accepted_waiting work ledger
+
+abbrev pub accepted : (now work delay job arg line : ℕ) → WorksState → WorksState
+accepted now work delay job arg line works = record {
+  bases = bases_queued now work delay job arg line works.bases;
+  ledger = ledger_queued work delay job arg works.ledger;
+  time = now;
+}
+
+-- a work that is pending already stays as it is
+abbrev pub queued_from : Standing → (now work delay job arg line : ℕ) → WorksState → WorksState
+queued_from standings.Free now work delay job arg line works =
+    accepted now work delay job arg line works
+queued_from _ now work delay job arg line works = works
+
+abbrev pub queued : (now work delay job arg line : ℕ) → WorksState → WorksState
+queued now work delay job arg line works =
+    queued_from (standing_of work works.ledger) now work delay job arg line works
+
+abbrev pub placed_from : Standing → (now work delay job arg : ℕ) → CpuBases → Placed
+placed_from standings.Free now work delay job arg bases =
+    placed_free now work delay job arg bases
+placed_from _ now work delay job arg bases = Pending
+
+abbrev pub placed : (now work delay job arg : ℕ) → WorksState → Placed
+placed now work delay job arg works =
+    placed_from (standing_of work works.ledger) now work delay job arg works.bases
+
+-- CANCELLING (cancel_delayed_work): a pending work becomes free, and its timer is taken out where
+-- it waits
+abbrev pub cancelled_from : Standing → (now work line : ℕ) → WorksState → WorksState
+cancelled_from standings.Free now work line works = works
+cancelled_from (standings.Waiting number) now work line works = record {
+  bases = cancelled now work line first_cpu works.bases;
+  ledger = ended work ends.Cancelled works.ledger;
+  time = now;
+}
+cancelled_from (standings.Ready number job arg) now work line works =
+    record works { ledger = ended work ends.Cancelled works.ledger; time = now }
+
+abbrev pub cancelled_work : (now work line : ℕ) → WorksState → WorksState
+cancelled_work now work line works =
+    cancelled_from (standing_of work works.ledger) now work line works
+
+-- EXPIRY (delayed_work_timer_fn): the works of these items become ready, in this order
+abbrev pub all_ready : List Item → LedgerState → LedgerState
+all_ready [] ledger = ledger
+all_ready (item ∷ items) ledger =
+    all_ready items (come_ready item.id item.job item.arg ledger)
+
+-- the items that go out at a time, so many at most, in the order of hand-out
+abbrev pub out_then : Option Item → List Item → List Item
+out_then None items = []
+out_then (Some item) items = item ∷ items
+
+abbrev pub items_out : (most now : ℕ) → CpuBases → List Item
+items_out zero now bases = []
+items_out (suc most) now bases =
+    out_then (next_out now (base_of Global bases))
+    (items_out most now (handed_out now Global first_cpu bases))
+
+abbrev pub expired : (now : ℕ) → WorksState → WorksState
+expired now works =
+    let most = length (base_of Global works.bases).items in
+    record {
+      bases = drained most now Global first_cpu works.bases;
+      ledger = all_ready (items_out most now works.bases) works.ledger;
+      time = now;
+    }
+
+-- RUNNING (process_one_work): the first ready work becomes free, its job is run, and it is queued
+-- again where the job says so; the class that the job names is set aside
+abbrev pub call_of : (work arg now : ℕ) → JobCall
+call_of work arg now =
+    record { timer = record { 0 = work }; arg = arg; now = now; runner = first_cpu }
+
+abbrev pub queued_again : JobReply → (now work job arg : ℕ) → WorksState → WorksState
+queued_again (Again class delay) now work job arg works =
+    accepted now work delay job arg 0 works
+queued_again _ now work job arg works = works
+
+abbrev pub placed_again : JobReply → (now work job arg : ℕ) → CpuBases → Option Placed
+placed_again (Again class delay) now work job arg bases =
+    Some (placed_free now work delay job arg bases)
+placed_again _ now work job arg bases = None
+
+abbrev pub ran_from : Standing → (work : ℕ) → (ℕ → JobCall → JobReply) → (now : ℕ)
+    → WorksState → WorksState
+ran_from (standings.Ready number job arg) work replies now works =
+    queued_again (replies job (call_of work arg now)) now work job arg
+    (record works { ledger = ended work ends.Ran works.ledger; time = now })
+ran_from _ work replies now works = works
+
+abbrev pub ran_first : Option ℕ → (ℕ → JobCall → JobReply) → (now : ℕ) → WorksState → WorksState
+ran_first None replies now works = works
+ran_first (Some work) replies now works =
+    ran_from (standing_of work works.ledger) work replies now works
+
+abbrev pub ran : (ℕ → JobCall → JobReply) → (now : ℕ) → WorksState → WorksState
+ran replies now works = ran_first (first_of works.ledger.ready) replies now works
+
+-- what a run answers: the work, its job's reply, and where it was queued again
+abbrev pub Run : Type 0
+Run = ℕ × JobReply × Option Placed
+
+abbrev pub told_from : Standing → (work : ℕ) → (ℕ → JobCall → JobReply) → (now : ℕ)
+    → WorksState → Option Run
+told_from (standings.Ready number job arg) work replies now works =
+    let reply = replies job (call_of work arg now) in
+    Some (work, reply, placed_again reply now work job arg works.bases)
+told_from _ work replies now works = None
+
+abbrev pub told_first : Option ℕ → (ℕ → JobCall → JobReply) → (now : ℕ) → WorksState → Option Run
+told_first None replies now works = None
+told_first (Some work) replies now works =
+    told_from (standing_of work works.ledger) work replies now works
+
+abbrev pub told_run : (ℕ → JobCall → JobReply) → (now : ℕ) → WorksState → Option Run
+told_run replies now works = told_first (first_of works.ledger.ready) replies now works
+
+-- WHAT IS KEPT: a timer is queued exactly for each work that waits
+pub record IsLawful (works : WorksState) : Type 0 where
+  pub sound : IsSound works.ledger
+  pub few : length works.ledger.standings ≤ MOST_TIMERS
+  pub waiting : (work : ℕ) → is_some (item_of work (base_of Global works.bases).items)
+      ≡ is_waiting (standing_of work works.ledger)
+  pub none_pinned : (base_of Pinned works.bases).items ≡ []
+  pub none_deferrable : (base_of Deferrable works.bases).items ≡ []
+  pub none_behind : NoneBehind (base_of Global works.bases)
+  pub not_ahead : NotAhead works.time (base_of Global works.bases)
+  pub consistent : IsConsistent works.bases
