@@ -74,6 +74,7 @@ fn accept<B: TimerBase>(
     ensures bases { bases.new.plain
         ≡ bases_queued now work delay job arg line bases.old.plain }
     ensures ledger { ledger.new.plain ≡ ledger_queued work delay job arg ledger.old.plain }
+    ensures in_range { delay < 2 ^ 32 }
 {
     if delay == 0 {
         ledger.accept_ready(work, job, arg);
@@ -151,9 +152,9 @@ impl<B: TimerBase> Works<B> {
         ensures err { OnErr result (self.new ≡ self.old) }
     {
         let standing = self.ledger.standing(work);
-        if !matches!(standing, Standing::Free) {
+        let Standing::Free = standing else {
             return Ok(Placed::Pending);
-        }
+        };
         self.ledger.reserve()?;
         self.bases.reserve(1, 1)?;
         let placed = accept(
