@@ -1,3 +1,5 @@
 pub mod Ledger
 pub mod Kept
 pub mod Works
+pub mod Calls
+pub mod Laws
