@@ -34,14 +34,14 @@ pub out_queued : (now : ℕ) (bases : CpuBases) (item : Item) → IsConsistent b
     → item_of item.id (queue_of bases) ≡ Some item
 out_queued now bases item consistent is =
     (subst (OutIsDue now (queue_of bases)) is
-      (due_out now (base_of Global bases) (consistent.fits Global).sound)).queued
+    (due_out now (base_of Global bases) (consistent.fits Global).sound)).queued
 
 pub queue_less : (now : ℕ) (bases : CpuBases) (item : Item)
     → next_out now (base_of Global bases) ≡ Some item
     → queue_of (one_out now bases) ≡ without item.id (queue_of bases)
 queue_less now bases item is =
     subst (λ out. queue_of (after_hand_out out now Global first_cpu bases) ≡ without item.id (queue_of bases))
-      (sym is) (ap (λ out. (after_out (base_of Global bases) out).items) is)
+    (sym is) (ap (λ out. (after_out (base_of Global bases) out).items) is)
 
 pub queue_same : (now : ℕ) (bases : CpuBases) → next_out now (base_of Global bases) ≡ None
     → queue_of (one_out now bases) ≡ queue_of bases
@@ -93,22 +93,22 @@ come_fits bases ledger item count consistent fits queued =
     let within = waits_within ledger item.id is in
     let (number, waits) = waiting_is (standing_of item.id ledger) is in
     let changes = changes_at ledger item.id (Ready number item.job item.arg)
-      (ready_from (Waiting number) item.id item.job item.arg ledger).ready ledger.story within in
+    (ready_from (Waiting number) item.id item.job item.arg ledger).ready ledger.story within in
     let whole : Fits (without item.id (queue_of bases)) (ready_from (Waiting number) item.id item.job item.arg ledger) count = record {
       sound = ready_sound ledger item.id number item.job item.arg within waits fits.sound;
       waits = waits_taken (queue_of bases) ledger _ item.id (Ready number item.job item.arg)
-        (consistent.fits Global).sound.distinct fits.waits refl changes;
+          (consistent.fits Global).sound.distinct fits.waits refl changes;
       count_is = length-set ledger.standings item.id _ ∙ fits.count_is;
     } in
     subst (λ standing. Fits (without item.id (queue_of bases)) (ready_from standing item.id item.job item.arg ledger) count)
-      (sym waits) whole
+    (sym waits) whole
 
 -- a whole drain
 pub drain_fits : (most now : ℕ) (bases : CpuBases) (ledger : LedgerState) (count : ℕ)
     → now < TIME_LIMIT - 1 → IsConsistent bases → length (queue_of bases) ≤ most
     → Fits (queue_of bases) ledger count
     → Fits (queue_of (drained most now Global first_cpu bases))
-      (all_ready (items_out most now bases) ledger) count
+    (all_ready (items_out most now bases) ledger) count
 drain_fits zero now bases ledger count in_time consistent few fits =
     elim (or_item (next_out now (base_of Global bases))) [
       | inl none ↦ subst (λ items. Fits items ledger count) (sym (queue_same now bases none)) fits
@@ -125,8 +125,8 @@ drain_fits (suc most) now bases ledger count in_time consistent few fits =
           let queued = out_queued now bases item consistent there.1 in
           let come = come_fits bases ledger item count consistent fits queued in
           let moved = subst (λ items. Fits items (come_ready item.id item.job item.arg ledger) count)
-            (sym (queue_less now bases item there.1)) come in
+          (sym (queue_less now bases item there.1)) come in
           let rest = drain_fits most now (one_out now bases) (come_ready item.id item.job item.arg ledger) count in_time
-            (handing_out_keeps now Global first_cpu bases in_time consistent).0 (omega arith) moved in
+          (handing_out_keeps now Global first_cpu bases in_time consistent).0 (omega arith) moved in
           rw (drained_some most now bases item there.1, out_some most now bases item there.1) rest
     ]

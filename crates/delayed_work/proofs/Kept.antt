@@ -32,8 +32,8 @@ before_read standings table ready_len story work i found standing kept within is
   kept = kept;
   within = within;
   stands = same_Some _ _ (sym (slice_get-get_or standings work Free within)
-    ∙ slice_get-get_or standings work found within)
-    ∙ ap (λ k. get_or standings k found) (sym is_i) ∙ sym read ∙ is;
+      ∙ slice_get-get_or standings work found within)
+      ∙ ap (λ k. get_or standings k found) (sym is_i) ∙ sym read ∙ is;
 }
 
 -- a key came to the end of the one list
@@ -55,7 +55,7 @@ pub kept_waiting : (standings : List Standing) (table : KeyTable) (ready_len : �
 kept_waiting standings table ready_len story now work i number b is_i is_number is_now =
     let sound = accepted_waiting_sound (ledger_of standings table story) work b.within b.stands b.kept.sound in
     let whole : IsKept (slice_set standings work (Waiting (length story))) table ready_len
-        (story ++ (length story, work, Pending) ∷ []) = record {
+    (story ++ (length story, work, Pending) ∷ []) = record {
       sound = sound;
       one_list = b.kept.one_list;
       room = rw length-set b.kept.room;
@@ -73,7 +73,7 @@ pub kept_ready : (standings : List Standing) (table table_now : KeyTable) (ready
 kept_ready standings table table_now ready_len story now work i number job arg b is_i is_number is_now pushed =
     let sound = accepted_ready_sound (ledger_of standings table story) work job arg b.within b.stands b.kept.sound in
     let whole : IsKept (slice_set standings work (Ready (length story) job arg)) table_now (ready_len + 1)
-        (story ++ (length story, work, Pending) ∷ []) = record {
+    (story ++ (length story, work, Pending) ∷ []) = record {
       sound = subst (λ ready. IsSound (record {
         standings = slice_set standings work (Ready (length story) job arg);
         ready = ready;
@@ -115,7 +115,7 @@ pub kept_waiting_ended : (standings standings_now : List Standing) (table : KeyT
 kept_waiting_ended standings standings_now table ready_len story now work number end b over is_standings is_now =
     let sound = ended_sound (ledger_of standings table story) work end (Waiting number) b.within over b.stands b.kept.sound in
     let whole : IsKept (slice_set standings work Free) table ready_len
-        (slice_set story number (number, work, end)) = record {
+    (slice_set story number (number, work, end)) = record {
       sound = sound;
       one_list = b.kept.one_list;
       room = rw length-set b.kept.room;
@@ -135,7 +135,7 @@ kept_ready_ended standings standings_now table table_now ready_len story now wor
     let sound = ended_sound (ledger_of standings table story) work end (Ready number job arg) b.within over b.stands b.kept.sound in
     let shorter = length_without work (list_of table 0) (b.kept.sound.in_list work (ap is_ready b.stands)) in
     let whole : IsKept (slice_set standings work Free) table_now (ready_len - 1)
-        (slice_set story number (number, work, end)) = record {
+    (slice_set story number (number, work, end)) = record {
       sound = subst (λ ready. IsSound (record {
         standings = slice_set standings work Free;
         ready = ready;
@@ -154,7 +154,7 @@ pub told_within : (standings : List Standing) (table : KeyTable) (ready_len : �
     → number_in standing ≡ Some number → number < length story
 told_within standings table ready_len story work number standing b is =
     slice_get_within story number _
-      (b.kept.sound.numbered work number (ap number_in b.stands ∙ is))
+    (b.kept.sound.numbered work number (ap number_in b.stands ∙ is))
 
 -- there is room to count one ready work more, and a ready work counts
 pub counts_more : (standings : List Standing) (table : KeyTable) (ready_len : ℕ) (story : List Told)
@@ -178,7 +178,7 @@ pub first_low : (standings : List Standing) (table : KeyTable) (ready_len : ℕ)
     → found ≡ first_of (list_of table 0) → found ≡ Some first → first < MOST_TIMERS
 first_low standings table ready_len story first found kept is some =
     let low = ready_within (ledger_of standings table story) first kept.sound
-      (first_holds first (list_of table 0) (sym is ∙ some)) in
+    (first_holds first (list_of table 0) (sym is ∙ some)) in
     let few = kept.few in
     omega arith
 
@@ -190,4 +190,4 @@ one_only standings table ready_len story work standing b is c low =
     let one = b.kept.one_list in
     let zero_is : c ≡ 0 = omega arith in
     subst (λ k. Lacks work (list_of table k)) (sym zero_is)
-      (b.kept.sound.not_in_list work (ap is_ready b.stands ∙ is))
+    (b.kept.sound.not_in_list work (ap is_ready b.stands ∙ is))

@@ -66,8 +66,8 @@ ready_lawful now work job arg works may free =
       sound = accepted_ready_sound works.ledger work job arg may.within free old.sound;
       few = rw length-set old.few;
       waiting = waits_kept (queue_of works.bases) works.ledger new work (Ready (length works.ledger.story) job arg)
-        old.waiting (ap is_waiting free)
-        (changes_at works.ledger work (Ready (length works.ledger.story) job arg) new.ready new.story may.within);
+          old.waiting (ap is_waiting free)
+          (changes_at works.ledger work (Ready (length works.ledger.story) job arg) new.ready new.story may.within);
       none_pinned = old.none_pinned;
       none_deferrable = old.none_deferrable;
       none_behind = old.none_behind;
@@ -79,10 +79,10 @@ ready_lawful now work job arg works may free =
 pub waiting_lawful : (now work delay job arg line : ℕ) (works : WorksState) → MayCall now work works
     → work < 2 ^ 16 → delay < 2 ^ 32 → standing_of work works.ledger ≡ Free
     → IsLawful (record {
-        bases = armed now Global work (now + delay) job arg line first_cpu works.bases;
-        ledger = accepted_waiting work works.ledger;
-        time = now;
-      })
+      bases = armed now Global work (now + delay) job arg line first_cpu works.bases;
+      ledger = accepted_waiting work works.ledger;
+      time = now;
+    })
 waiting_lawful now work delay job arg line works may fits short free =
     let old = may.lawful in
     let in_time = may.in_time in
@@ -101,8 +101,8 @@ waiting_lawful now work delay job arg line works may fits short free =
       sound = accepted_waiting_sound works.ledger work may.within free old.sound;
       few = rw length-set old.few;
       waiting = waits_pushed (queue_of works.bases) works.ledger new item (length works.ledger.story)
-        old.waiting (ap is_waiting free)
-        (changes_at works.ledger work (Waiting (length works.ledger.story)) new.ready new.story may.within);
+          old.waiting (ap is_waiting free)
+          (changes_at works.ledger work (Waiting (length works.ledger.story)) new.ready new.story may.within);
       none_pinned = old.none_pinned;
       none_deferrable = old.none_deferrable;
       none_behind = keeps.none_behind Global old.none_behind;
@@ -137,7 +137,7 @@ ended_lawful now work number job arg end works may over is =
       sound = ended_sound works.ledger work end (Ready number job arg) may.within over is old.sound;
       few = rw length-set old.few;
       waiting = waits_kept (queue_of works.bases) works.ledger new work Free old.waiting (ap is_waiting is)
-        (changes_at works.ledger work Free new.ready new.story may.within);
+          (changes_at works.ledger work Free new.ready new.story may.within);
       none_pinned = old.none_pinned;
       none_deferrable = old.none_deferrable;
       none_behind = old.none_behind;
@@ -145,7 +145,7 @@ ended_lawful now work number job arg end works may over is =
       consistent = old.consistent;
     } in
     subst (λ standing. IsLawful (record { bases = works.bases; ledger = ended_from standing work end works.ledger; time = now }))
-      (sym is) whole
+    (sym is) whole
 
 -- the timer of a waiting work is in the global base alone
 pub found_waiting : (works : WorksState) (work number : ℕ) → IsLawful works
@@ -162,10 +162,10 @@ found_waiting works work number lawful is =
 pub cancelled_lawful : (now work line number : ℕ) (works : WorksState) → MayCall now work works
     → standing_of work works.ledger ≡ Waiting number
     → IsLawful (record {
-        bases = cancelled now work line first_cpu works.bases;
-        ledger = ended work Cancelled works.ledger;
-        time = now;
-      })
+      bases = cancelled now work line first_cpu works.bases;
+      ledger = ended work Cancelled works.ledger;
+      time = now;
+    })
 cancelled_lawful now work line number works may is =
     let old = may.lawful in
     let not_before = may.not_before in
@@ -174,18 +174,18 @@ cancelled_lawful now work line number works may is =
     let (item, found, same) = found_waiting works work number old is in
     let after : Option (Class × Item) → CpuBases = λ o. after_cancel o now line first_cpu works.bases in
     let pinned : (base_of Pinned (cancelled now work line first_cpu works.bases)).items ≡ [] =
-      ap (λ o. (base_of Pinned (after o)).items) found ∙ old.none_pinned in
+    ap (λ o. (base_of Pinned (after o)).items) found ∙ old.none_pinned in
     let deferrable : (base_of Deferrable (cancelled now work line first_cpu works.bases)).items ≡ [] =
-      ap (λ o. (base_of Deferrable (after o)).items) found ∙ old.none_deferrable in
+    ap (λ o. (base_of Deferrable (after o)).items) found ∙ old.none_deferrable in
     let queue : queue_of (cancelled now work line first_cpu works.bases) ≡ without work (queue_of works.bases) =
-      ap (λ o. queue_of (after o)) found ∙ ap (λ id. without id (queue_of works.bases)) same in
+    ap (λ o. queue_of (after o)) found ∙ ap (λ id. without id (queue_of works.bases)) same in
     let new = ended_from (Waiting number) work Cancelled works.ledger in
     let whole : IsLawful (record { bases = cancelled now work line first_cpu works.bases; ledger = new; time = now }) = record {
       sound = ended_sound works.ledger work Cancelled (Waiting number) may.within (λ same. cc) is old.sound;
       few = rw length-set old.few;
       waiting = rw queue (waits_taken (queue_of works.bases) works.ledger new work Free
-        (old.consistent.fits Global).sound.distinct old.waiting refl
-        (changes_at works.ledger work Free new.ready new.story may.within));
+          (old.consistent.fits Global).sound.distinct old.waiting refl
+          (changes_at works.ledger work Free new.ready new.story may.within));
       none_pinned = pinned;
       none_deferrable = deferrable;
       none_behind = keeps.none_behind Global old.none_behind;
@@ -193,10 +193,10 @@ cancelled_lawful now work line number works may is =
       consistent = consistent;
     } in
     subst (λ standing. IsLawful (record {
-        bases = cancelled now work line first_cpu works.bases;
-        ledger = ended_from standing work Cancelled works.ledger;
-        time = now;
-      })) (sym is) whole
+      bases = cancelled now work line first_cpu works.bases;
+      ledger = ended_from standing work Cancelled works.ledger;
+      time = now;
+    })) (sym is) whole
 
 -- expiry
 pub expired_lawful : (now : ℕ) (works : WorksState) → IsLawful works → now ≤ TIME_LIMIT - 2 ^ 32
@@ -208,7 +208,7 @@ expired_lawful now works old in_time not_before =
     let drains = drain_is_whole most now Global first_cpu works.bases early old.consistent (omega arith) in
     let near : (base_of Global works.bases).clock ≤ now + 1 = omega arith in
     let fits = drain_fits most now works.bases works.ledger (length works.ledger.standings) early old.consistent
-      (omega arith) (record { sound = old.sound; waits = old.waiting; count_is = refl }) in
+    (omega arith) (record { sound = old.sound; waits = old.waiting; count_is = refl }) in
     record {
       sound = fits.sound;
       few = rw fits.count_is old.few;
@@ -224,7 +224,7 @@ pub expired_none_due : (now : ℕ) (works : WorksState) → IsLawful works → n
     → NoneDue now (queue_of (expired now works).bases)
 expired_none_due now works old in_time =
     (drain_is_whole (length (queue_of works.bases)) now Global first_cpu works.bases (omega arith) old.consistent
-      (omega arith)).none_due
+    (omega arith)).none_due
 
 -- works that are as lawful ones are lawful
 pub lawful_as : (bases : CpuBases) (ledger : LedgerState) (works : WorksState) (time : ℕ)
@@ -240,14 +240,14 @@ items_within works lawful k d low =
     let items = queue_of works.bases in
     let item = get_or items k d in
     let there = item_there items k item (lawful.consistent.fits Global).sound.distinct
-      (slice_get-get_or items k d low) in
+    (slice_get-get_or items k d low) in
     waits_within works.ledger item.id (sym (lawful.waiting item.id) ∙ ap is_some there)
 
 -- and there are at most as many as there are works
 pub few_items : (works : WorksState) → IsLawful works → length (queue_of works.bases) ≤ MOST_TIMERS
 few_items works lawful =
     let bound = no_more (length works.ledger.standings) (queue_of works.bases)
-      (lawful.consistent.fits Global).sound.distinct (items_within works lawful) in
+    (lawful.consistent.fits Global).sound.distinct (items_within works lawful) in
     let few = lawful.few in
     omega arith
 
@@ -266,23 +266,23 @@ pub ended_free : (ledger : LedgerState) (work number job arg : ℕ) (end : End)
 ended_free ledger work number job arg end within is =
     let new = ended_from (Ready number job arg) work end ledger in
     let P : Standing → Type 0 = λ standing. (standing_of work (ended_from standing work end ledger) ≡ Free)
-        × (length (ended_from standing work end ledger).standings ≡ length ledger.standings) in
+    × (length (ended_from standing work end ledger).standings ≡ length ledger.standings) in
     subst P (sym is)
-      ((changes_at ledger work Free new.ready new.story within).own_is, length-set ledger.standings work Free)
+    ((changes_at ledger work Free new.ready new.story within).own_is, length-set ledger.standings work Free)
 
 -- a ready work ends and is accepted again
 pub again_lawful : (now work number delay job arg line : ℕ) (works : WorksState) → MayCall now work works
     → work < 2 ^ 16 → delay < 2 ^ 32 → standing_of work works.ledger ≡ Ready number job arg
     → IsLawful (accepted now work delay job arg line
-      (record { bases = works.bases; ledger = ended work Ran works.ledger; time = now }))
+    (record { bases = works.bases; ledger = ended work Ran works.ledger; time = now }))
 again_lawful now work number delay job arg line works may fits short is =
     let after = ended_free works.ledger work number job arg Ran may.within is in
     let in_time = may.in_time in let within = may.within in
     accepted_lawful now work delay job arg line
-      (record { bases = works.bases; ledger = ended work Ran works.ledger; time = now })
-      (record {
-        lawful = ended_lawful now work number job arg Ran works may (λ same. cc) is;
-        in_time = in_time;
-        not_before = omega arith;
-        within = rw after.1 within;
-      }) fits short after.0
+    (record { bases = works.bases; ledger = ended work Ran works.ledger; time = now })
+    (record {
+      lawful = ended_lawful now work number job arg Ran works may (λ same. cc) is;
+      in_time = in_time;
+      not_before = omega arith;
+      within = rw after.1 within;
+    }) fits short after.0

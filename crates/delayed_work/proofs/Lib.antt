@@ -6,3 +6,6 @@ pub mod Waits
 pub mod Expiry
 pub mod Lawful
 pub mod Rounds
+pub mod Making
+pub mod Telling
+pub mod Story

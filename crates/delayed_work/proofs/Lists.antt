@@ -91,12 +91,12 @@ few zero [] distinct none = omega arith
 few zero (first ∷ works) distinct none = absurd ((none first (omega arith)).0 refl)
 few (suc n) works distinct none =
     let rest : length (without n works) ≤ n = few n (without n works) (distinct_without n works distinct)
-      (λ work past. elim (cases_Bool (work == n)) [
-        | inl here ↦ subst (λ w. Lacks w (without n works)) (sym (eqb-true _ _ here)) (gone n works distinct)
-        | inr there ↦
-            let apart = eqb-false work n there in
-            lacks_without work n works (none work (omega arith))
-      ]) in
+    (λ work past. elim (cases_Bool (work == n)) [
+      | inl here ↦ subst (λ w. Lacks w (without n works)) (sym (eqb-true _ _ here)) (gone n works distinct)
+      | inr there ↦
+          let apart = eqb-false work n there in
+          lacks_without work n works (none work (omega arith))
+    ]) in
     let fewer = fewer_without n works in
     omega arith
 

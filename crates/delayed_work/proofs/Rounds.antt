@@ -39,7 +39,7 @@ one_written : (now : ℕ) (bases : CpuBases) (item : Item)
     → length (one_out now bases).journal ≡ length bases.journal + 1
 one_written now bases item is =
     subst (λ out. length (after_hand_out out now Global first_cpu bases).journal ≡ length bases.journal + 1)
-      (sym is) (omega (arith, length-append bases.journal (entry_of Handed 0 now Global item first_cpu ∷ [])))
+    (sym is) (omega (arith, length-append bases.journal (entry_of Handed 0 now Global item first_cpu ∷ [])))
 
 -- the item that goes out is of a work that there is
 pub out_within : (count : ℕ) (items : List Item) (item : Item)
@@ -59,28 +59,28 @@ hands_on_more now start first bases bases_now ledger ledger_now item old is is_b
     let rest = length (queue_of bases_now.plain) in
     let longer : length (queue_of bases.plain) ≡ suc rest = omega arith in
     let count : length ledger_now.standings ≡ length ledger.standings =
-      ap (λ l. length l.standings) is_ledger
-      ∙ count_from (standing_of item.id ledger) item.id item.job item.arg ledger in
+    ap (λ l. length l.standings) is_ledger
+    ∙ count_from (standing_of item.id ledger) item.id item.job item.arg ledger in
     record {
       bases_same = old.bases_same
-        ∙ ap (λ n. drained n now Global first_cpu bases.plain) longer
-        ∙ drained_some rest now bases.plain item is
-        ∙ ap (λ b. drained rest now Global first_cpu b) (sym plain);
+          ∙ ap (λ n. drained n now Global first_cpu bases.plain) longer
+          ∙ drained_some rest now bases.plain item is
+          ∙ ap (λ b. drained rest now Global first_cpu b) (sym plain);
       ledger_same = old.ledger_same
-        ∙ ap (λ n. all_ready (items_out n now bases.plain) ledger) longer
-        ∙ ap (λ items. all_ready items ledger) (out_some rest now bases.plain item is)
-        ∙ ap (λ b. all_ready (items_out rest now b) (come_ready item.id item.job item.arg ledger)) (sym plain)
-        ∙ ap (λ l. all_ready (items_out rest now bases_now.plain) l) (sym is_ledger);
+          ∙ ap (λ n. all_ready (items_out n now bases.plain) ledger) longer
+          ∙ ap (λ items. all_ready items ledger) (out_some rest now bases.plain item is)
+          ∙ ap (λ b. all_ready (items_out rest now b) (come_ready item.id item.job item.arg ledger)) (sym plain)
+          ∙ ap (λ l. all_ready (items_out rest now bases_now.plain) l) (sym is_ledger);
       room =
-        let written : length bases_now.plain.journal ≡ length bases.plain.journal + 1 =
+          let written : length bases_now.plain.journal ≡ length bases.plain.journal + 1 =
           ap (λ b. length b.journal) plain ∙ one_written now bases.plain item is in
-        let same : bases_now.room.entries ≡ bases.room.entries = ap (λ b. b.room.entries) is_bases in
-        let before = old.room in
-        omega arith;
+          let same : bases_now.room.entries ≡ bases.room.entries = ap (λ b. b.room.entries) is_bases in
+          let before = old.room in
+          omega arith;
       within =
-        let without_it = all_without (λ i. i.id < length ledger.standings) item.id (queue_of bases.plain) old.within in
-        subst (λ n. All (λ i. i.id < n) (queue_of bases_now.plain)) (sym count)
+          let without_it = all_without (λ i. i.id < length ledger.standings) item.id (queue_of bases.plain) old.within in
+          subst (λ n. All (λ i. i.id < n) (queue_of bases_now.plain)) (sym count)
           (subst (λ items. All (λ i. i.id < length ledger.standings) items)
-            (sym (less ∙ queue_less now bases.plain item is)) without_it);
+          (sym (less ∙ queue_less now bases.plain item is)) without_it);
       few = rw count old.few;
     }

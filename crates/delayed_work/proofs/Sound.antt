@@ -70,7 +70,7 @@ changed_sound ledger work standing ready story within sound keeps =
         | inl here ↦
             let same = eqb-true k work here in
             subst (λ w. Holds w ready) (sym same) (keeps.in_list (ap is_ready (sym own_is)
-              ∙ ap (λ w. is_ready (standing_of w (changed ledger work standing ready story))) (sym same) ∙ is))
+            ∙ ap (λ w. is_ready (standing_of w (changed ledger work standing ready story))) (sym same) ∙ is))
         | inr there ↦
             let apart = eqb-false k work there in
             keeps.others_in k apart (sound.in_list k (ap is_ready (sym (other_is k apart)) ∙ is))
@@ -79,7 +79,7 @@ changed_sound ledger work standing ready story within sound keeps =
         | inl here ↦
             let same = eqb-true k work here in
             subst (λ w. Lacks w ready) (sym same) (keeps.not_in_list (ap is_ready (sym own_is)
-              ∙ ap (λ w. is_ready (standing_of w (changed ledger work standing ready story))) (sym same) ∙ is))
+            ∙ ap (λ w. is_ready (standing_of w (changed ledger work standing ready story))) (sym same) ∙ is))
         | inr there ↦
             let apart = eqb-false k work there in
             keeps.others_not_in k apart (sound.not_in_list k (ap is_ready (sym (other_is k apart)) ∙ is))
@@ -89,31 +89,31 @@ changed_sound ledger work standing ready story within sound keeps =
         | inl here ↦
             let same = eqb-true k work here in
             subst (λ w. slice_get story n ≡ Some (n, w, Pending)) (sym same)
-              (keeps.numbered n (ap number_in (sym own_is)
-              ∙ ap (λ w. number_in (standing_of w (changed ledger work standing ready story))) (sym same) ∙ is))
+            (keeps.numbered n (ap number_in (sym own_is)
+            ∙ ap (λ w. number_in (standing_of w (changed ledger work standing ready story))) (sym same) ∙ is))
         | inr there ↦
             let apart = eqb-false k work there in
             keeps.others_numbered k n apart (sound.numbered k n (ap number_in (sym (other_is k apart)) ∙ is))
       ];
       told = λ n told there. elim (keeps.told n told there) [
         | inl old ↦ record {
-            number_is = (sound.told n told old.0).number_is;
-            pending = λ p. elim (cases_Bool (told.1 == work)) [
-              | inl here ↦
-                  let same = eqb-true told.1 work here in
-                  ap (λ w. number_in (standing_of w (changed ledger work standing ready story))) same
-                  ∙ ap number_in own_is ∙ old.1 same p
-              | inr away ↦
-                  let apart = eqb-false told.1 work away in
-                  ap number_in (other_is told.1 apart) ∙ (sound.told n told old.0).pending p
-            ];
-          }
+          number_is = (sound.told n told old.0).number_is;
+          pending = λ p. elim (cases_Bool (told.1 == work)) [
+            | inl here ↦
+                let same = eqb-true told.1 work here in
+                ap (λ w. number_in (standing_of w (changed ledger work standing ready story))) same
+                ∙ ap number_in own_is ∙ old.1 same p
+            | inr away ↦
+                let apart = eqb-false told.1 work away in
+                ap number_in (other_is told.1 apart) ∙ (sound.told n told old.0).pending p
+          ];
+        }
         | inr new ↦ record {
-            number_is = new.0;
-            pending = λ p.
+          number_is = new.0;
+          pending = λ p.
               ap (λ w. number_in (standing_of w (changed ledger work standing ready story))) (new.1 p).0
               ∙ ap number_in own_is ∙ (new.1 p).1;
-          }
+        }
       ];
     }
 
@@ -125,9 +125,12 @@ new_told : (ledger : LedgerState) (work : ℕ) (standing : Standing) → IsSound
     → IsOldOrNew ledger work standing n told
 new_told ledger work standing sound free number n told there =
     elim (get_push_is ledger.story n (length ledger.story, work, Pending) told there) [
-      | inl old ↦ inl (old, λ same p.
-          let is = (sound.told n told old).pending p in
-          absurd (none-some n (ap number_in (sym free) ∙ ap (λ w. number_in (standing_of w ledger)) (sym same) ∙ is)))
+      | inl old ↦ inl (
+        old,
+        λ same p.
+            let is = (sound.told n told old).pending p in
+            absurd (none-some n (ap number_in (sym free) ∙ ap (λ w. number_in (standing_of w ledger)) (sym same) ∙ is)),
+      )
       | inr new ↦ inr (ap (λ (t : Told). t.0) new.1 ∙ sym new.0, λ p. (ap (λ (t : Told). t.1) new.1, number ∙ ap Some (sym new.0)))
     ]
 
@@ -135,38 +138,38 @@ new_numbered : (ledger : LedgerState) (work n : ℕ) → Some (length ledger.sto
     → slice_get (ledger.story ++ (length ledger.story, work, Pending) ∷ []) n ≡ Some (n, work, Pending)
 new_numbered ledger work n is =
     subst (λ m. slice_get (ledger.story ++ (length ledger.story, work, Pending) ∷ []) m ≡ Some (m, work, Pending))
-      (same_Some _ n is) (get_push_same ledger.story (length ledger.story, work, Pending))
+    (same_Some _ n is) (get_push_same ledger.story (length ledger.story, work, Pending))
 
 pub accepted_waiting_sound : (ledger : LedgerState) (work : ℕ) → work < length ledger.standings
     → standing_of work ledger ≡ Free → IsSound ledger → IsSound (accepted_waiting work ledger)
 accepted_waiting_sound ledger work within free sound =
     changed_sound ledger work (Waiting (length ledger.story)) ledger.ready
-      (ledger.story ++ (length ledger.story, work, Pending) ∷ []) within sound (record {
-        in_list = λ is. absurd cc;
-        not_in_list = λ _. sound.not_in_list work (ap is_ready free);
-        others_in = λ k _ holds. holds;
-        others_not_in = λ k _ lacks. lacks;
-        distinct = sound.distinct;
-        numbered = new_numbered ledger work;
-        others_numbered = λ k n _ is. get_push_old ledger.story n _ _ is;
-        told = new_told ledger work (Waiting (length ledger.story)) sound free refl;
-      })
+    (ledger.story ++ (length ledger.story, work, Pending) ∷ []) within sound (record {
+      in_list = λ is. absurd cc;
+      not_in_list = λ _. sound.not_in_list work (ap is_ready free);
+      others_in = λ k _ holds. holds;
+      others_not_in = λ k _ lacks. lacks;
+      distinct = sound.distinct;
+      numbered = new_numbered ledger work;
+      others_numbered = λ k n _ is. get_push_old ledger.story n _ _ is;
+      told = new_told ledger work (Waiting (length ledger.story)) sound free refl;
+    })
 
 pub accepted_ready_sound : (ledger : LedgerState) (work job arg : ℕ) → work < length ledger.standings
     → standing_of work ledger ≡ Free → IsSound ledger → IsSound (accepted_ready work job arg ledger)
 accepted_ready_sound ledger work job arg within free sound =
     let lacks = sound.not_in_list work (ap is_ready free) in
     changed_sound ledger work (Ready (length ledger.story) job arg) (ledger.ready ++ work ∷ [])
-      (ledger.story ++ (length ledger.story, work, Pending) ∷ []) within sound (record {
-        in_list = λ _. holds_push work ledger.ready;
-        not_in_list = λ is. absurd cc;
-        others_in = λ k _ holds. holds_more k work ledger.ready holds;
-        others_not_in = λ k apart. lacks_more k work ledger.ready apart;
-        distinct = distinct_more work ledger.ready lacks sound.distinct;
-        numbered = new_numbered ledger work;
-        others_numbered = λ k n _ is. get_push_old ledger.story n _ _ is;
-        told = new_told ledger work (Ready (length ledger.story) job arg) sound free refl;
-      })
+    (ledger.story ++ (length ledger.story, work, Pending) ∷ []) within sound (record {
+      in_list = λ _. holds_push work ledger.ready;
+      not_in_list = λ is. absurd cc;
+      others_in = λ k _ holds. holds_more k work ledger.ready holds;
+      others_not_in = λ k apart. lacks_more k work ledger.ready apart;
+      distinct = distinct_more work ledger.ready lacks sound.distinct;
+      numbered = new_numbered ledger work;
+      others_numbered = λ k n _ is. get_push_old ledger.story n _ _ is;
+      told = new_told ledger work (Ready (length ledger.story) job arg) sound free refl;
+    })
 
 pub ready_sound : (ledger : LedgerState) (work number job arg : ℕ) → work < length ledger.standings
     → standing_of work ledger ≡ Waiting number → IsSound ledger
@@ -174,18 +177,21 @@ pub ready_sound : (ledger : LedgerState) (work number job arg : ℕ) → work < 
 ready_sound ledger work number job arg within waits sound =
     let lacks = sound.not_in_list work (ap is_ready waits) in
     changed_sound ledger work (Ready number job arg) (ledger.ready ++ work ∷ []) ledger.story within
-      sound (record {
-        in_list = λ _. holds_push work ledger.ready;
-        not_in_list = λ is. absurd cc;
-        others_in = λ k _ holds. holds_more k work ledger.ready holds;
-        others_not_in = λ k apart. lacks_more k work ledger.ready apart;
-        distinct = distinct_more work ledger.ready lacks sound.distinct;
-        numbered = λ n is. sound.numbered work n (ap number_in waits ∙ is);
-        others_numbered = λ k n _ is. is;
-        told = λ n told there. inl (there, λ same p.
-          ap number_in (sym waits) ∙ ap (λ w. number_in (standing_of w ledger)) (sym same)
-          ∙ (sound.told n told there).pending p);
-      })
+    sound (record {
+      in_list = λ _. holds_push work ledger.ready;
+      not_in_list = λ is. absurd cc;
+      others_in = λ k _ holds. holds_more k work ledger.ready holds;
+      others_not_in = λ k apart. lacks_more k work ledger.ready apart;
+      distinct = distinct_more work ledger.ready lacks sound.distinct;
+      numbered = λ n is. sound.numbered work n (ap number_in waits ∙ is);
+      others_numbered = λ k n _ is. is;
+      told = λ n told there. inl (
+        there,
+        λ same p.
+            ap number_in (sym waits) ∙ ap (λ w. number_in (standing_of w ledger)) (sym same)
+            ∙ (sound.told n told there).pending p,
+      );
+    })
 
 -- the story with the end of a queueing
 end_told : (ledger : LedgerState) (work number : ℕ) (end : End) → IsSound ledger
@@ -194,8 +200,11 @@ end_told : (ledger : LedgerState) (work number : ℕ) (end : End) → IsSound le
     → IsOldOrNew ledger work Free n told
 end_told ledger work number end sound has over n told there =
     elim (get_set_is ledger.story number n (number, work, end) told there) [
-      | inl old ↦ inl (old.1, λ same p. absurd (old.0 (sym (same_Some number n
-          (sym has ∙ ap (λ w. number_in (standing_of w ledger)) (sym same) ∙ (sound.told n told old.1).pending p)))))
+      | inl old ↦ inl (
+        old.1,
+        λ same p. absurd (old.0 (sym (same_Some number n
+            (sym has ∙ ap (λ w. number_in (standing_of w ledger)) (sym same) ∙ (sound.told n told old.1).pending p)))),
+      )
       | inr new ↦ inr (ap (λ (t : Told). t.0) new.1 ∙ sym new.0, λ p. absurd (over (sym (ap (λ (t : Told). t.2) new.1) ∙ p)))
     ]
 
@@ -205,7 +214,7 @@ end_others : (ledger : LedgerState) (work number : ℕ) (end : End) → IsSound 
     → slice_get (slice_set ledger.story number (number, work, end)) n ≡ Some (n, k, Pending)
 end_others ledger work number end sound has k n apart is =
     let away : n ≢ number = λ same. apart (ap (λ (t : Told). t.1) (same_Some (n, k, Pending) (number, work, Pending)
-      (sym is ∙ ap (λ m. slice_get ledger.story m) same ∙ sound.numbered work number has))) in
+    (sym is ∙ ap (λ m. slice_get ledger.story m) same ∙ sound.numbered work number has))) in
     get_set_other ledger.story number n (number, work, end) away ∙ is
 
 pub ended_sound : (ledger : LedgerState) (work : ℕ) (end : End) (standing : Standing)
@@ -215,28 +224,28 @@ pub ended_sound : (ledger : LedgerState) (work : ℕ) (end : End) (standing : St
 ended_sound ledger work end Free within over is sound = sound
 ended_sound ledger work end (Waiting number) within over is sound =
     changed_sound ledger work Free ledger.ready (slice_set ledger.story number (number, work, end))
-      within sound (record {
-        in_list = λ is. absurd cc;
-        not_in_list = λ _. sound.not_in_list work (ap is_ready is);
-        others_in = λ k _ holds. holds;
-        others_not_in = λ k _ lacks. lacks;
-        distinct = sound.distinct;
-        numbered = λ n none. absurd (none-some n none);
-        others_numbered = end_others ledger work number end sound (ap number_in is);
-        told = end_told ledger work number end sound (ap number_in is) over;
-      })
+    within sound (record {
+      in_list = λ is. absurd cc;
+      not_in_list = λ _. sound.not_in_list work (ap is_ready is);
+      others_in = λ k _ holds. holds;
+      others_not_in = λ k _ lacks. lacks;
+      distinct = sound.distinct;
+      numbered = λ n none. absurd (none-some n none);
+      others_numbered = end_others ledger work number end sound (ap number_in is);
+      told = end_told ledger work number end sound (ap number_in is) over;
+    })
 ended_sound ledger work end (Ready number job arg) within over is sound =
     changed_sound ledger work Free (without work ledger.ready)
-      (slice_set ledger.story number (number, work, end)) within sound (record {
-        in_list = λ is. absurd cc;
-        not_in_list = λ _. gone work ledger.ready sound.distinct;
-        others_in = λ k apart holds. holds_without k work ledger.ready apart holds;
-        others_not_in = λ k _ lacks. lacks_without k work ledger.ready lacks;
-        distinct = distinct_without work ledger.ready sound.distinct;
-        numbered = λ n none. absurd (none-some n none);
-        others_numbered = end_others ledger work number end sound (ap number_in is);
-        told = end_told ledger work number end sound (ap number_in is) over;
-      })
+    (slice_set ledger.story number (number, work, end)) within sound (record {
+      in_list = λ is. absurd cc;
+      not_in_list = λ _. gone work ledger.ready sound.distinct;
+      others_in = λ k apart holds. holds_without k work ledger.ready apart holds;
+      others_not_in = λ k _ lacks. lacks_without k work ledger.ready lacks;
+      distinct = distinct_without work ledger.ready sound.distinct;
+      numbered = λ n none. absurd (none-some n none);
+      others_numbered = end_others ledger work number end sound (ap number_in is);
+      told = end_told ledger work number end sound (ap number_in is) over;
+    })
 
 -- a work that there isn't is free
 pub past_free : (ledger : LedgerState) (work : ℕ) → length ledger.standings ≤ work
@@ -248,7 +257,7 @@ pub few_ready : (ledger : LedgerState) → IsSound ledger
     → length ledger.ready ≤ length ledger.standings
 few_ready ledger sound =
     few (length ledger.standings) ledger.ready sound.distinct
-      (λ work past. sound.not_in_list work (ap is_ready (past_free ledger work past)))
+    (λ work past. sound.not_in_list work (ap is_ready (past_free ledger work past)))
 
 -- a ready work is one of the works
 pub ready_within : (ledger : LedgerState) (work : ℕ) → IsSound ledger → Holds work ledger.ready

@@ -95,7 +95,7 @@ waits_kept items old new work standing waits same_still changes k =
 pub changes_at : (ledger : LedgerState) (work : ℕ) (standing : Standing) (ready : List ℕ)
     (story : List Told) → work < length ledger.standings
     → Changes ledger (record { standings = slice_set ledger.standings work standing; ready = ready; story = story })
-      work standing
+    work standing
 changes_at ledger work standing ready story within = record {
   own_is = own ledger work standing ready story within;
   others = other ledger work standing ready story;

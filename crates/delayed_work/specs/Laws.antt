@@ -66,7 +66,7 @@ pub record IsStory (replies : Replies) (calls : List WorksCall) (start : WorksSt
   pub answered : (i now : ℕ) → slice_get calls i ≡ Some (RunNext now)
       → option_map (λ (run : Run). run.0) (told_run replies now (before replies calls start i))
       ≡ option_map (λ (run : ℕ × ℕ). run.1)
-        (runs (RunNext now) (before replies calls start i).ledger)
+      (runs (RunNext now) (before replies calls start i).ledger)
   -- a waiting work becomes ready only where its timer goes out, not before its wheel expiry
   pub not_early : (i work : ℕ) (call : WorksCall) → slice_get calls i ≡ Some call
       → is_waiting (standing_of work (before replies calls start i).ledger) ≡ true

@@ -70,5 +70,4 @@ pub fn make_call<B: TimerBase, J: Jobs>(
 /// `run_next` ran it, and no waiting work becomes ready before its wheel expiry.
 pub fn law_works()
     ensures { WorksLaw }
-{
-}
+{}

@@ -82,7 +82,16 @@ fn accept<B: TimerBase>(
     }
     let expires = now + u64::from(delay);
     let timer = TimerId(work);
-    let wheel = bases.arm(now, Class::Global, timer, expires, job, arg, line, FIRST_CPU);
+    let wheel = bases.arm(
+        now,
+        Class::Global,
+        timer,
+        expires,
+        job,
+        arg,
+        line,
+        FIRST_CPU,
+    );
     ledger.accept_waiting(work);
     Placed::Waiting(wheel)
 }
@@ -97,10 +106,10 @@ fn hand_out<B: TimerBase>(bases: &mut Bases<B>, ledger: &mut Ledger, now: Jiffy)
     requires few { length ledger.old.plain.standings ≤ MOST_TIMERS }
     ensures bases { bases.new.plain
         ≡ drained (length (base_of Class.Global bases.old.plain).items) now Class.Global first_cpu
-          bases.old.plain }
+        bases.old.plain }
     ensures ledger { ledger.new.plain
         ≡ all_ready (items_out (length (base_of Class.Global bases.old.plain).items) now
-          bases.old.plain) ledger.old.plain }
+        bases.old.plain) ledger.old.plain }
 {
     while let Some(item) = bases.take_due(now, Class::Global, FIRST_CPU) {
         ledger.come_ready(item.id as u16, item.job, item.arg);

@@ -15,5 +15,5 @@ come_ready-requires g c =
 pub loop-item-preserved : goal.loop-item-preserved
 loop-item-preserved g c =
     hands_on_more _ _ _ c.loop-item.bases _ _ _ c.in-Some.item c.loop-item.invariant
-      (sym c.in-Some.ensures.item) c.take_due.ensures.after c.come_ready.ensures.plain
-      c.in-Some.ensures.one_fewer
+    (sym c.in-Some.ensures.item) c.take_due.ensures.after c.come_ready.ensures.plain
+    c.in-Some.ensures.one_fewer

@@ -9,15 +9,15 @@ overflow_add-self c =
 pub invariant_of-self : goal.invariant_of-self
 invariant_of-self c =
     kept_ready _ c.self.inside.ready c.push.new.self _ c.self.inside.story.entries _ c.args.work
-      c.from.result c.len-number.result c.args.job c.args.arg
-      (record {
-        kept = c.self.invariant;
-        within = rw (← c.self.view_is) at c.requires.work;
-        stands = rw (← c.self.view_is) at c.requires.free;
-      })
-      c.from.ensures c.len-number.ensures c.write.ensures.entries
-      (record {
-        number = c.push.ensures.number;
-        room = c.push.ensures.room;
-        list = rw c.from-2.ensures at c.push.ensures.pushed;
-      })
+    c.from.result c.len-number.result c.args.job c.args.arg
+    (record {
+      kept = c.self.invariant;
+      within = rw (← c.self.view_is) at c.requires.work;
+      stands = rw (← c.self.view_is) at c.requires.free;
+    })
+    c.from.ensures c.len-number.ensures c.write.ensures.entries
+    (record {
+      number = c.push.ensures.number;
+      room = c.push.ensures.room;
+      list = rw c.from-2.ensures at c.push.ensures.pushed;
+    })
