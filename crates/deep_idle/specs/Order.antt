@@ -1,0 +1,67 @@
+-- the sleepers in the order of their wakeups (no public clause cites it)
+use Rattle.std.specs.Prelude.{◌≡◌, ℕ, ◌<◌, ◌≤◌, List, [], ◌∷◌, length, Option, Some, None, ◌⊎◌}
+use Rattle.std.specs.Prelude.{slice_index_or}
+use Rattle.tm_base.specs.declared.limits.TheConstants.{CPU_SET_SIZE}
+use Rattle.tm_base.specs.declared.names.TheConstants.{NEVER}
+use Rattle.deep_idle.specs.declared.order.Sleeper.{Sleeper}
+
+-- each of them is so
+abbrev pub Each : (Sleeper → Type 0) → List Sleeper → Type 0
+Each Is [] = Unit {0}
+Each Is (s ∷ sleepers) = Is s × Each Is sleepers
+
+-- none of them wakes after this time
+abbrev pub NotAfter : (time : ℕ) → List Sleeper → Type 0
+NotAfter time sleepers = Each (λ s. s.wakeup ≤ time) sleepers
+
+abbrev pub NotBefore : (time : ℕ) → List Sleeper → Type 0
+NotBefore time sleepers = Each (λ s. time ≤ s.wakeup) sleepers
+
+abbrev pub After : (time : ℕ) → List Sleeper → Type 0
+After time sleepers = Each (λ s. time < s.wakeup) sleepers
+
+-- the last wakes first
+abbrev pub AreDescending : List Sleeper → Type 0
+AreDescending [] = Unit {0}
+AreDescending (s ∷ sleepers) = NotAfter s.wakeup sleepers × AreDescending sleepers
+
+-- a CPU is none of them
+abbrev pub Lacks : (cpu : ℕ) → List Sleeper → Type 0
+Lacks cpu [] = Unit {0}
+Lacks cpu (s ∷ sleepers) = (s.cpu.0 ≡ cpu → ⊥) × Lacks cpu sleepers
+
+abbrev pub AreDistinct : List Sleeper → Type 0
+AreDistinct [] = Unit {0}
+AreDistinct (s ∷ sleepers) = Lacks s.cpu.0 sleepers × AreDistinct sleepers
+
+-- a CPU is one of them, with this wakeup
+abbrev pub Sleeps : (cpu wakeup : ℕ) → List Sleeper → Type 0
+Sleeps cpu wakeup [] = ⊥
+Sleeps cpu wakeup (s ∷ sleepers) =
+    ((s.cpu.0 ≡ cpu) × (s.wakeup ≡ wakeup)) ⊎ Sleeps cpu wakeup sleepers
+
+-- the wakeup of the last of them, which wakes first, or this one where there is none
+abbrev pub last_wakeup : ℕ → List Sleeper → ℕ
+last_wakeup wakeup [] = wakeup
+last_wakeup wakeup (s ∷ sleepers) = last_wakeup s.wakeup sleepers
+
+abbrev pub first_wakeup : List Sleeper → ℕ
+first_wakeup sleepers = last_wakeup NEVER sleepers
+
+-- a queue has exactly the sleepers, each once, in their order
+pub record IsQueueOf (sleepers : List (Option ℕ)) (queue : List Sleeper) : Type 0 where
+  pub descending : AreDescending queue
+  pub distinct : AreDistinct queue
+  pub queued : (cpu wakeup : ℕ) → slice_index_or sleepers cpu None ≡ Some wakeup
+      → Sleeps cpu wakeup queue
+  pub sleeps : (cpu wakeup : ℕ) → Sleeps cpu wakeup queue
+      → slice_index_or sleepers cpu None ≡ Some wakeup
+  pub early : Each (λ s. s.wakeup < NEVER) queue
+
+-- what a device keeps: memory for as many sleepers as there are CPUs too
+pub record IsKept (sleepers : List (Option ℕ)) (queue : List Sleeper) (time capacity : ℕ) : Type 0
+  where
+  pub queue_of : IsQueueOf sleepers queue
+  pub in_time : NotBefore time queue
+  pub few : length sleepers ≤ CPU_SET_SIZE
+  pub room : length sleepers ≤ capacity
