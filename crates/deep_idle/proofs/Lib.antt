@@ -1,1 +1,4 @@
 pub mod Queues
+pub mod Rooms
+pub mod Kept
+pub mod Waking

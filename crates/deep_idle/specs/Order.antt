@@ -40,6 +40,12 @@ Sleeps cpu wakeup [] = ⊥
 Sleeps cpu wakeup (s ∷ sleepers) =
     ((s.cpu.0 ≡ cpu) × (s.wakeup ≡ wakeup)) ⊎ Sleeps cpu wakeup sleepers
 
+-- a CPU stands at some place
+abbrev pub IsIn : (cpu : ℕ) → List Sleeper → Type 0
+IsIn cpu sleepers =
+    (place : ℕ) × (place < length sleepers)
+    × ((d : Sleeper) → (slice_index_or sleepers place d).cpu.0 ≡ cpu)
+
 -- the wakeup of the last of them, which wakes first, or this one where there is none
 abbrev pub last_wakeup : ℕ → List Sleeper → ℕ
 last_wakeup wakeup [] = wakeup

@@ -87,10 +87,10 @@ impl Device {
         ensures law { DeviceLaw self.new }
     {
         let sleeper = self.sleepers[usize::from(cpu.0)];
-        let Some(wakeup) = sleeper else {
+        let Some(_wakeup) = sleeper else {
             return;
         };
-        let place = place_with(&self.queue, cpu, wakeup);
+        let place = place_with(&self.queue, cpu);
         self.queue.remove(place);
         self.sleepers[usize::from(cpu.0)] = None;
     }
@@ -148,11 +148,13 @@ fn wake_due(sleepers: &mut Vec<Option<Jiffy>>, queue: &mut Vec<Sleeper>, now: Ji
 {
     let mut due = CpuSet::new();
     while first_of(queue) <= now {
-        let Some(first) = queue.pop() else {
-            return due;
-        };
-        sleepers[usize::from(first.cpu.0)] = None;
-        due.add(first.cpu);
+        match queue.pop() {
+            None => return due,
+            Some(first) => {
+                sleepers[usize::from(first.cpu.0)] = None;
+                due.add(first.cpu);
+            }
+        }
     }
     due
 }

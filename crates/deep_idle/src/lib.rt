@@ -4,7 +4,5 @@
 
 mod device;
 mod order;
-mod settling;
 
 pub use device::Device;
-pub use settling::{Wakeups, settle};

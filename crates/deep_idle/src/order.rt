@@ -1,7 +1,7 @@
 //! The sleepers of a device in the order of their wakeups.
 
 ghost use Rattle.std.specs.Prelude.{◌≡◌, ◌<◌, ◌≤◌, length, take, drop, slice_index_or};
-ghost use Rattle.deep_idle.specs.Order.{After, AreDescending, NotAfter, Sleeps};
+ghost use Rattle.deep_idle.specs.Order.{After, AreDescending, IsIn, NotAfter};
 ghost use Rattle.deep_idle.specs.declared.order.Sleeper.{Sleeper};
 
 use tm_base::{CpuId, Jiffy};
@@ -14,36 +14,34 @@ pub(crate) struct Sleeper {
     pub(crate) cpu: CpuId,
 }
 
-/// The first place in a queue behind which none wakes after a time, by halving.
+/// The place in a queue before which all wake after a time, and from which on none does. It looks at
+/// those that wake first, as many as an element put there makes way.
 pub(crate) fn place_of(queue: &[Sleeper], wakeup: Jiffy) -> usize
     requires { AreDescending queue.now }
     ensures within { result ≤ length queue.now }
     ensures before { After wakeup (take result queue.now) }
     ensures behind { NotAfter wakeup (drop result queue.now) }
 {
-    let mut low = 0;
-    let mut high = queue.len();
-    while low < high {
-        let middle = low + (high - low) / 2;
-        if queue[middle].wakeup > wakeup {
-            low = middle + 1;
-        } else {
-            high = middle;
+    let mut place = queue.len();
+    while place > 0 {
+        if queue[place - 1].wakeup > wakeup {
+            return place;
         }
+        place -= 1;
     }
-    low
+    place
 }
 
-/// The place of a CPU that sleeps till a time: among those of that time, from the first on.
-pub(crate) fn place_with(queue: &[Sleeper], cpu: CpuId, wakeup: Jiffy) -> usize
-    requires descending { AreDescending queue.now }
-    requires sleeps { Sleeps cpu.0 wakeup queue.now }
+/// The place of a CPU that is in a queue. It looks at those that wake first, as many as move when
+/// it is taken out.
+pub(crate) fn place_with(queue: &[Sleeper], cpu: CpuId) -> usize
+    requires { IsIn cpu.0 queue.now }
     ensures within { result < length queue.now }
     ensures cpu { (d : Sleeper) → (slice_index_or queue.now result d).cpu.0 ≡ cpu.0 }
 {
-    let mut place = place_of(queue, wakeup);
+    let mut place = queue.len() - 1;
     while queue[place].cpu.0 != cpu.0 {
-        place += 1;
+        place -= 1;
     }
     place
 }
