@@ -31,21 +31,21 @@ pub slept_queue : (sleepers : List (Option ℕ)) (front back : List Sleeper) (s 
     → IsQueueOf (slice_set sleepers s.cpu.0 (Some s.wakeup)) (front ++ s ∷ back)
 slept_queue sleepers front back s old before behind free within early = record {
   descending = descending_put front back s old.descending
-    (each_is (λ t. s.wakeup < t.wakeup) (λ t. s.wakeup ≤ t.wakeup) front (λ t later. omega arith) before) behind;
+      (each_is (λ t. s.wakeup < t.wakeup) (λ t. s.wakeup ≤ t.wakeup) front (λ t later. omega arith) before) behind;
   distinct = distinct_put front back s old.distinct
-    (lacks_all s.cpu.0 (front ++ back) (λ wakeup there. none-some wakeup (sym free ∙ old.sleeps s.cpu.0 wakeup there)));
+      (lacks_all s.cpu.0 (front ++ back) (λ wakeup there. none-some wakeup (sym free ∙ old.sleeps s.cpu.0 wakeup there)));
   queued = λ cpu wakeup is. elim (cases_Bool (cpu == s.cpu.0)) [
     | inl here ↦
         let same = eqb-true cpu s.cpu.0 here in
         let at : s.wakeup ≡ wakeup = same_Some s.wakeup wakeup
-          (sym (get_or-set_same sleepers s.cpu.0 (Some s.wakeup) None within)
-          ∙ ap (λ c. get_or (slice_set sleepers s.cpu.0 (Some s.wakeup)) c None) (sym same) ∙ is) in
+        (sym (get_or-set_same sleepers s.cpu.0 (Some s.wakeup) None within)
+        ∙ ap (λ c. get_or (slice_set sleepers s.cpu.0 (Some s.wakeup)) c None) (sym same) ∙ is) in
         subst (λ c. Sleeps c wakeup (front ++ s ∷ back)) (sym same)
-          (subst (λ w. Sleeps s.cpu.0 w (front ++ s ∷ back)) at (sleeps_here front back s))
+        (subst (λ w. Sleeps s.cpu.0 w (front ++ s ∷ back)) at (sleeps_here front back s))
     | inr there ↦
         let apart = eqb-false cpu s.cpu.0 there in
         sleeps_put cpu wakeup front back s (old.queued cpu wakeup
-          (sym (get_or-set_other sleepers s.cpu.0 cpu (Some s.wakeup) None apart) ∙ is))
+        (sym (get_or-set_other sleepers s.cpu.0 cpu (Some s.wakeup) None apart) ∙ is))
   ];
   sleeps = λ cpu wakeup there. elim (sleeps_out cpu wakeup front back s there) [
     | inl here ↦
@@ -54,7 +54,7 @@ slept_queue sleepers front back s old before behind free within early = record {
     | inr rest ↦
         let is = old.sleeps cpu wakeup rest in
         let apart : cpu ≢ s.cpu.0 = λ same. none-some wakeup
-          (sym free ∙ ap (λ c. get_or sleepers c None) (sym same) ∙ is) in
+        (sym free ∙ ap (λ c. get_or sleepers c None) (sym same) ∙ is) in
         get_or-set_other sleepers s.cpu.0 cpu (Some s.wakeup) None apart ∙ is
   ];
   early = each_put (λ t. t.wakeup < NEVER) front back s old.early early;
@@ -73,20 +73,20 @@ rose_queue sleepers front back s old =
         | inl here ↦
             let same = eqb-true cpu s.cpu.0 here in
             absurd (none-some wakeup (sym (get_or-set_same sleepers s.cpu.0 None None within)
-              ∙ ap (λ c. get_or (slice_set sleepers s.cpu.0 None) c None) (sym same) ∙ is))
+            ∙ ap (λ c. get_or (slice_set sleepers s.cpu.0 None) c None) (sym same) ∙ is))
         | inr there ↦
             let apart = eqb-false cpu s.cpu.0 there in
             elim (sleeps_out cpu wakeup front back s (old.queued cpu wakeup
-              (sym (get_or-set_other sleepers s.cpu.0 cpu None None apart) ∙ is))) [
+            (sym (get_or-set_other sleepers s.cpu.0 cpu None None apart) ∙ is))) [
               | inl here ↦ absurd (apart (sym here.0))
               | inr rest ↦ rest
             ]
       ];
       sleeps = λ cpu wakeup there.
-        let apart : cpu ≢ s.cpu.0 = λ same. not_both s.cpu.0 wakeup (front ++ back) out.1
+          let apart : cpu ≢ s.cpu.0 = λ same. not_both s.cpu.0 wakeup (front ++ back) out.1
           (subst (λ c. Sleeps c wakeup (front ++ back)) same there) in
-        get_or-set_other sleepers s.cpu.0 cpu None None apart
-        ∙ old.sleeps cpu wakeup (sleeps_put cpu wakeup front back s there);
+          get_or-set_other sleepers s.cpu.0 cpu None None apart
+          ∙ old.sleeps cpu wakeup (sleeps_put cpu wakeup front back s there);
       early = (each_out (λ t. t.wakeup < NEVER) front back s old.early).0;
     }
 
@@ -118,18 +118,18 @@ pub kept_slept : (sleepers : List (Option ℕ)) (queue : List Sleeper) (time cap
     → NotAfter s.wakeup (drop place queue) → get_or sleepers s.cpu.0 None ≡ None
     → s.cpu.0 < length sleepers → s.wakeup < NEVER → capacity ≤ now_capacity
     → IsKept (slice_set sleepers s.cpu.0 (Some s.wakeup)) (take place queue ++ s ∷ drop place queue)
-      (min time s.wakeup) now_capacity
+    (min time s.wakeup) now_capacity
 kept_slept sleepers queue time capacity now_capacity place s kept before behind free within early grows =
     let whole : take place queue ++ drop place queue ≡ queue = take-append-drop place queue in
     let room = kept.room in
     let less : min time s.wakeup ≤ s.wakeup = omega arith in
     record {
       queue_of = slept_queue sleepers (take place queue) (drop place queue) s
-        (subst (λ q. IsQueueOf sleepers q) (sym whole) kept.queue_of) before behind free within early;
+          (subst (λ q. IsQueueOf sleepers q) (sym whole) kept.queue_of) before behind free within early;
       in_time = each_put (λ t. min time s.wakeup ≤ t.wakeup) (take place queue) (drop place queue) s
-        (subst (λ q. NotBefore (min time s.wakeup) q) (sym whole)
+          (subst (λ q. NotBefore (min time s.wakeup) q) (sym whole)
           (each_is (λ t. time ≤ t.wakeup) (λ t. min time s.wakeup ≤ t.wakeup) queue (λ t later. omega arith) kept.in_time))
-        less;
+          less;
       few = rw length-set kept.few;
       room = rw length-set (omega arith);
     }
@@ -150,10 +150,10 @@ kept_rose sleepers queue time capacity now_capacity place cpu d kept within is g
     let room = kept.room in
     record {
       queue_of = subst (λ c. IsQueueOf (slice_set sleepers c None) (take place queue ++ drop (suc place) queue)) is
-        (rose_queue sleepers (take place queue) (drop (suc place) queue) s
+          (rose_queue sleepers (take place queue) (drop (suc place) queue) s
           (subst (λ q. IsQueueOf sleepers q) (sym whole) kept.queue_of));
       in_time = (each_out (λ t. time ≤ t.wakeup) (take place queue) (drop (suc place) queue) s
-        (subst (λ q. NotBefore time q) (sym whole) kept.in_time)).0;
+          (subst (λ q. NotBefore time q) (sym whole) kept.in_time)).0;
       few = rw length-set kept.few;
       room = rw length-set (omega arith);
     }
@@ -233,7 +233,7 @@ pub least_first : (sleepers : List (Option ℕ)) (queue : List Sleeper) → IsQu
 least_first sleepers queue old =
     let bounds = first_bounds queue old.descending old.early in
     let low = least_low (first_wakeup queue) sleepers bounds.1
-      (λ cpu wakeup is. each_sleeps (λ w. first_wakeup queue ≤ w) cpu wakeup queue bounds.0 (old.queued cpu wakeup is)) in
+    (λ cpu wakeup is. each_sleeps (λ w. first_wakeup queue ≤ w) cpu wakeup queue bounds.0 (old.queued cpu wakeup is)) in
     let high = first_high sleepers queue old in
     omega arith
 
@@ -274,4 +274,4 @@ pub last_within : (sleepers : List (Option ℕ)) (queue front : List Sleeper) (s
     → IsQueueOf sleepers queue → queue ≡ front ++ s ∷ [] → s.cpu.0 < length sleepers
 last_within sleepers queue front s old is =
     sleeps_within sleepers s.cpu.0 s.wakeup (old.sleeps s.cpu.0 s.wakeup
-      (subst (λ q. Sleeps s.cpu.0 s.wakeup q) (sym is) (sleeps_here front [] s)))
+    (subst (λ q. Sleeps s.cpu.0 s.wakeup q) (sym is) (sleeps_here front [] s)))

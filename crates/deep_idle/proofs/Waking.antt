@@ -55,7 +55,7 @@ map_cleared : (now : ℕ) (sleepers : List (Option ℕ)) (cpu : ℕ)
 map_cleared now [] cpu due = refl
 map_cleared now (sleeper ∷ sleepers) zero due =
     ap (λ (s : Option ℕ). s ∷ map (asleep_still now) sleepers)
-      (sym (ap (λ (b : Bool). if b then None else sleeper) due))
+    (sym (ap (λ (b : Bool). if b then None else sleeper) due))
 map_cleared now (sleeper ∷ sleepers) (suc cpu) due =
     ap (λ rest. asleep_still now sleeper ∷ rest) (map_cleared now sleepers cpu due)
 
@@ -68,14 +68,14 @@ pub woken_more : (now : ℕ) (start sleepers : List (Option ℕ)) (queue front :
 woken_more now start sleepers queue front due before capacity now_capacity s old is low same_capacity =
     let queue_of : IsQueueOf sleepers (front ++ s ∷ []) = subst (λ q. IsQueueOf sleepers q) is old.queue_of in
     let sleeps : get_or sleepers s.cpu.0 None ≡ Some s.wakeup =
-      queue_of.sleeps s.cpu.0 s.wakeup (sleeps_here front [] s) in
+    queue_of.sleeps s.cpu.0 s.wakeup (sleeps_here front [] s) in
     let within = sleeps_within sleepers s.cpu.0 s.wakeup sleeps in
     let here_due : is_due now (get_or sleepers s.cpu.0 None) ≡ true = ap (is_due now) sleeps ∙ due_is now s.wakeup low in
     let has : (cpu : ℕ) → contains (insert due s.cpu.0) cpu ≡ ((cpu == s.cpu.0) || contains due cpu) =
-      λ cpu. contains-insert nat_cmp_total due s.cpu.0 cpu ∙ ap (λ t. t || contains due cpu) (unsigned_tied cpu s.cpu.0) in
+    λ cpu. contains-insert nat_cmp_total due s.cpu.0 cpu ∙ ap (λ t. t || contains due cpu) (unsigned_tied cpu s.cpu.0) in
     record {
       queue_of = subst (λ q. IsQueueOf (slice_set sleepers s.cpu.0 None) q) (append-nil front)
-        (rose_queue sleepers front [] s queue_of);
+          (rose_queue sleepers front [] s queue_of);
       rest = map_cleared now sleepers s.cpu.0 here_due ∙ old.rest;
       each = λ cpu. elim (cases_Bool (cpu == s.cpu.0)) [
         | inl here ↦
@@ -88,13 +88,13 @@ woken_more now start sleepers queue front due before capacity now_capacity s old
               has cpu ∙ ap (λ t. t || contains due cpu) here,
               ap (λ c. is_due now (get_or start c None)) same ∙ at_start,
               ap (λ c. get_or (slice_set sleepers s.cpu.0 None) c None) same
-                ∙ get_or-set_same sleepers s.cpu.0 None None within,
+                  ∙ get_or-set_same sleepers s.cpu.0 None None within,
             )
         | inr there ↦
             let apart = eqb-false cpu s.cpu.0 there in
             let still = get_or-set_other sleepers s.cpu.0 cpu None None apart in
             let in_due : contains (insert due s.cpu.0) cpu ≡ contains due cpu =
-              has cpu ∙ ap (λ t. t || contains due cpu) there in
+            has cpu ∙ ap (λ t. t || contains due cpu) there in
             elim (old.each cpu) [
               | inl woken ↦ inl (in_due ∙ woken.0, woken.1, still ∙ woken.2)
               | inr asleep ↦ inr (in_due ∙ asleep.0, still ∙ asleep.1)
@@ -126,8 +126,8 @@ pub all_woken : (now : ℕ) (start sleepers : List (Option ℕ)) (queue : List S
     → AllWoken now start sleepers due
 all_woken now start sleepers queue due before capacity old after =
     let none : (cpu : ℕ) → is_due now (get_or sleepers cpu None) ≡ false = λ cpu.
-      none_due now (get_or sleepers cpu None) (λ wakeup is.
-        each_sleeps (λ w. now < w) cpu wakeup queue after (old.queue_of.queued cpu wakeup is)) in
+    none_due now (get_or sleepers cpu None) (λ wakeup is.
+    each_sleeps (λ w. now < w) cpu wakeup queue after (old.queue_of.queued cpu wakeup is)) in
     record {
       sleepers_are = sym (map_none now sleepers none) ∙ old.rest;
       due_are = λ cpu. elim (old.each cpu) [
@@ -140,7 +140,7 @@ pub first_later : (now : ℕ) (sleepers : List (Option ℕ)) (queue : List Sleep
     → IsQueueOf sleepers queue → now < first_wakeup queue → After now queue
 first_later now sleepers queue old later =
     each_is (λ s. first_wakeup queue ≤ s.wakeup) (λ s. now < s.wakeup) queue (λ s low. omega arith)
-      (first_bounds queue old.descending old.early).0
+    (first_bounds queue old.descending old.early).0
 
 pub empty_later : (now : ℕ) (queue : List Sleeper) → length queue ≡ 0 → After now queue
 empty_later now [] none = tt

@@ -67,7 +67,7 @@ pub record IsQueueOf (sleepers : List (Option ℕ)) (queue : List Sleeper) : Typ
 -- what a device keeps: memory for as many sleepers as there are CPUs too
 pub record IsKept (sleepers : List (Option ℕ)) (queue : List Sleeper) (time capacity : ℕ) : Type 0
   where
-  pub queue_of : IsQueueOf sleepers queue
-  pub in_time : NotBefore time queue
-  pub few : length sleepers ≤ CPU_SET_SIZE
-  pub room : length sleepers ≤ capacity
+    pub queue_of : IsQueueOf sleepers queue
+    pub in_time : NotBefore time queue
+    pub few : length sleepers ≤ CPU_SET_SIZE
+    pub room : length sleepers ≤ capacity

@@ -4,5 +4,10 @@
 
 mod device;
 mod order;
+mod settling;
 
 pub use device::Device;
+pub use settling::{Wakeups, settle};
+
+#[cfg(test)]
+mod tests;
