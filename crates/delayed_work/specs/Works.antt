@@ -169,6 +169,20 @@ told_first (Some work) replies now works =
 abbrev pub told_run : (ℕ → JobCall → JobReply) → (now : ℕ) → WorksState → Option Run
 told_run replies now works = told_first (first_of works.ledger.ready) replies now works
 
+-- LEFT: where a pending work stands, with the wheel expiry of the timer that it waits for
+abbrev pub due_with : Option Item → Option Placed
+due_with None = None
+due_with (Some item) = Some (Waiting item.wheel)
+
+abbrev pub left_from : Standing → (work : ℕ) → CpuBases → Option Placed
+left_from standings.Free work bases = None
+left_from (standings.Waiting number) work bases =
+    due_with (item_of work (base_of Global bases).items)
+left_from (standings.Ready number job arg) work bases = Some Ready
+
+abbrev pub left : (work : ℕ) → WorksState → Option Placed
+left work works = left_from (standing_of work works.ledger) work works.bases
+
 -- WHAT IS KEPT: a timer is queued exactly for each work that waits
 pub record IsLawful (works : WorksState) : Type 0 where
   pub sound : IsSound works.ledger

@@ -37,11 +37,13 @@ fn a_work_waits_is_cancelled_and_another_runs_at_once(rt: HostRuntime) -> Result
     assert_eq!(rt; works.queue(10, 0, 5, 0, 0, 5), Ok(Placed::Pending));
     assert_eq!(rt; works.queue(10, 1, 0, 2, 7, 6), Ok(Placed::Ready));
     assert_eq!(rt; works.ready_len(), 1);
+    assert_eq!(rt; works.left(1), Some(Placed::Ready));
     assert!(rt; works.run_next(10, &jobs) == Ok(Some((1, JobReply::Mark(7), None))));
     assert!(rt; works.run_next(10, &jobs) == Ok(None));
     assert_eq!(rt; works.cancel(20, 0, 8), Ok(true));
     assert_eq!(rt; works.cancel(20, 0, 9), Ok(false));
     assert_eq!(rt; works.first(), None);
+    assert_eq!(rt; works.left(0), None);
     assert!(rt; works.story().get(0) == Some(&(0, 0, End::Cancelled)));
     assert!(rt; works.story().get(1) == Some(&(1, 1, End::Ran)));
     assert_eq!(rt; works.story().len(), 2);
@@ -66,6 +68,7 @@ fn a_periodic_work_is_queued_again_and_becomes_ready_at_its_wheel_expiry(
     let run = Some((0, again, Some(Placed::Waiting(168))));
     assert!(rt; works.run_next(61, &jobs) == Ok(run));
     assert_eq!(rt; works.first(), Some(168));
+    assert_eq!(rt; works.left(0), Some(Placed::Waiting(168)));
     assert!(rt; works.story().get(0) == Some(&(0, 0, End::Ran)));
     assert!(rt; works.story().get(1) == Some(&(1, 0, End::Pending)));
     Ok(())

@@ -5,12 +5,13 @@ ghost use Rattle.std.specs.Prelude.{None, IfOk, OnOk, OnErr};
 ghost use Rattle.tm_base.specs.declared.names.TheConstants.{TIME_LIMIT};
 ghost use Rattle.tm_base.specs.declared.limits.TheConstants.{MOST_TIMERS};
 ghost use Rattle.tm_base.specs.declared.names.Class.{Class};
-ghost use Rattle.wheel_core.specs.PlainBase.{NoneBehind, NoneDue, least};
+ghost use Rattle.wheel_core.specs.PlainBase.{NoneBehind, NoneDue, item_of, least};
 ghost use Rattle.cpu_bases.specs.CpuBases.{base_of, class_in, drained, empty_bases};
 ghost use Rattle.delayed_work.specs.Ledger.{is_free, standing_of};
 ghost use Rattle.delayed_work.specs.Works.{IsLawful, all_ready, bases_queued, cancelled_work};
 ghost use Rattle.delayed_work.specs.Works.{expired, first_cpu, items_out, ledger_queued, new_works};
-ghost use Rattle.delayed_work.specs.Works.{placed, placed_free, queued, ran, told_run};
+ghost use Rattle.delayed_work.specs.Works.{due_with, left, placed, placed_free, queued, ran};
+ghost use Rattle.delayed_work.specs.Works.{told_run};
 ghost use Rattle.delayed_work.specs.declared.standing.Standing.{Standing};
 
 use crate::ledger::Ledger;
@@ -286,6 +287,30 @@ impl<B: TimerBase> Works<B> {
         ensures { result ≡ least (base_of Class.Global self.now.bases).items }
     {
         self.bases.base(Class::Global).first()
+    }
+
+    /// Where a pending work stands: ready, or waiting for a timer of this wheel expiry in jiffies;
+    /// None where it is free.
+    pub fn left(&self, work: u16) -> Option<Placed>
+        requires { work < length self.now.ledger.standings }
+        ensures { result ≡ left work self.now }
+    {
+        let standing = self.ledger.standing(work);
+        match standing {
+            Standing::Free => None,
+            Standing::Waiting { .. } => self.due_of(work),
+            Standing::Ready { .. } => Some(Placed::Ready),
+        }
+    }
+
+    /// Where a work that waits stands, by its timer.
+    fn due_of(&self, work: u16) -> Option<Placed>
+        ensures { result ≡ due_with (item_of work (base_of Class.Global self.now.bases).items) }
+    {
+        match self.bases.base(Class::Global).get(u32::from(work)) {
+            None => None,
+            Some(item) => Some(Placed::Waiting(item.wheel)),
+        }
     }
 
     /// What became of each queueing so far.
