@@ -13,6 +13,3 @@ pub use ledger::Ledger;
 pub use standing::{End, Placed, Standing};
 pub use stories::Stories;
 pub use works::Works;
-
-#[cfg(test)]
-mod tests;

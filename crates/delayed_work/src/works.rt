@@ -275,6 +275,13 @@ impl<B: TimerBase> Works<B> {
         Ok(Some((work, reply, Some(placed))))
     }
 
+    /// The last time at which a call changed something, in jiffies.
+    pub fn time(&self) -> Jiffy
+        ensures { result ≡ self.now.time }
+    {
+        self.time
+    }
+
     /// How many works are ready.
     pub fn ready_len(&self) -> usize
         ensures { result ≡ length self.now.ledger.ready }
