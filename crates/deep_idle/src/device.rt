@@ -1,6 +1,7 @@
 //! The device.
 
-ghost use Rattle.std.specs.Prelude.{◌≡◌, ◌<◌, ◌≤◌, length, map, IfOk, Some, None, ℕ, slice_index_or, vec_capacity};
+ghost use Rattle.std.specs.Prelude.{◌≡◌, ◌<◌, ◌≤◌, length, map, IfOk, Some, None, ℕ};
+ghost use Rattle.std.specs.Prelude.{slice_index_or, vec_capacity};
 ghost use Rattle.std.specs.FinSet as set;
 ghost use Rattle.tm_base.specs.declared.limits.TheConstants.{CPU_SET_SIZE};
 ghost use Rattle.tm_base.specs.declared.names.TheConstants.{NEVER};

@@ -8,6 +8,3 @@ mod settling;
 
 pub use device::Device;
 pub use settling::{Wakeups, settle};
-
-#[cfg(test)]
-mod tests;

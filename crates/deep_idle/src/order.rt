@@ -14,8 +14,8 @@ pub(crate) struct Sleeper {
     pub(crate) cpu: CpuId,
 }
 
-/// The place in a queue before which all wake after a time, and from which on none does. It looks at
-/// those that wake first, as many as an element put there makes way.
+/// The place in a queue before which all wake after a time, and from which on none does. It looks
+/// at those that wake first, as many as make way for one that is put there.
 pub(crate) fn place_of(queue: &[Sleeper], wakeup: Jiffy) -> usize
     requires { AreDescending queue.now }
     ensures within { result ≤ length queue.now }
