@@ -4,12 +4,14 @@ use Rattle.std.specs.List.{flat_map}
 use Rattle.tm_report.specs.Words.{number_word, class_word, time_word}
 use Rattle.tm_report.specs.Replies.{reply_words}
 use Rattle.tm_report.specs.Covers.{cover_words}
+use Rattle.tm_report.specs.Reasons.{reason_words}
 use Rattle.tm_report.specs.declared.lines.Line.{Line}
 use Rattle.tm_report.specs.declared.lines.Line.TheVariants.{Arm, Run, Cancel, NotQueued}
 use Rattle.tm_report.specs.declared.lines.Line.TheVariants.{Idle, Stay, Wake, Cover}
 use Rattle.tm_report.specs.declared.lines.Line.TheVariants.{Offline, Handed, Online}
 use Rattle.tm_report.specs.declared.lines.Line.TheVariants.{Control, Moved}
 use Rattle.tm_report.specs.declared.lines.Line.TheVariants.{Refused, RefusedQueued, Left, End}
+use Rattle.tm_report.specs.declared.lines.Line.TheVariants.{Why, Yes, No}
 
 -- the words of a line, parted by spaces
 unfoldable pub words_text : Line → List ℕ
@@ -48,6 +50,11 @@ words_text (RefusedQueued now cpu line number holder) =
 words_text (Left timer cpu class wheel) =
     codes "left" ++ number_word timer.0 ++ number_word cpu.0 ++ class_word class ++ time_word wheel
 words_text (End now) = codes "end" ++ number_word now
+words_text (Why steps cpu timer shown) =
+    codes "why" ++ number_word steps ++ number_word cpu.0 ++ number_word timer.0
+    ++ reason_words shown
+words_text (Yes steps) = codes "yes" ++ number_word steps
+words_text (No index) = codes "no" ++ number_word index
 
 -- each line ends with a line feed
 unfoldable pub line_text : Line → List ℕ

@@ -7,7 +7,7 @@ mod reports;
 mod texts;
 
 pub use drafts::Draft;
-pub use lines::{Line, ShownCover, ShownReply};
+pub use lines::{Line, ShownCover, ShownReason, ShownReply};
 pub use reports::{Report, text_of};
 
 #[cfg(test)]

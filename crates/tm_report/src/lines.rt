@@ -126,6 +126,22 @@ pub enum Line {
     End {
         now: Jiffy,
     },
+    /// After `steps` steps of a trace, `shown` answers for `timer` of CPU `cpu`.
+    Why {
+        steps: u32,
+        cpu: CpuId,
+        timer: TimerId,
+        shown: ShownReason,
+    },
+    /// All `steps` steps of a trace can be made one after the other.
+    Yes {
+        steps: u32,
+    },
+    /// Of the steps of a trace number `index`, from 0, is the first that can't be made where it
+    /// stands.
+    No {
+        index: u32,
+    },
 }
 
 /// What the job of a timer that was run answered, as a line shows it.
@@ -150,4 +166,19 @@ pub enum ShownCover {
     Migrator { level: u8, place: u16, cpu: CpuId },
     /// CPU `cpu` is idle and wakes by itself at the jiffy `at`, in time for the timer.
     Wake { cpu: CpuId, at: Jiffy },
+}
+
+/// Who answers for a global timer of an idle CPU while walks and interrupts may be under way, as a
+/// line shows it.
+#[derive(Clone, Copy)]
+pub enum ShownReason {
+    /// The active group number `place` of its `level` (both from 0, leaves at level 0), whose
+    /// migrators lead to the active CPU `cpu`.
+    Held { level: u8, place: u16, cpu: CpuId },
+    /// CPU `cpu` is idle and wakes by itself at the jiffy `at`, in time for the timer.
+    Woken { cpu: CpuId, at: Jiffy },
+    /// A walk or an interrupt that is under way, by the case of that number, 1 to 4.
+    Carried { case: u8 },
+    /// Nobody has to: the CPU isn't idle, or the timer isn't among its global ones.
+    Nothing,
 }

@@ -139,6 +139,28 @@ fn each_line_has_the_text_of_the_table_of_lines(rt: HostRuntime) -> Result<(), F
             "left 1 0 global 73\n",
         ),
         (Line::End { now: 100 }, "end 100\n"),
+        (
+            why(ShownReason::Held {
+                level: 0,
+                place: 0,
+                cpu: CpuId(0),
+            }),
+            "why 11 1 0 held 0:0 0\n",
+        ),
+        (
+            why(ShownReason::Woken {
+                cpu: CpuId(8),
+                at: 61,
+            }),
+            "why 11 1 0 woken 8 61\n",
+        ),
+        (
+            why(ShownReason::Carried { case: 1 }),
+            "why 11 1 0 carried 1\n",
+        ),
+        (why(ShownReason::Nothing), "why 11 1 0 none\n"),
+        (Line::Yes { steps: 27 }, "yes 27\n"),
+        (Line::No { index: 0 }, "no 0\n"),
     ];
     for (line, want) in cases {
         let text = text_of(rt.alloc(), &line)?;
@@ -205,6 +227,16 @@ fn idle(now: u64, cpu: u16, until: u64) -> Line {
         now,
         cpu: CpuId(cpu),
         until,
+    }
+}
+
+// Who answers for timer 0 of CPU 1 after eleven steps.
+fn why(shown: ShownReason) -> Line {
+    Line::Why {
+        steps: 11,
+        cpu: CpuId(1),
+        timer: TimerId(0),
+        shown,
     }
 }
 

@@ -5,11 +5,12 @@ ghost use Rattle.std.specs.Prelude.{◌++◌};
 ghost use Rattle.tm_report.specs.Words.{number_word, time_word};
 ghost use Rattle.tm_report.specs.Replies.{reply_words};
 ghost use Rattle.tm_report.specs.Covers.{cover_words};
+ghost use Rattle.tm_report.specs.Reasons.{reason_words};
 ghost use Rattle.tm_report.specs.Lines.{words_text, line_text};
 ghost use Rattle.tm_report.specs.Drafts.{Adds};
 
 use crate::drafts::Draft;
-use crate::lines::{Line, ShownCover, ShownReply};
+use crate::lines::{Line, ShownCover, ShownReason, ShownReply};
 use tm_base::{Class, CpuId, Jiffy, NoMemory, TimerId};
 
 /// Writes a line behind what the draft has begun.
@@ -86,6 +87,14 @@ fn write_words(draft: &mut Draft, line: &Line) -> Result<(), NoMemory>
             wheel,
         } => write_left(draft, *timer, *cpu, *class, *wheel),
         Line::End { now } => write_end(draft, *now),
+        Line::Why {
+            steps,
+            cpu,
+            timer,
+            shown,
+        } => write_why(draft, *steps, *cpu, *timer, shown),
+        Line::Yes { steps } => write_count(draft, b"yes", *steps),
+        Line::No { index } => write_count(draft, b"no", *index),
     }
 }
 
@@ -240,6 +249,28 @@ fn write_end(draft: &mut Draft, now: Jiffy) -> Result<(), NoMemory>
     draft.number_word(now)
 }
 
+fn write_why(
+    draft: &mut Draft,
+    steps: u32,
+    cpu: CpuId,
+    timer: TimerId,
+    shown: &ShownReason,
+) -> Result<(), NoMemory>
+    ensures { Adds result draft.old draft.new (words_text (Line.Why steps cpu timer shown.now)) }
+{
+    write_event(draft, b"why", u64::from(steps), cpu)?;
+    draft.number_word(u64::from(timer.0))?;
+    write_reason(draft, shown)
+}
+
+// A word and a number.
+fn write_count(draft: &mut Draft, name: &[u8], n: u32) -> Result<(), NoMemory>
+    ensures { Adds result draft.old draft.new (name.now ++ number_word n) }
+{
+    draft.piece(name)?;
+    draft.number_word(u64::from(n))
+}
+
 // What a job answered.
 fn write_reply(draft: &mut Draft, reply: &ShownReply) -> Result<(), NoMemory>
     ensures { Adds result draft.old draft.new (reply_words reply.now) }
@@ -277,6 +308,29 @@ fn write_shown_cover(draft: &mut Draft, cover: &ShownCover) -> Result<(), NoMemo
             draft.number_word(u64::from(cpu.0))?;
             draft.time_word(*at)
         }
+    }
+}
+
+// Who answers for a timer in the middle of a list of steps.
+fn write_reason(draft: &mut Draft, reason: &ShownReason) -> Result<(), NoMemory>
+    ensures { Adds result draft.old draft.new (reason_words reason.now) }
+{
+    match reason {
+        ShownReason::Held { level, place, cpu } => {
+            draft.piece(b" held ")?;
+            draft.group(*level, *place)?;
+            draft.number_word(u64::from(cpu.0))
+        }
+        ShownReason::Woken { cpu, at } => {
+            draft.piece(b" woken")?;
+            draft.number_word(u64::from(cpu.0))?;
+            draft.time_word(*at)
+        }
+        ShownReason::Carried { case } => {
+            draft.piece(b" carried")?;
+            draft.number_word(u64::from(*case))
+        }
+        ShownReason::Nothing => draft.piece(b" none"),
     }
 }
 
