@@ -1,0 +1,2 @@
+mod FieldLists
+mod FieldWords
