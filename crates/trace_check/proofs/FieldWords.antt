@@ -1,11 +1,9 @@
 -- words and the fields that they say
-use Rattle.std.proofs.Common.{◌≡◌, ℕ, ◌<◌, List, [], ◌∷◌, length, Option, Some, Err, Ok, Result, refl, sym, ap, ◌∙◌, arith}
+use Rattle.std.proofs.Common.{◌≡◌, ℕ, ◌<◌, List, [], ◌∷◌, length, Option, Some, Err, sym, ap, ◌∙◌, arith}
 use Rattle.text_words.proofs.Cuts.{split_some}
-use Rattle.tm_script.specs.declared.faults.Kind.{Kind}
 use Rattle.tm_script.specs.declared.faults.Kind.TheVariants.{BadLine}
 use Rattle.trace_check.specs.declared.words.Limits.{Limits}
 use Rattle.trace_check.specs.declared.words.Slot.{Slot}
-use Rattle.trace_check.specs.declared.words.Field.{Field}
 use Rattle.trace_check.specs.Reading.{fields_of}
 use Rattle.trace_check.specs.Steps.{words_behind}
 

@@ -1,5 +1,5 @@
 -- the first fault of a text that isn't a trace
-use Rattle.std.specs.Prelude.{◌≡◌, ◌↔◌, ℕ, ◌*◌, List, [], ◌∷◌, ◌++◌, codes, Option, Some, None}
+use Rattle.std.specs.Prelude.{ℕ, ◌*◌, List, [], ◌∷◌, ◌++◌, codes, Option, Some, None}
 use Rattle.std.specs.Prelude.{Result, Ok, Err, slice_index_or, if◌then◌else◌}
 use Rattle.std.specs.List.{flat_map, join_with_byte}
 use Rattle.std.specs.Str.{bytes_eq}
@@ -8,10 +8,8 @@ use Rattle.text_words.specs.Words.{ended, lines_of, words_of}
 use Rattle.tm_script.specs.declared.faults.Kind.TheVariants.{BadLine, NoEnd}
 use Rattle.tm_script.specs.declared.faults.ScriptFault.{ScriptFault}
 use Rattle.tm_script.specs.Faults.{fault_of}
-use Rattle.trace_check.specs.declared.traces.Trace.{Trace}
 use Rattle.trace_check.specs.declared.traces.TraceLine.{TraceLine}
 use Rattle.trace_check.specs.declared.words.Limits.{Limits}
-use Rattle.trace_check.specs.Texts.{Spells}
 use Rattle.trace_check.specs.Reading.{fault_at, lines_from, unended}
 
 -- the script of version 2 whose machine has these lines, and in which nothing happens
@@ -64,7 +62,3 @@ fault_among (first ∷ next ∷ more) =
 -- THE FIRST FAULT of a text
 abbrev pub trace_fault : List ℕ → Option ScriptFault
 trace_fault bytes = fault_among (lines_of bytes)
-
--- a text has no fault exactly where it is a trace's
-abbrev pub FaultsTell : Type 0
-FaultsTell = (bytes : List ℕ) → (trace_fault bytes ≡ None) ↔ ((t : Trace) × Spells bytes t)

@@ -1,5 +1,5 @@
 -- what the lines of a trace say, or the first fault among them
-use Rattle.std.specs.Prelude.{◌≡◌, ℕ, zero, suc, ◌+◌, List, [], ◌∷◌, ◌++◌, codes, find, Option, Some}
+use Rattle.std.specs.Prelude.{ℕ, zero, suc, ◌+◌, List, [], ◌∷◌, codes, find, Option, Some}
 use Rattle.std.specs.Prelude.{None, Result, Ok, Err, nat_le, nat_lt, if◌then◌else◌}
 use Rattle.std.specs.Str.{bytes_eq}
 use Rattle.text_words.specs.Numbers.{is_number, value_of}
@@ -11,7 +11,7 @@ use Rattle.tm_base.specs.declared.names.TimerId.{TimerId}
 use Rattle.tm_base.specs.declared.limits.TheConstants.{MOST_LINES}
 use Rattle.tm_script.specs.declared.faults.Kind.{Kind}
 use Rattle.tm_script.specs.declared.faults.Kind.TheVariants.{BadLine, BadNumber, OutOfRange, NoEnd}
-use Rattle.tm_script.specs.declared.faults.Kind.TheVariants.{OutOfOrder, TooManyLines}
+use Rattle.tm_script.specs.declared.faults.Kind.TheVariants.{TooManyLines}
 use Rattle.tm_script.specs.declared.faults.ScriptFault.{ScriptFault}
 use Rattle.core_world.specs.declared.step.Step.TheVariants as steps
 use Rattle.trace_check.specs.declared.traces.TraceLine.{TraceLine}

@@ -238,11 +238,7 @@ fn read_behind(
 }
 
 /// The fields behind a command.
-fn read_command(
-    limits: Limits,
-    command: Command,
-    words: Option<&[u8]>,
-) -> Result<FieldList, Kind>
+fn read_command(limits: Limits, command: Command, words: Option<&[u8]>) -> Result<FieldList, Kind>
     ensures { result
         ≡ fields_of limits (slots_of command) (words_behind (option_copied words.entry)) }
 {
@@ -278,11 +274,7 @@ fn read_command(
 
 /// What line number `line` says, or the first kind of fault that it has; None is the end.
 #[tactic(auto, unfolding(crate::specs::Reading::heard, crate::specs::Reading::said_behind))]
-pub(crate) fn read_line(
-    limits: Limits,
-    line: u32,
-    words: &[u8],
-) -> Result<Option<TraceLine>, Kind>
+pub(crate) fn read_line(limits: Limits, line: u32, words: &[u8]) -> Result<Option<TraceLine>, Kind>
     ensures { result ≡ heard limits line (words_of words.now) }
 {
     let (first, behind) = first_word(words);
