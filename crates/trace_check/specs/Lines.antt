@@ -44,7 +44,8 @@ abbrev pub slots_of : Command → List Slot
 slots_of commands.Clock = slots.Time ∷ []
 slots_of commands.Enter = slots.Cpu ∷ []
 slots_of commands.Leave = slots.Cpu ∷ []
-slots_of commands.Arm = slots.Cpu ∷ slots.Timer ∷ slots.Class ∷ slots.Time ∷ slots.Job ∷ slots.Arg ∷ slots.Line ∷ []
+slots_of commands.Arm =
+    slots.Cpu ∷ slots.Timer ∷ slots.Class ∷ slots.Time ∷ slots.Job ∷ slots.Arg ∷ slots.Line ∷ []
 slots_of commands.Cancel = slots.Cpu ∷ slots.Timer ∷ slots.Cpu ∷ slots.Line ∷ []
 slots_of commands.Hand = slots.Cpu ∷ slots.Timer ∷ slots.Cpu ∷ []
 slots_of commands.Ticked = slots.Cpu ∷ slots.Class ∷ slots.Cpu ∷ []
@@ -90,7 +91,8 @@ fields_in (lines.Do (steps.Clock now)) = fields.Time now ∷ []
 fields_in (lines.Do (steps.Enter cpu)) = fields.Cpu cpu ∷ []
 fields_in (lines.Do (steps.Leave cpu)) = fields.Cpu cpu ∷ []
 fields_in (lines.Do (steps.Arm cpu timer class expires job arg line)) =
-    fields.Cpu cpu ∷ fields.Timer timer ∷ fields.Class class ∷ fields.Time expires ∷ fields.Job job ∷ fields.Arg arg ∷ fields.Line line ∷ []
+    fields.Cpu cpu ∷ fields.Timer timer ∷ fields.Class class ∷ fields.Time expires
+    ∷ fields.Job job ∷ fields.Arg arg ∷ fields.Line line ∷ []
 fields_in (lines.Do (steps.Cancel cpu timer by line)) =
     fields.Cpu cpu ∷ fields.Timer timer ∷ fields.Cpu by ∷ fields.Line line ∷ []
 fields_in (lines.Do (steps.Hand cpu timer runner)) =
