@@ -42,8 +42,8 @@ fn make_each<B: TimerBase>(core: &mut Core<B>, steps: &[Step]) -> Result<(), Ste
 /// Makes steps in order. The error names the first step that isn't enabled where it stands, or that
 /// wants memory; the core then stands before that step. The tree, and how many groups, CPUs and
 /// timers there are, stay. Whatever the order of the steps, and also after a refusal, the core is
-/// lawful, and each global timer that is queued on an online idle CPU is held, woken for or carried;
-/// where no walk and no interrupt is under way, it is held or woken for.
+/// lawful, and each global timer that is queued on an online idle CPU is held, woken for or
+/// carried; where no walk and no interrupt is under way, it is held or woken for.
 pub fn run_steps<B: TimerBase>(core: &mut Core<B>, steps: &[Step]) -> Result<(), StepsFault>
     ensures lawful { IsLawful core.new }
     ensures answered { EachIsAnswered core.new }

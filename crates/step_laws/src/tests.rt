@@ -130,8 +130,8 @@ fn the_last_placed_cpu_stays_online(rt: HostRuntime) -> Result<(), Fail> {
     Ok(())
 }
 
-// As docs/USE.md shows it: a CPU goes idle with a global timer, and tells it to the other CPU of its
-// group.
+// As docs/USE.md shows it: a CPU goes idle with a global timer, and tells it to the other CPU of
+// its group.
 #[test]
 fn an_idle_cpu_tells_its_timer(rt: HostRuntime) -> Result<(), Fail> {
     // One node of two CPUs, with one timer. At jiffy 10 CPU 1 arms it for 60, and goes idle.

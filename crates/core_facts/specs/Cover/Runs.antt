@@ -32,8 +32,8 @@ EachLawfulIsAnswered = (w : World) → IsLawful w → EachIsAnswered w
 abbrev pub start_with : (nodes cpus : ℕ) → Cpus → (timers : ℕ) → World
 start_with nodes cpus isolated timers = start_of (tree_of nodes cpus isolated) timers
 
--- THE HEADLINE: on every machine, after every front of every list of steps, each of which is enabled
--- where it stands, each global timer of an online idle CPU is held, woken for or carried
+-- THE HEADLINE: on every machine, after every front of every list of steps, each enabled where it
+-- stands, each global timer of an online idle CPU is held, woken for or carried
 abbrev pub AlwaysAnswered : Type 0
 AlwaysAnswered = (nodes cpus timers : ℕ) (isolated : Cpus) →
     IsWithinLimits nodes cpus isolated → timers ≤ 2 ^ 16 → (steps : List Step) →
