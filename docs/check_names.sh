@@ -204,7 +204,8 @@ def check_examples():
     part = text[text.index("## Examples"):]
     part = part[: part.index("\n## ", 5)]
     named = set(re.findall(r"`([a-z][a-z0-9-]*)`", part))
-    there = {os.path.basename(it)[: -len(".report")] for it in glob.glob("examples/*.report")}
+    shown = glob.glob("examples/*.report") + glob.glob("examples/*.verdict")
+    there = {os.path.splitext(os.path.basename(it))[0] for it in shown}
     for name in sorted(named ^ there):
         fault("README.md", line_of(text, text.index("## Examples")), f"examples/ and this part don't both have {name}")
 
