@@ -1,4 +1,4 @@
--- the word of a CPU's state, put together
+-- for crates above: the word of a CPU's state, put together
 use Rattle.std.proofs.Common.{◌≡◌, ℕ, ◌^◌, ◌+◌, ◌*◌, ◌%◌, ◌<◌, ◌≤◌, Bool, true, false, Option, Some}
 use Rattle.std.proofs.Common.{None, arith, bit_or, refl}
 use Rattle.std.specs.Int.{from_bool}

@@ -34,6 +34,7 @@ abbrev pub sooner : Option ℕ → ℕ → ℕ
 sooner None others = others
 sooner (Some wakeup) others = min wakeup others
 
+-- the least wakeup of the sleepers, or the time that never comes
 abbrev pub least_wakeup : List (Option ℕ) → ℕ
 least_wakeup [] = NEVER
 least_wakeup (sleeper ∷ sleepers) = sooner sleeper (least_wakeup sleepers)
@@ -73,15 +74,18 @@ abbrev pub risen : Option ℕ → (cpu : ℕ) → DeviceState → DeviceState
 risen None cpu device = device
 risen (Some wakeup) cpu device = rose cpu device
 
+-- a CPU sleeps, if it is to
 abbrev pub asleep : Option ℕ → (cpu : ℕ) → DeviceState → DeviceState
 asleep None cpu device = device
 asleep (Some wakeup) cpu device = slept cpu wakeup device
 
+-- two times are the same, or both none
 abbrev pub is_same : Option ℕ → Option ℕ → Bool
 is_same None None = true
 is_same (Some one) (Some other) = one == other
 is_same _ _ = false
 
+-- one CPU is a sleeper exactly as it is to be
 abbrev pub settled_one : (want : Option ℕ) → (cpu : ℕ) → DeviceState → DeviceState
 settled_one want cpu device =
     if is_same (sleeper_of cpu device) want then device

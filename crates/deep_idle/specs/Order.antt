@@ -14,9 +14,11 @@ Each Is (s ∷ sleepers) = Is s × Each Is sleepers
 abbrev pub NotAfter : (time : ℕ) → List Sleeper → Type 0
 NotAfter time sleepers = Each (λ s. s.wakeup ≤ time) sleepers
 
+-- none wakes before a time
 abbrev pub NotBefore : (time : ℕ) → List Sleeper → Type 0
 NotBefore time sleepers = Each (λ s. time ≤ s.wakeup) sleepers
 
+-- all wake after a time
 abbrev pub After : (time : ℕ) → List Sleeper → Type 0
 After time sleepers = Each (λ s. time < s.wakeup) sleepers
 
@@ -30,6 +32,7 @@ abbrev pub Lacks : (cpu : ℕ) → List Sleeper → Type 0
 Lacks cpu [] = Unit {0}
 Lacks cpu (s ∷ sleepers) = (s.cpu.0 ≡ cpu → ⊥) × Lacks cpu sleepers
 
+-- no CPU is there twice
 abbrev pub AreDistinct : List Sleeper → Type 0
 AreDistinct [] = Unit {0}
 AreDistinct (s ∷ sleepers) = Lacks s.cpu.0 sleepers × AreDistinct sleepers
@@ -51,6 +54,7 @@ abbrev pub last_wakeup : ℕ → List Sleeper → ℕ
 last_wakeup wakeup [] = wakeup
 last_wakeup wakeup (s ∷ sleepers) = last_wakeup s.wakeup sleepers
 
+-- the wakeup at the front of the queue
 abbrev pub first_wakeup : List Sleeper → ℕ
 first_wakeup sleepers = last_wakeup NEVER sleepers
 

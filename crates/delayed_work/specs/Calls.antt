@@ -30,6 +30,7 @@ abbrev pub after_all : Replies → List WorksCall → WorksState → WorksState
 after_all replies [] works = works
 after_all replies (call ∷ calls) works = after_all replies calls (after replies call works)
 
+-- the time of a call, in jiffies
 abbrev pub time_of : WorksCall → ℕ
 time_of (Queue now work delay job arg line) = now
 time_of (Cancel now work line) = now
@@ -49,6 +50,7 @@ pub record MayMake (call : WorksCall) (works : WorksState) : Type 0 where
   pub not_before : works.time ≤ time_of call
   pub names : NamesWork call (length works.ledger.standings)
 
+-- and so may each call of a list where it stands
 abbrev pub MayMakeAll : Replies → List WorksCall → WorksState → Type 0
 MayMakeAll replies [] works = Unit {0}
 MayMakeAll replies (call ∷ calls) works =
@@ -60,14 +62,17 @@ one_if (placing.Waiting due) = 1
 one_if placing.Ready = 1
 one_if placing.Pending = 0
 
+-- .. of a work that was queued again, or not
 abbrev pub one_if_again : Option Placed → ℕ
 one_if_again None = 0
 one_if_again (Some answer) = one_if answer
 
+-- .. of a run, or of none
 abbrev pub one_if_run : Option Run → ℕ
 one_if_run None = 0
 one_if_run (Some run) = one_if_again run.2
 
+-- how many queueings a call accepts
 abbrev pub accepts : Replies → WorksCall → WorksState → ℕ
 accepts replies (Queue now work delay job arg line) works =
     one_if (placed now work delay job arg works)
@@ -75,6 +80,7 @@ accepts replies (Cancel now work line) works = 0
 accepts replies (Expire now) works = 0
 accepts replies (RunNext now) works = one_if_run (told_run replies now works)
 
+-- .. and a list of calls
 abbrev pub accepts_all : Replies → List WorksCall → WorksState → ℕ
 accepts_all replies [] works = 0
 accepts_all replies (call ∷ calls) works =
@@ -86,10 +92,12 @@ abbrev pub numbered : (work : ℕ) → Option ℕ → Option (ℕ × ℕ)
 numbered work None = None
 numbered work (Some number) = Some (number, work)
 
+-- the run of the first ready work, if there is one
 abbrev pub first_run : Option ℕ → LedgerState → Option (ℕ × ℕ)
 first_run None ledger = None
 first_run (Some work) ledger = numbered work (number_in (standing_of work ledger))
 
+-- what a call runs: the number of a queueing and its work
 abbrev pub runs : WorksCall → LedgerState → Option (ℕ × ℕ)
 runs (RunNext now) ledger = first_run (first_of ledger.ready) ledger
 runs _ ledger = None

@@ -10,6 +10,7 @@ abbrev pub ledger_of : List Standing → KeyTable → List Told → LedgerState
 ledger_of standings table story =
     record { standings = standings; ready = list_of table 0; story = story }
 
+-- what a ledger keeps of its parts
 pub record IsKept (standings : List Standing) (table : KeyTable) (ready_len : ℕ)
     (story : List Told) : Type 0 where
   pub sound : IsSound (ledger_of standings table story)

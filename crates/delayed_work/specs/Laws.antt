@@ -80,6 +80,7 @@ AreReplies replies =
     (job : ℕ) (call : JobCall) (class : Class) (delay : ℕ) → replies job call ≡ Again class delay
     → delay < 2 ^ 32
 
+-- THE LAW: what every list of calls leaves, from new works on
 abbrev pub WorksLaw : Type 0
 WorksLaw =
     (replies : Replies) (bases : CpuBases) (count : ℕ) (calls : List WorksCall)

@@ -36,14 +36,17 @@ new_ledger count = record { standings = replicate count Free; ready = []; story 
 abbrev pub standing_of : (work : ℕ) → LedgerState → Standing
 standing_of work ledger = slice_index_or ledger.standings work Free
 
+-- a work that is free
 abbrev pub is_free : Standing → Bool
 is_free Free = true
 is_free _ = false
 
+-- .. that waits for its timer
 abbrev pub is_waiting : Standing → Bool
 is_waiting (Waiting number) = true
 is_waiting _ = false
 
+-- .. that is ready
 abbrev pub is_ready : Standing → Bool
 is_ready (Ready number job arg) = true
 is_ready _ = false
@@ -83,6 +86,7 @@ ready_from (Waiting number) work job arg ledger =
     }
 ready_from _ work job arg ledger = ledger
 
+-- a work becomes ready, if it waits
 abbrev pub come_ready : (work job arg : ℕ) → LedgerState → LedgerState
 come_ready work job arg ledger = ready_from (standing_of work ledger) work job arg ledger
 
@@ -100,6 +104,7 @@ ended_from (Ready number job arg) work end ledger = record {
   story = slice_set ledger.story number (number, work, end);
 }
 
+-- a pending work comes to its end, and is free
 abbrev pub ended : (work : ℕ) → End → LedgerState → LedgerState
 ended work end ledger = ended_from (standing_of work ledger) work end ledger
 

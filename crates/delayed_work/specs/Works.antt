@@ -42,15 +42,18 @@ placed_free now work delay job arg bases =
     if delay == 0 then Ready
     else Waiting (item_queued now Global work (now + delay) job arg bases).wheel
 
+-- the bases after a queueing: with a delay its timer is armed
 abbrev pub bases_queued : (now work delay job arg line : ℕ) → CpuBases → CpuBases
 bases_queued now work delay job arg line bases =
     if delay == 0 then bases
     else armed now Global work (now + delay) job arg line first_cpu bases
 
+-- the ledger after a queueing
 abbrev pub ledger_queued : (work delay job arg : ℕ) → LedgerState → LedgerState
 ledger_queued work delay job arg ledger =
     if delay == 0 then accepted_ready work job arg ledger else accepted_waiting work ledger
 
+-- a queueing that is accepted
 abbrev pub accepted : (now work delay job arg line : ℕ) → WorksState → WorksState
 accepted now work delay job arg line works = record {
   bases = bases_queued now work delay job arg line works.bases;
@@ -64,15 +67,18 @@ queued_from standings.Free now work delay job arg line works =
     accepted now work delay job arg line works
 queued_from _ now work delay job arg line works = works
 
+-- QUEUEING: a work that is pending stays as it is
 abbrev pub queued : (now work delay job arg line : ℕ) → WorksState → WorksState
 queued now work delay job arg line works =
     queued_from (standing_of work works.ledger) now work delay job arg line works
 
+-- what queueing answers, by how the work stands
 abbrev pub placed_from : Standing → (now work delay job arg : ℕ) → CpuBases → Placed
 placed_from standings.Free now work delay job arg bases =
     placed_free now work delay job arg bases
 placed_from _ now work delay job arg bases = Pending
 
+-- what queueing answers
 abbrev pub placed : (now work delay job arg : ℕ) → WorksState → Placed
 placed now work delay job arg works =
     placed_from (standing_of work works.ledger) now work delay job arg works.bases
@@ -89,6 +95,7 @@ cancelled_from (standings.Waiting number) now work line works = record {
 cancelled_from (standings.Ready number job arg) now work line works =
     record works { ledger = ended work ends.Cancelled works.ledger; time = now }
 
+-- CANCELLING: a work that is pending is free afterwards
 abbrev pub cancelled_work : (now work line : ℕ) → WorksState → WorksState
 cancelled_work now work line works =
     cancelled_from (standing_of work works.ledger) now work line works
@@ -104,12 +111,14 @@ abbrev pub out_then : Option Item → List Item → List Item
 out_then None items = []
 out_then (Some item) items = item ∷ items
 
+-- what goes out by now, in the order of hand-out
 abbrev pub items_out : (most now : ℕ) → CpuBases → List Item
 items_out zero now bases = []
 items_out (suc most) now bases =
     out_then (next_out now (base_of Global bases))
     (items_out most now (handed_out now Global first_cpu bases))
 
+-- EXPIRING: the works of all due timers become ready
 abbrev pub expired : (now : ℕ) → WorksState → WorksState
 expired now works =
     let most = length (base_of Global works.bases).items in
@@ -125,16 +134,19 @@ abbrev pub call_of : (work arg now : ℕ) → JobCall
 call_of work arg now =
     record { timer = record { 0 = work }; arg = arg; now = now; runner = first_cpu }
 
+-- a work is queued again where its job says so
 abbrev pub queued_again : JobReply → (now work job arg : ℕ) → WorksState → WorksState
 queued_again (Again class delay) now work job arg works =
     accepted now work delay job arg 0 works
 queued_again _ now work job arg works = works
 
+-- .. and what that answers
 abbrev pub placed_again : JobReply → (now work job arg : ℕ) → CpuBases → Option Placed
 placed_again (Again class delay) now work job arg bases =
     Some (placed_free now work delay job arg bases)
 placed_again _ now work job arg bases = None
 
+-- a ready work runs
 abbrev pub ran_from : Standing → (work : ℕ) → (ℕ → JobCall → JobReply) → (now : ℕ)
     → WorksState → WorksState
 ran_from (standings.Ready number job arg) work replies now works =
@@ -142,11 +154,13 @@ ran_from (standings.Ready number job arg) work replies now works =
     (record works { ledger = ended work ends.Ran works.ledger; time = now })
 ran_from _ work replies now works = works
 
+-- the first ready work runs, if there is one
 abbrev pub ran_first : Option ℕ → (ℕ → JobCall → JobReply) → (now : ℕ) → WorksState → WorksState
 ran_first None replies now works = works
 ran_first (Some work) replies now works =
     ran_from (standing_of work works.ledger) work replies now works
 
+-- RUNNING the next ready work
 abbrev pub ran : (ℕ → JobCall → JobReply) → (now : ℕ) → WorksState → WorksState
 ran replies now works = ran_first (first_of works.ledger.ready) replies now works
 
@@ -154,6 +168,7 @@ ran replies now works = ran_first (first_of works.ledger.ready) replies now work
 abbrev pub Run : Type 0
 Run = ℕ × JobReply × Option Placed
 
+-- what the run of a ready work tells
 abbrev pub told_from : Standing → (work : ℕ) → (ℕ → JobCall → JobReply) → (now : ℕ)
     → WorksState → Option Run
 told_from (standings.Ready number job arg) work replies now works =
@@ -161,11 +176,13 @@ told_from (standings.Ready number job arg) work replies now works =
     Some (work, reply, placed_again reply now work job arg works.bases)
 told_from _ work replies now works = None
 
+-- .. of the first ready one, if there is one
 abbrev pub told_first : Option ℕ → (ℕ → JobCall → JobReply) → (now : ℕ) → WorksState → Option Run
 told_first None replies now works = None
 told_first (Some work) replies now works =
     told_from (standing_of work works.ledger) work replies now works
 
+-- what running the next ready work tells
 abbrev pub told_run : (ℕ → JobCall → JobReply) → (now : ℕ) → WorksState → Option Run
 told_run replies now works = told_first (first_of works.ledger.ready) replies now works
 
@@ -174,12 +191,14 @@ abbrev pub due_with : Option Item → Option Placed
 due_with None = None
 due_with (Some item) = Some (Waiting item.wheel)
 
+-- where a pending work stands
 abbrev pub left_from : Standing → (work : ℕ) → CpuBases → Option Placed
 left_from standings.Free work bases = None
 left_from (standings.Waiting number) work bases =
     due_with (item_of work (base_of Global bases).items)
 left_from (standings.Ready number job arg) work bases = Some Ready
 
+-- where a work is left at the end, if it is pending
 abbrev pub left : (work : ℕ) → WorksState → Option Placed
 left work works = left_from (standing_of work works.ledger) work works.bases
 

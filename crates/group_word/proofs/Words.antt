@@ -1,4 +1,4 @@
--- the word of a state, put together and taken apart
+-- for crates above: the word of a state, put together and taken apart
 use Rattle.std.proofs.Common.{◌≡◌, ◌==◌, ℕ, ◌^◌, ◌+◌, ◌*◌, ◌/◌, ◌%◌, ◌<◌, inl, inr, Option, Some, None, false, subst, ap, ◌∙◌, refl, arith, bit_or, bit_and}
 use Rattle.std.specs.Int.{trailing_zeros, w8}
 use Rattle.std.proofs.lemmas.Bool.{cases_eq, cases_lt, ne_eqb}

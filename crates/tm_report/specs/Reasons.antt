@@ -4,6 +4,7 @@ use Rattle.tm_report.specs.Words.{number_word, time_word, group_text}
 use Rattle.tm_report.specs.declared.lines.ShownReason.{ShownReason}
 use Rattle.tm_report.specs.declared.lines.ShownReason.TheVariants.{Held, Woken, Carried, Nothing}
 
+-- the words by which a line shows who answers
 abbrev pub reason_words : ShownReason → List ℕ
 reason_words (Held level place cpu) =
     codes " held " ++ group_text level place ++ number_word cpu.0

@@ -31,10 +31,12 @@ limits_by nodes cpus timers = record {
   timers = number_behind timers;
 }
 
+-- the fault that reading tells, if it does
 abbrev pub fault_told : Result (List TraceLine) ScriptFault → Option ScriptFault
 fault_told (Ok ls) = None
 fault_told (Err fault) = Some fault
 
+-- of two faults the one that comes first
 abbrev pub first_fault : Option ScriptFault → Option ScriptFault → Option ScriptFault
 first_fault None later = later
 first_fault (Some fault) later = Some fault

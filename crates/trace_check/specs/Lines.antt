@@ -147,6 +147,7 @@ IsWithin l (fields.Job job) = job < bound_of l slots.Job
 IsWithin l (fields.Arg arg) = arg < bound_of l slots.Arg
 IsWithin l (fields.Line line) = line < bound_of l slots.Line
 
+-- and so is each of a list of fields
 abbrev pub AreWithin : Limits → List Field → Type 0
 AreWithin l [] = Unit {0}
 AreWithin l (f ∷ fs) = IsWithin l f × AreWithin l fs

@@ -27,6 +27,7 @@ use Rattle.trace_check.specs.Lines.{bound_of, slots_of, word_of}
 
 -- a step, and what follows it where it gave something
 infixl 10 ◌>>=◌
+-- what comes after an answer that is no fault
 abbrev pub ◌>>=◌ : {A B E : Type 0} → Result A E → (A → Result B E) → Result B E
 (Ok x) >>= f = f x
 (Err e) >>= f = Err e
@@ -74,6 +75,7 @@ first_kind OutOfRange BadNumber = BadNumber
 first_kind OutOfRange k = OutOfRange
 first_kind j k = k
 
+-- a field and those behind it, or the first kind of fault
 abbrev pub joined : Result Field Kind → Result (List Field) Kind → Result (List Field) Kind
 joined (Ok f) (Ok fs) = Ok (f ∷ fs)
 joined (Ok f) (Err k) = Err k
@@ -95,38 +97,47 @@ abbrev pub head_field : List Field → Field
 head_field [] = fields.Cpu (record { 0 = 0 })
 head_field (f ∷ fs) = f
 
+-- the fields behind the first
 abbrev pub rest_fields : List Field → List Field
 rest_fields [] = []
 rest_fields (f ∷ fs) = fs
 
+-- the field at a place
 abbrev pub field_of : List Field → ℕ → Field
 field_of fs zero = head_field fs
 field_of fs (suc i) = field_of (rest_fields fs) i
 
+-- a field as a CPU
 abbrev pub cpu_by : Field → CpuId
 cpu_by (fields.Cpu x) = x
 cpu_by _ = record { 0 = 0 }
 
+-- .. as a timer
 abbrev pub timer_by : Field → TimerId
 timer_by (fields.Timer x) = x
 timer_by _ = record { 0 = 0 }
 
+-- .. as a class
 abbrev pub class_named : Field → Class
 class_named (fields.Class x) = x
 class_named _ = Global
 
+-- .. as a time, in jiffies
 abbrev pub time_by : Field → ℕ
 time_by (fields.Time x) = x
 time_by _ = 0
 
+-- .. as the number of a job
 abbrev pub job_by : Field → ℕ
 job_by (fields.Job x) = x
 job_by _ = 0
 
+-- .. as a job's argument
 abbrev pub arg_by : Field → ℕ
 arg_by (fields.Arg x) = x
 arg_by _ = 0
 
+-- .. as the number of a line
 abbrev pub line_by : Field → ℕ
 line_by (fields.Line x) = x
 line_by _ = 0
@@ -173,6 +184,7 @@ later_commands =
     commands.Offline ∷ commands.Online ∷ commands.Reeval ∷ commands.Take ∷ commands.Carry
     ∷ commands.Release ∷ commands.Walk ∷ commands.HandOn ∷ commands.Why ∷ commands.End ∷ []
 
+-- all first words
 abbrev pub all_commands : List Command
 all_commands =
     commands.Clock ∷ commands.Enter ∷ commands.Leave ∷ commands.Arm ∷ commands.Cancel
@@ -183,13 +195,16 @@ all_commands =
 unfoldable pub later_command : List ℕ → Option Command
 later_command word = find (λ command. bytes_eq word (word_of command)) later_commands
 
+-- the command of a first word
 unfoldable pub command_of : List ℕ → Option Command
 command_of word = find (λ command. bytes_eq word (word_of command)) all_commands
 
+-- what a command says by its fields, if they have no fault
 abbrev pub said_or : Command → Result (List Field) Kind → Result (Option TraceLine) Kind
 said_or command (Err kind) = Err kind
 said_or command (Ok fs) = Ok (said_by command fs)
 
+-- what the words behind a first word say
 unfoldable pub said_behind : Limits → Option Command → List (List ℕ) →
     Result (Option TraceLine) Kind
 said_behind l None words = Err BadLine
@@ -207,6 +222,7 @@ heard l line (first ∷ behind) = in_room line (said_behind l (command_of first)
 
 -- ---- the lines
 
+-- a fault of this line
 abbrev pub fault_at : (line : ℕ) → Kind → ScriptFault
 fault_at line kind = record { line = line; kind = kind }
 
@@ -220,11 +236,13 @@ abbrev pub closing : (line : ℕ) → List (List ℕ) → Result (List TraceLine
 closing line ([] ∷ []) = Ok []
 closing line _ = Err (fault_at line BadLine)
 
+-- a line in front of those that follow
 abbrev pub with_line : TraceLine → Result (List TraceLine) ScriptFault →
     Result (List TraceLine) ScriptFault
 with_line line (Ok ls) = Ok (line ∷ ls)
 with_line line (Err fault) = Err fault
 
+-- reading goes on behind a line, ends, or stops at its fault
 abbrev pub go_on : (line : ℕ) → Result (Option TraceLine) Kind →
     (closed rest : Result (List TraceLine) ScriptFault) → Result (List TraceLine) ScriptFault
 go_on line (Err kind) closed rest = Err (fault_at line kind)

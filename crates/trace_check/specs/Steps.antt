@@ -38,6 +38,7 @@ abbrev pub Fails : {A : Type 0} → ReadTrace → Result A ScriptFault → Type 
 Fails (Refused fault) read = read ≡ Err fault
 Fails NoMemory read = Unit {0}
 
+-- an answer is what reading gives
 abbrev pub Gives : {A : Type 0} → Result A ReadTrace → Result A ScriptFault → Type 0
 Gives (Ok x) read = read ≡ Ok x
 Gives (Err e) read = Fails e read
@@ -62,6 +63,7 @@ pub record IsReadBehind (parts : List (List ℕ)) (t : Trace) : Type 0 where
   pub spelled : parts ≡ machine_lines t ++ body_parts t.lines
   pub only : IsOnlyScriptOf (machine_text (machine_lines t)) (as_script t)
 
+-- a refusal tells the fault behind the first line
 abbrev pub FailsBehind : List (List ℕ) → ReadTrace → Type 0
 FailsBehind parts (Refused fault) = fault_behind parts ≡ Some fault
 FailsBehind parts NoMemory = Unit {0}

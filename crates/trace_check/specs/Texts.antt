@@ -20,6 +20,7 @@ machine_lines t =
     number_line (codes "nodes") t.nodes ∷ number_line (codes "cpus") t.cpus
     ∷ number_line (codes "timers") t.timers ∷ isolated_line (cpu_count t) t.isolated ∷ []
 
+-- the lines of a trace
 abbrev pub trace_lines : Trace → List (List ℕ)
 trace_lines t =
     codes "trace 1" ∷ (machine_lines t ++ (map line_text t.lines ++ codes "end" ∷ []))
@@ -40,6 +41,7 @@ as_script t = record {
   end = 0;
 }
 
+-- what its numbers are below
 abbrev pub limits_of : Trace → Limits
 limits_of t = record { cpus = cpu_count t; timers = t.timers }
 

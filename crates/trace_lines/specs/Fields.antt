@@ -11,6 +11,7 @@ use Rattle.trace_lines.specs.Numbers.{number_in, mask_in, pointer_in, within}
 
 -- a step, and what follows it where it gave something
 infixl 10 ◌>>=◌
+-- what comes after an answer that is no fault
 abbrev pub ◌>>=◌ : {A B E : Type 0} → Result A E → (A → Result B E) → Result B E
 (Ok x) >>= f = f x
 (Err e) >>= f = Err e
@@ -33,6 +34,7 @@ mask_at key most parts = do
   n ← mask_in word
   within most n
 
+-- the group's address behind this word
 unfoldable pub pointer_at : List ℕ → List (List ℕ) → Result ℕ LineFault
 pointer_at key parts = value_in key parts >>= pointer_in
 
@@ -49,6 +51,7 @@ child_of mask =
     else if mask == 128 then Ok 7
     else Err OutOfRange
 
+-- the one child of the mask behind this word
 unfoldable pub bit_at : List ℕ → List (List ℕ) → Result ℕ LineFault
 bit_at key parts = mask_at key 255 parts >>= child_of
 

@@ -32,6 +32,7 @@ use Rattle.trace_lines.specs.Fields.{pointer_at}
 
 -- ---- what the events say, by the parts behind their names
 
+-- a group or a CPU that is hung below a parent
 unfoldable pub joining_in : List (List ℕ) → Result Joining LineFault
 joining_in parts = do
   bit ← bit_at (codes "groupmask=") parts
@@ -43,6 +44,7 @@ joining_in parts = do
 abbrev pub migrator_of : ℕ → ℕ
 migrator_of mask = if mask == 255 then 0 else mask
 
+-- an exchange of a group's word
 unfoldable pub exchange_in : Bool → List (List ℕ) → Result Exchange LineFault
 exchange_in joins parts = do
   place ← place_at (codes "group=") parts
@@ -59,12 +61,14 @@ exchange_in joins parts = do
     joins = joins;
   })
 
+-- an event of a CPU and its leaf
 unfoldable pub cpu_event_in : CpuKind → List (List ℕ) → Result CpuEvent LineFault
 cpu_event_in kind parts = do
   cpu ← number_at (codes "cpu=") (CPU_SET_SIZE - 1) parts
   leaf ← pointer_at (codes "parent=") parts
   Ok (record { kind = kind; cpu = record { 0 = cpu }; leaf = leaf })
 
+-- the expiries that an update names
 unfoldable pub expiries_in : List (List ℕ) → Result Expiries LineFault
 expiries_in parts = do
   stored ← expiry_at (codes "nextevt=") parts
@@ -72,6 +76,7 @@ expiries_in parts = do
   child_first ← expiry_at (codes "child_evt_expiry=") parts
   Ok (record { stored = stored; first = first; child_first = child_first })
 
+-- an update of a queue of events
 unfoldable pub update_in : List (List ℕ) → Result Update LineFault
 update_in parts = do
   child ← pointer_at (codes "child=") parts
@@ -87,6 +92,7 @@ update_in parts = do
     expiries = expiries;
   })
 
+-- the kind of an event of a CPU, by its name
 unfoldable pub cpu_kind_of : List ℕ → Option CpuKind
 cpu_kind_of name =
     if bytes_eq name (codes "tmigr_cpu_online:") then Some kinds.Online
@@ -110,15 +116,18 @@ event_of name =
     else if bytes_eq name (codes "tmigr_handle_remote:") then Some names.HandleRemote
     else option_map names.OfCpu (cpu_kind_of name)
 
+-- the group whose timers are handled
 unfoldable pub handling_in : List (List ℕ) → Result ℕ LineFault
 handling_in parts = pointer_at (codes "group=") parts
 
+-- a group is hung below its parent
 unfoldable pub group_joining_in : List (List ℕ) → Result Happening LineFault
 group_joining_in parts = do
   child ← pointer_at (codes "group=") parts
   joining ← joining_in parts
   Ok (GroupJoined child joining)
 
+-- .. and a CPU
 unfoldable pub cpu_joining_in : List (List ℕ) → Result Happening LineFault
 cpu_joining_in parts = do
   cpu ← number_at (codes "cpu=") (CPU_SET_SIZE - 1) parts
@@ -146,13 +155,16 @@ is_loss (first ∷ second ∷ rest) =
     if bytes_eq first (codes "#####") then bytes_eq second (codes "CPU")
     else is_some (behind (codes "CPU:") first) && bytes_eq second (codes "[LOST")
 
+-- the CPU of a number that a machine may have
 abbrev pub cpu_of_number : Option ℕ → Result CpuId LineFault
 cpu_of_number None = Err BadCpu
 cpu_of_number (Some cpu) = if nat_lt cpu CPU_SET_SIZE then Ok (record { 0 = cpu }) else Err BadCpu
 
+-- the CPU that digits name
 unfoldable pub cpu_in : List ℕ → Result CpuId LineFault
 cpu_in digits = cpu_of_number (number_of Ten digits)
 
+-- the CPU of a line, and the parts behind it
 abbrev pub head_from : Option (List ℕ) → List (List ℕ)
     → Result (CpuId × List (List ℕ)) LineFault → Result (CpuId × List (List ℕ)) LineFault
 head_from None parts rest = rest
@@ -163,9 +175,11 @@ abbrev pub head_in : List (List ℕ) → Result (CpuId × List (List ℕ)) LineF
 head_in [] = Err NoEvent
 head_in (p ∷ ps) = head_from (bracketed p) ps (head_in ps)
 
+-- a time as it is spelled
 abbrev pub are_digits_or_dots : List ℕ → Bool
 are_digits_or_dots bytes = list_all (λ b. is_ascii_digit b || b == 46) bytes
 
+-- a part that ends the head of a line by its time
 abbrev pub is_time : Option (List ℕ) → Bool
 is_time None = false
 is_time (Some []) = false
@@ -192,16 +206,19 @@ abbrev pub named_in : CpuId → List (List ℕ) → Result Line LineFault
 named_in cpu [] = Ok (Foreign cpu)
 named_in cpu (name ∷ parts) = told_in cpu (event_of name) parts
 
+-- the event of a line
 abbrev pub event_in : List (List ℕ) → Result Line LineFault
 event_in parts = do
   head ← head_in parts
   named ← stamped_in head.1
   named_in head.0 named
 
+-- a line without parts
 abbrev pub has_none : List (List ℕ) → Bool
 has_none [] = true
 has_none (p ∷ ps) = false
 
+-- a comment, or an empty line
 abbrev pub is_remark : List ℕ → Bool
 is_remark line = is_some (behind (codes "#") line) || has_none (parts_of line)
 

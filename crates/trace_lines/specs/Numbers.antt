@@ -36,6 +36,7 @@ unfoldable pub number_of : Base → List ℕ → Option ℕ
 number_of base [] = None
 number_of base (c ∷ cs) = number_from base 0 (c ∷ cs)
 
+-- the number that a word spells, to this base
 unfoldable pub number_in : Base → List ℕ → Result ℕ LineFault
 number_in base word = ok_or (number_of base word) BadNumber
 
@@ -48,11 +49,13 @@ or_all (Some rest) word = rest
 unfoldable pub mask_in : List ℕ → Result ℕ LineFault
 mask_in word = number_in Sixteen (or_all (behind (codes "0x") word) word)
 
+-- the address that a word spells; the kernel may hide it
 unfoldable pub pointer_in : List ℕ → Result ℕ LineFault
 pointer_in word =
     if bytes_eq word (codes "(____ptrval____)") then Err HiddenPointer
     else if bytes_eq word (codes "(nil)") then Ok 0
     else mask_in word
 
+-- a number that is at most this one
 unfoldable pub within : ℕ → ℕ → Result ℕ LineFault
 within most n = if nat_le n most then Ok n else Err OutOfRange

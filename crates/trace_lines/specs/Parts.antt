@@ -6,10 +6,12 @@ use Rattle.text_words.specs.Words.{words_of}
 use Rattle.trace_lines.specs.declared.faults.LineFault.{LineFault}
 use Rattle.trace_lines.specs.declared.faults.LineFault.TheVariants.{FieldMissing}
 
+-- a part that is not empty
 abbrev pub is_filled : List ℕ → Bool
 is_filled [] = false
 is_filled (c ∷ cs) = true
 
+-- the parts of a line between its spaces
 abbrev pub parts_of : List ℕ → List (List ℕ)
 parts_of line = filter is_filled (words_of line)
 

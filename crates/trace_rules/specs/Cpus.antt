@@ -24,10 +24,12 @@ use Rattle.trace_rules.specs.Tree.{parent_fits}
 use Rattle.trace_rules.specs.Walks.{may_end, may_rest, quiet}
 use Rattle.trace_rules.specs.Exchanges.{spot_of, with_cpu, with_group}
 
+-- it is known to be awake
 abbrev pub is_awake : Option Bool → Bool
 is_awake None = false
 is_awake (Some awake) = awake
 
+-- it is known to be asleep
 abbrev pub is_asleep : Option Bool → Bool
 is_asleep None = false
 is_asleep (Some awake) = not awake
@@ -46,6 +48,7 @@ woken_fault active walk =
     else if is_awake active then Some rules.Cpu
     else None
 
+-- the rule that an event of a CPU breaks, by whether the CPU is awake
 abbrev pub state_fault : CpuKind → Option Bool → Walk → Option Rule
 state_fault Asleep active walk = sleep_fault active walk
 state_fault Offline active walk = sleep_fault active walk
@@ -72,6 +75,7 @@ cpu_fault s own t =
     else if not (is_elsewhere t.kind) && not (t.cpu.0 == own.0) then Some rules.Cpu
     else state_fault t.kind (cpu_at s t.cpu).active (cpu_at s own).walk
 
+-- whether a CPU is awake after its event
 abbrev pub active_after : CpuKind → Option Bool
 active_after Awake = Some true
 active_after Online = None
@@ -81,6 +85,7 @@ active_after NewTimer = Some false
 active_after StillAsleep = Some false
 active_after RunElsewhere = Some false
 
+-- a CPU's walk after its event
 abbrev pub walk_told : CpuKind → CpuEvent → Walk → Walk
 walk_told Awake t walk = Rising (record { group = t.leaf; from = 0; surely = true })
 walk_told Asleep t walk = Closed
@@ -90,15 +95,18 @@ walk_told NewTimer t walk = quiet walk
 walk_told StillAsleep t walk = quiet walk
 walk_told RunElsewhere t walk = quiet walk
 
+-- the CPU that the event names is learned
 unfoldable pub with_named : Sight → CpuEvent → Sight
 with_named s t =
     with_cpu s (record (cpu_at s t.cpu) { leaf = Some t.leaf; active = active_after t.kind })
 
+-- .. and the CPU that wrote the line
 unfoldable pub with_writer : Sight → ℕ → CpuId → CpuEvent → Sight
 with_writer s line own t =
     with_cpu s
     (record (cpu_at s own) { walk = walk_told t.kind t (cpu_at s own).walk; last = line })
 
+-- what an event of a CPU teaches
 abbrev pub learned_cpu : Sight → ℕ → CpuId → CpuEvent → Sight
 learned_cpu s line own t = with_writer (with_named s t) line own t
 
@@ -107,6 +115,7 @@ unfoldable pub moved : Sight → ℕ → CpuId → Sight
 moved s line own =
     with_cpu s (record (cpu_at s own) { walk = quiet (cpu_at s own).walk; last = line })
 
+-- a group that may stand at this level
 abbrev pub is_level : Option Spot → ℕ → Bool
 is_level None level = true
 is_level (Some spot) level = spot.level == level
@@ -132,30 +141,37 @@ update_fault s own u =
     then Some rules.Event
     else None
 
+-- the walk that hangs a child below its parent
 abbrev pub hung : ℕ → Joining → Walk
 hung child j = Hung (record { group = j.parent.group; from = child; surely = false })
 
+-- where a group stands is learned
 unfoldable pub learned_place : Sight → Place → Sight
 learned_place s place =
     with_group s (record (group_at s place.group) { spot = Some (spot_of place) })
 
+-- a group's parent is learned
 unfoldable pub with_link : Sight → ℕ → Joining → Sight
 with_link s child j =
     with_group s
     (record (group_at s child) { parent = Some j.parent.group; bit = Some j.bit; told = false })
 
+-- .. and that its CPU goes on from there
 unfoldable pub with_hung : Sight → ℕ → CpuId → ℕ → Joining → Sight
 with_hung s line own child j =
     with_cpu s (record (cpu_at s own) { walk = hung child j; last = line })
 
+-- what the hanging of a group teaches
 abbrev pub learned_group_link : Sight → ℕ → CpuId → ℕ → Joining → Sight
 learned_group_link s line own child j =
     with_hung (with_link (learned_place s j.parent) child j) line own child j
 
+-- a CPU's leaf is learned
 unfoldable pub with_leaf : Sight → CpuId → Joining → Sight
 with_leaf s cpu j =
     with_cpu s
     (record (cpu_at s cpu) { leaf = Some j.parent.group; bit = Some j.bit; told = false })
 
+-- what the hanging of a CPU teaches
 abbrev pub learned_cpu_link : Sight → ℕ → CpuId → CpuId → Joining → Sight
 learned_cpu_link s line own cpu j = moved (with_leaf (learned_place s j.parent) cpu j) line own

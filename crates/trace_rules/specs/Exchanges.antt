@@ -17,14 +17,17 @@ use Rattle.trace_rules.specs.Tree.{bit_fits, cpus_free, groups_free, is_below, n
 use Rattle.trace_rules.specs.Tree.{parent_fits, spot_fits}
 use Rattle.trace_rules.specs.Walks.{allows, came_from, walk_after}
 
+-- with this group as it is seen now
 abbrev pub with_group : Sight → GroupSeen → Sight
 with_group s g = record s { groups = put_group s.groups g }
 
+-- with this CPU as it is seen now
 abbrev pub with_cpu : Sight → CpuSeen → Sight
 with_cpu s c = record s { cpus = put_cpu s.cpus c }
 
 -- ---- the rules
 
+-- the exchange's child is the one from which its walk comes
 abbrev pub bit_from : Option ℕ → Sight → CpuId → Exchange → Bool
 bit_from None s cpu e = true
 bit_from (Some from) s cpu e =
@@ -36,6 +39,7 @@ bit_from (Some from) s cpu e =
 abbrev pub bit_is_right : Sight → CpuId → Exchange → Bool
 bit_is_right s cpu e = bit_from (came_from (cpu_at s cpu).walk e) s cpu e
 
+-- the rule that the place of an exchange breaks
 abbrev pub place_fault : Sight → Exchange → Option Rule
 place_fault s e =
     if not (spot_fits s e.place) || not (parent_fits (group_at s e.place.group).parent e.parent)
@@ -44,6 +48,7 @@ place_fault s e =
     else if not (node_fits e.place.node (group_at s e.parent).spot) then Some rules.Node
     else None
 
+-- the first of two faults
 abbrev pub fault_or : Option Rule → Option Rule → Option Rule
 fault_or None later = later
 fault_or (Some rule) later = Some rule
@@ -57,6 +62,7 @@ exchange_fault s cpu e =
     else if not (bit_is_right s cpu e) then Some rules.Tree
     else None)
 
+-- the word before, where the exchange follows from it
 abbrev pub word_if : Option Word → Exchange → Option Word
 word_if None e = None
 word_if (Some word) e = if follows word e then Some word else None
@@ -71,6 +77,7 @@ is_resolved g late own e =
     not (own.cpu.0 == late.cpu.0) && nat_lt own.last late.line && is_some (word_before g e)
     && follows (word_after e) late.exchange
 
+-- the line of a late exchange that this one leaves unresolved
 abbrev pub late_by : Option Late → GroupSeen → CpuSeen → Exchange → Option ℕ
 late_by None g own e = None
 late_by (Some late) g own e = if is_resolved g late own e then None else Some late.line
@@ -82,9 +89,11 @@ late_line s cpu e =
 
 -- ---- what is known afterwards
 
+-- the level and node of a place
 abbrev pub spot_of : Place → Spot
 spot_of place = record { level = place.level; node = place.node }
 
+-- a group after an exchange on which another one waited, or not
 abbrev pub settled_by : Option Late → GroupSeen → ℕ → CpuId → Exchange → GroupSeen
 settled_by (Some late) g line cpu e =
     record g { word = Some (word_after late.exchange); late = None }
@@ -98,36 +107,45 @@ settled_by None g line cpu e =
 abbrev pub settled : GroupSeen → ℕ → CpuId → Exchange → GroupSeen
 settled g line cpu e = settled_by g.late g line cpu e
 
+-- a group after an exchange
 abbrev pub group_after : GroupSeen → ℕ → CpuId → Exchange → GroupSeen
 group_after g line cpu e =
     settled (record g { spot = Some (spot_of e.place); parent = Some e.parent }) line cpu e
 
+-- its child group after it
 abbrev pub child_after : GroupSeen → Exchange → GroupSeen
 child_after h e = record h { parent = Some e.place.group; bit = Some e.bit; told = true }
 
+-- the CPU at its leaf after it
 abbrev pub told_by : CpuSeen → Option ℕ → Exchange → CpuSeen
 told_by c None e = c
 told_by c (Some from) e =
     if from == 0 then record c { leaf = Some e.place.group; bit = Some e.bit; told = true } else c
 
+-- the CPU that made it, after it
 unfoldable pub cpu_after : CpuSeen → ℕ → Option Word → Exchange → CpuSeen
 cpu_after c line before e =
     record (told_by c (came_from c.walk e) e) { walk = walk_after before e; last = line }
 
+-- what an exchange teaches of its child
 unfoldable pub learned_child : Sight → Option ℕ → Exchange → Sight
 learned_child s None e = s
 learned_child s (Some from) e =
     if from == 0 then s else with_group s (child_after (group_at s from) e)
 
+-- .. of its group
 unfoldable pub learned_group : Sight → ℕ → CpuId → Exchange → Sight
 learned_group s line cpu e = with_group s (group_after (group_at s e.place.group) line cpu e)
 
+-- .. of its walk
 unfoldable pub learned_walk : Sight → ℕ → CpuId → Option Word → Exchange → Sight
 learned_walk s line cpu before e = with_cpu s (cpu_after (cpu_at s cpu) line before e)
 
+-- the word before an exchange, as far as it is known
 unfoldable pub word_seen : Sight → Exchange → Option Word
 word_seen s e = word_before (group_at s e.place.group) e
 
+-- from where its walk comes
 unfoldable pub source_seen : Sight → CpuId → Exchange → Option ℕ
 source_seen s cpu e = came_from (cpu_at s cpu).walk e
 

@@ -63,10 +63,12 @@ learned s line cpu (CpuTold t) = learned_cpu s line cpu t
 learned s line cpu (Updated u) = moved s line cpu
 learned s line cpu (Handling group) = moved s line cpu
 
+-- the misfit of a line after which the rest is wrong
 abbrev pub rest_misfit : ℕ → Bool → Option Misfit
 rest_misfit line true = None
 rest_misfit line false = Some (record { line = line; rule = rules.Rest })
 
+-- the misfit of a line, by the first rule that it breaks
 abbrev pub misfit_by : Option Rule → Option ℕ → ℕ → Bool → Option Misfit
 misfit_by (Some rule) late line fits = Some (record { line = line; rule = rule })
 misfit_by None (Some late) line fits = Some (record { line = late; rule = rules.Exchange })
@@ -80,6 +82,7 @@ told_misfit s line cpu h =
 
 -- ---- one line
 
+-- nothing is known
 abbrev pub no_sight : Sight
 no_sight = record { groups = []; cpus = [] }
 
@@ -87,18 +90,21 @@ no_sight = record { groups = []; cpus = [] }
 abbrev pub noted : Sight → ℕ → CpuId → Sight
 noted s line cpu = with_cpu s (record (cpu_at s cpu) { last = line })
 
+-- what is seen after a line
 unfoldable pub seen_after : Sight → ℕ → Line → Sight
 seen_after s line Remark = s
 seen_after s line Loss = no_sight
 seen_after s line (Foreign cpu) = noted s line cpu
 seen_after s line (Told cpu h) = learned s line cpu h
 
+-- the misfit of a line, if it has one
 unfoldable pub line_misfit : Sight → ℕ → Line → Option Misfit
 line_misfit s line Remark = None
 line_misfit s line Loss = None
 line_misfit s line (Foreign cpu) = None
 line_misfit s line (Told cpu h) = told_misfit s line cpu h
 
+-- the most that is counted
 abbrev pub MOST : ℕ
 MOST = 18446744073709551615
 
@@ -106,10 +112,12 @@ MOST = 18446744073709551615
 abbrev pub counted : ℕ → ℕ
 counted n = if nat_lt n MOST then n + 1 else n
 
+-- counted, or not
 abbrev pub counted_if : Bool → ℕ → ℕ
 counted_if true n = counted n
 counted_if false n = n
 
+-- a line that tells an exchange
 abbrev pub is_exchange : Line → Bool
 is_exchange (Told cpu (Exchanged e)) = true
 is_exchange (Told cpu (GroupMade place)) = false
@@ -122,18 +130,21 @@ is_exchange Remark = false
 is_exchange Loss = false
 is_exchange (Foreign cpu) = false
 
+-- a line of timer migration
 abbrev pub is_told : Line → Bool
 is_told (Told cpu h) = true
 is_told Remark = false
 is_told Loss = false
 is_told (Foreign cpu) = false
 
+-- a line that tells of lost ones
 abbrev pub is_loss_line : Line → Bool
 is_loss_line Loss = true
 is_loss_line Remark = false
 is_loss_line (Foreign cpu) = false
 is_loss_line (Told cpu h) = false
 
+-- no walk is under way after a line of timer migration
 abbrev pub rests_after : Line → Sight → Bool
 rests_after (Told cpu h) s = at_rest s
 rests_after Remark s = false
@@ -152,12 +163,15 @@ tally_after t said s = record {
 
 -- ---- the trace
 
+-- nothing is counted
 abbrev pub no_tally : Tally
 no_tally = record { lines = 0; events = 0; exchanges = 0; rests = 0; losses = 0 }
 
+-- before the first line
 abbrev pub start : Course
 start = record { seen = no_sight; tally = no_tally }
 
+-- the verdict of a misfit
 abbrev pub verdict_of : Option Misfit → Option Verdict
 verdict_of None = None
 verdict_of (Some misfit) = Some (Broken misfit)
@@ -167,6 +181,7 @@ abbrev pub said_verdict : Course → Result Line LineFault → Option Verdict
 said_verdict k (Err fault) = Some (NoTrace (counted k.tally.lines) fault)
 said_verdict k (Ok said) = verdict_of (line_misfit k.seen (counted k.tally.lines) said)
 
+-- what stands after a line
 abbrev pub said_after : Course → Result Line LineFault → Course
 said_after k (Err fault) = k
 said_after k (Ok said) = record {
@@ -174,9 +189,11 @@ said_after k (Ok said) = record {
   tally = tally_after k.tally said (seen_after k.seen (counted k.tally.lines) said);
 }
 
+-- the verdict that a line decides, if it does
 unfoldable pub text_verdict : Course → List ℕ → Option Verdict
 text_verdict k text = said_verdict k (line_of text)
 
+-- what stands after the text of a line
 unfoldable pub text_after : Course → List ℕ → Course
 text_after k text = said_after k (line_of text)
 
@@ -184,6 +201,7 @@ text_after k text = said_after k (line_of text)
 abbrev pub late_count : Sight → ℕ
 late_count s = count_by (λ g. is_some g.late) s.groups
 
+-- the first of two verdicts
 abbrev pub verdict_or : Option Verdict → Verdict → Verdict
 verdict_or None later = later
 verdict_or (Some verdict) later = verdict
@@ -198,9 +216,11 @@ abbrev pub EachFits : Course → List (List ℕ) → Type 0
 EachFits k [] = Unit {0}
 EachFits k (text ∷ texts) = (text_verdict k text ≡ None) × EachFits (text_after k text) texts
 
+-- EACH LINE FITS, by what was seen before it
 abbrev pub EachLineFits : List ℕ → Type 0
 EachLineFits bytes = EachFits start (lines_of bytes)
 
+-- the verdict of a trace that fits
 abbrev pub IsFitting : Verdict → Type 0
 IsFitting (Fits tally late) = Unit {0}
 IsFitting (Broken misfit) = ⊥
@@ -213,5 +233,6 @@ IsFirstAt k (text ∷ texts) verdict =
     (text_verdict k text ≡ Some verdict)
     ⊎ ((text_verdict k text ≡ None) × IsFirstAt (text_after k text) texts verdict)
 
+-- the verdict is what the first line that doesn't fit decides
 abbrev pub IsFirstFault : List ℕ → Verdict → Type 0
 IsFirstFault bytes verdict = IsFirstAt start (lines_of bytes) verdict

@@ -10,6 +10,7 @@ use Rattle.trace_rules.specs.declared.seen.CpuSeen.{CpuSeen}
 use Rattle.trace_rules.specs.Seen.{Sight, group_at}
 use Rattle.trace_rules.specs.Walks.{is_open}
 
+-- the word of a group, unless an exchange is late there
 abbrev pub word_unless : Option Late → Option Word → Option Word
 word_unless None word = word
 word_unless (Some late) word = None
@@ -18,9 +19,11 @@ word_unless (Some late) word = None
 abbrev pub known_word : GroupSeen → Option Word
 known_word g = word_unless g.late g.word
 
+-- a child of the active set
 abbrev pub has_bit : ℕ → ℕ → Bool
 has_bit active bit = nat_lt bit 8 && bit_at active bit == 1
 
+-- both or neither
 abbrev pub same_truth : Bool → Bool → Bool
 same_truth true b = b
 same_truth false b = not b
@@ -37,6 +40,7 @@ abbrev pub is_led : Option Word → Option Bool
 is_led None = None
 is_led (Some word) = Some (not (word.migrator == 0))
 
+-- a group's bit in its parent says whether it is active
 abbrev pub group_says : Option ℕ → Sight → GroupSeen → Bool
 group_says None s g = true
 group_says (Some p) s g = bit_says (is_led (known_word g)) g.bit (known_word (group_at s p))
@@ -45,6 +49,7 @@ group_says (Some p) s g = bit_says (is_led (known_word g)) g.bit (known_word (gr
 abbrev pub group_edge : Sight → GroupSeen → Bool
 group_edge s g = not g.told || group_says g.parent s g
 
+-- a CPU's bit in its leaf says whether it is awake
 abbrev pub cpu_says : Option ℕ → Sight → CpuSeen → Bool
 cpu_says None s c = true
 cpu_says (Some p) s c = bit_says c.active c.bit (known_word (group_at s p))

@@ -11,6 +11,7 @@ pub record Sight : Type 0 where
   pub groups : List GroupSeen
   pub cpus : List CpuSeen
 
+-- a group of which nothing is known
 abbrev pub unknown_group : ℕ → GroupSeen
 unknown_group pointer = record {
   pointer = pointer;
@@ -22,6 +23,7 @@ unknown_group pointer = record {
   late = None;
 }
 
+-- a CPU of which nothing is known
 abbrev pub unknown_cpu : CpuId → CpuSeen
 unknown_cpu cpu = record {
   cpu = cpu;
@@ -33,6 +35,7 @@ unknown_cpu cpu = record {
   last = 0;
 }
 
+-- what is there, or else this
 abbrev pub or_else : {X : Type 0} → Option X → X → X
 or_else None x = x
 or_else (Some y) x = y
@@ -50,8 +53,10 @@ abbrev pub put_at : {X : Type 0} → Option ℕ → List X → X → List X
 put_at None xs x = xs ++ x ∷ []
 put_at (Some i) xs x = slice_set xs i x
 
+-- a group as it is seen now, in place of what was
 abbrev pub put_group : List GroupSeen → GroupSeen → List GroupSeen
 put_group gs g = put_at (position (λ h. h.pointer == g.pointer) gs) gs g
 
+-- a CPU likewise
 abbrev pub put_cpu : List CpuSeen → CpuSeen → List CpuSeen
 put_cpu cs c = put_at (position (λ d. d.cpu.0 == c.cpu.0) cs) cs c

@@ -23,6 +23,7 @@ abbrev pub spot_is : Option Spot → Place → Bool
 spot_is None place = true
 spot_is (Some spot) place = spot.level == place.level && same_pointer spot.node place.node
 
+-- a group stands where it stood before
 abbrev pub spot_fits : Sight → Place → Bool
 spot_fits s place = spot_is (group_at s place.group).spot place
 
@@ -31,6 +32,7 @@ abbrev pub is_below : ℕ → Option Spot → Bool
 is_below level None = true
 is_below level (Some spot) = level + 1 == spot.level
 
+-- a child of a node, below a group of a node or of none
 abbrev pub of_node : Option ℕ → Option ℕ → Bool
 of_node own None = true
 of_node own (Some number) = same_pointer own (Some number)
@@ -50,9 +52,11 @@ abbrev pub bit_fits : Option ℕ → ℕ → Bool
 bit_fits None bit = true
 bit_fits (Some k) bit = k == bit
 
+-- a group hangs below this parent, by this number
 abbrev pub group_stands : GroupSeen → ℕ → ℕ → Bool
 group_stands g parent bit = same_pointer g.parent (Some parent) && same_number g.bit (Some bit)
 
+-- a CPU hangs below this leaf, by this number
 abbrev pub cpu_stands : CpuSeen → ℕ → ℕ → Bool
 cpu_stands c leaf bit = same_pointer c.leaf (Some leaf) && same_number c.bit (Some bit)
 

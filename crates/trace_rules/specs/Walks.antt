@@ -33,9 +33,11 @@ may_leave (Hung next) c e = begins c e
 may_leave (Rising next) c e = not next.surely && begins c e
 may_leave Ending c e = false
 
+-- the walk of its CPU may make this exchange
 abbrev pub allows : CpuSeen → Exchange → Bool
 allows c e = if e.joins then may_join c.walk e.place.group else may_leave c.walk c e
 
+-- from where a walk comes
 abbrev pub from_of : Walk → Option ℕ
 from_of (Rising next) = Some next.from
 from_of (Falling next) = Some next.from
@@ -52,9 +54,11 @@ came_from walk e = if e.place.level == 0 then Some 0 else from_of walk
 abbrev pub leads : Exchange → Bool
 leads e = same_number (named_by e.migrator) (Some e.bit)
 
+-- where a walk goes on
 abbrev pub next_of : Exchange → Bool → Next
 next_of e surely = record { group = e.parent; from = e.place.group; surely = surely }
 
+-- an activation after its exchange
 abbrev pub rise_from : Option Word → Exchange → Walk
 rise_from (Some word) e = if word.migrator == 0 then Rising (next_of e true) else Closed
 rise_from None e = if leads e then Rising (next_of e false) else Closed
@@ -63,6 +67,7 @@ rise_from None e = if leads e then Rising (next_of e false) else Closed
 abbrev pub rise : Option Word → Exchange → Walk
 rise before e = if e.parent == 0 then Closed else rise_from before e
 
+-- a deactivation after its exchange
 abbrev pub fall_from : Option Word → Exchange → Walk
 fall_from (Some word) e = if word.migrator == 0 then Ending else Falling (next_of e true)
 fall_from None e = Falling (next_of e false)
@@ -72,6 +77,7 @@ abbrev pub fall : Option Word → Exchange → Walk
 fall before e =
     if e.parent == 0 || not (e.migrator == 0) then Ending else fall_from before e
 
+-- a walk after its exchange
 abbrev pub walk_after : Option Word → Exchange → Walk
 walk_after before e = if e.joins then rise before e else fall before e
 

@@ -32,6 +32,7 @@ state_led migrator active =
     then Some (record { active = active; migrator = Some migrator; seq = 0 })
     else None
 
+-- the state of an active set with a migrator that is known
 abbrev pub state_named : Option ℕ → ℕ → Option GroupState
 state_named None active = None
 state_named (Some migrator) active = state_led migrator active
@@ -47,6 +48,7 @@ exchanged s e =
     if e.joins then activated_state s e.bit
     else swapped_state s e.bit (bit_at e.active e.bit == 1)
 
+-- two numbers are the same, or both none
 abbrev pub same_number : Option ℕ → Option ℕ → Bool
 same_number None None = true
 same_number None (Some m) = false
@@ -61,6 +63,7 @@ same_state a b = a.active == b.active && same_number a.migrator b.migrator
 abbrev pub word_after : Exchange → Word
 word_after e = record { active = e.active; migrator = e.migrator }
 
+-- one state follows from another by this exchange
 abbrev pub follows_by : Option GroupState → Option GroupState → Exchange → Bool
 follows_by None new e = false
 follows_by (Some old) None e = false

@@ -23,12 +23,14 @@ is_linux [] = false
 is_linux (word ∷ []) = bytes_eq (string_bytes word) (codes "linux")
 is_linux (word ∷ other ∷ more) = false
 
+-- the text of a reply
 unfoldable pub reply_text : Reply → List ℕ
 reply_text Usage = usage_line
 reply_text BrokenSource = read_fault_line
 reply_text LongSource = too_long_line
 reply_text (Judged verdict) = verdict_text verdict
 
+-- the status of a verdict
 abbrev pub status_of_verdict : Verdict → ℕ
 status_of_verdict (Fits tally late) = FITS
 status_of_verdict (Broken misfit) = MISFIT
