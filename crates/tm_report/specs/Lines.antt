@@ -11,7 +11,7 @@ use Rattle.tm_report.specs.declared.lines.Line.TheVariants.{Idle, Stay, Wake, Co
 use Rattle.tm_report.specs.declared.lines.Line.TheVariants.{Offline, Handed, Online}
 use Rattle.tm_report.specs.declared.lines.Line.TheVariants.{Control, Moved}
 use Rattle.tm_report.specs.declared.lines.Line.TheVariants.{Refused, RefusedQueued, Left, End}
-use Rattle.tm_report.specs.declared.lines.Line.TheVariants.{Why, Yes, No}
+use Rattle.tm_report.specs.declared.lines.Line.TheVariants.{Why, Yes, No, Device}
 
 -- the words of a line, parted by spaces
 unfoldable pub words_text : Line → List ℕ
@@ -55,6 +55,7 @@ words_text (Why steps cpu timer shown) =
     ++ reason_words shown
 words_text (Yes steps) = codes "yes" ++ number_word steps
 words_text (No index) = codes "no" ++ number_word index
+words_text (Device now until) = codes "device" ++ number_word now ++ time_word until
 
 -- each line ends with a line feed
 unfoldable pub line_text : Line → List ℕ

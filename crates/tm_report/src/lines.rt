@@ -142,6 +142,12 @@ pub enum Line {
     No {
         index: u32,
     },
+    /// After the moment the broadcast device for deep sleepers is programmed for the jiffy `until`;
+    /// `NEVER` where it isn't programmed (the kernel's `tick_broadcast_set_event`).
+    Device {
+        now: Jiffy,
+        until: Jiffy,
+    },
 }
 
 /// What the job of a timer that was run answered, as a line shows it.

@@ -60,6 +60,19 @@ impl Report {
         Ok(())
     }
 
+    /// Adds all lines of another report at the end. After want of memory the report is as before.
+    pub fn append(&mut self, other: &Report) -> Result<(), NoMemory>
+        ensures ok { OnOk result (self.new ≡ self.old ++ other.now) }
+        ensures err { OnErr result (self.new ≡ self.old) }
+    {
+        if let Err(refused) = self.draft.piece(other.text()) {
+            self.draft.discard();
+            return Err(refused);
+        }
+        self.draft.finish();
+        Ok(())
+    }
+
     /// Keeps the first `len` bytes of the text, or all where they are fewer.
     pub fn truncate(&mut self, len: usize)
         ensures { self.new ≡ take len self.old }

@@ -161,6 +161,8 @@ fn each_line_has_the_text_of_the_table_of_lines(rt: HostRuntime) -> Result<(), F
         (why(ShownReason::Nothing), "why 11 1 0 none\n"),
         (Line::Yes { steps: 27 }, "yes 27\n"),
         (Line::No { index: 0 }, "no 0\n"),
+        (device(20, 61), "device 20 61\n"),
+        (device(61, NEVER), "device 61 never\n"),
     ];
     for (line, want) in cases {
         let text = text_of(rt.alloc(), &line)?;
@@ -193,6 +195,23 @@ fn a_report_is_its_lines_in_order(rt: HostRuntime) -> Result<(), Fail> {
     assert_eq!(rt; report.text(), b"arm 10 0 0 global 61\n".as_slice());
     report.truncate(99);
     assert_eq!(rt; report.text().len(), 21);
+    Ok(())
+}
+
+// The lines of two CPUs, one report behind the other.
+#[test]
+fn reports_are_joined_in_their_order(rt: HostRuntime) -> Result<(), Fail> {
+    let mut first = Report::new(rt.alloc());
+    first.push(&idle(20, 0, 61))?;
+    let mut second = Report::new(rt.alloc());
+    second.push(&idle(20, 1, NEVER))?;
+    second.push(&Line::End { now: 20 })?;
+    first.append(&second)?;
+    assert_eq!(rt;
+        first.text(),
+        b"idle 20 0 61\nidle 20 1 never\nend 20\n".as_slice()
+    );
+    assert_eq!(rt; second.text(), b"idle 20 1 never\nend 20\n".as_slice());
     Ok(())
 }
 
@@ -238,6 +257,10 @@ fn why(shown: ShownReason) -> Line {
         timer: TimerId(0),
         shown,
     }
+}
+
+fn device(now: u64, until: u64) -> Line {
+    Line::Device { now, until }
 }
 
 // A cover of a timer at 61.

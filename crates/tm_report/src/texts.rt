@@ -95,6 +95,7 @@ fn write_words(draft: &mut Draft, line: &Line) -> Result<(), NoMemory>
         } => write_why(draft, *steps, *cpu, *timer, shown),
         Line::Yes { steps } => write_count(draft, b"yes", *steps),
         Line::No { index } => write_count(draft, b"no", *index),
+        Line::Device { now, until } => write_device(draft, *now, *until),
     }
 }
 
@@ -269,6 +270,14 @@ fn write_count(draft: &mut Draft, name: &[u8], n: u32) -> Result<(), NoMemory>
 {
     draft.piece(name)?;
     draft.number_word(u64::from(n))
+}
+
+fn write_device(draft: &mut Draft, now: Jiffy, until: Jiffy) -> Result<(), NoMemory>
+    ensures { Adds result draft.old draft.new (words_text (Line.Device now until)) }
+{
+    draft.piece(b"device")?;
+    draft.number_word(now)?;
+    draft.time_word(until)
 }
 
 // What a job answered.
