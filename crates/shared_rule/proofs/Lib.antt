@@ -1,0 +1,11 @@
+pub mod Sums
+pub mod Fits
+pub mod Going
+pub mod Parting
+pub mod Starting
+pub mod Moving
+pub mod Owing
+pub mod Noting
+pub mod Made
+pub mod Waking
+pub mod Rising

@@ -1,0 +1,53 @@
+-- for crates above: what a step of another CPU leaves of a CPU
+use Rattle.std.proofs.Common.{◌≡◌, ◌≢◌, ℕ, eq-eqb, ne_eqb, cond, Bool, true, false, Option, Some}
+use Rattle.std.proofs.Common.{None, refl, ap}
+use Rattle.std.specs.Prelude.{option_map}
+use Rattle.tree_plan.specs.Shape.{Shape}
+use Rattle.walk_rules.specs.declared.walk.Walk.{Walk}
+use Rattle.walk_rules.specs.Stages.{forget}
+use Rattle.core_world.specs.World.{CpuRecord, reads_at, stale_walk}
+use Rattle.core_world.proofs.Moves.{beside}
+use Rattle.shared_rule.specs.Whole.{quiet}
+use Rattle.shared_rule.specs.Shows.{owes, set_at}
+
+pub set_here : {X : Type 0} (c : ℕ) (x : X) (f : ℕ → X) → set_at c x f c ≡ x
+set_here c x f = ap (λ b. cond b x (f c)) (eq-eqb c c refl)
+
+pub set_else : {X : Type 0} (c : ℕ) (x : X) (f : ℕ → X) (d : ℕ) → d ≢ c → set_at c x f d ≡ f d
+set_else c x f d ne = ap (λ b. cond b x (f d)) (ne_eqb d c ne)
+
+forget_cond : (b : Bool) (k : Walk) → forget (cond b (record k { fresh = false }) k) ≡ forget k
+forget_cond true k = refl
+forget_cond false k = refl
+
+forgets : (t : Shape) (g d : ℕ) (m : Option Walk) → option_map forget
+    (option_map (stale_walk t g d) m) ≡ option_map forget m
+forgets t g d None = refl
+forgets t g d (Some k) = ap Some (forget_cond (reads_at t g d k) k)
+
+pub quiet_else : (t : Shape) (r : Bool) (g d : ℕ) (y : CpuRecord)
+    → quiet (beside t r g d y) ≡ quiet y
+quiet_else t true g d y = λ i. record y { walk = forgets t g d y.walk i }
+quiet_else t false g d y = refl
+
+owes_cond : (t : Shape) (h d : ℕ) (b : Bool) (k : Walk)
+    → owes t h d (Some (cond b (record k { fresh = false }) k)) ≡ owes t h d (Some k)
+owes_cond t h d true k = refl
+owes_cond t h d false k = refl
+
+owes_stale : (t : Shape) (g h d : ℕ) (m : Option Walk)
+    → owes t h d (option_map (stale_walk t g d) m) ≡ owes t h d m
+owes_stale t g h d None = refl
+owes_stale t g h d (Some k) = owes_cond t h d (reads_at t g d k) k
+
+pub owes_else : (t : Shape) (r : Bool) (g h d : ℕ) (y : CpuRecord)
+    → owes t h d (beside t r g d y).walk ≡ owes t h d y.walk
+owes_else t true g h d y = owes_stale t g h d y.walk
+owes_else t false g h d y = refl
+
+-- a field that isn't of the walk
+pub field_else : {X : Type 0} (f : CpuRecord → X) → ((y : CpuRecord) (m : Option Walk)
+    → f (record y { walk = m }) ≡ f y) → (t : Shape) (r : Bool) (g d : ℕ) (y : CpuRecord)
+    → f (beside t r g d y) ≡ f y
+field_else f e t true g d y = e y _
+field_else f e t false g d y = refl

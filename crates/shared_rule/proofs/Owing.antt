@@ -1,0 +1,92 @@
+-- for crates above: exchanges that walks have still to make
+use Rattle.std.proofs.Common.{◌≡◌, ℕ, suc, ◌+◌, ◌≤◌, eqb, eq-eqb, ne_eqb, cond, Bool, true, false}
+use Rattle.std.proofs.Common.{Option, Some, None, refl, sym, ap, ◌∙◌, subst, inl, inr, arith}
+use Rattle.std.specs.Prelude.{◌&&◌, ◌||◌, not, nat_lt, nat_le}
+use Rattle.std.specs.Option.{option_map_or}
+use Rattle.std.proofs.lemmas.Bool.{cases_eq, le-ltb}
+use Rattle.tree_plan.specs.Shape.{Shape}
+use Rattle.tree_plan.specs.Paths.{group_at_of, level_of}
+use Rattle.walk_rules.specs.declared.walk.Walk.{Walk}
+use Rattle.walk_rules.specs.declared.walk.WalkKind.TheVariants as kinds
+use Rattle.walk_rules.specs.declared.walk.Stage.TheVariants as stages
+use Rattle.walk_rules.specs.Stages.{up_next, at_stage}
+use Rattle.core_facts.specs.Exchanges.{place_of}
+use Rattle.shared_rule.specs.Shows.{is_past, exchanges, is_on_path, owes, raised}
+
+one_at_most : (b : Bool) → cond b 1 0 ≤ 1
+one_at_most true = omega arith
+one_at_most false = omega arith
+
+pub owes_one : (t : Shape) (g c : ℕ) (m : Option Walk) → owes t g c m ≤ 1
+owes_one t g c None = omega arith
+owes_one t g c (Some k) = one_at_most (exchanges k.kind &&
+    (is_on_path t g c (level_of t g) && not (is_past (level_of t g) k)))
+
+none_when : (e q : Bool) → ◌≡◌ {A = ℕ} (cond (e && (q && false)) 1 0) 0
+none_when true true = refl
+none_when true false = refl
+none_when false q = refl
+
+-- past its exchange a walk owes no more than before it
+past_less : (e q a b : Bool) → cond (e && (q && not (a || (b && true)))) 1 0 ≤ cond
+    (e && (q && not (a || (b && false)))) 1 0
+past_less e q true b = omega arith
+past_less e q false false = omega arith
+past_less e q false true = let z : ◌≡◌ {A = ℕ} (cond
+    (e && (q && false)) 1 0) 0 = none_when e q in omega (arith, z)
+
+-- a walk at Up of the group g, where it makes its exchange
+module _ (t : Shape) (g c : ℕ) (k : Walk) (seq : ℕ → ℕ) (is : k.stage ≡ stages.Up)
+    (kind : k.kind ≡ kinds.Activate) (here : group_at_of t c k.level ≡ Some g)
+    (level : level_of t g ≡ k.level) where
+  abbrev owed_with : (e q a b d : Bool) → ℕ
+  owed_with e q a b d = cond (e && (q && not (a || (b && d)))) 1 0
+
+  self : (n : ℕ) → nat_lt n n ≡ false
+  self n = le-ltb n n (omega arith)
+
+  before : (h : ℕ) → owes t h c (Some k) ≡ owed_with (exchanges k.kind)
+      (is_on_path t h c (level_of t h)) (nat_lt (level_of t h) k.level)
+      (eqb k.level (level_of t h)) false
+  before h = ap (λ s. owed_with (exchanges k.kind) (is_on_path t h c (level_of t h))
+      (nat_lt (level_of t h) k.level) (eqb k.level (level_of t h)) (nat_le 5 (place_of s))) is
+
+  one : owes t g c (Some k) ≡ 1
+  one = before g ∙ (λ i. owed_with (exchanges (kind i)) (is_on_path t g c (level i))
+      (nat_lt (level i) k.level) (eqb k.level (level i)) false)
+      ∙ (λ i. owed_with true (option_map_or (λ h. eqb h g) (here i) false) (self k.level i)
+      (eqb k.level k.level) false)
+      ∙ (λ i. owed_with true (eq-eqb g g refl i) false (eq-eqb k.level k.level refl i) false)
+
+  past : (top more : Bool) (h : ℕ) → owes t h c (up_next top more k) ≤ owes t h c (Some k)
+  past true more h = omega arith
+  past false more h =
+      let a = past_less (exchanges k.kind) (is_on_path t h c (level_of t h))
+      (nat_lt (level_of t h) k.level) (eqb k.level (level_of t h)) in
+      subst (λ z. owes t h c (Some (at_stage k (stages.Mark more))) ≤ z) (sym (before h)) a
+
+  none_left : (top more : Bool) → owes t g c (up_next top more k) ≡ 0
+  none_left true more = refl
+  none_left false more =
+      (λ i. owed_with (exchanges k.kind) (is_on_path t g c (level i)) (nat_lt (level i) k.level)
+      (eqb k.level (level i)) true)
+      ∙ (λ i. owed_with (exchanges k.kind) (is_on_path t g c k.level) (self k.level i)
+      (eq-eqb k.level k.level refl i) true)
+      ∙ none_when (exchanges k.kind) (is_on_path t g c k.level)
+
+  pub up_owes : (top more : Bool) (h : ℕ) → raised true g seq h + owes t h c
+      (up_next top more k) ≤ seq h + owes t h c (Some k)
+  up_owes top more h = elim (cases_eq h g) [
+    | inl e ↦
+        let a : raised true g seq h ≡ suc (seq h) = ap (λ b. cond b (suc (seq h)) (seq h))
+        (eq-eqb h g e) in
+        let b : owes t h c (Some k) ≡ 1 = ap (λ n. owes t n c (Some k)) e ∙ one in
+        let d : owes t h c (up_next top more k) ≡ 0 = ap (λ n. owes t n c (up_next top more k)) e
+        ∙ none_left top more in
+        omega (arith, a, b, d)
+    | inr ne ↦
+        let a : raised true g seq h ≡ seq h = ap (λ b. cond b (suc (seq h)) (seq h))
+        (ne_eqb h g ne) in
+        let b = past top more h in
+        omega (arith, a, b)
+  ]

@@ -1,0 +1,5 @@
+use Rattle.shared_rule.proofs.Parting.{cuts_box, cuts_pass, joins}
+use Rattle.shared_rule.proofs.laws.law_seats.Goals as goal
+
+pub returns : goal.returns
+returns c = λ o. record { box_off = cuts_box o; pass_off = cuts_pass o; joined = joins o }

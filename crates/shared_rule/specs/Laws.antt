@@ -1,0 +1,88 @@
+-- what the rule says, as laws for crates above
+use Rattle.std.specs.Prelude.{◌≡◌, ℕ, suc, ◌^◌, ◌<◌, ◌==◌, true, List, [], ◌∷◌, length, None, Some}
+use mathlib.Core.Option.{none}
+use prog.Atomic.{either}
+use Rattle.atomic_table.specs.Table.{Allows, Joins, Splits, step}
+use Rattle.tree_plan.specs.Paths.{group_at_of}
+use Rattle.walk_rules.specs.declared.walk.Walk.{Walk}
+use Rattle.walk_rules.specs.declared.walk.Stage.TheVariants as stages
+use Rattle.walk_rules.specs.Hierarchy.{side}
+use Rattle.core_world.specs.Covered.{IsSettled}
+use Rattle.core_world.specs.World.{World}
+use Rattle.core_state.specs.Kept.{WorldFits}
+use Rattle.shared_words.specs.declared.layout.SharedWord.{SharedWord}
+use Rattle.shared_words.specs.Exchanges.{IsJoinOf}
+use Rattle.shared_words.specs.Layout.{index_of}
+use Rattle.shared_rule.specs.declared.parts.BoxView.{BoxView}
+use Rattle.shared_rule.specs.declared.parts.PassView.{PassView}
+use Rattle.shared_rule.specs.declared.parts.Said.{Said}
+use Rattle.shared_rule.specs.declared.parts.View.{View}
+use Rattle.shared_rule.specs.Whole.{Spell, cpu_at, layout_of, own_word, state_at}
+use Rattle.shared_rule.specs.Rule.{HasFirstBox, HasFirstPass, Holds, Me, Shows, first_box}
+use Rattle.shared_rule.specs.Rule.{first_pass, nothing, seat_of, together, without_box}
+use Rattle.shared_rule.specs.Rule.{without_pass}
+use Rattle.shared_rule.specs.Starts.{first_view, first_whole}
+use Rattle.shared_rule.specs.Plays.{Looks, Rises, Wakes, woken}
+
+-- THE START: words that spell a settled core show it, together with the view that has all parts of
+-- it, however many walks count as begun
+abbrev pub Begins : Type 0
+Begins = (o : World) (made : ℕ) (words : List ℕ) → WorldFits o → IsSettled o → made < 2 ^ 32
+    → Spell (layout_of o) words (first_whole o made) → Shows o words (first_view o made ∷ [])
+
+-- SEATS: the rule stays where a part goes off to a seat of its own, and where two seats are joined
+pub record SeatsStay (o : World) : Type 0 where
+  -- the first box, or the first pass, of a view in which its CPU has no other
+  pub box_off : (id : ℕ) (v : View) → HasFirstBox v →
+      Splits {S = Said} {V = View} (Holds o) id v (without_box v) (first_box v)
+  pub pass_off : (id : ℕ) (v : View) → HasFirstPass v →
+      Splits {S = Said} {V = View} (Holds o) id v (without_pass v) (first_pass v)
+  pub joined : (id other : ℕ) (v w : View) →
+      Joins {S = Said} {V = View} (Holds o) id v other w (together v w) nothing
+
+-- a step of the seat that has box b and the passes ps, on one word
+abbrev pub Stays : World → (slots id : ℕ) → BoxView → List PassView → SharedWord → (ℕ → ℕ)
+    → (ℕ → Me → Type 0) → Type 0
+Stays o slots id b ps p f then =
+    Allows {S = Said} {V = View} (Holds o) slots id (seat_of (b ∷ []) ps)
+    (index_of (layout_of o) p) f then
+
+-- WAKE: what has to be known where an idle CPU stores its word, as it wakes with its own pass
+pub record MayStoreWake (o : World) (b : BoxView) (p : PassView) (new : ℕ) : Type 0 where
+  pub cpu : b.cpu < length o.cpus
+  pub own : p.cpu ≡ b.cpu
+  pub free : b.own.walk ≡ None
+  pub online : b.own.online ≡ true
+  pub idle : b.own.idle ≡ true
+  pub left : suc p.walks < 2 ^ 32
+  pub word : new ≡ own_word (woken o b.cpu b.own)
+
+-- the store keeps the rule, and the seat is told that the CPU is awake and its activation begun
+abbrev pub WakeStays : World → Type 0
+WakeStays o = (slots id : ℕ) (b : BoxView) (p : PassView) (new : ℕ) → MayStoreWake o b p new →
+    Stays o slots id b (p ∷ []) (cpu_at b.cpu) (λ n. new)
+    (λ n. Wakes (step slots (index_of (layout_of o) (cpu_at b.cpu)) new 0 none)
+    (seat_of (b ∷ []) (p ∷ [])) new)
+
+-- UP: a look at the word of a group
+abbrev pub LookStays : World → Type 0
+LookStays o = (slots id g : ℕ) (b : BoxView) (ps : List PassView) → g < length o.groups →
+    Stays o slots id b ps (state_at g) (λ n. n)
+    (Looks (step slots (index_of (layout_of o) (state_at g)) 0 0 none) (seat_of (b ∷ []) ps))
+
+-- what has to be known where an activation exchanges the word of a group that it has looked at
+pub record MayRise (o : World) (b : BoxView) (k : Walk) (g old new : ℕ) : Type 0 where
+  pub opening : b.opening ≡ o
+  pub group : g < length o.groups
+  pub walk : b.own.walk ≡ Some k
+  pub stage : k.stage ≡ stages.Up
+  pub path : group_at_of o.tree b.cpu k.level ≡ Some g
+  pub word : IsJoinOf old (side o.tree b.cpu k.level) new
+
+-- the exchange keeps the rule, whatever word it finds, and the seat is told that its walk has gone
+-- on, or that nothing has changed
+abbrev pub RiseStays : World → Type 0
+RiseStays o = (slots id g : ℕ) (b : BoxView) (k : Walk) (ps : List PassView) (old new : ℕ) →
+    MayRise o b k g old new →
+    Stays o slots id b ps (state_at g) (λ n. either (n == old) new n)
+    (Rises (step slots (index_of (layout_of o) (state_at g)) old new none) (seat_of (b ∷ []) ps))

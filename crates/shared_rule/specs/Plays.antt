@@ -1,0 +1,149 @@
+-- what each step tells the seat that makes it
+use Rattle.std.specs.Prelude.{◌≡◌, ◌↔◌, ◌≢◌, ℕ, suc, not, ◌^◌, ◌<◌, ◌≤◌, ◌==◌, Contains, Bool}
+use Rattle.std.specs.Prelude.{true, false, List, [], ◌∷◌, length, Option, Some, None, is_some}
+use Rattle.std.specs.Option.{ForSome}
+use Rattle.tm_base.specs.declared.names.TheConstants.{NEVER}
+use Rattle.event_queue.specs.EventMap as events
+use Rattle.cpu_bases.specs.CpuBases.{IsConsistent, events_of}
+use Rattle.cpu_bases.specs.Replay.{AddsReplay, IsPlayed}
+use Rattle.tree_plan.specs.Shape.{IsPlanned}
+use Rattle.tree_plan.specs.Paths.{group_at_of}
+use Rattle.walk_rules.specs.declared.walk.Walk.{Walk}
+use Rattle.walk_rules.specs.declared.walk.WalkKind.TheVariants as kinds
+use Rattle.walk_rules.specs.declared.walk.Stage.TheVariants as stages
+use Rattle.walk_rules.specs.Hierarchy.{HasGroup, at_top}
+use Rattle.walk_rules.specs.Standing.{FitsStage, FlagsAt, StandsAlone}
+use Rattle.walk_rules.specs.Stages.{up_next}
+use Rattle.core_world.specs.World.{World, CpuRecord, cpu_of, is_reading}
+use Rattle.core_world.specs.Steps.{begun_where}
+use Rattle.core_world.specs.Wakeups.{WalkTimes}
+use Rattle.core_facts.specs.Ranges.{WalkInRange}
+use Rattle.core_facts.specs.Told.{SaysOf}
+use Rattle.core_facts.specs.Walkers.{WalkerIs}
+use Rattle.core_state.specs.Kept.{WorldFits}
+use Rattle.shared_words.specs.Exchanges.{HasRoom, shows_migrator}
+use Rattle.shared_rule.specs.declared.parts.BoxView.{BoxView}
+use Rattle.shared_rule.specs.declared.parts.PassView.{PassView}
+use Rattle.shared_rule.specs.Shows.{BeginsWith, reevaluates}
+use Rattle.shared_rule.specs.Rule.{Each, Me, Step}
+
+-- WHAT IS TRUE OF EVERY BOX: of its walk, what the steps of the walk ask
+pub record WalkFits (o : World) (b : BoxView) (k : Walk) : Type 0 where
+  pub low : k.level < 3
+  pub ranges : WalkInRange o k
+  pub in_tree : k.stage ≢ stages.Finish → (g : ℕ) × (group_at_of o.tree b.cpu k.level ≡ Some g)
+  pub fits : HasGroup o.tree b.cpu → FitsStage o.tree b.cpu k.kind k.level k.stage
+  pub flags : HasGroup o.tree b.cpu → FlagsAt (at_top o.tree b.cpu k.level) k.on k.over k.stage
+  pub alone : (HasGroup o.tree b.cpu → ⊥) → StandsAlone k
+  pub staying : k.kind ≢ kinds.Offline
+  pub walker : WalkerIs k.kind b.own
+  pub times : WalkTimes b.own k
+  -- what it read is the word of a state
+  pub good : is_reading k.stage ≡ true → HasRoom b.read
+  -- as it finishes, its CPU's slot in the leaf says what it was to tell
+  pub told : k.stage ≡ stages.Finish → (leaf : ℕ) → group_at_of o.tree b.cpu 0 ≡ Some leaf →
+      SaysOf b.cpu k.next b.leaf
+
+-- a box part fits: its opening, its CPU, its bases and journal, its leaf event and its walk
+pub record PartFits (b : BoxView) : Type 0 where
+  pub opening : WorldFits b.opening
+  pub cpu : b.cpu < length b.opening.cpus
+  pub planned : IsPlanned b.opening.tree
+  pub many : length b.opening.cpus ≤ 512
+  pub online : b.own.online ≡ (cpu_of b.opening b.cpu).online
+  pub wakeup : b.own.wakeup < 2 ^ 48
+  pub mark : (c : ℕ) → b.own.mark ≡ Some c → c < length b.opening.cpus
+  pub consistent : IsConsistent b.own.bases
+  pub played : IsPlayed b.own.bases
+  pub replayed : AddsReplay (cpu_of b.opening b.cpu).bases b.own.bases
+  pub leaf : ForSome b.leaf events.FitsWord
+  pub walk : (k : Walk) → b.own.walk ≡ Some k → WalkFits b.opening b k
+
+-- WHAT IS TRUE OF EVERY BOX AND PASS that one seat has: they speak of one run, agree on the CPU
+-- where it is the same, and on whose mark the box's CPU has
+pub record Agree (b : BoxView) (p : PassView) : Type 0 where
+  pub opening : p.opening ≡ b.opening
+  pub idle : p.cpu ≡ b.cpu → p.idle ≡ b.own.idle
+  pub inside : p.cpu ≡ b.cpu → p.inside ≡ b.own.inside
+  pub wakeup : p.cpu ≡ b.cpu → p.wakeup ≡ b.own.wakeup
+  pub reeval : p.cpu ≡ b.cpu → p.reeval ≡ reevaluates b.own.walk
+  pub journal : p.cpu ≡ b.cpu → BeginsWith b.own.bases.journal p.journal
+  pub marks : (b.own.mark ≡ Some p.cpu) ↔ Contains p.marks b.cpu
+
+-- what every step tells besides: parts fit and agree
+abbrev pub Sound : Me → Type 0
+Sound v = Each (λ b. PartFits b × Each (Agree b) v.0.passes) v.0.boxes
+
+-- VIEWS AFTER A STEP: the box changes
+abbrev pub head_box : (BoxView → BoxView) → List BoxView → List BoxView
+head_box f [] = []
+head_box f (b ∷ bs) = f b ∷ bs
+
+-- the box of a seat changes
+abbrev pub on_box : (BoxView → BoxView) → Me → Me
+on_box f v = (record { boxes = head_box f v.0.boxes; passes = v.0.passes }, v.1)
+
+-- the first pass changes
+abbrev pub head_pass : (PassView → PassView) → List PassView → List PassView
+head_pass f [] = []
+head_pass f (p ∷ ps) = f p ∷ ps
+
+-- the first pass changes by what the box is
+abbrev pub by_box : (BoxView → PassView → PassView) → List BoxView → List PassView → List PassView
+by_box f [] ps = ps
+by_box f (b ∷ bs) ps = head_pass (f b) ps
+
+-- box and pass of a seat change
+abbrev pub on_both : (BoxView → BoxView) → (BoxView → PassView → PassView) → Me → Me
+on_both f h v =
+    (record { boxes = head_box f v.0.boxes; passes = by_box h v.0.boxes v.0.passes }, v.1)
+
+-- a walk, if there is one, goes on or ends
+abbrev pub bound_walk : (Walk → Option Walk) → Option Walk → Option Walk
+bound_walk f None = None
+bound_walk f (Some k) = f k
+
+-- the walk of a box goes on or ends
+abbrev pub by_walk : (BoxView → Walk → Option Walk) → BoxView → BoxView
+by_walk f b = record b { own = record b.own { walk = bound_walk (f b) b.own.walk } }
+
+-- WAKE: the CPU wakes, and an activation begins
+abbrev pub woken : World → (c : ℕ) → CpuRecord → CpuRecord
+woken o c y = record y {
+  idle = false;
+  wakeup = NEVER;
+  walk =
+      begun_where (is_some (group_at_of o.tree c 0)) kinds.Activate stages.Own
+      (events_of y.bases).pin (events_of y.bases).next;
+}
+
+-- its box
+abbrev pub woken_box : BoxView → BoxView
+woken_box b = record b { own = woken b.opening b.cpu b.own; looked = [] }
+
+-- its own pass, with which one walk more was begun
+abbrev pub woken_pass : BoxView → PassView → PassView
+woken_pass b p =
+    record p { walks = suc p.walks; idle = false; wakeup = NEVER; reeval = false }
+
+-- the store of a CPU's word by Wake
+abbrev pub Wakes : Step → Me → ℕ → Me → Type 0
+Wakes t v found w = (w ≡ on_both woken_box woken_pass v) × Sound w
+
+-- UP: a look at a group's word, which is that of a state
+abbrev pub Looks : Step → Me → ℕ → Me → Type 0
+Looks t v found w = ((w ≡ v) × HasRoom found) × Sound w
+
+-- the walk after its exchange of a word that was this one
+abbrev pub up_walk : ℕ → BoxView → Walk → Option Walk
+up_walk word b k =
+    up_next (at_top b.opening.tree b.cpu k.level) (not (shows_migrator word)) k
+
+-- the box where the exchange was made, or where it wasn't
+abbrev pub up_box : Bool → ℕ → BoxView → BoxView
+up_box true word b = by_walk (up_walk word) b
+up_box false word b = b
+
+-- the exchange of an activation was made, or nothing changed
+abbrev pub Rises : Step → Me → ℕ → Me → Type 0
+Rises t v found w = (w ≡ on_box (up_box (found == t.first) t.first) v) × Sound w

@@ -1,0 +1,65 @@
+//! The laws of the core that the table stands on, and what the rule says.
+
+ghost use Rattle.shared_rule.specs.CoreLaws.{CoreLaws};
+ghost use Rattle.core_world.specs.World.{World};
+ghost use Rattle.shared_rule.specs.Laws.{Begins, LookStays, RiseStays, SeatsStay, WakeStays};
+
+use core_facts::{
+    law_bounds, law_frame, law_height, law_lock, law_mark, law_once_a_level, law_own_event,
+    law_place, law_replay, law_rest, law_walker,
+};
+use core_laws::law_step;
+use core_world::law_sizes;
+use tree_plan::{law_cuts, law_paths};
+
+/// Does nothing: its contract has the laws of the core, which the lemmas on the rule take.
+pub fn core_laws()
+    ensures { CoreLaws }
+{
+    law_step();
+    law_sizes();
+    law_replay();
+    law_height();
+    law_frame();
+    law_bounds();
+    law_place();
+    law_walker();
+    law_once_a_level();
+    law_lock();
+    law_mark();
+    law_own_event();
+    law_rest();
+    law_cuts();
+    law_paths();
+}
+
+/// Does nothing: its contract says that words which spell a settled core show it, with the one view
+/// that has all its parts.
+pub fn law_begins()
+    ensures { Begins }
+{
+    core_laws();
+}
+
+/// Does nothing: its contract says that the rule stays where a box or a pass goes off to a seat of
+/// its own, and where two seats are joined.
+pub fn law_seats()
+    ensures { (o : World) → SeatsStay o }
+{}
+
+/// Does nothing: its contract says that the rule stays as an idle CPU stores its word and wakes,
+/// with its own pass brought (`tmigr_cpu_activate`).
+pub fn law_wake()
+    ensures { (o : World) → WakeStays o }
+{
+    core_laws();
+}
+
+/// Does nothing: its contract says that the rule stays as an activation looks at the word of a
+/// group and exchanges it, whatever others did to it meanwhile (`tmigr_active_up`).
+pub fn law_rise()
+    ensures look { (o : World) → LookStays o }
+    ensures rise { (o : World) → RiseStays o }
+{
+    core_laws();
+}

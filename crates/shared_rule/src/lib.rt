@@ -1,0 +1,11 @@
+//! The rule of a run: the words that its threads share, and what each of its seats knows, show a
+//! lawful core at every moment, whatever order the threads' atomic steps fall in.
+#![tactic(auto)]
+
+mod laws;
+mod parts;
+mod table;
+
+pub use laws::{core_laws, law_begins, law_rise, law_seats, law_wake};
+pub use parts::{BoxView, Deed, Did, Look, PassView, Receipt, Said, View};
+pub use table::{BoxOff, Looks, Opening, PassOff, Rises, Seat, Shown, Together, Wakes, Words};

@@ -1,0 +1,89 @@
+//! The table of a run: its rule, and how seats are cut and put together.
+
+ghost use Rattle.shared_rule.specs.Plays as plays;
+
+use crate::parts::{Said, View};
+use atomic_table::{Join, Play, Split, Table, TableRule};
+use core_state::Core;
+use std::alloc::Global;
+use wheel_core::TimerBase;
+
+/// What a table is told when it is made: the core with which the run begins, and how many walks
+/// count as begun with each pass.
+#[derive(Drop)]
+pub struct Opening<B: TimerBase> {
+    pub core: Core<B>,
+    pub made: u32,
+}
+
+/// The rule: words and views show a lawful core, whatever order the threads' steps fall in.
+pub struct Shown;
+
+impl<B: TimerBase> TableRule<Said, View, Opening<B>> for Shown {
+    ghost use Rattle.shared_rule.specs.Rule.{Holds};
+    ghost use Rattle.shared_rule.specs.Starts.{first_view};
+
+    ghost holds = { λ opening state. Holds opening.core state };
+
+    ghost first = { λ opening. first_view opening.core opening.made };
+}
+
+/// The words of a run.
+pub type Words<B> = Table<Said, View, Opening<B>, Shown, Global>;
+
+/// What one of the table's users knows.
+pub type Seat = atomic_table::Seat<Said, View>;
+
+/// The first box of a view goes off.
+pub struct BoxOff;
+
+impl Split<View> for BoxOff {
+    ghost use Rattle.shared_rule.specs.Rule.{first_box, without_box};
+
+    ghost left = { without_box };
+
+    ghost right = { first_box };
+}
+
+/// The first pass of a view goes off.
+pub struct PassOff;
+
+impl Split<View> for PassOff {
+    ghost use Rattle.shared_rule.specs.Rule.{first_pass, without_pass};
+
+    ghost left = { without_pass };
+
+    ghost right = { first_pass };
+}
+
+/// Two seats' parts go to one.
+pub struct Together;
+
+impl Join<View> for Together {
+    ghost use Rattle.shared_rule.specs.Rule.{nothing, together};
+
+    ghost both = { together };
+
+    ghost spent = { nothing };
+}
+
+/// An idle CPU stores its word and wakes, and an activation begins.
+pub struct Wakes;
+
+impl Play<Said, View> for Wakes {
+    ghost then = { plays.Wakes };
+}
+
+/// A look at the word of a group.
+pub struct Looks;
+
+impl Play<Said, View> for Looks {
+    ghost then = { plays.Looks };
+}
+
+/// An activation exchanges the word of a group, unless it has changed.
+pub struct Rises;
+
+impl Play<Said, View> for Rises {
+    ghost then = { plays.Rises };
+}
