@@ -2,3 +2,4 @@ pub mod Shape
 pub mod Answered
 pub mod Jiffies
 pub mod Work
+pub mod Told

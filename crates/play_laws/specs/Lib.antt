@@ -1,3 +1,4 @@
 pub mod Answered
 pub mod Jiffies
 pub mod Work
+pub mod Told

@@ -52,7 +52,7 @@ module _ {S : Type 0} (jobs : Replies) (r : Rules S) (cpus timers levels end : �
     (Fits : Arming → Type 0) (keeps : Keeps r cpus timers levels end Fits P) (now : ℕ) (due : set.FinSet nat_cmp) (c : ℕ)
     (low : c < cpus) where
   -- its own bases
-  own_kept : (k : ℕ) (s : S) → k < 3 → P now (own due c k) s
+  pub own_kept : (k : ℕ) (s : S) → k < 3 → P now (own due c k) s
       → P now (own due c (k + 1)) (drain jobs r c (nth_class k) c s).state
   own_kept k s few holds =
       jobs_kept jobs r c (P now (own due c (k + 1))) Fits
@@ -60,7 +60,7 @@ module _ {S : Type 0} (jobs : Replies) (r : Rules S) (cpus timers levels end : �
       (r.drained s c (nth_class k) c).items (r.drained s c (nth_class k) c).state
       (keeps.known now due c k s low few holds) (keeps.drained now due c k s low few holds)
 
-  drains_kept : (s : S) → P now (own due c 0) s → P now (climbed due c 0) (drains jobs r c s).state
+  pub drains_kept : (s : S) → P now (own due c 0) s → P now (climbed due c 0) (drains jobs r c s).state
   drains_kept s holds =
       let first = own_kept 0 s (omega arith) holds in
       let second = own_kept 1 _ (omega arith) first in
@@ -68,7 +68,7 @@ module _ {S : Type 0} (jobs : Replies) (r : Rules S) (cpus timers levels end : �
       keeps.drained_all now due c _ low third
 
   -- a CPU that is tried
-  try_kept : (level n : ℕ) (tried : set.FinSet nat_cmp) (d : ℕ) (s : S) (takes : Bool)
+  pub try_kept : (level n : ℕ) (tried : set.FinSet nat_cmp) (d : ℕ) (s : S) (takes : Bool)
       → r.takes s c d ≡ takes
       → r.named s c level tried ≡ Some d → P now (looking due c level (suc n) tried) s
       → P now (looking due c level n (set.insert tried d)) (try_where jobs r takes c d s).state
@@ -95,7 +95,7 @@ module _ {S : Type 0} (jobs : Replies) (r : Rules S) (cpus timers levels end : �
   look_at_kept (Some d) level n tried s is holds rest =
       rest (set.insert tried d) _ (try_kept level n tried d s (r.takes s c d) refl is holds)
 
-  look_kept : (n level : ℕ) (tried : set.FinSet nat_cmp) (s : S)
+  pub look_kept : (n level : ℕ) (tried : set.FinSet nat_cmp) (s : S)
       → P now (looking due c level n tried) s
       → P now (climbed due c (level + 1)) (look jobs r n c level tried s).state
   unfolding look
@@ -116,7 +116,7 @@ module _ {S : Type 0} (jobs : Replies) (r : Rules S) (cpus timers levels end : �
       rest _ (look_kept (r.cpus s) level set.empty s
       (keeps.looks now due c level s low below is holds))
 
-  looks_kept : (n level : ℕ) (s : S) → level + n ≡ levels → P now (climbed due c level) s
+  pub looks_kept : (n level : ℕ) (s : S) → level + n ≡ levels → P now (climbed due c level) s
       → P now (looked due c) (looks jobs r n c level s).state
   unfolding looks
   looks_kept zero level s all holds =

@@ -69,7 +69,7 @@ from_said from end (m ∷ ms) (above, rest) low = above
 module _ {S : Type 0} (jobs : Replies) (r : Rules S) (cpus timers levels end : ℕ)
     (P : (now : ℕ) → Stage → S → Type 0)
     (Fits : Arming → Type 0) (keeps : Keeps r cpus timers levels end Fits P) where
-  abbrev Due : ℕ → S → Type 0
+  abbrev pub Due : ℕ → S → Type 0
   Due now s = P now (begun (having_interrupt r s) 0) s
 
   scripted_kept : (now : ℕ) (o : Option Moment) (s : S) → ForSome o (IsMomentIn cpus timers)
@@ -120,7 +120,7 @@ module _ {S : Type 0} (jobs : Replies) (r : Rules S) (cpus timers levels end : �
   then_kept false rest t here there =
       All-cons (λ u. Holds u.played.state) t (rest t.played.state) here (there refl)
 
-  abbrev Playing : (now : ℕ) → List Moment → S → Type 0
+  abbrev pub Playing : (now : ℕ) → List Moment → S → Type 0
   Playing now ms s = All (IsMomentIn cpus timers) ms × Rise now end ms × (now ≤ end) × Due now
       (r.at_clock now s)
 

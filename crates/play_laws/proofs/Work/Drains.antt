@@ -32,7 +32,7 @@ handed_by : (now : ℕ) (class : Class) (by : CpuId) (b : CpuBases) (o : Option 
 handed_by now class by b None is = ap (after_out (base_of class b)) (sym is)
 handed_by now class by b (Some item) is = of_class-with class (taken now (base_of class b)) b.bases
 
-handed_is : (now : ℕ) (class : Class) (by : CpuId) (b : CpuBases)
+pub handed_is : (now : ℕ) (class : Class) (by : CpuId) (b : CpuBases)
     → base_of class (handed_out now class by b) ≡ taken now (base_of class b)
 handed_is now class by b = handed_by now class by b (next_out now (base_of class b)) refl
 

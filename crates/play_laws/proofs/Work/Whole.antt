@@ -189,7 +189,7 @@ empty_home timers home may here Deferrable = record {
   all = All-nil (IsAt timers 0 home may here);
 }
 
-new_at : (n d : ℕ) → slice_index_or (replicate n new_cpu) d new_cpu ≡ new_cpu
+pub new_at : (n d : ℕ) → slice_index_or (replicate n new_cpu) d new_cpu ≡ new_cpu
 new_at zero d = refl
 new_at (suc n) zero = refl
 new_at (suc n) (suc d) = new_at n d

@@ -1,0 +1,10 @@
+pub mod Printed
+pub mod Tells
+pub mod TellsOperations
+pub mod TellsTurns
+pub mod Goes
+pub mod Drained
+pub mod Jobs
+pub mod Held
+pub mod Rules
+pub mod Journals

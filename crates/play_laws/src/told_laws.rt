@@ -1,0 +1,13 @@
+//! Of the lines that a report shows, against the machine that is played: what they tell is so. Each
+//! of these functions does nothing; its contract is the law.
+
+ghost use Rattle.play_laws.specs.Told.Journals.{EachTimerIsTold, RunsAreHandOuts};
+
+/// The `run` lines of a report are, CPU by CPU, one to one and in order the hand-outs of the
+/// journals. And what the lines tell of a timer on a CPU, by `arm`, `run`, `again`, `cancel` and
+/// `moved`, is what that CPU's journal tells of it. Both hold after each moment of every script's
+/// play.
+pub fn law_lines()
+    ensures runs { RunsAreHandOuts }
+    ensures timers { EachTimerIsTold }
+{}
