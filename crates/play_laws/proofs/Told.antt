@@ -8,3 +8,7 @@ pub mod Jobs
 pub mod Held
 pub mod Rules
 pub mod Journals
+pub mod Filters
+pub mod Left
+pub mod PrintedTurns
+pub mod LeftLaw

@@ -2,6 +2,7 @@
 //! of these functions does nothing; its contract is the law.
 
 ghost use Rattle.play_laws.specs.Told.Journals.{EachTimerIsTold, RunsAreHandOuts};
+ghost use Rattle.play_laws.specs.Told.Left.{LeftAreQueued};
 
 /// The `run` lines of a report are, CPU by CPU, one to one and in order the hand-outs of the
 /// journals. And what the lines tell of a timer on a CPU, by `arm`, `run`, `again`, `cancel` and
@@ -10,4 +11,10 @@ ghost use Rattle.play_laws.specs.Told.Journals.{EachTimerIsTold, RunsAreHandOuts
 pub fn law_lines()
     ensures runs { RunsAreHandOuts }
     ensures timers { EachTimerIsTold }
+{}
+
+/// The `left` lines of every script's play are the timers that are queued after its last moment,
+/// each once, in ascending order: timer, CPU, class and wheel expiry.
+pub fn law_left()
+    ensures { LeftAreQueued }
 {}

@@ -51,7 +51,7 @@ tell_same passes swaps jobs script n is c low =
     ap (λ (x : Cpu). filter passes (by_journal x.bases.journal)) (new_at (cpu_count_of tree) c) in
     sym (goes.grows c (omega (arith, low, count)) ∙ ap (λ x. x ++ told) new)
 
-runs_swap : Swaps is_hand_out
+pub runs_swap : Swaps is_hand_out
 runs_swap now timer class wheel at other due by apart is = absurd (true≢false (sym is))
 
 timers_swap : (timer : ℕ) → Swaps (is_of timer)
