@@ -18,17 +18,18 @@ use Rattle.play_rules.specs.Timers.{armed_on, cancelled_on, drained_on, due_item
 use Rattle.play_rules.specs.Timers.{queued_on}
 use Rattle.core_world.specs.declared.step.Step.TheVariants as steps
 use Rattle.core_world.specs.Enabled.{IsFree, MayArm, MayCancel, MayRun}
+use Rattle.core_world.specs.Lists.{EachEnabled}
 use Rattle.core_world.specs.Steps.{with_bases}
 use Rattle.core_world.specs.World.{CpuRecord, World, cpu_of, is_active}
 use Rattle.core_laws.specs.Laws.{StepsStayLawful}
 use Rattle.step_play.specs.Rules.Alike.{Plays}
 use Rattle.step_play.specs.Rules.Seen.{InPlay, Phase, state_of}
 use Rattle.step_play.specs.Rules.StepRules.{armed_by_steps, cancelled_by_steps, drained_by_steps}
-use Rattle.step_play.specs.Rules.StepRules.{items_due}
+use Rattle.step_play.specs.Rules.StepRules.{hands, items_due}
 use Rattle.play_laws.proofs.Shape.Alike.{drained_seen}
 use Rattle.step_play.proofs.Bases.{Each, cancelled_whole, drained_whole, due_all, queued_late}
 use Rattle.step_play.proofs.Bases.{queued_whole}
-use Rattle.step_play.proofs.Drains.{Rebases, drains}
+use Rattle.step_play.proofs.Drains.{DrainsOut, Rebases, drains}
 use Rattle.step_play.proofs.Held.{bases_seen, held_class, nowhere}
 use Rattle.step_play.proofs.Worlds.{Bare, bare, bases_fit, bases_shown, dressed, own_is, put_bare}
 use Rattle.step_play.proofs.Worlds.{put_else, put_same}
@@ -65,8 +66,15 @@ module _ (law : StepsStayLawful) (ph : Phase) (w : World) (i : InPlay ph w) wher
     in_time : w.clock < 2 ^ 47 - 1
     in_time = let clock = i.lawful.times.clock in omega (arith, clock)
 
+    drains_out : DrainsOut law home runner class w left
+        (hands home class runner (items_due w home class))
+    drains_out = drains law home runner class many w i.lawful free may (omega arith)
+
     pub drain_is : Rebases w home left (drained_by_steps w home class runner).state
-    drain_is = drains law home runner class many w i.lawful free may (omega arith)
+    drain_is = drains_out.rebases
+
+    pub may_drain : EachEnabled w (hands home class runner (items_due w home class))
+    may_drain = drains_out.enabled
 
     pub drain_plays : Plays ph (drained_by_steps w home class runner).state
         (drained_on (state_of w) home class runner).state

@@ -16,7 +16,7 @@ use Rattle.play_rules.specs.Timers.{due_items}
 use Rattle.core_world.specs.declared.step.Step.{Step}
 use Rattle.core_world.specs.declared.step.Step.TheVariants as steps
 use Rattle.core_world.specs.Enabled.{IsFree, MayHand, MayRun}
-use Rattle.core_world.specs.Lists.{after_all}
+use Rattle.core_world.specs.Lists.{EachEnabled, after_all}
 use Rattle.core_world.specs.Lawful.{IsLawful}
 use Rattle.core_world.specs.Steps.{handed_of, stepped, with_bases}
 use Rattle.core_world.specs.World.{CpuRecord, World, cpu_of}
@@ -165,11 +165,14 @@ module _ (law : StepsStayLawful) (home runner : ℕ) (class : Class) where
               out)))));
         }
 
-  -- A WHOLE DRAIN
+  -- A WHOLE DRAIN: each of its steps is enabled where it stands, and what they leave
+  pub record DrainsOut (w : World) (left : CpuBases) (steps : List Step) : Type 0 where
+    pub enabled : EachEnabled w steps
+    pub rebases : Rebases w home left (after_all w steps)
+
   pub drains : (n : ℕ) (w : World) → IsLawful w → IsFree w home → MayRun w home class runner →
       length (base_at w).items ≤ n →
-      Rebases w home (after n w)
-      (after_all w (hands home class runner (due_items n w.clock (base_at w))))
+      DrainsOut w (after n w) (hands home class runner (due_items n w.clock (base_at w)))
   drains n w lawful free may few =
       by_out n w lawful free may few (or_item (next_out w.clock (base_at w)))
     where
@@ -177,20 +180,33 @@ module _ (law : StepsStayLawful) (home runner : ℕ) (class : Class) where
           length (base_at w).items ≤ n →
           (next_out w.clock (base_at w) ≡ None)
           ⊎ ((item : Item) × (next_out w.clock (base_at w) ≡ Some item)) →
-          Rebases w home (after n w)
-          (after_all w (hands home class runner (due_items n w.clock (base_at w))))
-      by_out n w lawful free may few (inl none) =
-          stops w lawful free may none n (due_items n w.clock (base_at w))
-          (due_last n w.clock (base_at w) none)
+          DrainsOut w (after n w) (hands home class runner (due_items n w.clock (base_at w)))
+      by_out n w lawful free may few (inl none) = record {
+        enabled = subst (λ xs. EachEnabled w (hands home class runner xs))
+            (sym (due_last n w.clock (base_at w) none))
+            (record { is_free = free; none_due = none; may_run = may }, tt);
+        rebases = stops w lawful free may none n (due_items n w.clock (base_at w))
+            (due_last n w.clock (base_at w) none);
+      }
       by_out zero w lawful free may few (inr there) =
           let less = one_fewer w.clock class (cpu_id runner) (cpu_of w home).bases there.0
           (lawful.timers.consistent home) there.1 in
           absurd (omega (arith, few, less))
-      by_out (suc n) w lawful free may few (inr there) =
-          let v = rebased w home (left w lawful free may there.0 there.1) in
-          goes_on w lawful free may there.0 there.1 n
-          (by_out n v (hand_lawful w lawful free may there.0 there.1)
-          (free_after w lawful free may there.0 there.1)
-          (may_after w lawful free may there.0 there.1)
-          (fewer w lawful free may there.0 there.1 n few)
-          (or_item (next_out v.clock (base_at v))))
+      by_out (suc n) w lawful free may few (inr (item, out)) =
+          let v = rebased w home (left w lawful free may item out) in
+          let rest = by_out n v (hand_lawful w lawful free may item out)
+          (free_after w lawful free may item out) (may_after w lawful free may item out)
+          (fewer w lawful free may item out n few) (or_item (next_out v.clock (base_at v))) in
+          record {
+            enabled = subst (λ xs. EachEnabled w (hands home class runner xs))
+                (sym (due_more n w.clock (base_at w) item out)) (
+                  may_hand w lawful free may item out,
+                  subst (λ u. EachEnabled u (hands home class runner
+                      (due_items n w.clock (taken w.clock (base_at w)))))
+                      (sym (hand_is w lawful free may item out))
+                      (subst (λ b. EachEnabled v (hands home class runner
+                      (due_items n w.clock b))) (base_after w lawful free may item out)
+                      rest.enabled),
+                );
+            rebases = goes_on w lawful free may item out n rest.rebases;
+          }

@@ -17,3 +17,10 @@ pub mod Kept
 pub mod AlikeRules
 pub mod Starts
 pub mod Plays
+pub mod Lone
+pub mod WalkRuns
+pub mod Reached
+pub mod Running
+pub mod StageRuns
+pub mod KeptRuns
+pub mod PlayedRuns

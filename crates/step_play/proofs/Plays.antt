@@ -21,8 +21,8 @@ use Rattle.core_laws.specs.Laws.{StepsStayLawful}
 use Rattle.core_laws.specs.Start.Layer.{StartsLawful}
 use Rattle.step_play.specs.Rules.Seen.{InPlay, resting, state_of}
 use Rattle.step_play.specs.Rules.StepRules.{step_rules}
-use Rattle.step_play.specs.SamePlay.{IsPlayOfSteps, StepsArePlay, Walks, core_start, play_lines}
-use Rattle.step_play.specs.SamePlay.{step_lines, step_turns, turn_seen}
+use Rattle.step_play.specs.SamePlay.{IsPlayOfSteps, PlayIsARun, StepsArePlay, Walks, core_start}
+use Rattle.step_play.specs.SamePlay.{play_lines, step_lines, step_turns, turn_seen}
 use Rattle.step_play.proofs.AlikeRules.{steps_alike}
 use Rattle.step_play.proofs.Interrupted.{having_seen}
 use Rattle.step_play.proofs.Kept.{steps_keep}
@@ -43,7 +43,7 @@ module _ (law : StepsStayLawful) (starts : StartsLawful) (walks : Walks)
   in_play : InPlay resting w
   in_play = core_starts starts script is
 
-  first : At t script.timers 0 (begun (having_interrupt step_rules (step_rules.at_clock 0 w)) 0)
+  pub first : At t script.timers 0 (begun (having_interrupt step_rules (step_rules.at_clock 0 w)) 0)
       resting (step_rules.at_clock 0 w)
   first = record {
     tree = refl;
@@ -80,8 +80,8 @@ module _ (law : StepsStayLawful) (starts : StartsLawful) (walks : Walks)
       (step_turns jobs script) (play_turns jobs script) same_turns
       ∙ ap (λ s. whole_lines plain_rules script.end s (play_turns jobs script)) seen
 
-  pub steps_play : IsPlayOfSteps jobs script
-  steps_play = record {
+  pub steps_play : PlayIsARun → IsPlayOfSteps jobs script
+  steps_play run = record {
     turns = same_turns;
     lines = same_lines;
     text = ap report_text same_lines;
@@ -100,8 +100,9 @@ module _ (law : StepsStayLawful) (starts : StartsLawful) (walks : Walks)
         (steps_keep law walks t script.timers script.end is.early_end)
         (script.end + 1) 0 script.moments w (moments_in script is) (moments_rise script is)
         (omega arith) first);
+    by_runs = run jobs script is;
   }
 
-pub steps_are_play : StepsStayLawful → StartsLawful → Walks → StepsArePlay
-steps_are_play law starts walks jobs script is =
-    steps_play law starts walks jobs script is
+pub steps_are_play : StepsStayLawful → StartsLawful → Walks → PlayIsARun → StepsArePlay
+steps_are_play law starts walks run jobs script is =
+    steps_play law starts walks jobs script is run

@@ -3,3 +3,5 @@ pub mod Alone
 pub mod Live
 pub mod Seen
 pub mod StepRules
+pub mod Lone
+pub mod Runs

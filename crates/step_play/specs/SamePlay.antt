@@ -14,6 +14,7 @@ use Rattle.core_world.specs.Start.{start_of}
 use Rattle.core_world.specs.World.{World}
 use Rattle.step_play.specs.Rules.Alike.{ComesAlike, EndsAlike, IdlesAlike, LetsGoAlike, OfflinesAlike}
 use Rattle.step_play.specs.Rules.Alike.{WakesAlike}
+use Rattle.step_play.specs.Rules.Runs.{IsReached, TurnsAreRuns}
 use Rattle.step_play.specs.Rules.Seen.{InPlay, resting, state_of}
 use Rattle.step_play.specs.Rules.StepRules.{step_rules}
 
@@ -44,8 +45,20 @@ part_seen p = record { lines = p.lines; work = p.work; state = state_of p.state 
 abbrev pub turn_seen : Turn World → Turn State
 turn_seen t = record { at = t.at; played = part_seen t.played }
 
+-- BY RUNS: from the start of the script's machine on each moment of the play made of steps has its
+-- run, from the core that the one before it left; and after each moment all these steps are a run
+-- from that start, with the headline after each of them
+pub record IsPlayedByRuns (jobs : Replies) (script : Script) : Type 0 where
+  pub turns : TurnsAreRuns (core_start script) (step_turns jobs script)
+  pub reached : AfterEach (IsReached (core_start script)) (step_turns jobs script)
+
+-- THE PLAY IS A RUN: the play of every script by the rules of steps goes by runs
+abbrev pub PlayIsARun : Type 0
+PlayIsARun = (jobs : Replies) (script : Script) → IsScript script → IsPlayedByRuns jobs script
+
 -- what Play sees of the play made of steps is Play's, moment by moment; so are the text, the count
--- of work, and the last state; and after each moment the core is in play and at rest
+-- of work, and the last state; after each moment the core is in play and at rest; and the
+-- play goes by runs, whose steps are enabled where they stand
 pub record IsPlayOfSteps (jobs : Replies) (script : Script) : Type 0 where
   pub turns : map turn_seen (step_turns jobs script) ≡ play_turns jobs script
   pub lines : step_lines jobs script ≡ play_lines jobs script
@@ -54,6 +67,7 @@ pub record IsPlayOfSteps (jobs : Replies) (script : Script) : Type 0 where
   pub last : state_of (last_state (core_start script) (step_turns jobs script))
       ≡ last_state (play_start script) (play_turns jobs script)
   pub in_play : AfterEach (InPlay resting) (step_turns jobs script)
+  pub by_runs : IsPlayedByRuns jobs script
 
 -- THE LAW
 abbrev pub StepsArePlay : Type 0

@@ -11,4 +11,4 @@ returns c = steps_are_play c.law_step.ensures c.law_start.ensures (record {
     ends = c.law_ends.ensures;
     lets_go = c.law_lets_go.ensures;
   };
-})
+}) c.law_play_is_a_run.ensures
