@@ -14,8 +14,8 @@ use Rattle.core_world.proofs.Moves.{cpu_else, cpu_same, moved_laws}
 use Rattle.step_play.specs.Rules.Alone.{goes_on, most_steps, walk_steps, walked_out}
 use Rattle.step_play.proofs.Activation.Alongside.{beside_still}
 use Rattle.step_play.proofs.Activation.Walking.{goes, onwards, stays}
-use Rattle.core_machine.specs.Alone.Lone.{IsLone}
-use Rattle.core_machine.proofs.Alone.Lone.{lone_made, lone_moved}
+use Rattle.step_play.specs.Rules.Lone.{IsLone}
+use Rattle.step_play.proofs.Lone.{lone_made, lone_moved}
 use Rattle.hotplug.specs.Frames.{Framed, Own}
 
 pub own_same : (y : CpuRecord) → Own y y

@@ -14,7 +14,7 @@ use Rattle.core_world.specs.Lawful.{IsLawful}
 use Rattle.core_world.specs.World.{World, cpu_of, scene_of}
 use Rattle.core_laws.proofs.Walks.Stands.{stage_fits}
 use Rattle.step_play.specs.Rules.Alone.{goes_on}
-use Rattle.core_machine.specs.Alone.Lone.{IsLone}
+use Rattle.step_play.specs.Rules.Lone.{IsLone}
 use Rattle.step_play.proofs.Activation.Calm.{handing}
 
 -- only a CPU that is offline waits to hand on

@@ -4,7 +4,7 @@ use Rattle.tree_plan.specs.Paths.{is_placed_in}
 use Rattle.core_world.specs.Covered.{IsSettled}
 use Rattle.core_world.specs.World.{CpuRecord, World, cpu_of, is_active}
 use Rattle.step_play.specs.Rules.StepRules.{is_waiting}
-use Rattle.core_machine.specs.Alone.Lone.{IsLone}
+use Rattle.step_play.specs.Rules.Lone.{IsLone}
 use Rattle.hotplug.specs.Settled.{AllWhole}
 
 -- a CPU before and after steps of its walk

@@ -3,7 +3,7 @@
 ghost use Rattle.std.specs.Prelude.{◌≡◌};
 ghost use Rattle.step_play.specs.Rules.StepRules.{made_active};
 ghost use Rattle.hotplug.specs.Frames.{Activated, MayActivate};
-ghost use Rattle.hotplug.specs.Runs.{Reaches};
+ghost use Rattle.step_play.specs.Rules.Lone.{Reaches};
 
 use core_machine::walks::wake;
 use core_state::Core;

@@ -6,7 +6,7 @@ ghost use Rattle.core_world.specs.World.{cpu_of};
 ghost use Rattle.play_rules.specs.Machines.{after_move};
 ghost use Rattle.step_play.specs.Rules.StepRules.{step_rules};
 ghost use Rattle.hotplug.specs.Frames.{MayMoveAll};
-ghost use Rattle.hotplug.specs.Runs.{Reaches};
+ghost use Rattle.step_play.specs.Rules.Lone.{Reaches};
 ghost use Rattle.hotplug.specs.Settled.{AllWhole, MovedSome, SomeOnline, heir_of, moved_off};
 ghost use Rattle.hotplug.specs.Settled.{MovedTimes};
 

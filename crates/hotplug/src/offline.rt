@@ -6,7 +6,7 @@ ghost use Rattle.tree_plan.specs.Paths.{is_placed_in};
 ghost use Rattle.core_world.specs.Covered.{IsSettled};
 ghost use Rattle.step_play.specs.Rules.StepRules.{handed_on_by_steps};
 ghost use Rattle.hotplug.specs.Frames.{Waits};
-ghost use Rattle.hotplug.specs.Runs.{Reaches};
+ghost use Rattle.step_play.specs.Rules.Lone.{Reaches};
 ghost use Rattle.hotplug.specs.Settled.{AllWhole, gone_whole, heir_at, offline_fault};
 
 use crate::activation::make_active;

@@ -3,7 +3,7 @@
 ghost use Rattle.std.specs.Prelude.{◌≡◌, ◌<◌, MatchResult, None, OnErr, OnOk, Some, length};
 ghost use Rattle.core_world.specs.Covered.{IsSettled};
 ghost use Rattle.step_play.specs.Rules.StepRules.{come_by_steps};
-ghost use Rattle.hotplug.specs.Runs.{Reaches};
+ghost use Rattle.step_play.specs.Rules.Lone.{Reaches};
 ghost use Rattle.hotplug.specs.Settled.{AllWhole, online_fault};
 
 use core_machine::walks::come_online;

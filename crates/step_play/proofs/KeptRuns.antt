@@ -46,14 +46,15 @@ module _ (law : StepsStayLawful) (sizes : SizesStay) (walks : Walks) (t : Shape)
   abbrev Reached : (time : ℕ) (from : World) (now : ℕ) → Stage → World → Type 0
   Reached time from now st w = Stands t timers now st w × Since time from now w
 
-  -- EACH RULE keeps it
   module _ (time : ℕ) (from : World) where
+    -- one more run of a rule
     and_then : (now : ℕ) (w v : World) → Since time from now w → RuleRun w v → Since time from now v
     and_then now w v since run = record {
       late = since.late;
       run = λ early. runs.goes_on w v (since.run early) run;
     }
 
+  -- EACH RULE keeps it
   pub steps_run : (time : ℕ) (from : World) → Rules (Reached time from)
   steps_run time from = record {
     clock = λ now w was. keeps.clock now w was.0;

@@ -12,11 +12,12 @@ use Rattle.core_world.specs.World.{World}
 use Rattle.core_laws.specs.Laws.{StepsStayLawful}
 use Rattle.core_laws.specs.Start.Layer.{StartsLawful}
 use Rattle.core_facts.specs.Cover.Runs.{AlwaysAnswered}
+use Rattle.step_play.specs.Rules.Lone.{Reaches}
 use Rattle.step_play.specs.Rules.Runs.{IsReached, TurnsAreRuns}
 use Rattle.step_play.specs.SamePlay.{IsPlayedByRuns, PlayIsARun, Walks, core_start, step_turns}
 use Rattle.step_play.proofs.KeptRuns.{turns_run}
 use Rattle.step_play.proofs.Plays.{first}
-use Rattle.step_play.proofs.Reached.{Leads, onwards, turn_leads}
+use Rattle.step_play.proofs.Reached.{onwards, turn_reaches}
 use Rattle.step_play.proofs.Running.{one_run}
 
 module _ (law : StepsStayLawful) (starts : StartsLawful) (sizes : SizesStay)
@@ -38,7 +39,7 @@ module _ (law : StepsStayLawful) (starts : StartsLawful) (sizes : SizesStay)
       })
 
   -- a run from the start has the headline after each of its steps
-  reached : (v : World) → Leads w v → IsReached w v
+  reached : (v : World) → Reaches w v → IsReached w v
   reached v (steps, run) = record {
     steps = steps;
     run = run;
@@ -47,11 +48,11 @@ module _ (law : StepsStayLawful) (starts : StartsLawful) (sizes : SizesStay)
         (let few = is.few_timers in omega (arith, few)) steps run.enabled;
   }
 
-  each_reached : (v : World) → Leads w v → (ts : List (Turn World)) → TurnsAreRuns v ts →
+  each_reached : (v : World) → Reaches w v → (ts : List (Turn World)) → TurnsAreRuns v ts →
       AfterEach (IsReached w) ts
   each_reached v here [] none = All-nil (λ (u : Turn World). IsReached w u.played.state)
   each_reached v here (t ∷ ts) (run, rest) =
-      let there = onwards w v t.played.state here (turn_leads v t run) in
+      let there = onwards w v t.played.state here (turn_reaches v t run) in
       All-cons (λ (u : Turn World). IsReached w u.played.state) t ts
       (reached t.played.state there) (each_reached t.played.state there ts rest)
 

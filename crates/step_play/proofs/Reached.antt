@@ -5,14 +5,10 @@ use Rattle.core_world.specs.declared.step.Step.{Step}
 use Rattle.core_world.specs.Lists.{EachEnabled, IsRun, after_all}
 use Rattle.core_world.specs.Steps.{stepped}
 use Rattle.core_world.specs.World.{World}
-use Rattle.step_play.specs.Rules.Lone.{IsRunOf, walk_times}
+use Rattle.step_play.specs.Rules.Lone.{IsRunOf, Reaches, walk_times}
 use Rattle.step_play.specs.Rules.Runs.{RuleRun, RuleRuns, TurnRun}
 use Rattle.step_play.specs.Rules.Runs as runs
 use Rattle.step_play.specs.Rules.StepRules.{step_rules}
-
--- some list of steps is a run from the one world to the other
-abbrev pub Leads : (before after : World) → Type 0
-Leads before after = (steps : List Step) × IsRun steps before after
 
 after_both : (w : World) (xs ys : List Step)
     → after_all w (xs ++ ys) ≡ after_all (after_all w xs) ys
@@ -25,7 +21,7 @@ both_enabled w [] ys first then = then
 both_enabled w (x ∷ xs) ys first then =
     (first.0, both_enabled (stepped w x) xs ys first.1 then)
 
-pub onwards : (w v u : World) → Leads w v → Leads v u → Leads w u
+pub onwards : (w v u : World) → Reaches w v → Reaches v u → Reaches w u
 onwards w v u (xs, first) (ys, then) = (
   xs ++ ys,
   record {
@@ -37,36 +33,36 @@ onwards w v u (xs, first) (ys, then) = (
   },
 )
 
-by_list : (xs : List Step) (w v : World) → IsRun xs w v → Leads w v
+by_list : (xs : List Step) (w v : World) → IsRun xs w v → Reaches w v
 by_list xs w v run = (xs, run)
 
-by_walk : (step : Step) (c : ℕ) (w v : World) → IsRunOf step c w v → Leads w v
+pub by_walk : (step : Step) (c : ℕ) (w v : World) → IsRunOf step c w v → Reaches w v
 by_walk step c w v (n, run) = (step ∷ walk_times n c, run)
 
-rule_leads : (w v : World) → RuleRun w v → Leads w v
-rule_leads w v (runs.drained home class runner is run) = by_list _ w v run
-rule_leads w v (runs.armed c a is run) = by_list _ w v run
-rule_leads w v (runs.cancelled home a is run) = by_list _ w v run
-rule_leads w v (runs.entered c is run) = by_list _ w v run
-rule_leads w v (runs.taken c d is run) = by_list _ w v run
-rule_leads w v (runs.let_go c d is run) = by_walk _ d w v run
-rule_leads w v (runs.ended_idle c is run) = by_walk _ c w v run
-rule_leads w v (runs.ended_active c is run) = by_list _ w v run
-rule_leads w v (runs.idled c is run) = by_walk _ c w v run
-rule_leads w v (runs.woken c is run) = by_walk _ c w v run
-rule_leads w v (runs.gone_offline c is run) = by_walk _ c w v run
-rule_leads w v (runs.handed_on c d awake is wakes hands) =
+rule_reaches : (w v : World) → RuleRun w v → Reaches w v
+rule_reaches w v (runs.drained home class runner is run) = by_list _ w v run
+rule_reaches w v (runs.armed c a is run) = by_list _ w v run
+rule_reaches w v (runs.cancelled home a is run) = by_list _ w v run
+rule_reaches w v (runs.entered c is run) = by_list _ w v run
+rule_reaches w v (runs.taken c d is run) = by_list _ w v run
+rule_reaches w v (runs.let_go c d is run) = by_walk _ d w v run
+rule_reaches w v (runs.ended_idle c is run) = by_walk _ c w v run
+rule_reaches w v (runs.ended_active c is run) = by_list _ w v run
+rule_reaches w v (runs.idled c is run) = by_walk _ c w v run
+rule_reaches w v (runs.woken c is run) = by_walk _ c w v run
+rule_reaches w v (runs.gone_offline c is run) = by_walk _ c w v run
+rule_reaches w v (runs.handed_on c d awake is wakes hands) =
     onwards w awake v (by_walk _ d w awake wakes) (by_list _ awake v hands)
-rule_leads w v (runs.come_online c is run) = by_walk _ c w v run
-rule_leads w v (runs.controlling d is run) = by_walk _ d w v run
-rule_leads w v (runs.moved from to m found is run) = by_list _ w v run
+rule_reaches w v (runs.come_online c is run) = by_walk _ c w v run
+rule_reaches w v (runs.controlling d is run) = by_walk _ d w v run
+rule_reaches w v (runs.moved from to m found is run) = by_list _ w v run
 
-rules_lead : (w v : World) → RuleRuns w v → Leads w v
-rules_lead w v (runs.stays u same) = ([], record { enabled = tt; done = same })
-rules_lead w v (runs.goes_on m u before last) =
-    onwards w m u (rules_lead w m before) (rule_leads m u last)
+rules_reach : (w v : World) → RuleRuns w v → Reaches w v
+rules_reach w v (runs.stays u same) = ([], record { enabled = tt; done = same })
+rules_reach w v (runs.goes_on m u before last) =
+    onwards w m u (rules_reach w m before) (rule_reaches m u last)
 
-pub turn_leads : (w : World) (t : Turn World) → TurnRun w t → Leads w t.played.state
-turn_leads w t run =
+pub turn_reaches : (w : World) (t : Turn World) → TurnRun w t → Reaches w t.played.state
+turn_reaches w t run =
     let v = step_rules.at_clock t.at w in
-    onwards w v t.played.state (by_list _ w v run.clock) (rules_lead v t.played.state run.rules)
+    onwards w v t.played.state (by_list _ w v run.clock) (rules_reach v t.played.state run.rules)

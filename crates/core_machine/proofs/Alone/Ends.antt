@@ -31,8 +31,8 @@ use Rattle.core_laws.proofs.Walks.Stands.{stage_fits, stands_in}
 use Rattle.core_laws.specs.Laws.{StepsStayLawful}
 use Rattle.step_play.specs.Rules.Alone.{goes_on, is_handing, most_steps, walked_out}
 use Rattle.step_play.proofs.Activation.Walking.{onwards, walks_out}
-use Rattle.core_machine.specs.Alone.Lone.{IsLone}
-use Rattle.core_machine.proofs.Alone.Lone.{lone_made, may_walk, on_unless}
+use Rattle.step_play.specs.Rules.Lone.{IsLone}
+use Rattle.step_play.proofs.Lone.{lone_made, may_walk, on_unless}
 
 -- STEPS LEFT at a level: a reading that isn't fresh is made once more
 abbrev place : Stage → (fresh : Bool) → ℕ

@@ -10,7 +10,7 @@ ghost use Rattle.play_rules.specs.Operations.{last_online};
 ghost use Rattle.play_rules.specs.Phases.{IsUp, after_offline};
 ghost use Rattle.step_play.specs.Rules.Seen.{InPlay, handing, resting};
 ghost use Rattle.step_play.specs.Rules.StepRules.{made_active, step_rules};
-ghost use Rattle.core_machine.specs.Alone.Lone.{IsLone};
+ghost use Rattle.step_play.specs.Rules.Lone.{IsLone};
 
 use crate::walks::make;
 use core_laws::law_step;

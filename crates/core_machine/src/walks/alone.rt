@@ -3,7 +3,7 @@
 ghost use Rattle.std.specs.Prelude.{◌≡◌, ◌<◌, ◌≢◌, false, length, true};
 ghost use Rattle.core_world.specs.World.{cpu_of};
 ghost use Rattle.step_play.specs.Rules.Alone.{goes_on};
-ghost use Rattle.core_machine.specs.Alone.Lone.{IsLone};
+ghost use Rattle.step_play.specs.Rules.Lone.{IsLone};
 
 use core_state::Core;
 use tm_base::CpuId;

@@ -6,7 +6,7 @@ ghost use Rattle.core_world.specs.Enabled.{Enabled};
 ghost use Rattle.core_world.specs.Steps.{stepped};
 ghost use Rattle.core_world.specs.World.{cpu_of};
 ghost use Rattle.step_play.specs.Rules.Alone.{goes_on, walked_out};
-ghost use Rattle.core_machine.specs.Alone.Lone.{IsLone, IsWalkRun};
+ghost use Rattle.step_play.specs.Rules.Lone.{IsLone, IsWalkRun};
 
 use crate::walks::alone::goes_on;
 use core_laws::law_step;

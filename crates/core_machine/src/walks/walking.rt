@@ -10,7 +10,7 @@ ghost use Rattle.step_core.specs.Wants.{WantsMemory};
 ghost use Rattle.step_play.specs.Rules.Alone.{goes_on, walked_out};
 ghost use Rattle.step_play.specs.Rules.StepRules.{come_by_steps, gone_by_steps, idled_by_steps};
 ghost use Rattle.step_play.specs.Rules.StepRules.{woken_by_steps};
-ghost use Rattle.core_machine.specs.Alone.Lone.{IsLone, IsRunOf};
+ghost use Rattle.step_play.specs.Rules.Lone.{IsLone, IsRunOf};
 
 use crate::walks::finishing::finish_walk;
 use core_state::Core;

@@ -1,4 +1,4 @@
--- one CPU's walk alone may go on, and the runs that it makes
+-- one CPU's walk alone may go on; and the runs that a step, a walk, or any steps make
 use Rattle.std.specs.Prelude.{◌≡◌, ◌≢◌, ℕ, List, ◌∷◌, false, replicate}
 use Rattle.core_world.specs.declared.step.Step.{Step}
 use Rattle.core_world.specs.declared.step.Step.TheVariants as steps
@@ -21,3 +21,7 @@ IsWalkRun c before after = (n : ℕ) × IsRun (walk_times n c) before after
 -- a step, and some steps of CPU c's walk behind it, are a run from one world to the other
 abbrev pub IsRunOf : Step → (c : ℕ) → (before after : World) → Type 0
 IsRunOf step c before after = (n : ℕ) × IsRun (step ∷ walk_times n c) before after
+
+-- some list of steps is a run from the one world to the other
+abbrev pub Reaches : (before after : World) → Type 0
+Reaches before after = (steps : List Step) × IsRun steps before after

@@ -1,5 +1,5 @@
 use Rattle.hotplug.proofs.Heirs.{moved_more}
-use Rattle.hotplug.proofs.Runs.{onwards}
+use Rattle.step_play.proofs.Reached.{onwards}
 use Rattle.hotplug.proofs.dead.move_all.Goals as goal
 
 pub loop-preserved : goal.loop-preserved

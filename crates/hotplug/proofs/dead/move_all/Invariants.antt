@@ -1,6 +1,6 @@
 use Rattle.step_play.specs.Rules.StepRules.{step_rules}
 use Rattle.hotplug.specs.Frames.{MayMoveAll}
-use Rattle.hotplug.specs.Runs.{Reaches}
+use Rattle.step_play.specs.Rules.Lone.{Reaches}
 use Rattle.hotplug.specs.Settled.{MovedTimes}
 use Rattle.hotplug.proofs.dead.move_all.Given as goal
 

@@ -1,5 +1,5 @@
 use Rattle.hotplug.proofs.Heirs.{heir_activates, heir_moved, heir_ready, none_dead}
-use Rattle.hotplug.proofs.Runs.{onwards}
+use Rattle.step_play.proofs.Reached.{onwards}
 use Rattle.hotplug.proofs.dead.move_dead.Goals as goal
 
 pub returns-in_default-clause-none_left : goal.returns-in_default-clause-none_left

@@ -1,6 +1,6 @@
 use Rattle.std.proofs.Common.{sym, ◌∙◌}
 use Rattle.hotplug.proofs.Leaving.{leaves_bases, leaves_low, leaves_settled, leaves_waits}
-use Rattle.hotplug.proofs.Runs.{by_walk, onwards}
+use Rattle.step_play.proofs.Reached.{by_walk, onwards}
 use Rattle.hotplug.proofs.offline.leave.Goals as goal
 
 pub hands_on-requires : goal.hands_on-requires

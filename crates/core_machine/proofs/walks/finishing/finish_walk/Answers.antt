@@ -2,8 +2,8 @@ use Rattle.std.proofs.Common.{false, subst, sym, ◌≡◌}
 use Rattle.core_world.specs.World.{cpu_of}
 use Rattle.step_play.specs.Rules.Alone.{goes_on, most_steps}
 use Rattle.core_machine.proofs.Alone.Ends.{walk_ends}
-use Rattle.core_machine.proofs.Alone.Runs.{walk_run}
-use Rattle.core_machine.specs.Alone.Lone.{IsWalkRun}
+use Rattle.step_play.proofs.WalkRuns.{walk_run}
+use Rattle.step_play.specs.Rules.Lone.{IsWalkRun}
 use Rattle.core_machine.proofs.walks.finishing.finish_walk.Goals as goal
 
 pub returns-clause-ends : goal.returns-clause-ends

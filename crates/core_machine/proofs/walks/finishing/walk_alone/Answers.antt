@@ -1,8 +1,8 @@
 use Rattle.std.proofs.Common.{ap, length, subst, sym, ◌∙◌}
 use Rattle.core_world.specs.declared.step.Step.TheVariants as steps
 use Rattle.core_world.specs.World.{World, cpu_of}
-use Rattle.core_machine.specs.Alone.Lone.{IsLone}
-use Rattle.core_machine.proofs.Alone.Lone.{lone_made, may_walk}
+use Rattle.step_play.specs.Rules.Lone.{IsLone}
+use Rattle.step_play.proofs.Lone.{lone_made, may_walk}
 use Rattle.core_machine.proofs.walks.finishing.walk_alone.Goals as goal
 
 pub walk_on-requires : goal.walk_on-requires

@@ -1,6 +1,6 @@
 use Rattle.std.proofs.Common.{◌≡◌, ◌<◌, ◌-◌, length}
 use Rattle.step_play.specs.Rules.Alone.{walk_steps, walked_out}
-use Rattle.core_machine.specs.Alone.Lone.{IsLone}
+use Rattle.step_play.specs.Rules.Lone.{IsLone}
 use Rattle.core_machine.proofs.walks.finishing.walk_out.Given as goal
 
 abbrev pub invariant-loop-step : goal.invariant-loop-step
