@@ -4,3 +4,8 @@ pub mod Reading
 pub mod Faults
 pub mod Reader
 pub mod Steps
+pub mod Reasons
+pub mod Answers
+pub mod Told
+pub mod Leading
+pub mod Playing

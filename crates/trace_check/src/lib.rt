@@ -1,4 +1,6 @@
-//! Traces: lists of the core's steps as a text, with questions between them.
+//! Traces: lists of the core's steps as a text, with questions between them. A trace is read and
+//! printed; and it is checked: whether its steps can be made one after the other from the start of
+//! its machine, with an answer to each question on the way.
 //!
 //! A line feed (byte 10) ends each line, and one space parts its words, as in a script. The machine
 //! is that of a script of version 2. So each trace has one text:
@@ -25,19 +27,32 @@
 #![tactic(auto)]
 
 mod answers;
+mod asking;
+mod carrying;
+mod checking;
 mod fields;
+mod leading;
 mod lines;
 mod lists;
 mod printing;
+mod reach;
 mod reading;
+mod reason;
+mod starting;
 mod traces;
+mod verdict;
+mod waking;
 mod words;
 
 pub use answers::ReadTrace;
+pub use asking::why;
+pub use checking::check;
 pub use lists::TraceLines;
 pub use printing::print_trace;
 pub use reading::read_trace;
+pub use reason::Reason;
 pub use traces::{Trace, TraceLine};
+pub use verdict::Verdict;
 pub use words::{ARG_LIMIT, Command, Field, JOB_LIMIT, LINE_LIMIT, Limits, Slot};
 
 #[cfg(test)]
