@@ -1,0 +1,5 @@
+mod NumberLaws
+mod LineLaws
+mod BodyLaws
+mod DraftLaws
+mod ScriptLaws
