@@ -2,6 +2,7 @@
 use Rattle.std.specs.Prelude.{◌≡◌, ◌≢◌, ℕ, zero, suc, ◌+◌, ◌*◌, ◌<◌, ◌≤◌, ◌==◌, not, nat_le, max}
 use Rattle.std.specs.Prelude.{min, List, [], ◌∷◌, ◌++◌, length, Option, Some, None}
 use Rattle.std.specs.Prelude.{if◌then◌else◌}
+use Rattle.std.specs.Option.{option_or}
 use Rattle.tm_base.specs.declared.names.Class.TheVariants.{Global}
 use Rattle.tm_base.specs.declared.limits.TheConstants.{WORK_LIMIT_V1}
 use Rattle.wheel_core.specs.PlainBase.{least}
@@ -10,6 +11,7 @@ use Rattle.work_script.specs.declared.syntax.WorkScript.{WorkScript}
 use Rattle.work_script.specs.declared.syntax.WorkMoment.{WorkMoment}
 use Rattle.work_script.specs.declared.syntax.WorkOp.{WorkOp}
 use Rattle.work_script.specs.declared.syntax.WorkOp.TheVariants.{Queue, Cancel}
+use Rattle.delayed_work.specs.declared.faults.UnknownWorkJob.{UnknownWorkJob}
 use Rattle.delayed_work.specs.declared.faults.WorksFault.{WorksFault}
 use Rattle.delayed_work.specs.declared.faults.WorksFault.TheVariants.{BadJob, WorkSpent, NoMemory}
 use Rattle.delayed_work.specs.Calls.{Replies}
@@ -194,31 +196,25 @@ works_spent replies script = count_of (works_played replies script)
 
 -- ---- unknown jobs
 
--- a queueing that names no job of the table
-pub record UnknownWorkJob : Type 0 where
-  pub line : ℕ
-  pub job : ℕ
+-- the job of an operation that a table of so many hasn't, and its line
+abbrev pub unknown_of : (table : ℕ) → WorkOp → Option UnknownWorkJob
+unknown_of table (Queue line work delay job arg) =
+    if nat_le table job then Some (record { line = line; job = job }) else None
+unknown_of table (Cancel line work) = None
 
--- the unknown job of an operation, or else another one
-abbrev pub unknown_or : (table : ℕ) → WorkOp → Option UnknownWorkJob → Option UnknownWorkJob
-unknown_or table (Queue line work delay job arg) later =
-    if nat_le table job then Some (record { line = line; job = job }) else later
-unknown_or table (Cancel line work) later = later
+-- the first of these operations that has one
+unfoldable pub unknown_in_ops : (table : ℕ) → List WorkOp → Option UnknownWorkJob
+unknown_in_ops table [] = None
+unknown_in_ops table (o ∷ os) = option_or (unknown_of table o) (unknown_in_ops table os)
 
--- the first unknown job of operations, or else another one
-abbrev pub first_unknown_or : (table : ℕ) → List WorkOp → Option UnknownWorkJob
-    → Option UnknownWorkJob
-first_unknown_or table [] later = later
-first_unknown_or table (o ∷ os) later = unknown_or table o (first_unknown_or table os later)
-
--- .. of moments
-abbrev pub first_unknown_in : (table : ℕ) → List WorkMoment → Option UnknownWorkJob
-first_unknown_in table [] = None
-first_unknown_in table (m ∷ ms) = first_unknown_or table m.ops (first_unknown_in table ms)
+-- .. of these moments
+unfoldable pub unknown_in : (table : ℕ) → List WorkMoment → Option UnknownWorkJob
+unknown_in table [] = None
+unknown_in table (m ∷ ms) = option_or (unknown_in_ops table m.ops) (unknown_in table ms)
 
 -- THE FIRST QUEUEING of a script that names no job of a table of so many
 abbrev pub first_unknown_work_job : (table : ℕ) → WorkScript → Option UnknownWorkJob
-first_unknown_work_job table script = first_unknown_in table script.moments
+first_unknown_work_job table script = unknown_in table script.moments
 
 -- ---- what a play answers
 

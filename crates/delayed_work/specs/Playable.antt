@@ -1,9 +1,13 @@
 -- what a play keeps; no public clause speaks of this
-use Rattle.std.specs.Prelude.{◌≡◌, ℕ, ◌<◌, ◌≤◌, List, [], ◌∷◌, length}
+use Rattle.std.specs.Prelude.{◌≡◌, ℕ, ◌+◌, ◌*◌, ◌<◌, ◌≤◌, List, [], ◌∷◌, length}
 use Rattle.work_script.specs.declared.syntax.WorkMoment.{WorkMoment}
 use Rattle.work_script.specs.declared.syntax.WorkOp.{WorkOp}
 use Rattle.work_script.specs.declared.syntax.WorkOp.TheVariants.{Queue, Cancel}
-use Rattle.delayed_work.specs.Play.{Outcome, Playing, Finished, Spent, Unfinished}
+use Rattle.tm_base.specs.declared.limits.TheConstants.{WORK_LIMIT_V1}
+use Rattle.delayed_work.specs.declared.faults.WorksFault.{WorksFault}
+use Rattle.delayed_work.specs.declared.faults.WorksFault.TheVariants.{BadJob, WorkSpent, NoMemory}
+use Rattle.delayed_work.specs.Calls.{Replies}
+use Rattle.delayed_work.specs.Play.{Finished, Outcome, Playing, Spent, Stand, played_from}
 
 -- an operation names a work that there is
 abbrev pub NamesWork : (count : ℕ) → WorkOp → Type 0
@@ -24,3 +28,27 @@ AreAllInRange count (m ∷ ms) = AreInRange count m.ops × AreAllInRange count m
 pub record Keeps (now : ℕ) (old new : Playing) : Type 0 where
   pub time : new.works.time ≤ now
   pub len : length new.works.ledger.standings ≡ length old.works.ledger.standings
+
+-- a play that goes on from here comes out so
+pub record GoesOn (replies : Replies) (end : ℕ) (s : Stand) (outcome : Outcome) : Type 0 where
+  pub moments : ℕ
+  pub enough : WORK_LIMIT_V1 ≤ moments + s.count
+  pub same : played_from replies moments end s ≡ outcome
+
+-- what stands to be played: it comes out so, and the work so far is that of so many moments
+pub record Stands (replies : Replies) (end count : ℕ) (s : Stand) (outcome : Outcome) : Type 0
+where
+  pub going : s.count < WORK_LIMIT_V1 → GoesOn replies end s outcome
+  pub spent : WORK_LIMIT_V1 ≤ s.count → outcome ≡ Spent s.count
+  pub work : s.count ≤ s.now * (1 + count)
+  pub in_time : s.now ≤ end
+  pub time : s.playing.works.time ≤ s.now
+  pub len : length s.playing.works.ledger.standings ≡ count
+  pub ranges : AreAllInRange count s.moments
+
+-- a play is broken off: its work is spent, or memory is wanting
+abbrev pub BreaksOff : (end count : ℕ) → Outcome → WorksFault → Type 0
+BreaksOff end count outcome (BadJob line job) = ⊥
+BreaksOff end count outcome (WorkSpent work) =
+    (outcome ≡ Spent work) × (WORK_LIMIT_V1 ≤ end * (1 + count))
+BreaksOff end count outcome NoMemory = Unit {0}

@@ -26,3 +26,12 @@ impl From<NoMemory> for WorksFault {
         fault
     }
 }
+
+/// A queueing of a script whose job a table hasn't.
+#[derive(Clone, Copy, Debug, PartialEq, Eq)]
+pub struct UnknownWorkJob {
+    /// The number of its line, from 1.
+    pub line: u32,
+    /// The number of its job.
+    pub job: u8,
+}

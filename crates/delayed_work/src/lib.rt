@@ -14,10 +14,13 @@ mod stories;
 mod works;
 
 pub use calls::{WorksCall, law_works, make_call};
-pub use faults::WorksFault;
+pub use faults::{UnknownWorkJob, WorksFault};
 pub use ledger::Ledger;
 pub use play::{law_plays_end, play_works};
 pub use standing::{End, Placed, Standing};
 pub use stories::Stories;
 pub use work_script::{WorkMoment, WorkMoments, WorkOp, WorkOps, WorkScript, read_works};
 pub use works::Works;
+
+#[cfg(test)]
+mod tests;

@@ -1,11 +1,17 @@
 //! Playing a script of works.
 
-ghost use Rattle.std.specs.Prelude.{◌≡◌, ◌+◌, ◌*◌, ◌-◌, ◌^◌, ◌<◌, ◌≤◌, IfOk, IfErr};
+ghost use Rattle.std.specs.Prelude.{◌≡◌, ◌≤◌, [], length, IfOk, IfErr};
+ghost use Rattle.tm_base.specs.declared.limits.TheConstants.{MOST_TIMERS};
 ghost use Rattle.work_script.specs.Grammar.{IsWorkScript};
-ghost use Rattle.delayed_work.specs.Play.{CanPlayWorks, PlaysEnd, WhyNotPlayed, first_unknown_in};
-ghost use Rattle.delayed_work.specs.Play.{first_unknown_or, moments_after, ops_at, works_text};
+ghost use Rattle.wheel_base.specs.Wheels.{no_base};
+ghost use Rattle.cpu_bases.specs.CpuBases.{empty_bases};
+ghost use Rattle.delayed_work.specs.Play.{CanPlayWorks, Finished, PlaysEnd, WhyNotPlayed};
+ghost use Rattle.delayed_work.specs.Play.{moments_after, ops_at, unknown_in, unknown_in_ops};
+ghost use Rattle.delayed_work.specs.Play.{works_played, works_text};
+ghost use Rattle.delayed_work.specs.Playable.{BreaksOff};
+ghost use Rattle.delayed_work.specs.Works.{new_works};
 
-use crate::faults::WorksFault;
+use crate::faults::{UnknownWorkJob, WorksFault};
 use crate::player::Player;
 use crate::works::Works;
 use cpu_bases::Bases;
@@ -32,6 +38,95 @@ fn turn(now: Jiffy, moments: &[WorkMoment]) -> (&[WorkOp], &[WorkMoment])
     }
 }
 
+/// The first of these operations whose job a table of so many hasn't.
+#[tactic(auto, unfolding(crate::specs::Play::unknown_in_ops))]
+fn unknown_in_ops(table: usize, ops: &[WorkOp]) -> Option<UnknownWorkJob>
+    ensures { result ≡ unknown_in_ops table ops.now }
+{
+    for op in ops {
+        if let WorkOp::Queue { line, job, .. } = *op {
+            if usize::from(job) >= table {
+                return Some(UnknownWorkJob { line, job });
+            }
+        }
+    }
+    None
+}
+
+/// The first of these moments' operations whose job a table of so many hasn't.
+#[tactic(auto, unfolding(crate::specs::Play::unknown_in))]
+fn unknown_in(table: usize, moments: &[WorkMoment]) -> Option<UnknownWorkJob>
+    ensures { result ≡ unknown_in table moments.now }
+{
+    for moment in moments {
+        if let Some(unknown) = unknown_in_ops(table, moment.ops.as_slice()) {
+            return Some(unknown);
+        }
+    }
+    None
+}
+
+/// So many free works over wheels, and nothing told.
+fn start(alloc: Global, count: u16) -> Result<Player<WheelBase>, NoMemory>
+    requires { count ≤ MOST_TIMERS }
+    ensures { IfOk result (λ player. player ≡ (record {
+      works = new_works empty_bases count;
+      text = [];
+    })) }
+{
+    let pinned = wheel(alloc)?;
+    let global = wheel(alloc)?;
+    let deferrable = wheel(alloc)?;
+    let bases = Bases::with(alloc, pinned, global, deferrable);
+    let works = Works::new(alloc, bases, count)?;
+    Ok(Player {
+        works,
+        text: Vec::new(alloc),
+    })
+}
+
+/// An empty wheel.
+fn wheel(alloc: Global) -> Result<WheelBase, NoMemory>
+    ensures { IfOk result (λ base. base ≡ no_base) }
+{
+    match WheelBase::new(alloc) {
+        Ok(base) => Ok(base),
+        Err(_) => Err(NoMemory),
+    }
+}
+
+/// The works at the end of a script's play.
+fn play_moments<J: Jobs>(
+    alloc: Global,
+    script: &WorkScript,
+    jobs: &J,
+) -> Result<Player<WheelBase>, WorksFault>
+    requires { IsWorkScript script.now }
+    ensures ok { IfOk result (λ player.
+        works_played (J.replies jobs.now) script.now ≡ Finished player) }
+    ensures len { IfOk result
+        (λ player. length player.works.ledger.standings ≡ script.now.count) }
+    ensures err { IfErr result (BreaksOff script.now.end script.now.count
+        (works_played (J.replies jobs.now) script.now)) }
+{
+    let end = script.end;
+    let mut player = start(alloc, script.count)?;
+    let mut moments = script.moments.as_slice();
+    let mut now = 0;
+    let mut count = 0;
+    while count < WORK_LIMIT_V1 {
+        let (ops, behind) = turn(now, moments);
+        let work = player.moment(now, ops, jobs)?;
+        if now >= end {
+            return Ok(player);
+        }
+        count += work as u32;
+        now = player.next_moment(now, end, behind);
+        moments = behind;
+    }
+    Err(WorksFault::WorkSpent { count })
+}
+
 /// Plays a script of works with these jobs, and answers the output.
 ///
 /// `BadJob` tells the first queueing whose job the table hasn't; nothing is played then.
@@ -50,7 +145,11 @@ pub fn play_works<J: Jobs>(
     ensures why { IfErr result
         (WhyNotPlayed (J.replies jobs.now) (J.count jobs.now) script.now) }
 {
-    Err(WorksFault::NoMemory)
+    if let Some(UnknownWorkJob { line, job }) = unknown_in(jobs.len(), script.moments.as_slice()) {
+        return Err(WorksFault::BadJob { line, job });
+    }
+    let player = play_moments(alloc, script, jobs)?;
+    Ok(player.close(script.count, script.end)?)
 }
 
 /// The law of plays of works: each comes to its end, or its work is spent.

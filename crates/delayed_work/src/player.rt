@@ -1,6 +1,6 @@
 //! Works in play, and what is told of them.
 
-ghost use Rattle.std.specs.Prelude.{◌≡◌, ◌+◌, ◌-◌, ◌^◌, ◌<◌, ◌≤◌, ◌++◌, length, OnOk};
+ghost use Rattle.std.specs.Prelude.{◌≡◌, ◌+◌, ◌-◌, ◌^◌, ◌<◌, ◌≤◌, ◌++◌, length, IfOk, OnOk};
 ghost use Rattle.tm_base.specs.declared.names.TheConstants.{TIME_LIMIT};
 ghost use Rattle.delayed_work.specs.Playable.{AreInRange, Keeps, NamesWork};
 ghost use Rattle.delayed_work.specs.Play.{all_done, before_running, closing_lines, done};

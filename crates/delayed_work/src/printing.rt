@@ -1,6 +1,6 @@
 //! Writing the lines of a play.
 
-ghost use Rattle.std.specs.Prelude.{◌≡◌, ◌∷◌, ◌++◌, [], OnOk};
+ghost use Rattle.std.specs.Prelude.{◌≡◌, ◌∷◌, ◌++◌, [], OnOk, Some, codes};
 ghost use Rattle.std.specs.Fmt.{decimal};
 ghost use Rattle.text_words.specs.Words.{ended, spaced};
 ghost use Rattle.delayed_work.specs.Lines.{again_words, cancelled_line, due_word, end_line};
@@ -69,7 +69,7 @@ fn push_plain(text: &mut Vec<u8>, word: &[u8], now: Jiffy, work: u16) -> Result<
 #[tactic(auto, using(std::proofs::lemmas::List::append_assoc))]
 fn push_queued(text: &mut Vec<u8>, now: Jiffy, work: u16, placed: Placed) -> Result<(), NoMemory>
     ensures { OnOk result (text.new.items ≡ text.old.items
-        ++ ended (spaced (b"queued" ∷ decimal now ∷ decimal work ∷ due_word placed ∷ []))) }
+        ++ ended (spaced (codes "queued" ∷ decimal now ∷ decimal work ∷ due_word placed ∷ []))) }
 {
     push_start(text, b"queued", now, work)?;
     push_due(text, placed)?;

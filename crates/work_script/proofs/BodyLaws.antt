@@ -1,9 +1,8 @@
 -- the lines of moments and of the end, read and spelled
-use Rattle.std.proofs.Common.{◌≡◌, ℕ, suc, ◌+◌, ◌^◌, ◌<◌, ◌≤◌, Bool, true, false, leb, ltb, List, [], ◌∷◌, ◌++◌, map, length, Option, Some, None, is_some, Result, Ok, Err, refl, sym, ap, subst, ◌∙◌, arith, append_assoc, length-append}
-use Rattle.std.specs.Prelude.{codes}
+use Rattle.std.proofs.Common.{◌≡◌, ℕ, suc, ◌+◌, ◌^◌, ◌<◌, ◌≤◌, true, false, List, [], ◌∷◌, ◌++◌, map, length, Option, Some, is_some, Result, Ok, Err, refl, sym, ap, subst, ◌∙◌, arith, append_assoc, length-append}
 use Rattle.std.specs.List.{flat_map}
 use Rattle.std.proofs.lemmas.Bool.{and_from, and_parts, leb-true, le-leb, ltb-true, lt-ltb}
-use Rattle.std.proofs.lemmas.List.{append-nil, length-map}
+use Rattle.std.proofs.lemmas.List.{length-map}
 use Rattle.text_words.specs.Words.{words_of, spaced}
 use Rattle.text_words.proofs.Cuts.{AreClear, AreClear-append, words_joined}
 use Rattle.tm_base.specs.declared.limits.TheConstants.{MOST_LINES, MOST_OPS, SCRIPT_TIME_LIMIT}
@@ -14,8 +13,8 @@ use Rattle.work_script.specs.declared.syntax.WorkOp.{WorkOp}
 use Rattle.work_script.specs.declared.words.WorkKnown.{WorkKnown}
 use Rattle.work_script.specs.declared.words.WorkSaid.{WorkSaid}
 use Rattle.work_script.specs.declared.words.WorkSaid.TheVariants.{Opening, Operation, Ending}
-use Rattle.work_script.specs.Grammar.{AreWorkMoments, AreWorkOps, IsWorkOp}
-use Rattle.work_script.specs.Texts.{end_line, moment_lines, numbers_line, op_line}
+use Rattle.work_script.specs.Grammar.{AreWorkMoments, AreWorkOps}
+use Rattle.work_script.specs.Texts.{end_line, moment_lines, op_line}
 use Rattle.work_script.specs.Reading.{WorkBody, body_from, closing, go_on, heard, known_after, unended, with_moment, with_op}
 use Rattle.work_script.proofs.LineLaws.{Fits, heard_back, heard_found, said_clear, said_line}
 
@@ -90,7 +89,7 @@ body_found (line ∷ next ∷ more) k b few e = by (heard k (words_of line)) ref
           inside = λ _. refl;
           few = omega (arith, few);
           ops = tt;
-          moments = subst (λ n. AreWorkMoments k.count n k.last c.end (record { at = at; ops = c.ops } ∷ c.moments)) same (h.fits.order, (omega (arith, count), (f.ops, f.moments)));
+          moments = subst (λ n. AreWorkMoments k.count n k.last c.end (record { at = at; ops = c.ops } ∷ c.moments)) same (h.fits.order, omega (arith, count), f.ops, f.moments);
           early = f.early;
           room = (let room = f.room in omega (arith, room));
         })

@@ -1,17 +1,16 @@
 -- a line that is read is spelled as what it says, and what a line says is read from it
-use Rattle.std.proofs.Common.{◌≡◌, ℕ, ◌+◌, ◌^◌, ◌<◌, ◌≤◌, Bool, true, false, cond, leb, ltb, ◌&&◌, List, [], ◌∷◌, map, Option, Some, None, is_some, Result, Ok, Err, refl, sym, ap, subst, ◌∙◌, inl, inr, arith}
+use Rattle.std.proofs.Common.{◌≡◌, ℕ, ◌^◌, ◌<◌, ◌≤◌, Bool, true, false, cond, List, [], ◌∷◌, map, Option, Some, None, is_some, Result, Ok, Err, refl, sym, ap, subst, ◌∙◌, inl, inr, arith}
 use Rattle.std.specs.Prelude.{codes, find}
 use Rattle.std.specs.Fmt.{decimal}
 use Rattle.std.specs.Str.{bytes_eq}
-use Rattle.std.proofs.lemmas.Bool.{and_from, and_parts, cases_Bool, cond-true, cond-false, leb-true, le-leb, ltb-true, lt-ltb}
+use Rattle.std.proofs.lemmas.Bool.{and_from, cases_Bool, cond-true, cond-false}
 use Rattle.std.proofs.lemmas.List.Folds.{list_all-append}
 use Rattle.std.proofs.lemmas.Slice.Eq.{bytes_eq-Decides}
 use Rattle.text_words.specs.Words.{words_of, spaced}
-use Rattle.text_words.proofs.Cuts.{is_clear, AreClear, words_again, words_joined}
-use Rattle.tm_base.specs.declared.limits.TheConstants.{MOST_LINES, MOST_OPS, SCRIPT_TIME_LIMIT}
+use Rattle.text_words.proofs.Cuts.{is_clear, AreClear, words_again}
+use Rattle.tm_base.specs.declared.limits.TheConstants.{SCRIPT_TIME_LIMIT}
 use Rattle.tm_script.specs.declared.faults.Kind.{Kind}
-use Rattle.tm_script.specs.declared.faults.Kind.TheVariants.{BadLine, OutOfOrder, TooManyLines}
-use Rattle.work_script.specs.declared.syntax.WorkOp.{WorkOp}
+use Rattle.tm_script.specs.declared.faults.Kind.TheVariants.{OutOfOrder, TooManyLines}
 use Rattle.work_script.specs.declared.syntax.WorkOp.TheVariants as ops
 use Rattle.work_script.specs.declared.words.NumberSlot.{NumberSlot}
 use Rattle.work_script.specs.declared.words.WorkCommand.{WorkCommand}

@@ -1,10 +1,10 @@
 -- words spell numbers, and numbers are spelled as words
-use Rattle.std.proofs.Common.{◌≡◌, ℕ, ◌^◌, ◌<◌, ◌≤◌, true, ltb, leb, ◌&&◌, List, [], ◌∷◌, map, length, Option, Some, Result, Ok, Err, refl, sym, ap, subst, ◌∙◌, arith, inl, inr}
+use Rattle.std.proofs.Common.{◌≡◌, ℕ, ◌^◌, ◌<◌, ◌≤◌, ltb, leb, ◌&&◌, List, [], ◌∷◌, map, length, Option, Some, Result, Ok, Err, refl, sym, ap, subst, ◌∙◌, arith, inl, inr}
 use Rattle.std.specs.Fmt.{decimal}
 use Rattle.std.proofs.lemmas.Bool.{cases_Bool, cond-true, cond-false, ltb-true, lt-ltb, leb-true, le-leb, and_parts, and_from}
 use Rattle.text_words.specs.Numbers.{is_number, value_of}
 use Rattle.text_words.proofs.Digits.{word_found, word_again, clear_decimal}
-use Rattle.text_words.proofs.Cuts.{is_clear, AreClear, split_some}
+use Rattle.text_words.proofs.Cuts.{AreClear, split_some}
 use Rattle.tm_script.specs.declared.faults.Kind.{Kind}
 use Rattle.tm_script.specs.declared.faults.Kind.TheVariants.{BadLine}
 use Rattle.work_script.specs.declared.words.NumberSlot.{NumberSlot}

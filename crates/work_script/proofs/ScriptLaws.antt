@@ -1,7 +1,6 @@
 -- a text that is read is spelled as what it says, and what is spelled is read
-use Rattle.std.proofs.Common.{◌≡◌, ℕ, suc, ◌+◌, ◌^◌, ◌<◌, ◌≤◌, Bool, true, false, List, [], ◌∷◌, ◌++◌, map, length, Option, Some, None, Result, Ok, Err, refl, sym, ap, subst, ◌∙◌, arith, append_assoc, length-append, inl, inr}
+use Rattle.std.proofs.Common.{◌≡◌, ℕ, ◌+◌, ◌^◌, ◌≤◌, true, false, cond, List, [], ◌∷◌, ◌++◌, map, length, None, Result, Ok, Err, refl, sym, ap, subst, ◌∙◌, arith, append_assoc, length-append, inl, inr}
 use Rattle.std.specs.Prelude.{codes, IfOk, IfErr}
-use Rattle.std.specs.Fmt.{decimal}
 use Rattle.std.specs.List.{flat_map}
 use Rattle.std.specs.Str.{bytes_eq}
 use Rattle.std.proofs.lemmas.Bool.{cases_Bool, cond-true, cond-false}
@@ -10,19 +9,22 @@ use Rattle.text_words.specs.Words.{lines_of, words_of, spaced}
 use Rattle.text_words.proofs.Cuts.{AreClear, AreClear-append, lines_again, lines_found, split_some, words_joined}
 use Rattle.tm_base.specs.declared.limits.TheConstants.{MOST_LINES, MOST_TIMERS}
 use Rattle.tm_script.specs.declared.faults.Kind.{Kind}
+use Rattle.tm_script.specs.declared.faults.Kind.TheVariants.{BadLine}
 use Rattle.tm_script.specs.declared.faults.ScriptFault.{ScriptFault}
 use Rattle.tm_script.specs.declared.faults.ReadScript.{ReadScript}
 use Rattle.tm_script.specs.declared.faults.ReadScript.TheVariants.{Refused, NoMemory}
 use Rattle.work_script.specs.declared.syntax.WorkScript.{WorkScript}
-use Rattle.work_script.specs.Grammar.{IsWorkScript, SpellsWorks, first_line}
-use Rattle.work_script.specs.Texts.{end_line, head_lines, moment_lines, numbers_line, work_lines, work_text}
-use Rattle.work_script.specs.Reading.{WorkBody, body_from, count_slot, number_at, numbers_of}
-use Rattle.work_script.specs.Faults.{count_in, counted, fault_told, first_of, go_on_counted, known_first, said_among, said_in, with_count, works_fault}
+use Rattle.work_script.specs.declared.syntax.WorkMoment.{WorkMoment}
+use Rattle.work_script.specs.declared.words.WorkSaid.TheVariants.{Ending}
+use Rattle.work_script.specs.Grammar.{AreWorkMoments, IsWorkScript, SpellsWorks, first_line}
+use Rattle.work_script.specs.Texts.{end_line, moment_lines, numbers_line, op_line, work_lines}
+use Rattle.work_script.specs.Reading.{WorkBody, body_from, count_slot, fault_at, number_at, numbers_of}
+use Rattle.work_script.specs.Faults.{count_in, counted, fault_told, first_of, go_on_counted, known_first, said_among, said_in, with_count}
 use Rattle.work_script.specs.Reader.{IsOnlyWorksOf, IsWorksRefusalOf}
 use Rattle.work_script.specs.Steps.{Gives}
 use Rattle.work_script.proofs.NumberLaws.{numbers_back, numbers_found, one_within}
 use Rattle.work_script.proofs.LineLaws.{count_clear, count_spaces, said_clear}
-use Rattle.work_script.proofs.BodyLaws.{body_found, body_parts, end_parts, moments_back, moments_clear}
+use Rattle.work_script.proofs.BodyLaws.{body_found, end_parts, moments_back, moments_clear}
 
 abbrev count_line : ℕ → List ℕ
 count_line n = numbers_line (codes "count") (n ∷ [])
@@ -86,16 +88,16 @@ body_script first line rest n (Ok b) s here count is e =
     let none = f.inside refl in
     let x : WorkScript = record { count = n; moments = b.moments; end = b.end } in
     let count_of = lines_count x in
-    let room : first_line + length (flat_map moment_lines b.moments) ≤ MOST_LINES = subst (λ os. first_line + length (map (λ o. Rattle.work_script.specs.Texts.op_line o) os ++ flat_map moment_lines b.moments) ≤ MOST_LINES) none f.room in
+    let room : first_line + length (flat_map moment_lines b.moments) ≤ MOST_LINES = subst (λ os. first_line + length (map op_line os ++ flat_map moment_lines b.moments) ≤ MOST_LINES) none f.room in
     subst (IsAmong (first ∷ line ∷ rest)) same (record {
       is = record {
         some_works = count.some;
         few_works = count.few;
-        moments = subst (λ os. Rattle.work_script.specs.Grammar.AreWorkMoments n (first_line + length os) None b.end b.moments) none f.moments;
+        moments = subst (λ os. AreWorkMoments n (first_line + length os) None b.end b.moments) none f.moments;
         early_end = f.early;
         few_lines = omega (arith, room, count_of);
       };
-      spelled = (λ i. here i ∷ count.spelled i ∷ (f.spelled ∙ ap (λ os. map (λ o. Rattle.work_script.specs.Texts.op_line o) os ++ (flat_map moment_lines b.moments ++ end_parts b.end)) none) i) ∙ sym (parts_of x);
+      spelled = (λ i. here i ∷ count.spelled i ∷ (f.spelled ∙ ap (λ os. map op_line os ++ (flat_map moment_lines b.moments ++ end_parts b.end)) none) i) ∙ sym (parts_of x);
     })
 
 counted_script : (first line : List ℕ) (rest : List (List ℕ)) (r : Result ℕ Kind) (s : WorkScript) → first ≡ codes "works 1" → count_in (words_of line) ≡ r → go_on_counted r rest ≡ Ok s → IsAmong (first ∷ line ∷ rest) s
@@ -128,7 +130,7 @@ lines_clear s is =
       (
         count_clear (count_slot ∷ []) (s.count ∷ []) (omega arith, tt) (is.some_works, omega (arith, is.few_works), tt),
         AreClear-append 10 (flat_map moment_lines s.moments) (end_line s.end ∷ []) (moments_clear s.count first_line None s.end s.moments small is.early_end is.moments)
-        (said_clear (known_first s.count) (Rattle.work_script.specs.declared.words.WorkSaid.TheVariants.Ending s.end) small is.early_end, tt),
+        (said_clear (known_first s.count) (Ending s.end) small is.early_end, tt),
       ),
     )
 
@@ -149,9 +151,30 @@ script_again bytes s h =
     some_tail : (s : WorkScript) → (first : List ℕ) × (more : List (List ℕ)) × (flat_map moment_lines s.moments ++ end_parts s.end ≡ first ∷ more)
     some_tail s = by s.moments
       where
-        by : (ms : List Rattle.work_script.specs.declared.syntax.WorkMoment.WorkMoment) → (first : List ℕ) × (more : List (List ℕ)) × (flat_map moment_lines ms ++ end_parts s.end ≡ first ∷ more)
+        by : (ms : List WorkMoment) → (first : List ℕ) × (more : List (List ℕ)) × (flat_map moment_lines ms ++ end_parts s.end ≡ first ∷ more)
         by [] = (end_line s.end, [] ∷ [], refl)
-        by (m ∷ ms) = (numbers_line (codes "at") (m.at ∷ []), (map (λ o. Rattle.work_script.specs.Texts.op_line o) m.ops ++ flat_map moment_lines ms) ++ end_parts s.end, refl)
+        by (m ∷ ms) = (numbers_line (codes "at") (m.at ∷ []), (map op_line m.ops ++ flat_map moment_lines ms) ++ end_parts s.end, refl)
+
+-- ---- the steps of the reader
+
+pub counted_step : (bytes line behind : List ℕ) → lines_of bytes ≡ line ∷ lines_of behind → counted (lines_of bytes) ≡ go_on_counted (count_in (words_of line)) (lines_of behind)
+counted_step bytes line behind cut =
+    let some = split_some 10 behind in
+    ap counted (cut ∙ ap (λ (ps : List (List ℕ)). line ∷ ps) some.2)
+    ∙ ap (go_on_counted (count_in (words_of line))) (sym some.2)
+
+module _ (bytes first behind : List ℕ) (cut : lines_of bytes ≡ first ∷ lines_of behind) where
+  among_step : said_in bytes ≡ cond (bytes_eq first (codes "works 1")) (counted (lines_of behind)) (Err (fault_at 1 BadLine))
+  among_step =
+      let some = split_some 10 behind in
+      ap said_among (cut ∙ ap (λ (ps : List (List ℕ)). first ∷ ps) some.2)
+      ∙ ap (λ (ps : List (List ℕ)). cond (bytes_eq first (codes "works 1")) (counted ps) (Err (fault_at 1 BadLine))) (sym some.2)
+
+  pub said_step : bytes_eq first (codes "works 1") ≡ true → said_in bytes ≡ counted (lines_of behind)
+  said_step here = among_step ∙ cond-true (bytes_eq first (codes "works 1")) _ _ here
+
+  pub said_other : bytes_eq first (codes "works 1") ≡ false → said_in bytes ≡ Err (fault_at 1 BadLine)
+  said_other out = among_step ∙ cond-false (bytes_eq first (codes "works 1")) _ _ out
 
 -- ---- the clauses of the reader
 

@@ -1,5 +1,5 @@
 -- what the lines of a script of works say, or the first fault among them
-use Rattle.std.specs.Prelude.{ℕ, ◌+◌, ◌&&◌, List, [], ◌∷◌, codes, find, Bool, true, not, Option}
+use Rattle.std.specs.Prelude.{ℕ, ◌+◌, ◌&&◌, List, [], ◌∷◌, codes, find, Bool, true, Option}
 use Rattle.std.specs.Prelude.{Some, None, is_some, Result, Ok, Err, nat_le, nat_lt}
 use Rattle.std.specs.Prelude.{slice_index_or, if◌then◌else◌}
 use Rattle.std.specs.Str.{bytes_eq}
@@ -12,7 +12,6 @@ use Rattle.tm_script.specs.declared.faults.Kind.TheVariants.{BadLine, BadNumber,
 use Rattle.tm_script.specs.declared.faults.Kind.TheVariants.{OutOfOrder, NoEnd, TooManyLines}
 use Rattle.tm_script.specs.declared.faults.ScriptFault.{ScriptFault}
 use Rattle.tm_script.specs.Judge.{is_after, is_reached}
-use Rattle.work_script.specs.declared.syntax.WorkScript.{WorkScript}
 use Rattle.work_script.specs.declared.syntax.WorkMoment.{WorkMoment}
 use Rattle.work_script.specs.declared.syntax.WorkOp.{WorkOp}
 use Rattle.work_script.specs.declared.syntax.WorkOp.TheVariants as ops

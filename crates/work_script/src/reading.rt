@@ -99,7 +99,7 @@ fn read_text(alloc: Global, bytes: &[u8]) -> Result<WorkScript, ReadScript>
 ///
 /// A refusal tells the first line at fault, from 1, and of the kinds that apply to it the first.
 /// The bytes are read where they lie, line by line, in time linear in their number.
-#[tactic(auto)]
+#[tactic(auto, using(crate::proofs::ScriptLaws::answers))]
 pub fn read_works(alloc: Global, bytes: &[u8]) -> Result<WorkScript, ReadScript>
     ensures spelled { IfOk result (SpellsWorks bytes.now) }
     ensures only { IfOk result (IsOnlyWorksOf bytes.now) }

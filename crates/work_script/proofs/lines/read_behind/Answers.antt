@@ -1,4 +1,4 @@
-use Rattle.std.proofs.Common.{sym, ◌∙◌}
+use Rattle.std.proofs.Common.{sym}
 use Rattle.std.specs.Option.{option_copied}
 use Rattle.work_script.specs.Reading.{slots_of}
 use Rattle.work_script.specs.Steps.{words_behind}
