@@ -9,3 +9,7 @@ pub mod Rounds
 pub mod Making
 pub mod Telling
 pub mod Story
+pub mod Plays
+pub mod Unknown
+pub mod Rows
+pub mod Goings

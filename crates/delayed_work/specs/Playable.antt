@@ -36,8 +36,8 @@ pub record GoesOn (replies : Replies) (end : ℕ) (s : Stand) (outcome : Outcome
   pub same : played_from replies moments end s ≡ outcome
 
 -- what stands to be played: it comes out so, and the work so far is that of so many moments
-pub record Stands (replies : Replies) (end count : ℕ) (s : Stand) (outcome : Outcome) : Type 0
-where
+pub record Stands (replies : Replies) (end count : ℕ) (s : Stand) (outcome : Outcome)
+    : Type 0 where
   pub going : s.count < WORK_LIMIT_V1 → GoesOn replies end s outcome
   pub spent : WORK_LIMIT_V1 ≤ s.count → outcome ≡ Spent s.count
   pub work : s.count ≤ s.now * (1 + count)

@@ -6,7 +6,7 @@ ghost use Rattle.work_script.specs.Grammar.{IsWorkScript};
 ghost use Rattle.wheel_base.specs.Wheels.{no_base};
 ghost use Rattle.cpu_bases.specs.CpuBases.{empty_bases};
 ghost use Rattle.delayed_work.specs.Play.{CanPlayWorks, Finished, PlaysEnd, WhyNotPlayed};
-ghost use Rattle.delayed_work.specs.Play.{moments_after, ops_at, unknown_in, unknown_in_ops};
+ghost use Rattle.delayed_work.specs.Play.{moments_after, ops_at, unknown_in, unknown_in_ops, unknown_of};
 ghost use Rattle.delayed_work.specs.Play.{works_played, works_text};
 ghost use Rattle.delayed_work.specs.Playable.{BreaksOff};
 ghost use Rattle.delayed_work.specs.Works.{new_works};
@@ -38,23 +38,31 @@ fn turn(now: Jiffy, moments: &[WorkMoment]) -> (&[WorkOp], &[WorkMoment])
     }
 }
 
+/// The job of an operation that a table of so many hasn't.
+fn unknown_of(table: usize, op: &WorkOp) -> Option<UnknownWorkJob>
+    ensures { result ≡ unknown_of table op.now }
+{
+    match *op {
+        WorkOp::Queue { line, job, .. } if usize::from(job) >= table => {
+            Some(UnknownWorkJob { line, job })
+        }
+        _ => None,
+    }
+}
+
 /// The first of these operations whose job a table of so many hasn't.
-#[tactic(auto, unfolding(crate::specs::Play::unknown_in_ops))]
 fn unknown_in_ops(table: usize, ops: &[WorkOp]) -> Option<UnknownWorkJob>
     ensures { result ≡ unknown_in_ops table ops.now }
 {
     for op in ops {
-        if let WorkOp::Queue { line, job, .. } = *op {
-            if usize::from(job) >= table {
-                return Some(UnknownWorkJob { line, job });
-            }
+        if let Some(unknown) = unknown_of(table, op) {
+            return Some(unknown);
         }
     }
     None
 }
 
 /// The first of these moments' operations whose job a table of so many hasn't.
-#[tactic(auto, unfolding(crate::specs::Play::unknown_in))]
 fn unknown_in(table: usize, moments: &[WorkMoment]) -> Option<UnknownWorkJob>
     ensures { result ≡ unknown_in table moments.now }
 {
@@ -109,7 +117,6 @@ fn play_moments<J: Jobs>(
     ensures err { IfErr result (BreaksOff script.now.end script.now.count
         (works_played (J.replies jobs.now) script.now)) }
 {
-    let end = script.end;
     let mut player = start(alloc, script.count)?;
     let mut moments = script.moments.as_slice();
     let mut now = 0;
@@ -117,11 +124,11 @@ fn play_moments<J: Jobs>(
     while count < WORK_LIMIT_V1 {
         let (ops, behind) = turn(now, moments);
         let work = player.moment(now, ops, jobs)?;
-        if now >= end {
+        if now >= script.end {
             return Ok(player);
         }
         count += work as u32;
-        now = player.next_moment(now, end, behind);
+        now = player.next_moment(now, script.end, behind);
         moments = behind;
     }
     Err(WorksFault::WorkSpent { count })
