@@ -1,9 +1,12 @@
+ghost use Rattle.std.specs.Prelude.{IsTrue, ◌+◌, ◌-◌, ◌^◌, ◌<◌, ◌≤◌, length};
+ghost use Rattle.tm_base.specs.declared.names.TheConstants.{TIME_LIMIT};
+
 use super::*;
 use cpu_bases::Bases;
 use job_table::{Job, JobReply, JobTable, Marker, OneShot, Periodic};
 use std::alloc::{AllocError, Global};
 use std::test::Fail;
-use tm_base::Class;
+use tm_base::{Class, Jiffy, NoMemory, SCRIPT_TIME_LIMIT};
 use wheel_core::ListBase;
 
 // The program's jobs: none, again on the global and on the pinned base, and a mark.
@@ -70,28 +73,89 @@ fn a_queueing_of_an_unknown_job_is_told(rt: HostRuntime) -> Result<(), Fail> {
     Ok(())
 }
 
+// Whether a call may be made at this time, with this work.
+fn may_call(works: &Works<ListBase>, now: Jiffy, work: u16) -> bool
+    ensures now { IsTrue result → now ≤ TIME_LIMIT - 2 ^ 32 }
+    ensures times { IsTrue result → works.now.time ≤ now }
+    ensures work { IsTrue result → work < length works.now.ledger.standings }
+{
+    now <= SCRIPT_TIME_LIMIT && works.time() <= now && usize::from(work) < works.len()
+}
+
+fn queue(
+    works: &mut Works<ListBase>,
+    now: Jiffy,
+    work: u16,
+    delay: u32,
+    job: u8,
+    arg: u32,
+) -> Result<Option<Placed>, NoMemory> {
+    if !may_call(works, now, work) {
+        return Ok(None);
+    }
+    Ok(Some(works.queue(now, work, delay, job, arg, 1)?))
+}
+
+fn cancel(
+    works: &mut Works<ListBase>,
+    now: Jiffy,
+    work: u16,
+) -> Result<Option<bool>, NoMemory> {
+    if !may_call(works, now, work) {
+        return Ok(None);
+    }
+    Ok(Some(works.cancel(now, work, 2)?))
+}
+
+fn expire(works: &mut Works<ListBase>, now: Jiffy) -> Result<(), NoMemory> {
+    if may_call(works, now, 0) {
+        works.expire(now)?;
+    }
+    Ok(())
+}
+
+fn run_next(
+    works: &mut Works<ListBase>,
+    now: Jiffy,
+    jobs: &JobTable,
+) -> Result<Option<(u16, JobReply, Option<Placed>)>, NoMemory> {
+    if !may_call(works, now, 0) {
+        return Ok(None);
+    }
+    works.run_next(now, jobs)
+}
+
+fn left(works: &Works<ListBase>, work: u16) -> Option<Placed> {
+    if usize::from(work) < works.len() {
+        works.left(work)
+    } else {
+        None
+    }
+}
+
+fn two_works(alloc: Global) -> Result<Works<ListBase>, NoMemory> {
+    let pinned = ListBase::new(alloc);
+    let global = ListBase::new(alloc);
+    let deferrable = ListBase::new(alloc);
+    Works::new(alloc, Bases::with(alloc, pinned, global, deferrable), 2)
+}
+
+// The first row of works, call by call.
 #[test]
 fn a_work_is_queued_expires_runs_and_is_cancelled(rt: HostRuntime) -> Result<(), Fail> {
-    let alloc = rt.alloc();
-    let table = table(alloc)?;
-    let bases = Bases::with(
-        alloc,
-        ListBase::new(alloc),
-        ListBase::new(alloc),
-        ListBase::new(alloc),
-    );
-    let mut works = Works::new(alloc, bases, 2)?;
-    assert_eq!(rt; works.queue(10, 0, 50, 3, 7, 1)?, Placed::Waiting(61));
-    assert_eq!(rt; works.queue(10, 0, 5, 0, 0, 2)?, Placed::Pending);
-    assert_eq!(rt; works.queue(10, 1, 0, 0, 0, 3)?, Placed::Ready);
+    let jobs = table(rt.alloc())?;
+    let mut works = two_works(rt.alloc())?;
+    assert_eq!(rt; queue(&mut works, 10, 0, 50, 3, 7)?, Some(Placed::Waiting(61)));
+    assert_eq!(rt; queue(&mut works, 10, 0, 5, 0, 0)?, Some(Placed::Pending));
+    assert_eq!(rt; queue(&mut works, 10, 1, 0, 0, 0)?, Some(Placed::Ready));
     assert_eq!(rt; works.first(), Some(61));
-    assert!(rt; works.cancel(20, 1, 4)?);
-    assert!(rt; !works.cancel(20, 1, 5)?);
-    works.expire(61)?;
+    assert_eq!(rt; cancel(&mut works, 20, 1)?, Some(true));
+    assert_eq!(rt; cancel(&mut works, 20, 1)?, Some(false));
+    expire(&mut works, 61)?;
     assert_eq!(rt; works.ready_len(), 1);
-    assert_eq!(rt; works.left(0), Some(Placed::Ready));
-    assert_eq!(rt; works.run_next(61, &table)?, Some((0, JobReply::Mark(7), None)));
-    assert_eq!(rt; works.run_next(61, &table)?, None);
+    assert_eq!(rt; left(&works, 0), Some(Placed::Ready));
+    assert_eq!(rt; run_next(&mut works, 61, &jobs)?, Some((0, JobReply::Mark(7), None)));
+    assert_eq!(rt; run_next(&mut works, 61, &jobs)?, None);
     assert_eq!(rt; works.time(), 61);
     assert_eq!(rt; works.len(), 2);
     let story = works.story();

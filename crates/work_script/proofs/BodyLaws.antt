@@ -219,9 +219,8 @@ ops_clear count line (o ∷ os) small h =
 pub moments_clear : (count line : ℕ) (last : Option ℕ) (end : ℕ) (ms : List WorkMoment) → count ≤ 10 ^ 13 → end < SCRIPT_TIME_LIMIT → AreWorkMoments count line last end ms → AreClear 10 (flat_map moment_lines ms)
 moments_clear count line last end [] small early h = tt
 moments_clear count line last end (m ∷ ms) small early h =
-    let reached = reached_end count (line + 1 + length m.ops) m.at end ms h.3 in
-    (
+    let reached = reached_end count (line + 1 + length m.ops) m.at end ms h.3 in (
       said_clear (record { line = line; count = count; last = last; ops = 0 }) (Opening m.at) small (omega (arith, early, reached)),
       AreClear-append 10 (map op_line m.ops) (flat_map moment_lines ms) (ops_clear count (line + 1) m.ops small h.2)
-      (moments_clear count (line + 1 + length m.ops) (Some m.at) end ms small early h.3),
+          (moments_clear count (line + 1 + length m.ops) (Some m.at) end ms small early h.3),
     )

@@ -124,13 +124,12 @@ script_found bytes s e =
 
 lines_clear : (s : WorkScript) → IsWorkScript s → AreClear 10 (work_lines s)
 lines_clear s is =
-    let small : s.count ≤ 10 ^ 13 = omega (arith, is.few_works) in
-    (
+    let small : s.count ≤ 10 ^ 13 = omega (arith, is.few_works) in (
       refl,
       (
         count_clear (count_slot ∷ []) (s.count ∷ []) (omega arith, tt) (is.some_works, omega (arith, is.few_works), tt),
         AreClear-append 10 (flat_map moment_lines s.moments) (end_line s.end ∷ []) (moments_clear s.count first_line None s.end s.moments small is.early_end is.moments)
-        (said_clear (known_first s.count) (Ending s.end) small is.early_end, tt),
+            (said_clear (known_first s.count) (Ending s.end) small is.early_end, tt),
       ),
     )
 

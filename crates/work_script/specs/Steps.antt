@@ -1,6 +1,6 @@
 -- how the code reads; no public clause speaks of this
-use Rattle.std.specs.Prelude.{◌≡◌, ℕ, ◌<◌, ◌≤◌, List, [], ◌∷◌, ◌++◌, length, Option, Some, None, Result}
-use Rattle.std.specs.Prelude.{Ok, Err}
+use Rattle.std.specs.Prelude.{◌≡◌, ℕ, ◌<◌, ◌≤◌, List, [], ◌∷◌, ◌++◌, length, Option, Some, None}
+use Rattle.std.specs.Prelude.{Result, Ok, Err}
 use Rattle.text_words.specs.Words.{words_of}
 use Rattle.tm_script.specs.declared.faults.ReadScript.{ReadScript}
 use Rattle.tm_script.specs.declared.faults.ReadScript.TheVariants.{Refused, NoMemory}

@@ -24,8 +24,7 @@ mod words;
 pub use lists::{WorkMoments, WorkOps};
 pub use reading::read_works;
 pub use syntax::{WorkMoment, WorkOp, WorkScript};
-pub use words::{ARG_LIMIT, DELAY_LIMIT, JOB_LIMIT};
-pub use words::{NumberSlot, WorkCommand, WorkKnown, WorkSaid};
+pub use words::{ARG_LIMIT, DELAY_LIMIT, JOB_LIMIT, NumberSlot, WorkCommand, WorkKnown, WorkSaid};
 
 #[cfg(test)]
 mod tests;

@@ -42,11 +42,7 @@ fn below(bound: u64) -> NumberSlot
 }
 
 /// The numbers behind a command.
-fn read_command(
-    count: u16,
-    command: WorkCommand,
-    words: Option<&[u8]>,
-) -> Result<NumberList, Kind>
+fn read_command(count: u16, command: WorkCommand, words: Option<&[u8]>) -> Result<NumberList, Kind>
     ensures { result
         ≡ numbers_of (slots_of count command) (words_behind (option_copied words.entry)) }
 {

@@ -132,10 +132,7 @@ pub(crate) fn first_word(line: &[u8]) -> (&[u8], Option<&[u8]>)
 /// The numbers that the words spell at these places, at most four, or the first kind of fault that
 /// they have.
 #[tactic(auto, unfolding(crate::specs::Reading::numbers_of))]
-pub(crate) fn read_numbers(
-    slots: &[NumberSlot],
-    words: Option<&[u8]>,
-) -> Result<NumberList, Kind>
+pub(crate) fn read_numbers(slots: &[NumberSlot], words: Option<&[u8]>) -> Result<NumberList, Kind>
     requires { length slots.now ≤ MOST_NUMBERS }
     ensures value { result ≡ numbers_of slots.now (words_behind (option_copied words.entry)) }
     ensures as_many { IfOk result (λ ns. length ns ≡ length slots.now) }

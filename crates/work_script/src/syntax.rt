@@ -37,5 +37,8 @@ pub enum WorkOp {
         arg: u32,
     },
     /// The work is cancelled (the kernel's `cancel_delayed_work`): `cancel W`.
-    Cancel { line: u32, work: u16 },
+    Cancel {
+        line: u32,
+        work: u16,
+    },
 }

@@ -48,16 +48,52 @@ fn a_fault_is_told_by_its_line_and_kind(rt: HostRuntime) -> Result<(), Fail> {
         (b"works 1\ncount 4097\n".as_slice(), 2, Kind::OutOfRange),
         (b"works 1\ncount 4096\n".as_slice(), 3, Kind::NoEnd),
         (b"works 1\ncount 1\ncancel 0\n".as_slice(), 3, Kind::BadLine),
-        (b"works 1\ncount 1\nat 5\nqueue 0 x 0\n".as_slice(), 4, Kind::BadLine),
-        (b"works 1\ncount 1\nat 5\nqueue 1 x 0 0\n".as_slice(), 4, Kind::BadNumber),
-        (b"works 1\ncount 1\nat 5\nqueue 1 0 0 0\n".as_slice(), 4, Kind::OutOfRange),
-        (b"works 1\ncount 1\nat 5\nqueue 0 0 256 0\n".as_slice(), 4, Kind::OutOfRange),
-        (b"works 1\ncount 1\nat 5\nqueue 0 4294967296 0 0\n".as_slice(), 4, Kind::OutOfRange),
-        (b"works 1\ncount 1\nat 1099511627776\n".as_slice(), 3, Kind::OutOfRange),
-        (b"works 1\ncount 1\nat 5\nat 5\n".as_slice(), 4, Kind::OutOfOrder),
-        (b"works 1\ncount 1\nat 5\nend 4\n".as_slice(), 4, Kind::OutOfOrder),
+        (
+            b"works 1\ncount 1\nat 5\nqueue 0 x 0\n".as_slice(),
+            4,
+            Kind::BadLine,
+        ),
+        (
+            b"works 1\ncount 1\nat 5\nqueue 1 x 0 0\n".as_slice(),
+            4,
+            Kind::BadNumber,
+        ),
+        (
+            b"works 1\ncount 1\nat 5\nqueue 1 0 0 0\n".as_slice(),
+            4,
+            Kind::OutOfRange,
+        ),
+        (
+            b"works 1\ncount 1\nat 5\nqueue 0 0 256 0\n".as_slice(),
+            4,
+            Kind::OutOfRange,
+        ),
+        (
+            b"works 1\ncount 1\nat 5\nqueue 0 4294967296 0 0\n".as_slice(),
+            4,
+            Kind::OutOfRange,
+        ),
+        (
+            b"works 1\ncount 1\nat 1099511627776\n".as_slice(),
+            3,
+            Kind::OutOfRange,
+        ),
+        (
+            b"works 1\ncount 1\nat 5\nat 5\n".as_slice(),
+            4,
+            Kind::OutOfOrder,
+        ),
+        (
+            b"works 1\ncount 1\nat 5\nend 4\n".as_slice(),
+            4,
+            Kind::OutOfOrder,
+        ),
         (b"works 1\ncount 1\nat 5\n".as_slice(), 4, Kind::NoEnd),
-        (b"works 1\ncount 1\nend 5\nat 6\n".as_slice(), 4, Kind::BadLine),
+        (
+            b"works 1\ncount 1\nend 5\nat 6\n".as_slice(),
+            4,
+            Kind::BadLine,
+        ),
     ];
     for (text, line, kind) in cases {
         let fault = ScriptFault { line, kind };
