@@ -1,25 +1,24 @@
 -- expiry, item by item
-use Rattle.std.proofs.Common.{◌≡◌, ◌≢◌, ℕ, zero, suc, ◌+◌, ◌-◌, ◌<◌, ◌≤◌, Bool, true, false, List}
-use Rattle.std.proofs.Common.{[], ◌∷◌, Option, Some, None, length, refl, sym, ap, ◌∙◌, subst, inl}
+use Rattle.std.proofs.Common.{◌≡◌, ℕ, zero, suc, ◌-◌, ◌<◌, ◌≤◌, List}
+use Rattle.std.proofs.Common.{[], ◌∷◌, Some, None, length, refl, sym, ap, ◌∙◌, subst, inl}
 use Rattle.std.proofs.Common.{inr, arith}
-use Rattle.std.specs.Prelude.{All, is_some, slice_set, if◌then◌else◌}
+use Rattle.std.specs.Prelude.{is_some, if◌then◌else◌}
 use Rattle.std.proofs.lemmas.List.{length-set}
 use Rattle.tm_base.specs.declared.names.TheConstants.{TIME_LIMIT}
 use Rattle.tm_base.specs.declared.names.Class.TheVariants.{Global}
 use Rattle.wheel_core.specs.declared.item.Item.{Item}
-use Rattle.wheel_core.specs.PlainBase.{OutIsDue, after_out, item_of, next_out, taken, without}
+use Rattle.wheel_core.specs.PlainBase.{OutIsDue, after_out, item_of, next_out, without}
 use Rattle.wheel_core.proofs.Plain.{due_out}
 use Rattle.cpu_bases.specs.CpuBases.{CpuBases, IsConsistent, after_hand_out, base_of, drained}
 use Rattle.cpu_bases.specs.CpuBases.{handed_out}
 use Rattle.cpu_bases.proofs.Drains.{one_fewer}
 use Rattle.cpu_bases.proofs.Keeping.{handing_out_keeps, or_item}
-use Rattle.delayed_work.specs.declared.standing.Standing.{Standing}
-use Rattle.delayed_work.specs.declared.standing.Standing.TheVariants.{Free, Waiting, Ready}
-use Rattle.delayed_work.specs.Ledger.{IsSound, LedgerState, come_ready, is_waiting, ready_from}
+use Rattle.delayed_work.specs.declared.standing.Standing.TheVariants.{Waiting, Ready}
+use Rattle.delayed_work.specs.Ledger.{IsSound, LedgerState, come_ready, ready_from}
 use Rattle.delayed_work.specs.Ledger.{standing_of}
 use Rattle.delayed_work.specs.Works.{all_ready, first_cpu, items_out, out_then}
 use Rattle.delayed_work.proofs.Sound.{ready_sound}
-use Rattle.delayed_work.proofs.Waits.{Changes, Waits, changes_at, waiting_is, waits_taken}
+use Rattle.delayed_work.proofs.Waits.{Waits, changes_at, waiting_is, waits_taken}
 use Rattle.delayed_work.proofs.Waits.{waits_within}
 
 abbrev pub queue_of : CpuBases → List Item

@@ -1,10 +1,9 @@
 -- how a play goes on, moment by moment
 use Rattle.std.proofs.Common.{◌≡◌, ℕ, zero, suc, ◌+◌, ◌*◌, ◌<◌, ◌≤◌, true, false, leb, eqb, List, [], ◌∷◌, length, Option, Some, None, refl, sym, ap, subst, ◌∙◌, arith, inl, inr}
 use Rattle.std.proofs.Math.Nat.{mul-le-mul_right}
-use Rattle.std.proofs.lemmas.Bool.{cases_Bool, cond-true, cond-false, le-leb, leb-true, leb-false, lt-leb}
+use Rattle.std.proofs.lemmas.Bool.{cases_Bool, cond-true, cond-false, le-leb, leb-false, lt-leb}
 use Rattle.std.proofs.lemmas.List.{length-replicate}
 use Rattle.tm_base.specs.declared.limits.TheConstants.{WORK_LIMIT_V1}
-use Rattle.cpu_bases.specs.CpuBases.{empty_bases}
 use Rattle.work_script.specs.declared.syntax.WorkScript.{WorkScript}
 use Rattle.work_script.specs.declared.syntax.WorkMoment.{WorkMoment}
 use Rattle.work_script.specs.declared.syntax.WorkOp.{WorkOp}
@@ -13,9 +12,8 @@ use Rattle.work_script.specs.Grammar.{AreWorkMoments, AreWorkOps, IsWorkScript, 
 use Rattle.delayed_work.specs.declared.faults.WorksFault.TheVariants.{WorkSpent}
 use Rattle.delayed_work.specs.declared.standing.Standing.TheVariants.{Free}
 use Rattle.delayed_work.specs.Calls.{Replies}
-use Rattle.delayed_work.specs.Works.{new_works}
 use Rattle.delayed_work.specs.Play.{Finished, Outcome, Playing, PlaysEnd, Spent, Stand, Unfinished, count_after, moment, moments_after, next_moment, ops_at, play_start, played_from, playing_after, stand_after, work_of, works_played}
-use Rattle.delayed_work.specs.Playable.{AreAllInRange, AreInRange, BreaksOff, GoesOn, Keeps, Stands}
+use Rattle.delayed_work.specs.Playable.{AreAllInRange, AreInRange, BreaksOff, Keeps, Stands}
 
 -- ---- no play is unfinished
 
@@ -68,13 +66,13 @@ ops_at_range : (count now : ℕ) (ms : List WorkMoment) → AreAllInRange count 
 ops_at_range count now [] h = (tt, tt)
 ops_at_range count now (m ∷ ms) h = elim (cases_Bool (eqb m.at now)) [
   | inl here ↦ (
-      subst (λ os. AreInRange count os) (sym (cond-true (eqb m.at now) m.ops [] here)) h.0,
-      subst (λ ns. AreAllInRange count ns) (sym (cond-true (eqb m.at now) ms (m ∷ ms) here)) h.1,
-    )
+    subst (λ os. AreInRange count os) (sym (cond-true (eqb m.at now) m.ops [] here)) h.0,
+    subst (λ ns. AreAllInRange count ns) (sym (cond-true (eqb m.at now) ms (m ∷ ms) here)) h.1,
+  )
   | inr out ↦ (
-      subst (λ os. AreInRange count os) (sym (cond-false (eqb m.at now) m.ops [] out)) tt,
-      subst (λ ns. AreAllInRange count ns) (sym (cond-false (eqb m.at now) ms (m ∷ ms) out)) h,
-    )
+    subst (λ os. AreInRange count os) (sym (cond-false (eqb m.at now) m.ops [] out)) tt,
+    subst (λ ns. AreAllInRange count ns) (sym (cond-false (eqb m.at now) ms (m ∷ ms) out)) h,
+  )
 ]
 
 pub turn_range : (count n now : ℕ) (ms : List WorkMoment) (ops : List WorkOp) → AreAllInRange count ms → ops ≡ ops_at now ms → n ≡ count → AreInRange n ops

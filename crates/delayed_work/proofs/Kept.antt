@@ -1,16 +1,16 @@
 -- what a ledger keeps, as one work changes in its three parts
 use Rattle.std.proofs.Common.{◌≡◌, ◌≢◌, ℕ, ◌+◌, ◌-◌, ◌<◌, ◌≤◌, List, [], ◌∷◌, ◌++◌, Some, length}
-use Rattle.std.proofs.Common.{refl, sym, ap, ◌∙◌, subst, arith, length-append, Bool, get_or, None, Option}
+use Rattle.std.proofs.Common.{sym, ap, ◌∙◌, subst, arith, length-append, Bool, get_or, Option}
 use Rattle.std.specs.Prelude.{slice_set}
 use Rattle.std.proofs.lemmas.List.{length-set}
 use Rattle.std.proofs.lemmas.Option.{same_Some, slice_get-get_or, slice_get_within}
 use Rattle.tm_base.specs.declared.limits.TheConstants.{MOST_TIMERS}
-use Rattle.key_lists.specs.Tables.{Holds, KeyTable, Lacks, first_of, list_of, without}
+use Rattle.key_lists.specs.Tables.{KeyTable, Lacks, first_of, list_of, without}
 use Rattle.delayed_work.specs.declared.standing.Standing.{Standing}
 use Rattle.delayed_work.specs.declared.standing.Standing.TheVariants.{Free, Waiting, Ready}
 use Rattle.delayed_work.specs.declared.standing.End.{End}
 use Rattle.delayed_work.specs.declared.standing.End.TheVariants.{Pending}
-use Rattle.delayed_work.specs.Ledger.{IsSound, LedgerState, Told, is_ready, number_in, standing_of}
+use Rattle.delayed_work.specs.Ledger.{IsSound, Told, is_ready, number_in, standing_of}
 use Rattle.delayed_work.specs.Kept.{IsKept, ledger_of}
 use Rattle.delayed_work.proofs.Lists.{first_holds, length_without}
 use Rattle.delayed_work.proofs.Sound.{accepted_ready_sound, accepted_waiting_sound, ended_sound}

@@ -1,8 +1,8 @@
 -- works stay lawful through each call
-use Rattle.std.proofs.Common.{◌≡◌, ◌≢◌, ℕ, ◌+◌, ◌-◌, ◌^◌, ◌<◌, ◌≤◌, Bool, true, false, List, []}
+use Rattle.std.proofs.Common.{◌≡◌, ◌≢◌, ℕ, ◌+◌, ◌-◌, ◌^◌, ◌<◌, ◌≤◌, Bool, false, []}
 use Rattle.std.proofs.Common.{Option, Some, None, length, refl, sym, ap, ◌∙◌, subst, inl, inr}
 use Rattle.std.proofs.Common.{arith, get_or}
-use Rattle.std.specs.Prelude.{◌==◌, All, is_some, option_map, slice_set, if◌then◌else◌}
+use Rattle.std.specs.Prelude.{◌==◌, All, is_some, option_map, if◌then◌else◌}
 use Rattle.std.proofs.lemmas.Bool.{cases_Bool}
 use Rattle.std.proofs.lemmas.List.{length-set}
 use Rattle.std.proofs.lemmas.Option.{slice_get-get_or}
@@ -15,9 +15,8 @@ use Rattle.wheel_core.specs.PlainBase.{NoneDue, item_of, without}
 use Rattle.wheel_core.proofs.Ids.{item_there}
 use Rattle.wheel_core.proofs.Rooms.{no_more}
 use Rattle.key_lists.specs.Tables.{first_of}
-use Rattle.cpu_bases.specs.CpuBases.{CpuBases, IsConsistent, after_cancel, armed, base_of, cancelled}
-use Rattle.cpu_bases.specs.CpuBases.{class_in, drained, found_in, found_or, item_queued}
-use Rattle.cpu_bases.specs.Laws.{DrainsAll}
+use Rattle.cpu_bases.specs.CpuBases.{CpuBases, after_cancel, armed, base_of, cancelled}
+use Rattle.cpu_bases.specs.CpuBases.{class_in, found_in, found_or, item_queued}
 use Rattle.cpu_bases.proofs.Drains.{drain_is_whole}
 use Rattle.cpu_bases.proofs.Keeping.{arming_keeps, cancelling_keeps}
 use Rattle.cpu_bases.proofs.Keyed.{found_key}
@@ -28,8 +27,7 @@ use Rattle.delayed_work.specs.declared.standing.End.{End}
 use Rattle.delayed_work.specs.declared.standing.End.TheVariants.{Pending, Cancelled, Ran}
 use Rattle.delayed_work.specs.Ledger.{LedgerState, accepted_ready, accepted_waiting, ended}
 use Rattle.delayed_work.specs.Ledger.{ended_from, is_waiting, standing_of}
-use Rattle.delayed_work.specs.Works.{IsLawful, WorksState, accepted, all_ready, expired, first_cpu}
-use Rattle.delayed_work.specs.Works.{items_out}
+use Rattle.delayed_work.specs.Works.{IsLawful, WorksState, accepted, expired, first_cpu}
 use Rattle.delayed_work.proofs.Sound.{accepted_ready_sound, accepted_waiting_sound, ended_sound}
 use Rattle.delayed_work.proofs.Sound.{ready_within}
 use Rattle.delayed_work.proofs.Lists.{first_holds}

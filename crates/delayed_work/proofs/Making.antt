@@ -1,17 +1,16 @@
 -- works stay lawful through each call, and what a call makes of standings
-use Rattle.std.proofs.Common.{◌≡◌, ◌≢◌, ℕ, zero, suc, ◌+◌, ◌-◌, ◌^◌, ◌<◌, ◌≤◌, Bool, true, false}
-use Rattle.std.proofs.Common.{List, [], ◌∷◌, Option, Some, None, length, refl, sym, ap, ◌∙◌, subst}
+use Rattle.std.proofs.Common.{◌≡◌, ◌≢◌, ℕ, zero, suc, ◌-◌, ◌^◌, ◌<◌, ◌≤◌, Bool, true, false}
+use Rattle.std.proofs.Common.{Option, Some, None, length, refl, sym, ap, ◌∙◌, subst}
 use Rattle.std.proofs.Common.{◌⊎◌, inl, inr, arith, get_or}
 use Rattle.std.specs.Prelude.{◌==◌, is_some, replicate, if◌then◌else◌}
-use Rattle.std.specs.List.{slice_get}
 use Rattle.std.proofs.lemmas.Bool.{cases_Bool, eqb-true, eqb-false}
 use Rattle.std.proofs.lemmas.Option.{none-some}
 use Rattle.std.proofs.lemmas.List.{length-replicate}
 use Rattle.tm_base.specs.declared.limits.TheConstants.{MOST_TIMERS}
 use Rattle.tm_base.specs.declared.names.TheConstants.{TIME_LIMIT}
-use Rattle.tm_base.specs.declared.names.Class.TheVariants.{Pinned, Global, Deferrable}
+use Rattle.tm_base.specs.declared.names.Class.TheVariants.{Global}
 use Rattle.wheel_core.specs.declared.item.Item.{Item}
-use Rattle.wheel_core.specs.PlainBase.{PlainBase, OutIsDue, item_of, next_out, without}
+use Rattle.wheel_core.specs.PlainBase.{PlainBase, OutIsDue, item_of, next_out}
 use Rattle.wheel_core.proofs.Ids.{item_of-without}
 use Rattle.wheel_core.proofs.Plain.{due_out}
 use Rattle.cpu_bases.specs.CpuBases.{CpuBases, IsConsistent, base_of, empty_bases}
@@ -26,10 +25,10 @@ use Rattle.delayed_work.specs.declared.calls.WorksCall.TheVariants.{Queue, Cance
 use Rattle.delayed_work.specs.declared.standing.Standing.{Standing}
 use Rattle.delayed_work.specs.declared.standing.Standing.TheVariants.{Free, Waiting, Ready}
 use Rattle.delayed_work.specs.declared.standing.End.TheVariants as ends
-use Rattle.delayed_work.specs.Ledger.{IsSound, IsTold, LedgerState, Told, accepted_ready}
+use Rattle.delayed_work.specs.Ledger.{IsSound, LedgerState, accepted_ready}
 use Rattle.delayed_work.specs.Ledger.{accepted_waiting, come_ready, ended, ended_from, is_ready}
 use Rattle.delayed_work.specs.Ledger.{is_waiting, new_ledger, number_in, ready_from, standing_of}
-use Rattle.delayed_work.specs.Works.{IsLawful, WorksState, accepted, all_ready, call_of}
+use Rattle.delayed_work.specs.Works.{IsLawful, WorksState, all_ready, call_of}
 use Rattle.delayed_work.specs.Works.{cancelled_from, first_cpu, items_out, ledger_queued, new_works}
 use Rattle.delayed_work.specs.Works.{queued_again, queued_from, ran_first, ran_from}
 use Rattle.delayed_work.specs.Calls.{MayMake, Replies, after, time_of}
@@ -40,7 +39,6 @@ use Rattle.delayed_work.proofs.Lists.{first_holds, not_both}
 use Rattle.delayed_work.proofs.Sound.{other, own}
 use Rattle.delayed_work.proofs.Expiry.{Fits, come_fits}
 use Rattle.delayed_work.proofs.Expiry.{one_out, out_queued, out_none, out_some, queue_less, queue_of}
-use Rattle.delayed_work.proofs.Waits.{waits_within}
 
 -- NEW WORKS are lawful
 free_in : (count work : ℕ) → get_or (replicate count Free) work Free ≡ Free

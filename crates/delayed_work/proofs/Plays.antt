@@ -1,5 +1,5 @@
 -- what a moment keeps: no time is past now, and there are as many works
-use Rattle.std.proofs.Common.{◌≡◌, ℕ, zero, suc, ◌+◌, ◌<◌, ◌≤◌, Bool, true, false, cond, eqb, List, [], ◌∷◌, length, Option, Some, None, refl, sym, ap, subst, ◌∙◌, arith}
+use Rattle.std.proofs.Common.{◌≡◌, ℕ, ◌≤◌, Bool, true, false, cond, eqb, List, [], ◌∷◌, length, Option, Some, None, refl, sym, ap, subst, ◌∙◌, arith}
 use Rattle.std.proofs.lemmas.List.{length-set}
 use Rattle.wheel_core.specs.declared.item.Item.{Item}
 use Rattle.job_table.specs.declared.jobs.JobReply.{JobReply}
@@ -15,8 +15,8 @@ use Rattle.delayed_work.specs.Calls.{Replies}
 use Rattle.delayed_work.specs.Ledger.{LedgerState, accepted_ready, accepted_waiting, come_ready, ended, ended_from, ready_from, standing_of}
 use Rattle.delayed_work.proofs.Sound.{few_ready}
 use Rattle.tm_base.specs.declared.limits.TheConstants.{MOST_TIMERS}
-use Rattle.delayed_work.specs.Works.{IsLawful, WorksState, accepted, all_ready, cancelled_from, cancelled_work, expired, items_out, ledger_queued, queued, queued_again, queued_from, ran, ran_first, ran_from}
-use Rattle.delayed_work.specs.Play.{Playing, all_done, done, run_all, run_one}
+use Rattle.delayed_work.specs.Works.{IsLawful, WorksState, accepted, all_ready, cancelled_from, cancelled_work, expired, items_out, queued, queued_again, queued_from, ran, ran_first, ran_from}
+use Rattle.delayed_work.specs.Play.{Playing, done, run_one}
 use Rattle.delayed_work.specs.Playable.{Keeps}
 
 abbrev KeepsWorks : (now : ℕ) → WorksState → WorksState → Type 0
@@ -89,6 +89,7 @@ ran_keeps replies now works early = first (first_of works.ledger.ready)
         let freed : WorksState = record works { ledger = ended work ends.Ran works.ledger; time = now } in
         let again = again_keeps (replies job _) now work job arg freed (omega arith) in
         (again.0, again.1 ∙ ended_count (standing_of work works.ledger) work ends.Ran works.ledger)
+
     first : (o : Option ℕ) → KeepsWorks now works (ran_first o replies now works)
     first None = (early, refl)
     first (Some work) = by (standing_of work works.ledger) work

@@ -1,22 +1,21 @@
 -- a ledger stays sound as one work changes
-use Rattle.std.proofs.Common.{◌≡◌, ◌≢◌, ℕ, ◌+◌, ◌<◌, ◌≤◌, Bool, true, false, List, [], ◌∷◌, ◌++◌}
-use Rattle.std.proofs.Common.{Option, Some, None, length, refl, sym, ap, ◌∙◌, subst, ◌⊎◌, inl, inr}
-use Rattle.std.proofs.Common.{arith}
-use Rattle.std.specs.Prelude.{◌==◌, slice_set, replicate}
+use Rattle.std.proofs.Common.{◌≡◌, ◌≢◌, ℕ, ◌<◌, ◌≤◌, true, false, List, [], ◌∷◌, ◌++◌}
+use Rattle.std.proofs.Common.{Some, length, refl, sym, ap, ◌∙◌, subst, ◌⊎◌, inl, inr}
+use Rattle.std.specs.Prelude.{◌==◌, slice_set}
 use Rattle.std.specs.List.{slice_get}
 use Rattle.std.proofs.lemmas.Bool.{cases_Bool, cases_lt, eqb-true, eqb-false}
 use Rattle.std.proofs.lemmas.List.{get_or-set_same, get_or-set_other, get_or_past}
-use Rattle.std.proofs.lemmas.Option.{none-some, same_Some, slice_get_within}
+use Rattle.std.proofs.lemmas.Option.{none-some, same_Some}
 use Rattle.key_lists.specs.Tables.{Holds, Lacks, without}
 use Rattle.delayed_work.specs.declared.standing.Standing.{Standing}
 use Rattle.delayed_work.specs.declared.standing.Standing.TheVariants.{Free, Waiting, Ready}
 use Rattle.delayed_work.specs.declared.standing.End.{End}
 use Rattle.delayed_work.specs.declared.standing.End.TheVariants.{Pending}
-use Rattle.delayed_work.specs.Ledger.{AreDistinct, IsSound, IsTold, LedgerState, Told, is_ready}
-use Rattle.delayed_work.specs.Ledger.{accepted_ready, accepted_waiting, come_ready, ended}
-use Rattle.delayed_work.specs.Ledger.{ended_from, new_ledger, number_in, ready_from, standing_of}
+use Rattle.delayed_work.specs.Ledger.{AreDistinct, IsSound, LedgerState, Told, is_ready}
+use Rattle.delayed_work.specs.Ledger.{accepted_ready, accepted_waiting}
+use Rattle.delayed_work.specs.Ledger.{ended_from, number_in, ready_from, standing_of}
 use Rattle.delayed_work.proofs.Places.{get_push_is, get_push_old, get_push_same}
-use Rattle.delayed_work.proofs.Places.{get_set_is, get_set_other, get_set_same}
+use Rattle.delayed_work.proofs.Places.{get_set_is, get_set_other}
 use Rattle.delayed_work.proofs.Lists.{distinct_more, distinct_without, few, gone, holds_more}
 use Rattle.delayed_work.proofs.Lists.{holds_push, holds_without, lacks_more, lacks_without}
 use Rattle.delayed_work.proofs.Lists.{not_both}

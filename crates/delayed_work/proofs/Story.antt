@@ -1,19 +1,17 @@
 -- the story over a list of calls
-use Rattle.std.proofs.Common.{◌≡◌, ◌≢◌, ◌↔◌, ℕ, zero, suc, ◌+◌, ◌<◌, ◌≤◌, true, List, [], ◌∷◌}
+use Rattle.std.proofs.Common.{◌≡◌, ◌≢◌, ℕ, zero, suc, ◌+◌, List, [], ◌∷◌}
 use Rattle.std.proofs.Common.{Option, Some, None, length, refl, sym, ap, ◌∙◌, subst, ◌⊎◌, inl, inr}
-use Rattle.std.proofs.Common.{arith, take}
-use Rattle.std.specs.Prelude.{option_map}
+use Rattle.std.proofs.Common.{arith}
 use Rattle.std.specs.List.{slice_get}
 use Rattle.std.proofs.lemmas.Option.{none-some, same_Some}
 use Rattle.delayed_work.specs.declared.calls.WorksCall.{WorksCall}
 use Rattle.delayed_work.specs.declared.calls.WorksCall.TheVariants.{RunNext}
-use Rattle.delayed_work.specs.declared.standing.End.{End}
 use Rattle.delayed_work.specs.declared.standing.End.TheVariants.{Pending, Cancelled, Ran}
-use Rattle.delayed_work.specs.Ledger.{Told, is_ready, is_waiting, number_in, standing_of}
-use Rattle.delayed_work.specs.Works.{IsLawful, Run, WorksState, new_works, told_run}
-use Rattle.delayed_work.specs.Calls.{MayMake, MayMakeAll, Replies, accepts, accepts_all, after}
+use Rattle.delayed_work.specs.Ledger.{Told}
+use Rattle.delayed_work.specs.Works.{IsLawful, WorksState, new_works}
+use Rattle.delayed_work.specs.Calls.{MayMake, MayMakeAll, Replies, accepts_all, after}
 use Rattle.delayed_work.specs.Calls.{after_all, runs}
-use Rattle.delayed_work.specs.Laws.{AreReplies, IsStory, RanOnce, RunsAt, WentOut, WorksLaw, before}
+use Rattle.delayed_work.specs.Laws.{AreReplies, IsStory, RunsAt, WorksLaw, before}
 use Rattle.delayed_work.proofs.Making.{made_lawful, made_not_early, new_lawful}
 use Rattle.delayed_work.proofs.Telling.{made_answers, made_tells, runs_pending}
 

@@ -1,5 +1,5 @@
 -- what each call writes into the story
-use Rattle.std.proofs.Common.{◌≡◌, ◌≢◌, ℕ, zero, suc, ◌+◌, ◌<◌, ◌≤◌, Bool, true, false, List, []}
+use Rattle.std.proofs.Common.{◌≡◌, ◌≢◌, ℕ, ◌+◌, Bool, true, List, []}
 use Rattle.std.proofs.Common.{◌∷◌, ◌++◌, Option, Some, None, length, refl, sym, ap, ◌∙◌, subst}
 use Rattle.std.proofs.Common.{◌⊎◌, inl, inr, arith, length-append}
 use Rattle.std.specs.Prelude.{◌==◌, slice_set, option_map, if◌then◌else◌}
@@ -21,7 +21,7 @@ use Rattle.delayed_work.specs.declared.standing.Placed.TheVariants as placing
 use Rattle.delayed_work.specs.Ledger.{IsSound, LedgerState, Told, accepted_ready, accepted_waiting}
 use Rattle.delayed_work.specs.Ledger.{come_ready, ended, ended_from, is_ready, number_in, ready_from}
 use Rattle.delayed_work.specs.Ledger.{standing_of}
-use Rattle.delayed_work.specs.Works.{IsLawful, Run, WorksState, all_ready, call_of, cancelled_from}
+use Rattle.delayed_work.specs.Works.{Run, WorksState, all_ready, call_of, cancelled_from}
 use Rattle.delayed_work.specs.Works.{items_out, ledger_queued, placed_again, placed_free}
 use Rattle.delayed_work.specs.Works.{placed_from, queued_again, queued_from, ran_first, ran_from}
 use Rattle.delayed_work.specs.Works.{told_first, told_from, told_run}

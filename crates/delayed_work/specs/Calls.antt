@@ -1,5 +1,5 @@
 -- lists of calls on works
-use Rattle.std.specs.Prelude.{◌≡◌, ℕ, ◌+◌, ◌-◌, ◌^◌, ◌<◌, ◌≤◌, List, [], ◌∷◌, length, Option, Some}
+use Rattle.std.specs.Prelude.{ℕ, ◌+◌, ◌-◌, ◌^◌, ◌<◌, ◌≤◌, List, [], ◌∷◌, length, Option, Some}
 use Rattle.std.specs.Prelude.{None}
 use Rattle.tm_base.specs.declared.names.TheConstants.{TIME_LIMIT}
 use Rattle.job_table.specs.declared.jobs.JobCall.{JobCall}

@@ -1,5 +1,5 @@
 -- the law of works, over every list of calls
-use Rattle.std.specs.Prelude.{◌≡◌, ◌↔◌, ℕ, ◌+◌, ◌^◌, ◌<◌, ◌≤◌, true, List, length, take, Option}
+use Rattle.std.specs.Prelude.{◌≡◌, ◌↔◌, ℕ, ◌^◌, ◌<◌, ◌≤◌, true, List, length, take}
 use Rattle.std.specs.Prelude.{Some, slice_get, option_map}
 use Rattle.tm_base.specs.declared.limits.TheConstants.{MOST_TIMERS}
 use Rattle.tm_base.specs.declared.names.Class.{Class}

@@ -1,5 +1,5 @@
 -- how works stand and what became of each queueing, as plain data
-use Rattle.std.specs.Prelude.{◌≡◌, ℕ, ◌<◌, ◌≤◌, Bool, true, false, List, [], ◌∷◌, ◌++◌, length}
+use Rattle.std.specs.Prelude.{◌≡◌, ℕ, Bool, true, false, List, [], ◌∷◌, ◌++◌, length}
 use Rattle.std.specs.Prelude.{Option, Some, None, replicate, slice_get, slice_set, slice_index_or}
 use Rattle.key_lists.specs.Tables.{Holds, Lacks, without}
 use Rattle.delayed_work.specs.declared.standing.Standing.{Standing}

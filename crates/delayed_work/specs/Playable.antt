@@ -7,7 +7,7 @@ use Rattle.tm_base.specs.declared.limits.TheConstants.{WORK_LIMIT_V1}
 use Rattle.delayed_work.specs.declared.faults.WorksFault.{WorksFault}
 use Rattle.delayed_work.specs.declared.faults.WorksFault.TheVariants.{BadJob, WorkSpent, NoMemory}
 use Rattle.delayed_work.specs.Calls.{Replies}
-use Rattle.delayed_work.specs.Play.{Finished, Outcome, Playing, Spent, Stand, played_from}
+use Rattle.delayed_work.specs.Play.{Outcome, Playing, Spent, Stand, played_from}
 
 -- an operation names a work that there is
 abbrev pub NamesWork : (count : ℕ) → WorkOp → Type 0

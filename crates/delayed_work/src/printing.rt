@@ -111,11 +111,7 @@ pub(crate) fn tell_cancelled(
 
 /// A reply, behind a space.
 #[tactic(auto, using(std::proofs::lemmas::List::append_assoc))]
-fn push_reply(
-    text: &mut Vec<u8>,
-    reply: JobReply,
-    placed: Option<Placed>,
-) -> Result<(), NoMemory>
+fn push_reply(text: &mut Vec<u8>, reply: JobReply, placed: Option<Placed>) -> Result<(), NoMemory>
     ensures { OnOk result
         (text.new.items ≡ text.old.items ++ 32 ∷ spaced (reply_words reply placed)) }
 {

@@ -4,13 +4,13 @@ ghost use Rattle.tm_base.specs.declared.names.TheConstants.{TIME_LIMIT};
 use super::*;
 use cpu_bases::Bases;
 use job_table::{Job, JobReply, JobTable, Marker, OneShot, Periodic};
-use std::alloc::{AllocError, Global};
+use std::alloc::Global;
 use std::test::Fail;
 use tm_base::{Class, Jiffy, NoMemory, SCRIPT_TIME_LIMIT};
 use wheel_core::ListBase;
 
 // The program's jobs: none, again on the global and on the pinned base, and a mark.
-fn table(alloc: Global) -> Result<JobTable, AllocError> {
+fn table(alloc: Global) -> Result<JobTable, NoMemory> {
     let global = Periodic {
         class: Class::Global,
     };
@@ -48,13 +48,11 @@ fn works_are_played_as_their_rows_say(rt: HostRuntime) -> Result<(), Fail> {
         ),
         (
             b"works 1\ncount 1\nat 10\nqueue 0 50 1 100\nend 200\n".as_slice(),
-            b"queued 10 0 61\nran 61 0 again 168\nran 168 0 again 272\nleft 0 272\nend 200\n"
-                .as_slice(),
+            b"queued 10 0 61\nran 61 0 again 168\nran 168 0 again 272\nleft 0 272\nend 200\n".as_slice(),
         ),
         (
             b"works 1\ncount 1\nat 4\nqueue 0 0 1 0\nend 5\n".as_slice(),
-            b"queued 4 0 ready\nran 4 0 again ready\nran 5 0 again ready\nleft 0 ready\nend 5\n"
-                .as_slice(),
+            b"queued 4 0 ready\nran 4 0 again ready\nran 5 0 again ready\nleft 0 ready\nend 5\n".as_slice(),
         ),
     ];
     for (text, want) in rows {
@@ -64,12 +62,18 @@ fn works_are_played_as_their_rows_say(rt: HostRuntime) -> Result<(), Fail> {
     Ok(())
 }
 
+fn fault(alloc: Global, text: &[u8]) -> Result<Option<WorksFault>, Fail> {
+    match answer(alloc, text)? {
+        Ok(_) => Ok(None),
+        Err(fault) => Ok(Some(fault)),
+    }
+}
+
 #[test]
 fn a_queueing_of_an_unknown_job_is_told(rt: HostRuntime) -> Result<(), Fail> {
-    let unknown = b"works 1\ncount 1\nat 5\nqueue 0 1 3 0\nqueue 0 1 4 0\nend 9\n";
-    let said = answer(rt.alloc(), unknown)?;
-    let fault = WorksFault::BadJob { line: 5, job: 4 };
-    assert!(rt; matches!(said, Err(told) if told == fault));
+    let text = b"works 1\ncount 1\nat 5\nqueue 0 1 3 0\nqueue 0 1 4 0\nend 9\n";
+    let told = fault(rt.alloc(), text)?;
+    assert_eq!(rt; told, Some(WorksFault::BadJob { line: 5, job: 4 }));
     Ok(())
 }
 
@@ -96,11 +100,7 @@ fn queue(
     Ok(Some(works.queue(now, work, delay, job, arg, 1)?))
 }
 
-fn cancel(
-    works: &mut Works<ListBase>,
-    now: Jiffy,
-    work: u16,
-) -> Result<Option<bool>, NoMemory> {
+fn cancel(works: &mut Works<ListBase>, now: Jiffy, work: u16) -> Result<Option<bool>, NoMemory> {
     if !may_call(works, now, work) {
         return Ok(None);
     }
@@ -140,27 +140,65 @@ fn two_works(alloc: Global) -> Result<Works<ListBase>, NoMemory> {
     Works::new(alloc, Bases::with(alloc, pinned, global, deferrable), 2)
 }
 
+// What the calls on two works answer.
+#[derive(Clone, Copy)]
+struct Answers {
+    placed: [Option<Placed>; 3],
+    first: Option<Jiffy>,
+    cancelled: [Option<bool>; 2],
+    ready: usize,
+    left: Option<Placed>,
+    ran: [Option<(u16, JobReply, Option<Placed>)>; 2],
+    time: Jiffy,
+    told: usize,
+}
+
+fn call_each(works: &mut Works<ListBase>, jobs: &JobTable) -> Result<Answers, NoMemory> {
+    let placed = [
+        queue(works, 10, 0, 50, 3, 7)?,
+        queue(works, 10, 0, 5, 0, 0)?,
+        queue(works, 10, 1, 0, 0, 0)?,
+    ];
+    let first = works.first();
+    let cancelled = [cancel(works, 20, 1)?, cancel(works, 20, 1)?];
+    expire(works, 61)?;
+    let ready = works.ready_len();
+    let left = left(works, 0);
+    let ran = [run_next(works, 61, jobs)?, run_next(works, 61, jobs)?];
+    Ok(Answers {
+        placed,
+        first,
+        cancelled,
+        ready,
+        left,
+        ran,
+        time: works.time(),
+        told: works.story().len(),
+    })
+}
+
+fn two_works_played(alloc: Global) -> Result<Answers, NoMemory> {
+    let jobs = table(alloc)?;
+    let mut works = two_works(alloc)?;
+    call_each(&mut works, &jobs)
+}
+
 // The first row of works, call by call.
 #[test]
 fn a_work_is_queued_expires_runs_and_is_cancelled(rt: HostRuntime) -> Result<(), Fail> {
-    let jobs = table(rt.alloc())?;
-    let mut works = two_works(rt.alloc())?;
-    assert_eq!(rt; queue(&mut works, 10, 0, 50, 3, 7)?, Some(Placed::Waiting(61)));
-    assert_eq!(rt; queue(&mut works, 10, 0, 5, 0, 0)?, Some(Placed::Pending));
-    assert_eq!(rt; queue(&mut works, 10, 1, 0, 0, 0)?, Some(Placed::Ready));
-    assert_eq!(rt; works.first(), Some(61));
-    assert_eq!(rt; cancel(&mut works, 20, 1)?, Some(true));
-    assert_eq!(rt; cancel(&mut works, 20, 1)?, Some(false));
-    expire(&mut works, 61)?;
-    assert_eq!(rt; works.ready_len(), 1);
-    assert_eq!(rt; left(&works, 0), Some(Placed::Ready));
-    assert_eq!(rt; run_next(&mut works, 61, &jobs)?, Some((0, JobReply::Mark(7), None)));
-    assert_eq!(rt; run_next(&mut works, 61, &jobs)?, None);
-    assert_eq!(rt; works.time(), 61);
-    assert_eq!(rt; works.len(), 2);
-    let story = works.story();
-    assert_eq!(rt; story.get(0).copied(), Some((0, 0, End::Ran)));
-    assert_eq!(rt; story.get(1).copied(), Some((1, 1, End::Cancelled)));
-    assert_eq!(rt; story.len(), 2);
+    let answers = two_works_played(rt.alloc())?;
+    let placed = [
+        Some(Placed::Waiting(61)),
+        Some(Placed::Pending),
+        Some(Placed::Ready),
+    ];
+    assert_eq!(rt; answers.placed, placed);
+    assert_eq!(rt; answers.first, Some(61));
+    assert_eq!(rt; answers.cancelled, [Some(true), Some(false)]);
+    assert_eq!(rt; answers.ready, 1);
+    assert_eq!(rt; answers.left, Some(Placed::Ready));
+    assert_eq!(rt; answers.ran, [Some((0, JobReply::Mark(7), None)), None]);
+    assert_eq!(rt; answers.time, 61);
+    assert_eq!(rt; answers.told, 2);
     Ok(())
 }

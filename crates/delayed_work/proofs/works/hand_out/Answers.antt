@@ -1,4 +1,4 @@
-use Rattle.std.proofs.Common.{◌≡◌, ◌<◌, ◌^◌, arith, sym}
+use Rattle.std.proofs.Common.{arith, sym}
 use Rattle.delayed_work.proofs.Rounds.{hands_on_more, out_within}
 use Rattle.delayed_work.proofs.works.hand_out.Goals as goal
 

@@ -1,4 +1,4 @@
-use Rattle.std.proofs.Common.{◌≡◌, ◌<◌, ◌^◌, ◌+◌, arith}
+use Rattle.std.proofs.Common.{arith}
 use Rattle.delayed_work.proofs.Kept.{counts_more, kept_ready}
 use Rattle.delayed_work.proofs.ledger.Ledger.accept_ready.Goals as goal
 

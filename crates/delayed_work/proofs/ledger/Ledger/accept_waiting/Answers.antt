@@ -1,4 +1,3 @@
-use Rattle.std.proofs.Common.{◌≡◌}
 use Rattle.delayed_work.proofs.Kept.{kept_waiting}
 use Rattle.delayed_work.proofs.ledger.Ledger.accept_waiting.Goals as goal
 

@@ -1,4 +1,4 @@
-use Rattle.std.proofs.Common.{◌≡◌, ◌<◌, ◌^◌, ◌+◌, arith}
+use Rattle.std.proofs.Common.{arith}
 use Rattle.delayed_work.proofs.Kept.{before_read, counts_more, kept_come}
 use Rattle.delayed_work.proofs.ledger.Ledger.come_ready.Goals as goal
 

@@ -1,4 +1,4 @@
-use Rattle.std.proofs.Common.{◌≡◌, ◌<◌, ◌≤◌, refl, arith}
+use Rattle.std.proofs.Common.{refl, arith}
 use Rattle.delayed_work.proofs.Kept.{before_read, counts_one, kept_ready_ended, kept_waiting_ended}
 use Rattle.delayed_work.proofs.Kept.{told_within}
 use Rattle.delayed_work.proofs.ledger.Ledger.end.Goals as goal

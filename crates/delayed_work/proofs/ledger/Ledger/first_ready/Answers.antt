@@ -1,4 +1,4 @@
-use Rattle.std.proofs.Common.{◌≡◌, ◌<◌, ◌^◌, arith}
+use Rattle.std.proofs.Common.{arith}
 use Rattle.delayed_work.proofs.Kept.{first_low}
 use Rattle.delayed_work.proofs.ledger.Ledger.first_ready.Goals as goal
 

@@ -1,4 +1,4 @@
-use Rattle.std.proofs.Common.{◌≡◌, ◌-◌, ◌≤◌, ◌++◌}
+use Rattle.std.proofs.Common.{◌≡◌, ◌-◌, ◌++◌}
 use Rattle.delayed_work.specs.Play.{left_lines}
 use Rattle.delayed_work.proofs.player.Player.tell_works.Given as goal
 

@@ -1,8 +1,8 @@
-use Rattle.std.proofs.Common.{◌≡◌, ap, sym, ◌∙◌}
+use Rattle.std.proofs.Common.{ap, sym, ◌∙◌}
 use Rattle.cpu_bases.specs.CpuBases.{RoomyBases, cancelled}
 use Rattle.delayed_work.specs.declared.standing.End.TheVariants.{Cancelled}
-use Rattle.delayed_work.specs.Works.{WorksState, first_cpu}
-use Rattle.delayed_work.proofs.Lawful.{MayCall, cancelled_lawful, ended_lawful, lawful_as}
+use Rattle.delayed_work.specs.Works.{first_cpu}
+use Rattle.delayed_work.proofs.Lawful.{cancelled_lawful, ended_lawful, lawful_as}
 use Rattle.delayed_work.proofs.works.Works.cancel.Goals as goal
 
 pub invariant_of-self-in-Waiting : goal.invariant_of-self-in-Waiting

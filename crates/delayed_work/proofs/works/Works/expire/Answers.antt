@@ -1,6 +1,5 @@
-use Rattle.std.proofs.Common.{◌≡◌, ◌<◌, ◌≤◌, ◌^◌, ◌+◌, ap, sym, ◌∙◌, subst, length, arith}
+use Rattle.std.proofs.Common.{◌≡◌, ◌<◌, ap, sym, ◌∙◌, subst, length, arith}
 use Rattle.std.specs.Prelude.{All}
-use Rattle.tm_base.specs.declared.limits.TheConstants.{MOST_TIMERS}
 use Rattle.cpu_bases.specs.CpuBases.{CpuBases, RoomyBases, drained}
 use Rattle.tm_base.specs.declared.names.Class.TheVariants.{Global}
 use Rattle.wheel_core.specs.PlainBase.{NoneDue, PlainBase}

@@ -1,8 +1,8 @@
-use Rattle.std.proofs.Common.{◌≡◌, ap, sym, ◌∙◌}
+use Rattle.std.proofs.Common.{ap, sym, ◌∙◌}
 use Rattle.cpu_bases.specs.CpuBases.{RoomyBases}
 use Rattle.delayed_work.specs.Ledger.{LedgerState}
 use Rattle.delayed_work.specs.Works.{bases_queued, ledger_queued}
-use Rattle.delayed_work.proofs.Lawful.{MayCall, accepted_lawful, lawful_as}
+use Rattle.delayed_work.proofs.Lawful.{accepted_lawful, lawful_as}
 use Rattle.delayed_work.proofs.works.Works.queue.Goals as goal
 
 pub invariant_of-self-2 : goal.invariant_of-self-2

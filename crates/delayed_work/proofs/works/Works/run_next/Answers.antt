@@ -1,9 +1,9 @@
-use Rattle.std.proofs.Common.{◌≡◌, ◌<◌, ◌^◌, ap, sym, ◌∙◌, arith}
+use Rattle.std.proofs.Common.{◌<◌, ◌^◌, ap, sym, ◌∙◌, arith}
 use Rattle.cpu_bases.specs.CpuBases.{RoomyBases}
 use Rattle.delayed_work.specs.declared.standing.End.TheVariants.{Ran}
 use Rattle.delayed_work.specs.Ledger.{LedgerState, ended}
 use Rattle.delayed_work.specs.Works.{bases_queued, ledger_queued}
-use Rattle.delayed_work.proofs.Lawful.{MayCall, again_lawful, ended_lawful, first_within, lawful_as}
+use Rattle.delayed_work.proofs.Lawful.{again_lawful, ended_lawful, first_within, lawful_as}
 use Rattle.delayed_work.proofs.works.Works.run_next.Goals as goal
 
 pub standing-standing-requires : goal.standing-standing-requires
