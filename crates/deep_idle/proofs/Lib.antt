@@ -2,3 +2,4 @@ pub mod Queues
 pub mod Rooms
 pub mod Kept
 pub mod Waking
+pub mod Settled

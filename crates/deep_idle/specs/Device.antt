@@ -96,3 +96,8 @@ abbrev pub settled : (wakeups : ℕ → ℕ) → (cpus : ℕ) → DeviceState �
 settled wakeups zero device = device
 settled wakeups (suc cpu) device =
     settled_one (wanted (wakeups cpu)) cpu (settled wakeups cpu device)
+
+-- the sleepers are exactly the CPUs that have a wakeup before `NEVER`, each with it
+abbrev pub AreSettled : (wakeups : ℕ → ℕ) → DeviceState → Type 0
+AreSettled wakeups device =
+    (cpu : ℕ) → cpu < length device.sleepers → sleeper_of cpu device ≡ wanted (wakeups cpu)

@@ -8,3 +8,6 @@ mod settling;
 
 pub use device::Device;
 pub use settling::{Wakeups, settle};
+
+#[cfg(test)]
+mod tests;

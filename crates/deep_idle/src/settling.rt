@@ -2,7 +2,8 @@
 
 ghost use Rattle.std.specs.Prelude.{◌≡◌, ◌<◌, length, IfSome, None};
 ghost use Rattle.tm_base.specs.declared.names.TheConstants.{NEVER};
-ghost use Rattle.deep_idle.specs.Device.{is_same, risen, settled, settled_one, sleeper_of, wanted};
+ghost use Rattle.deep_idle.specs.Device.{AreSettled, DeviceLaw, is_same, risen, settled};
+ghost use Rattle.deep_idle.specs.Device.{settled_one, sleeper_of, wanted};
 
 use crate::Device;
 use tm_base::{CpuId, Jiffy, NEVER};
@@ -22,14 +23,18 @@ pub trait Wakeups {
 /// Makes the sleepers exactly the CPUs that have a wakeup before `NEVER`, each with it: by `rise`
 /// and `sleep` on those that differ, in ascending order.
 pub fn settle<W: Wakeups>(device: &mut Device, machine: &W)
-    ensures { device.new
+    ensures after { device.new
         ≡ settled (W.wakeups machine.now) (length device.old.sleepers) device.old }
+    ensures exactly { AreSettled (W.wakeups machine.now) device.new }
+    ensures len { length device.new.sleepers ≡ length device.old.sleepers }
+    ensures law { DeviceLaw device.new }
 {
     for cpu in 0..device.len() {
         let cpu = CpuId(cpu as u16);
         let want = want_of(machine.wakeup(cpu));
         settle_one(device, cpu, want);
     }
+    let _count = device.len();
 }
 
 /// Whether a CPU stands as it is wanted.

@@ -2,7 +2,7 @@ use Rattle.std.proofs.Common.{◌≡◌, ◌<◌, ◌≤◌, length, sym, ap, �
 use Rattle.tm_base.specs.CpuSet.{Cpus}
 use Rattle.tm_base.specs.declared.names.TheConstants.{NEVER}
 use Rattle.deep_idle.specs.Order.{first_wakeup}
-use Rattle.deep_idle.proofs.Queues.{last_pushed, sleeps_here}
+use Rattle.deep_idle.proofs.Queues.{last_pushed}
 use Rattle.deep_idle.proofs.Kept.{last_within}
 use Rattle.deep_idle.proofs.Waking.{Woken, all_woken, empty_later, first_later, none_woken, woken_more}
 use Rattle.deep_idle.proofs.device.wake_due.Goals as goal

@@ -1,8 +1,8 @@
-use Rattle.std.proofs.Common.{◌≡◌, ◌<◌, ◌≤◌, length, sym, ap, ◌∙◌, subst, arith, vec_capacity}
+use Rattle.std.proofs.Common.{◌≡◌, length, ap, ◌∙◌, subst, arith, vec_capacity}
 use Rattle.std.specs.Prelude.{map}
 use Rattle.std.proofs.lemmas.List.{length-map}
 use Rattle.deep_idle.specs.Device.{DeviceState, asleep_still, fired, least_wakeup}
-use Rattle.deep_idle.specs.Order.{IsKept, first_wakeup}
+use Rattle.deep_idle.specs.Order.{first_wakeup}
 use Rattle.deep_idle.proofs.Kept.{kept_as, kept_fired, law_kept, least_first}
 use Rattle.deep_idle.proofs.device.Device.fire.Goals as goal
 

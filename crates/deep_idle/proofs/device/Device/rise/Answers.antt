@@ -1,4 +1,4 @@
-use Rattle.std.proofs.Common.{◌≡◌, ◌<◌, ◌≤◌, length, sym, ap, ◌∙◌, subst, arith, vec_capacity}
+use Rattle.std.proofs.Common.{◌<◌, ◌≤◌, length, sym, ap, subst, arith, vec_capacity}
 use Rattle.std.specs.Prelude.{slice_set, None}
 use Rattle.deep_idle.specs.declared.order.Sleeper.{Sleeper}
 use Rattle.deep_idle.specs.Order.{IsIn}

@@ -1,5 +1,5 @@
-use Rattle.std.proofs.Common.{◌≡◌, ◌<◌, ◌≤◌, ◌∷◌, ◌++◌, length, sym, ap, ◌∙◌, subst, arith, rules}
-use Rattle.std.proofs.Common.{vec_capacity, vec_len, take, drop, min}
+use Rattle.std.proofs.Common.{◌≡◌, ◌∷◌, ◌++◌, length, sym, ap, ◌∙◌, arith, rules}
+use Rattle.std.proofs.Common.{vec_capacity, vec_len, take, drop}
 use Rattle.std.specs.Prelude.{slice_set, Some}
 use Rattle.deep_idle.specs.declared.order.Sleeper.{Sleeper}
 use Rattle.deep_idle.proofs.Kept.{kept_as, kept_slept, law_kept, room_left}

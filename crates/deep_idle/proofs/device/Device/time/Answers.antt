@@ -1,4 +1,4 @@
-use Rattle.std.proofs.Common.{◌≡◌, subst}
+use Rattle.std.proofs.Common.{subst}
 use Rattle.deep_idle.specs.Device.{DeviceLaw}
 use Rattle.deep_idle.proofs.Kept.{law_kept}
 use Rattle.deep_idle.proofs.device.Device.time.Goals as goal
