@@ -27,7 +27,7 @@ use Rattle.tm_driver.specs.Outcomes.{PlaysWhole, SaysFault, work_limit}
 use Rattle.tm_driver.specs.Plays.{BreaksPlay}
 
 -- the moments that are finished by a count of work have the same lines
-finished_seen : (limit work : ℕ) (ts : List (Turn World)) →
+pub finished_seen : (limit work : ℕ) (ts : List (Turn World)) →
     turn_lines (finished limit work (map turn_seen ts)) ≡ turn_lines (finished limit work ts)
 finished_seen limit work [] = refl
 finished_seen limit work (t ∷ ts) =

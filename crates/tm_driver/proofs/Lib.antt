@@ -1,7 +1,11 @@
 mod BySteps
+mod DeepSeen
+mod DeepTold
+mod Due
+mod NoDevice
 mod Onlines
+mod Playable
 mod Scripts
 mod Turns
 mod Unknown
 mod Wholes
-mod Playable

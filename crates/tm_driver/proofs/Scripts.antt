@@ -8,6 +8,7 @@ use Rattle.std.proofs.lemmas.List.Elements.{All-head, All-tail}
 use Rattle.tm_script.specs.declared.syntax.Moment.{Moment}
 use Rattle.play_rules.specs.Moments.{moment_at, moments_after, next_said}
 use Rattle.tm_driver.specs.Conditions.{Rise}
+use Rattle.tm_driver.specs.Following.{moment_of}
 
 -- what holds of a moment that comes, where it holds of all
 at_in_range : (P : Moment → Type 0) (now : ℕ) (ms : List Moment) → All P ms → ForSome (moment_at now ms) P
@@ -20,6 +21,18 @@ at_in_range P now (m ∷ ms) all =
 
 pub due_in_range : (P : Moment → Type 0) (now : ℕ) (ms : List Moment) (o : Option Moment) → o ≡ moment_at now ms → All P ms → ForSome o P
 due_in_range P now ms o is all = rw is (at_in_range P now ms all)
+
+-- and of the moment of a time
+of_in_range : (P : Moment → Type 0) (at : ℕ) (ms : List Moment) → All P ms → ForSome (moment_of at ms) P
+of_in_range P at [] all = λ m none. absurd (none-some m none)
+of_in_range P at (m ∷ ms) all =
+    elim (m.at == at) as (λ b. ForSome (if b then Some m else moment_of at ms) P) [
+      | true ↦ λ x is. subst P (same_Some m x is) (All-head P m ms all)
+      | false ↦ of_in_range P at ms (All-tail P m ms all)
+    ]
+
+pub found_in_range : (P : Moment → Type 0) (at : ℕ) (ms : List Moment) (o : Option Moment) → o ≡ moment_of at ms → All P ms → ForSome o P
+found_in_range P at ms o is all = rw is (of_in_range P at ms all)
 
 -- the moments behind it
 pub after_in_range : (P : Moment → Type 0) (now : ℕ) (ms : List Moment) → All P ms → All P (moments_after now ms)

@@ -17,7 +17,7 @@ use Rattle.tm_driver.specs.Outcomes.{BreaksOff, PlaysOut}
 
 module _ {S : Type 0} (jobs : Replies) (r : Rules S) (end : ℕ) where
   -- a moment before the end, and those behind it
-  turns_more : (m now : ℕ) (ms : List Moment) (s next : S) → now < end → next ≡ (turn jobs r ms now s).played.state
+  pub turns_more : (m now : ℕ) (ms : List Moment) (s next : S) → now < end → next ≡ (turn jobs r ms now s).played.state
       → turns jobs r (suc m) end now ms s
       ≡ turn jobs r ms now s ∷ turns jobs r m end (next_moment r end (moments_after now ms) next) (moments_after now ms) next
   unfolding turns
@@ -27,11 +27,11 @@ module _ {S : Type 0} (jobs : Replies) (r : Rules S) (end : ℕ) where
       (ap (λ u. turn jobs r ms now s ∷ turns jobs r m end (next_moment r end (moments_after now ms) u) (moments_after now ms) u) (sym state))
 
   -- the last moment
-  turns_last : (m now : ℕ) (ms : List Moment) (s : S) → now ≡ end → turns jobs r (suc m) end now ms s ≡ turn jobs r ms now s ∷ []
+  pub turns_last : (m now : ℕ) (ms : List Moment) (s : S) → now ≡ end → turns jobs r (suc m) end now ms s ≡ turn jobs r ms now s ∷ []
   unfolding turns
   turns_last m now ms s is = rw (eq-eqb now end is) refl
 
-  turns_some : (m now : ℕ) (ms : List Moment) (s : S) → (x : Turn S) × (xs : List (Turn S)) × (turns jobs r (suc m) end now ms s ≡ x ∷ xs)
+  pub turns_some : (m now : ℕ) (ms : List Moment) (s : S) → (x : Turn S) × (xs : List (Turn S)) × (turns jobs r (suc m) end now ms s ≡ x ∷ xs)
   unfolding turns
   turns_some m now ms s =
       elim (now == end) as (λ b. (x : Turn S) × (xs : List (Turn S))
@@ -42,19 +42,19 @@ module _ {S : Type 0} (jobs : Replies) (r : Rules S) (end : ℕ) where
 
 -- reading the count of work off a list of moments
 module _ {S : Type 0} (limit w : ℕ) (t : Turn S) where
-  spent_more : (rest : List (Turn S)) (u : Turn S) (us : List (Turn S)) → rest ≡ u ∷ us → nat_le limit (w + t.played.work) ≡ false
+  pub spent_more : (rest : List (Turn S)) (u : Turn S) (us : List (Turn S)) → rest ≡ u ∷ us → nat_le limit (w + t.played.work) ≡ false
       → spent_at limit w (t ∷ rest) ≡ spent_at limit (w + t.played.work) rest
   spent_more rest u us is below = rw (is, below) refl
 
-  spent_here : (rest : List (Turn S)) (u : Turn S) (us : List (Turn S)) → rest ≡ u ∷ us → nat_le limit (w + t.played.work) ≡ true
+  pub spent_here : (rest : List (Turn S)) (u : Turn S) (us : List (Turn S)) → rest ≡ u ∷ us → nat_le limit (w + t.played.work) ≡ true
       → spent_at limit w (t ∷ rest) ≡ Some (w + t.played.work)
   spent_here rest u us is reached = rw (is, reached) refl
 
-  finished_more : (rest : List (Turn S)) → nat_le limit (w + t.played.work) ≡ false
+  pub finished_more : (rest : List (Turn S)) → nat_le limit (w + t.played.work) ≡ false
       → finished limit w (t ∷ rest) ≡ t ∷ finished limit (w + t.played.work) rest
   finished_more rest below = rw below refl
 
-  finished_here : (rest : List (Turn S)) → nat_le limit (w + t.played.work) ≡ true → finished limit w (t ∷ rest) ≡ t ∷ []
+  pub finished_here : (rest : List (Turn S)) → nat_le limit (w + t.played.work) ≡ true → finished limit w (t ∷ rest) ≡ t ∷ []
   finished_here rest reached = rw reached refl
 
 last_push : {S : Type 0} (start : S) (ts : List (Turn S)) (t : Turn S) → last_state start (ts ++ t ∷ []) ≡ t.played.state
@@ -86,10 +86,10 @@ pub record SoFar {S : Type 0} (jobs : Replies) (r : Rules S) (end limit : ℕ) (
   pub spent : spent_at limit 0 whole ≡ spent_at limit work (turns jobs r (end + 1 - count) end now ms s)
   pub ended : finished limit 0 whole ≡ done ++ finished limit work (turns jobs r (end + 1 - count) end now ms s)
 
-below_test : (a b : ℕ) → b < a → nat_le a b ≡ false
+pub below_test : (a b : ℕ) → b < a → nat_le a b ≡ false
 below_test a b low = grind (arith, nat_tests)
 
-work_more : (a b c d : ℕ) → counted a ≡ counted (b + c) → counted b ≡ counted d → counted a ≡ counted (d + c)
+pub work_more : (a b c d : ℕ) → counted a ≡ counted (b + c) → counted b ≡ counted d → counted a ≡ counted (d + c)
 work_more a b c d first second = omega (arith, first, second)
 
 module _ {S : Type 0} (jobs : Replies) (r : Rules S) (end limit : ℕ) (whole : List (Turn S)) (start : S) (old : Progress) where

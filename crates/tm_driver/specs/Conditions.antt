@@ -38,6 +38,6 @@ pub record IsPlayable (cpus timers : ℕ) (script : Script) : Type 0 where
   pub rise : Rise 0 script.end script.moments
   pub in_time : script.end < SCRIPT_TIME_LIMIT
 
--- every CPU of a set is online (no public clause cites it)
+-- every CPU of a set is online
 abbrev pub AreOnline : {S : Type 0} → Rules S → S → FinSet nat_cmp → Type 0
 AreOnline r s cpus = (c : ℕ) → contains cpus c ≡ true → r.is_online s c ≡ true

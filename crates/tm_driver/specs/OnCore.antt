@@ -1,8 +1,9 @@
 -- a script's play on the core: the core that its last moment leaves, and what holds of the core
 -- after each moment
-use Rattle.std.specs.Prelude.{ℕ}
+use Rattle.std.specs.Prelude.{◌≡◌, ℕ, length}
 use Rattle.wheel_core.specs.declared.item.Item.{Item}
 use Rattle.tm_script.specs.declared.syntax.Script.{Script}
+use Rattle.tm_script.specs.Texts.{cpu_count}
 use Rattle.coverage.specs.Coverage.{IsAnsweredFor}
 use Rattle.play_rules.specs.Interrupts.{Replies}
 use Rattle.play_rules.specs.Moments.{AfterEach, last_state}
@@ -10,6 +11,11 @@ use Rattle.core_world.specs.Covered.{machine_of}
 use Rattle.core_world.specs.World.{World}
 use Rattle.core_facts.specs.Cover.Headline.{IsWaiting}
 use Rattle.step_play.specs.SamePlay.{IsPlayOfSteps, core_start, step_turns}
+
+-- a core has as many CPUs and timers as a script says
+pub record HasMachineOf (script : Script) (w : World) : Type 0 where
+  pub cpus : length w.cpus ≡ cpu_count script
+  pub timers : w.timers ≡ script.timers
 
 -- THE CORE that the last moment of the play made of steps leaves
 abbrev pub core_end : Replies → Script → World

@@ -6,7 +6,7 @@ use Rattle.tm_report.specs.declared.lines.Line.{Line}
 use Rattle.tm_report.specs.Lines.{report_text}
 use Rattle.tm_script.specs.declared.syntax.Script.{Script}
 use Rattle.play_rules.specs.Rules.{Rules}
-use Rattle.play_rules.specs.Parts.{Progress, counted}
+use Rattle.play_rules.specs.Parts.{Played, Progress, counted}
 use Rattle.play_rules.specs.Tallies.{no_lines, tallied_all}
 use Rattle.play_rules.specs.Interrupts.{Replies}
 use Rattle.play_rules.specs.Jobs.{first_unknown_job}
@@ -15,6 +15,14 @@ use Rattle.play_rules.specs.Moments.{whole_lines}
 use Rattle.tm_driver.specs.declared.outcomes.Counts.{Counts}
 use Rattle.tm_driver.specs.declared.outcomes.DriveFault.{DriveFault}
 use Rattle.tm_driver.specs.declared.outcomes.DriveFault.TheVariants.{BadJob, WorkSpent, NoMemory}
+
+-- a moment was played: the report has gained its lines, of which one tells each timer that was
+-- handed out, and the machine is in the state that it leaves
+pub record PlaysMoment {S : Type 0}
+    (p : Played S) (old new : List ℕ) (hand_outs : ℕ) (after : S) : Type 0 where
+  pub text : new ≡ old ++ report_text p.lines
+  pub hand_outs_are : hand_outs ≡ (tallied_all no_lines p.lines).runs
+  pub state : after ≡ p.state
 
 -- the limit of work by the version of a script
 abbrev pub work_limit : (version : ℕ) → ℕ

@@ -206,7 +206,7 @@ pub(crate) fn interrupts<M: Machine, J: Jobs>(
 }
 
 /// The CPUs that have an interrupt at the clock.
-pub(crate) fn having_interrupt<M: Machine>(machine: &M) -> CpuSet
+pub fn having_interrupt<M: Machine>(machine: &M) -> CpuSet
     ensures set { result ≡ having_interrupt M.rules (M.world machine.now) }
     ensures online { AreOnline M.rules (M.world machine.now) result }
 {

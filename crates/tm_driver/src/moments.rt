@@ -8,7 +8,9 @@ ghost use Rattle.play_rules.specs.Moments.{scripted, turn};
 ghost use Rattle.play_rules.specs.Parts.{Gains, Prints, counted};
 ghost use Rattle.play_rules.specs.Phases.{resting};
 ghost use Rattle.tm_base.specs.declared.limits.TheConstants.{SCRIPT_TIME_LIMIT};
-ghost use Rattle.tm_driver.specs.Outcomes.{EndsEarly, PlaysOut, script_turns, work_limit};
+ghost use Rattle.tm_driver.specs.Following.{moment_of};
+ghost use Rattle.tm_driver.specs.Outcomes.{EndsEarly, PlaysMoment, PlaysOut, script_turns};
+ghost use Rattle.tm_driver.specs.Outcomes.{work_limit};
 ghost use Rattle.tm_driver.specs.Conditions.{AreOnline, IsMomentInRange, IsPlayable};
 
 use crate::interrupts::{having_interrupt, interrupts};
@@ -18,7 +20,10 @@ use crate::outcomes::DriveFault;
 use crate::telling::Telling;
 use job_table::Jobs;
 use play_rules::Machine;
+use std::alloc::Global;
+use std::mem;
 use tm_base::{CpuSet, Jiffy, NoMemory, WORK_LIMIT_V1, WORK_LIMIT_V2};
+use tm_report::Report;
 use tm_script::{Moment, Script};
 
 /// What the script has for a moment: its operations, the timers of a CPU that went offline, and the
@@ -49,7 +54,7 @@ fn scripted<M: Machine>(
 
 /// One moment, of which the CPUs that have an interrupt are known: it may be handed others than
 /// those of the clock.
-fn moment<M: Machine, J: Jobs>(
+pub(crate) fn moment<M: Machine, J: Jobs>(
     machine: &mut M,
     jobs: &J,
     interrupted: &CpuSet,
@@ -76,7 +81,7 @@ fn moment<M: Machine, J: Jobs>(
 }
 
 /// The script's moment of a time, where these are still to come.
-fn moment_due(left: &[Moment], now: Jiffy) -> Option<&Moment>
+pub(crate) fn moment_due(left: &[Moment], now: Jiffy) -> Option<&Moment>
     ensures { option_copied result ≡ moment_at now left.now }
 {
     match left {
@@ -86,7 +91,7 @@ fn moment_due(left: &[Moment], now: Jiffy) -> Option<&Moment>
 }
 
 /// The moments that are still to come after a time.
-fn still_to_come(left: &[Moment], now: Jiffy) -> &[Moment]
+pub(crate) fn still_to_come(left: &[Moment], now: Jiffy) -> &[Moment]
     ensures { result.now ≡ moments_after now left.now }
 {
     match left {
@@ -120,6 +125,58 @@ fn turn<M: Machine, J: Jobs>(
     machine.set_clock(now);
     let interrupted = having_interrupt(machine);
     moment(machine, jobs, &interrupted, moment_due(left, now), telling)
+}
+
+/// The moment of a script at a time, where there is one.
+fn moment_of(moments: &[Moment], at: Jiffy) -> Option<&Moment>
+    ensures { option_copied result ≡ moment_of at moments.now }
+{
+    let mut left = moments;
+    while let [first, rest @ ..] = left {
+        if first.at == at {
+            return Some(first);
+        }
+        left = rest;
+    }
+    None
+}
+
+/// One moment of a script into a report, with the interrupts of these CPUs; how many timers were
+/// handed out.
+pub(crate) fn moment_by_itself<M: Machine, J: Jobs>(
+    alloc: Global,
+    machine: &mut M,
+    script: &Script,
+    jobs: &J,
+    at: Jiffy,
+    interrupts: &CpuSet,
+    report: &mut Report,
+) -> Result<u32, NoMemory>
+    requires playable { IsPlayable
+        (M.rules.cpus (M.world machine.old)) (M.rules.timers (M.world machine.old)) script.now }
+    requires not_back { M.rules.clock (M.world machine.old) ≤ at }
+    requires by_end { at ≤ script.now.end }
+    requires online { AreOnline M.rules
+        (M.rules.at_clock at (M.world machine.old)) interrupts.now }
+    requires fit { M.Fit resting (M.world machine.old) }
+    ensures plays { IfOk result (λ hand_outs.
+        PlaysMoment
+        (moment (J.replies jobs.now) M.rules interrupts.now (moment_of at script.now.moments)
+        (M.rules.at_clock at (M.world machine.old)))
+        report.old report.new hand_outs (M.world machine.new)) }
+    ensures clock { OnOk result (M.rules.clock (M.world machine.new) ≡ at) }
+    ensures same { OnOk result (SameBuild M.rules (M.world machine.old) (M.world machine.new)) }
+    ensures fit { OnOk result (M.Fit resting (M.world machine.new)) }
+    ensures gains { Gains report.old report.new }
+{
+    machine.set_clock(at);
+    let mut telling = Telling::new(mem::replace(report, Report::new(alloc)));
+    let due = moment_of(script.moments.as_slice(), at);
+    let played = moment(machine, jobs, interrupts, due, &mut telling);
+    let runs = telling.tally().runs;
+    *report = telling.into_report();
+    played?;
+    Ok(runs)
 }
 
 /// When the next moment comes, in jiffies: the next interrupt, the script's next moment or the end.
@@ -182,7 +239,7 @@ pub(crate) fn moments<M: Machine, J: Jobs>(
 }
 
 /// How much work a play may have before its last moment, by the version of its script.
-fn work_limit(version: u8) -> u32
+pub(crate) fn work_limit(version: u8) -> u32
     ensures { result ≡ work_limit version }
 {
     if version == 1 {

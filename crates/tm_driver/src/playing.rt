@@ -45,7 +45,7 @@ fn unknown_in_moment<J: Jobs>(moment: &Moment, jobs: &J) -> Option<UnknownJob>
 }
 
 /// The first operation of a script that names a job which the table hasn't.
-fn first_unknown_job<J: Jobs>(script: &Script, jobs: &J) -> Option<UnknownJob>
+pub(crate) fn first_unknown_job<J: Jobs>(script: &Script, jobs: &J) -> Option<UnknownJob>
     ensures { result ≡ first_unknown_job (J.count jobs.now) script.now.moments }
 {
     for moment in script.moments.as_slice() {

@@ -1,15 +1,21 @@
 //! Playing a script on the core.
 
-ghost use Rattle.std.specs.Prelude.{◌≡◌, IfErr, IfOk, OnOk};
+ghost use Rattle.std.specs.Prelude.{◌≡◌, ◌≤◌, IfErr, IfOk, OnOk};
 ghost use Rattle.tm_script.specs.Grammar.{IsScript};
+ghost use Rattle.play_rules.specs.Moments.{moment};
+ghost use Rattle.play_rules.specs.Parts.{Gains};
 ghost use Rattle.play_rules.specs.Play.{plain_rules, play_start};
 ghost use Rattle.step_play.specs.Rules.Seen.{InPlay, resting, state_of};
+ghost use Rattle.step_play.specs.Rules.StepRules.{step_rules};
 ghost use Rattle.step_play.specs.SamePlay.{core_start};
-ghost use Rattle.tm_driver.specs.OnCore.{core_end};
-ghost use Rattle.tm_driver.specs.Outcomes.{PlaysWhole};
+ghost use Rattle.tm_driver.specs.Conditions.{AreOnline};
+ghost use Rattle.tm_driver.specs.Following.{moment_of};
+ghost use Rattle.tm_driver.specs.OnCore.{HasMachineOf, core_end};
+ghost use Rattle.tm_driver.specs.Outcomes.{PlaysMoment, PlaysWhole};
 ghost use Rattle.tm_driver.specs.Plays.{BreaksPlay, BreaksSummary, LawsHold, LawsHoldOfEach};
 ghost use Rattle.tm_driver.specs.Plays.{PlaysToEnd, Summarizes, summary_with};
 
+use crate::moments::moment_by_itself;
 use crate::numbers::Summary;
 use crate::outcomes::{Counts, DriveFault};
 use crate::playing::play_on;
@@ -21,14 +27,14 @@ use job_table::Jobs;
 use play_laws::{law_ends, law_in_its_jiffy, law_moments, law_settled};
 use std::alloc::Global;
 use step_play::law_steps_are_play;
-use tm_base::{Jiffy, NoMemory};
+use tm_base::{CpuSet, Jiffy, NoMemory};
 use tm_report::Report;
 use tm_script::Script;
 use wheel_base::WheelBase;
 
 /// Every script's play is made of the core's steps, of which the headline holds; it goes on to the
 /// script's end, and keeps the laws of Play.
-fn law_plays()
+pub(crate) fn law_plays()
     ensures { LawsHoldOfEach }
 {
     law_moments();
@@ -40,7 +46,7 @@ fn law_plays()
 }
 
 /// The core at the start of a script, which is to play it.
-fn started(alloc: Global, script: &Script) -> Result<Player<WheelBase>, NoMemory>
+pub(crate) fn started(alloc: Global, script: &Script) -> Result<Player<WheelBase>, NoMemory>
     requires { IsScript script.now }
     ensures start { IfOk result (λ player. player ≡ core_start script.now) }
     ensures in_play { IfOk result (InPlay resting) }
@@ -95,6 +101,39 @@ pub fn play<J: Jobs>(
     let mut player = started(alloc, script)?;
     play_by_steps(alloc, &mut player, script, jobs, report)?;
     Ok(player.into_core())
+}
+
+/// Plays one moment of a script on a core, whose clock comes to it, with the interrupts of these
+/// CPUs, which are online; `play` plays each of its moments so, with the CPUs of
+/// `having_interrupt`. It answers how many timers were handed out; the count stands still at
+/// 2^32 - 1. After want of memory the core may stand anywhere within the moment, and the report may
+/// have gained a part of its lines.
+pub fn play_moment<J: Jobs>(
+    alloc: Global,
+    player: &mut Player<WheelBase>,
+    script: &Script,
+    jobs: &J,
+    at: Jiffy,
+    interrupts: &CpuSet,
+    report: &mut Report,
+) -> Result<u32, NoMemory>
+    requires script { IsScript script.now }
+    requires machine { HasMachineOf script.now player.old }
+    requires not_back { player.old.clock ≤ at }
+    requires by_end { at ≤ script.now.end }
+    requires online { AreOnline step_rules player.old interrupts.now }
+    requires in_play { InPlay resting player.old }
+    ensures plays { IfOk result (λ hand_outs.
+        PlaysMoment
+        (moment (J.replies jobs.now) step_rules interrupts.now (moment_of at script.now.moments)
+        (step_rules.at_clock at player.old))
+        report.old report.new hand_outs player.new) }
+    ensures clock { OnOk result (player.new.clock ≡ at) }
+    ensures machine { OnOk result (HasMachineOf script.now player.new) }
+    ensures in_play { OnOk result (InPlay resting player.new) }
+    ensures gains { Gains report.old report.new }
+{
+    moment_by_itself(alloc, player, script, jobs, at, interrupts, report)
 }
 
 /// The numbers of a play that ended there, of so many moments and lines.

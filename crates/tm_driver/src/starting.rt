@@ -6,6 +6,7 @@ ghost use Rattle.wheel_base.specs.Wheels.{no_base};
 ghost use Rattle.cpu_bases.specs.CpuBases.{empty_bases};
 ghost use Rattle.step_play.specs.Rules.Seen.{InPlay, resting};
 ghost use Rattle.step_play.specs.SamePlay.{core_start};
+ghost use Rattle.tm_driver.specs.OnCore.{HasMachineOf};
 
 use core_laws::law_start;
 use core_state::{Core, new_core};
@@ -55,6 +56,7 @@ pub fn start_core(alloc: Global, script: &Script) -> Result<Core<WheelBase>, NoM
     requires { IsScript script.now }
     ensures start { IfOk result (λ core. core ≡ core_start script.now) }
     ensures in_play { IfOk result (InPlay resting) }
+    ensures machine { IfOk result (HasMachineOf script.now) }
 {
     law_start();
     let tree = plan(alloc, script.nodes, script.cpus, &script.isolated)?;
