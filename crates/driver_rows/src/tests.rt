@@ -1,0 +1,81 @@
+use core_machine::Player;
+use job_table::{Job, JobTable, OneShot};
+use std::alloc::{AllocError, Global};
+use std::test::Fail;
+use tm_base::NoMemory;
+use tm_driver::{deep, having_interrupt, play_moment, start_core};
+use tm_report::Report;
+use tm_script::read_script;
+
+// A device that goes on as long as a CPU sleeps, and one that fires for a CPU that woke before: a
+// script beside its report, worked out by hand from the rules of docs/FORMATS.md.
+const ROWS: [(&[u8], &[u8]); 2] = [
+    (
+        b"tmig 1\nnodes 1\ncpus 2\ntimers 1\nat 10\narm 1 0 global 50 0 0\nidle 1\nat 20\nidle 0\n\
+          end 100\n",
+        b"arm 10 1 0 global 61\nidle 10 1 never\ncover 10 1 61 migrator 0:0 0\nidle 20 0 61\n\
+          cover 20 1 61 wake 0 61\ndevice 20 61\nrun 61 0 0 1 61 done\ndevice 61 never\nend 100\n",
+    ),
+    (
+        b"tmig 1\nnodes 1\ncpus 1\ntimers 1\nat 10\narm 0 0 pinned 50 0 0\nidle 0\nat 20\nwake 0\n\
+          end 100\n",
+        b"arm 10 0 0 pinned 61\nidle 10 0 61\ndevice 10 61\nwake 20 0\nrun 61 0 0 0 61 done\n\
+          device 61 never\nend 100\n",
+    ),
+];
+
+// A table of one job, which is done at once.
+fn one_job(alloc: Global) -> Result<JobTable, AllocError> {
+    let mut jobs: Vec<Box<dyn Job + Send + Sync>> = Vec::new(alloc);
+    jobs.push(Box::new(alloc, OneShot)?)?;
+    Ok(JobTable::new(jobs))
+}
+
+// Whether a script's play under a device has this text.
+fn has_text(alloc: Global, script: &[u8], text: &[u8]) -> Result<bool, AllocError> {
+    let jobs = one_job(alloc)?;
+    let mut report = Report::new(alloc);
+    let Ok(script) = read_script(alloc, script) else {
+        return Ok(false);
+    };
+    let told = deep(alloc, &script, &jobs, &mut report);
+    Ok(told.is_ok() && report.text() == text)
+}
+
+#[test]
+fn each_row_of_deep_idle_comes_to_its_report(rt: HostRuntime) -> Result<(), Fail> {
+    for (script, text) in ROWS {
+        assert!(rt; has_text(rt.alloc(), script, text)?);
+    }
+    Ok(())
+}
+
+// A script whose one timer is due at jiffy 51, by the wheel's rule for a delay of 50.
+const ONE_TIMER: &[u8] =
+    b"tmig 1\nnodes 1\ncpus 1\ntimers 1\nat 0\narm 0 0 global 50 0 0\nend 100\n";
+
+// What the moments at 0 and 51 of that script hand out, where they are played by themselves, and
+// whether they come to this text.
+fn hand_outs(alloc: Global, text: &[u8]) -> Result<Option<(u32, u32, bool)>, NoMemory> {
+    let jobs = one_job(alloc)?;
+    let mut report = Report::new(alloc);
+    let Ok(script) = read_script(alloc, ONE_TIMER) else {
+        return Ok(None);
+    };
+    if script.end < 51 {
+        return Ok(None);
+    }
+    let mut player = Player::new(alloc, start_core(alloc, &script)?);
+    let due = having_interrupt(&player);
+    let first = play_moment(alloc, &mut player, &script, &jobs, 0, &due, &mut report)?;
+    let due = having_interrupt(&player);
+    let second = play_moment(alloc, &mut player, &script, &jobs, 51, &due, &mut report)?;
+    Ok(Some((first, second, report.text() == text)))
+}
+
+#[test]
+fn a_moment_is_played_by_itself(rt: HostRuntime) -> Result<(), Fail> {
+    let text = b"arm 0 0 0 global 51\nrun 51 0 0 0 51 done\n";
+    assert_eq!(rt; hand_outs(rt.alloc(), text)?, Some((0, 1, true)));
+    Ok(())
+}
