@@ -5,23 +5,30 @@ use Rattle.std.specs.Prelude.{◌⊎◌, String, Vec, Result, Ok, Err, IfOk, Mat
 use Rattle.std.specs.declared.alloc.Global.{Global}
 use Rattle.std.specs.Io.KnownBytes.{Appends}
 use Rattle.tm_io.specs.Seen.{SourceSeen, SourceUnbroken, SinkSeen}
-use Rattle.tm_script.specs.declared.syntax.Script.{Script}
+use Rattle.tm_script.specs.declared.faults.ScriptFault.{ScriptFault}
 use Rattle.play_rules.specs.Interrupts.{Replies}
 use Rattle.script_main.specs.declared.commands.Command.{Command}
+use Rattle.script_main.specs.declared.inputs.Form.{Form}
+use Rattle.script_main.specs.declared.inputs.Input.{Input}
 use Rattle.script_main.specs.declared.replies.Reply.{Reply}
 use Rattle.script_main.specs.declared.replies.Reply.TheVariants.{Usage, ReadFault, TooLong, Refused}
 use Rattle.script_main.specs.declared.replies.Reply.TheVariants.{JobUnknown, WorkSpent, Played}
 use Rattle.script_main.specs.declared.replies.Reply.TheVariants.{Made}
 use Rattle.script_main.specs.declared.statuses.TheConstants.{DONE, USAGE, NO_MEMORY, WRITE_FAULT}
 use Rattle.script_main.specs.declared.statuses.TheConstants.{WORK_SPENT, JOB_UNKNOWN}
-use Rattle.script_main.specs.Words.{command_of, IsPlayer}
-use Rattle.script_main.specs.Scripts.{IsOutput}
-use Rattle.script_main.specs.Replies.{IsReply, IsReplyBy, LacksJob, RepliesToScript, SpendsWork}
-use Rattle.script_main.specs.Replies.{reply_text, status_written, status_broken}
+use Rattle.script_main.specs.Words.{command_of, form_of, recipe_in, IsPlayer}
+use Rattle.script_main.specs.Scripts.{IsOutput, LacksJob}
+use Rattle.script_main.specs.Replies.{IsReply, IsReplyBy, RepliesToInput, SpendsWork}
+use Rattle.script_main.specs.Replies.{reply_text, refused_status, status_written, status_broken}
+use Rattle.script_main.specs.Replies.{ReadsNone}
 use Rattle.script_main.specs.Ends.{EndsAs, EndsUnwritten, EndsWith, WritesAll, WritesFront, Writes}
 use Rattle.script_main.specs.Ends.{whole, part, wanting, unwritten}
-use Rattle.script_main.specs.Statuses.{HasScript, SaysDone, SaysJobUnknown, SaysNoMemory}
-use Rattle.script_main.specs.Statuses.{SaysWorkSpent, SaysWriteFault, WritesReplyFront}
+use Rattle.script_main.specs.Statuses.{HasInput, SaysDone, SaysJobUnknown}
+use Rattle.script_main.specs.Statuses.{SaysNoMemory, SaysRefusedAs, SaysWorkSpent}
+use Rattle.script_main.specs.Statuses.{SaysWriteFault, WritesReplyFront}
+use Rattle.script_main.proofs.Refusals.{is_refusal, no_break, no_want, no_done}
+use Rattle.script_main.proofs.Refusals.{no_job, no_work, never_write_fault, never_no_memory}
+use Rattle.script_main.proofs.Refusals.{broken_output, own_of_broken, never_broken_done}
 
 -- ---- how a text was written
 
@@ -58,72 +65,6 @@ module _ (k m : SinkSeen) (status : ℕ) where
   by_end text all broken x (wanting count front sound e) at f g h = h (sym e ∙ at)
   by_end text all broken x (unwritten e) at f g h = h (sym e.1 ∙ at)
 
--- ---- which replies have which status
-
-never_write_fault : (reply : Reply) → status_written reply ≡ WRITE_FAULT → ⊥
-never_write_fault Usage e = cc
-never_write_fault ReadFault e = cc
-never_write_fault TooLong e = cc
-never_write_fault (Refused fault) e = cc
-never_write_fault (JobUnknown line job) e = cc
-never_write_fault (WorkSpent count) e = cc
-never_write_fault (Played text) e = cc
-never_write_fault (Made text) e = cc
-
-never_no_memory : (reply : Reply) → status_written reply ≡ NO_MEMORY → ⊥
-never_no_memory Usage e = cc
-never_no_memory ReadFault e = cc
-never_no_memory TooLong e = cc
-never_no_memory (Refused fault) e = cc
-never_no_memory (JobUnknown line job) e = cc
-never_no_memory (WorkSpent count) e = cc
-never_no_memory (Played text) e = cc
-never_no_memory (Made text) e = cc
-
-broken_output : (reply : Reply) → status_broken reply ≡ WRITE_FAULT → status_written reply ≡ DONE
-broken_output Usage e = cc
-broken_output ReadFault e = cc
-broken_output TooLong e = cc
-broken_output (Refused fault) e = cc
-broken_output (JobUnknown line job) e = cc
-broken_output (WorkSpent count) e = cc
-broken_output (Played text) e = refl
-broken_output (Made text) e = refl
-
--- the status of a broken sink is that of an output or the reply's own
-broken_own : (reply : Reply)
-    → (status_broken reply ≡ WRITE_FAULT) ⊎ (status_broken reply ≡ status_written reply)
-broken_own Usage = inr refl
-broken_own ReadFault = inr refl
-broken_own TooLong = inr refl
-broken_own (Refused fault) = inr refl
-broken_own (JobUnknown line job) = inr refl
-broken_own (WorkSpent count) = inr refl
-broken_own (Played text) = inl refl
-broken_own (Made text) = inl refl
-
-own_of_broken : (reply : Reply) (x : ℕ) → (WRITE_FAULT ≡ x → ⊥) → status_broken reply ≡ x
-    → status_written reply ≡ x
-own_of_broken reply x not e =
-    elim (broken_own reply) [ inl b ↦ absurd (not (sym b ∙ e)) | inr b ↦ sym b ∙ e ]
-
-never_broken_done : (reply : Reply) → status_broken reply ≡ DONE → ⊥
-never_broken_done reply e =
-    elim (broken_own reply) [
-      | inl b ↦ absurd (let no : WRITE_FAULT ≡ DONE = sym b ∙ e in cc)
-      | inr b ↦ no_output reply (sym b ∙ e) (sym b)
-    ]
-  where
-    no_output : (r : Reply) → status_written r ≡ DONE → status_written r ≡ status_broken r → ⊥
-    no_output Usage e b = cc
-    no_output ReadFault e b = cc
-    no_output TooLong e b = cc
-    no_output (Refused fault) e b = cc
-    no_output (JobUnknown line job) e b = cc
-    no_output (WorkSpent count) e b = cc
-    no_output (Played text) e b = cc
-    no_output (Made text) e b = cc
-
 -- ---- what a reply with its own status rests on
 
 -- how a run ended that came to a reply
@@ -136,32 +77,32 @@ pub record Ended (jobs : Replies) (table : ℕ) (words : List (String Global)) (
 module _ (jobs : Replies) (table : ℕ) (words : List (String Global)) (s t : SourceSeen) where
   record Outputs (reply : Reply) : Type 0 where
     command : Command
-    script : Script
-    has : HasScript words s t command script
-    output : IsOutput jobs table command script (reply_text reply)
+    input : Input
+    has : HasInput words s t command input
+    output : IsOutput jobs table command input (reply_text reply)
 
   record Lacks (reply : Reply) : Type 0 where
     command : Command
-    script : Script
-    has : HasScript words s t command script
+    input : Input
+    has : HasInput words s t command input
     plays : IsPlayer command
     line : ℕ
     job : ℕ
-    lacks : LacksJob table script line job
+    lacks : LacksJob table input line job
     is : reply ≡ JobUnknown line job
 
   record Spends (reply : Reply) : Type 0 where
     command : Command
-    script : Script
-    has : HasScript words s t command script
+    input : Input
+    has : HasInput words s t command input
     plays : IsPlayer command
     count : ℕ
-    spends : SpendsWork jobs table script count
+    spends : SpendsWork jobs table input count
     is : reply ≡ WorkSpent count
 
-  has_script : (command : Command) → command_of words ≡ Some command → (reply : Reply)
-      → (r : RepliesToScript jobs table command s t reply) → HasScript words s t command r.script
-  has_script command named reply r =
+  has_input : (command : Command) → command_of words ≡ Some command → (reply : Reply)
+      → (r : RepliesToInput jobs table command s t reply) → HasInput words s t command r.input
+  has_input command named reply r =
       record { named = named; brought = r.brought; unbroken = r.unbroken }
 
   no_usage : (reply : Reply) (x : ℕ) → reply ≡ Usage → status_written reply ≡ x → USAGE ≡ x
@@ -173,19 +114,19 @@ module _ (jobs : Replies) (table : ℕ) (words : List (String Global)) (s t : So
   outputs (Some command) named Usage is at = cc
   outputs (Some command) named ReadFault is at = cc
   outputs (Some command) named TooLong is at = cc
-  outputs (Some command) named (Refused fault) is at = cc
+  outputs (Some command) named (Refused form fault) is at = absurd (no_done form (sym at))
   outputs (Some command) named (JobUnknown line job) is at = cc
   outputs (Some command) named (WorkSpent count) is at = cc
   outputs (Some command) named (Played text) is at = record {
     command = command;
-    script = is.script;
-    has = has_script command named (Played text) is;
+    input = is.input;
+    has = has_input command named (Played text) is;
     output = is.reply_is;
   }
   outputs (Some command) named (Made text) is at = record {
     command = command;
-    script = is.script;
-    has = has_script command named (Made text) is;
+    input = is.input;
+    has = has_input command named (Made text) is;
     output = is.reply_is;
   }
 
@@ -195,11 +136,11 @@ module _ (jobs : Replies) (table : ℕ) (words : List (String Global)) (s t : So
   lacks_job (Some command) named Usage is at = cc
   lacks_job (Some command) named ReadFault is at = cc
   lacks_job (Some command) named TooLong is at = cc
-  lacks_job (Some command) named (Refused fault) is at = cc
+  lacks_job (Some command) named (Refused form fault) is at = absurd (no_job form (sym at))
   lacks_job (Some command) named (JobUnknown line job) is at = record {
     command = command;
-    script = is.script;
-    has = has_script command named (JobUnknown line job) is;
+    input = is.input;
+    has = has_input command named (JobUnknown line job) is;
     plays = is.reply_is.0;
     line = line;
     job = job;
@@ -216,12 +157,12 @@ module _ (jobs : Replies) (table : ℕ) (words : List (String Global)) (s t : So
   spends_work (Some command) named Usage is at = cc
   spends_work (Some command) named ReadFault is at = cc
   spends_work (Some command) named TooLong is at = cc
-  spends_work (Some command) named (Refused fault) is at = cc
+  spends_work (Some command) named (Refused form fault) is at = absurd (no_work form (sym at))
   spends_work (Some command) named (JobUnknown line job) is at = cc
   spends_work (Some command) named (WorkSpent count) is at = record {
     command = command;
-    script = is.script;
-    has = has_script command named (WorkSpent count) is;
+    input = is.input;
+    has = has_input command named (WorkSpent count) is;
     plays = is.reply_is.0;
     count = count;
     spends = is.reply_is.1;
@@ -229,6 +170,38 @@ module _ (jobs : Replies) (table : ℕ) (words : List (String Global)) (s t : So
   }
   spends_work (Some command) named (Played text) is at = cc
   spends_work (Some command) named (Made text) is at = cc
+
+  record Refuses (form : Form) (reply : Reply) : Type 0 where
+    command : Command
+    named : command_of words ≡ Some command
+    reader : recipe_in command ≡ None
+    form_is : form_of command ≡ form
+    unbroken : SourceUnbroken s t
+    fault : ScriptFault
+    read : ReadsNone form s t fault
+    is : reply ≡ Refused form fault
+
+  refusal_by : (form : Form) (fault : ScriptFault) (o : Option Command) → command_of words ≡ o
+      → IsReplyBy jobs table o s t (Refused form fault) → Refuses form (Refused form fault)
+  refusal_by form fault None named is = cc
+  refusal_by form fault (Some command) named is = record {
+    command = command;
+    named = named;
+    reader = is.0;
+    form_is = is.2;
+    unbroken = is.1;
+    fault = fault;
+    read = is.3;
+    is = refl;
+  }
+
+  refusal_of : (form : Form) (reply : Reply) → IsReply jobs table words s t reply
+      → status_written reply ≡ refused_status form → Refuses form reply
+  refusal_of form reply is at =
+      let refusal = is_refusal form reply at in
+      let Is : Reply → Type 0 = λ r. IsReply jobs table words s t r in
+      subst (λ r. Refuses form r) (sym refusal.1)
+      (refusal_by form refusal.0 (command_of words) refl (subst Is refusal.1 is))
 
   -- nothing was put: the reply's text isn't empty, or the source didn't fail
   module _ (k m : SinkSeen) (same : m ≡ k) where
@@ -256,13 +229,13 @@ module _ (jobs : Replies) (table : ℕ) (words : List (String Global)) (s t : So
       front = (lit< tt, no_change k m same);
     })
     nothing_put None TooLong by is = cc
-    nothing_put None (Refused fault) by is = cc
+    nothing_put None (Refused form fault) by is = cc
     nothing_put None (JobUnknown line job) by is = cc
     nothing_put None (WorkSpent count) by is = cc
     nothing_put None (Played text) by is = cc
     nothing_put None (Made text) by is = cc
     nothing_put (Some command) TooLong by is = sound_source by.1
-    nothing_put (Some command) (Refused fault) by is = sound_source by.1
+    nothing_put (Some command) (Refused form fault) by is = sound_source by.1
     nothing_put (Some command) (JobUnknown line job) by is = sound_source by.unbroken
     nothing_put (Some command) (WorkSpent count) by is = sound_source by.unbroken
     nothing_put (Some command) (Played text) by is = sound_source by.unbroken
@@ -296,7 +269,7 @@ module _ {jobs : Replies} {table : ℕ} {words : List (String Global)} {s t : So
       by DONE at
       (λ own w. let out = out_of own in record {
         command = out.command;
-        script = out.script;
+        input = out.input;
         has = out.has;
         text = reply_text e.reply;
         output = out.output;
@@ -309,7 +282,7 @@ module _ {jobs : Replies} {table : ℕ} {words : List (String Global)} {s t : So
       by WRITE_FAULT at (λ own w. absurd (never_write_fault e.reply own))
       (λ own w. let out = out_of (broken_output e.reply own) in record {
         command = out.command;
-        script = out.script;
+        input = out.input;
         has = out.has;
         text = reply_text e.reply;
         output = out.output;
@@ -339,7 +312,7 @@ module _ {jobs : Replies} {table : ℕ} {words : List (String Global)} {s t : So
       let Wrote : Reply → Type 0 = λ r. Writes (reply_text r) k m in
       record {
         command = no.command;
-        script = no.script;
+        input = no.input;
         has = no.has;
         plays = no.plays;
         line = no.line;
@@ -360,7 +333,7 @@ module _ {jobs : Replies} {table : ℕ} {words : List (String Global)} {s t : So
       let Wrote : Reply → Type 0 = λ r. Writes (reply_text r) k m in
       record {
         command = no.command;
-        script = no.script;
+        input = no.input;
         has = no.has;
         plays = no.plays;
         count = no.count;
@@ -372,3 +345,24 @@ module _ {jobs : Replies} {table : ℕ} {words : List (String Global)} {s t : So
   says_work_spent at =
       by WORK_SPENT at (λ own w. work_said own (inl w))
       (λ own w. work_said (own_of_broken e.reply WORK_SPENT (λ no. cc) own) (inr w)) (λ own. cc)
+
+  refusal_said : (form : Form) → status_written e.reply ≡ refused_status form
+      → Writes (reply_text e.reply) k m → SaysRefusedAs form words s t k m
+  refusal_said form own w =
+      let no = refusal_of jobs table words s t form e.reply e.is own in
+      let Wrote : Reply → Type 0 = λ r. Writes (reply_text r) k m in
+      record {
+        reads = (no.command, no.named, no.reader, no.form_is);
+        unbroken = no.unbroken;
+        fault = no.fault;
+        read = no.read;
+        writes = subst Wrote no.is w;
+      }
+
+  pub says_refused : (form : Form) → status ≡ refused_status form
+      → SaysRefusedAs form words s t k m
+  says_refused form at =
+      by (refused_status form) at (λ own w. refusal_said form own (inl w))
+      (λ own w. refusal_said form (own_of_broken e.reply (refused_status form) (no_break form) own)
+      (inr w))
+      (λ own. absurd (no_want form own))

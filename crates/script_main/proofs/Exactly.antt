@@ -7,29 +7,32 @@ use Rattle.std.specs.Io.KnownBytes.{Consumes, IsAtEnd}
 use Rattle.tm_base.specs.declared.limits.TheConstants.{MOST_BYTES}
 use Rattle.tm_io.specs.Seen.{SourceSeen, SourceFailed, SinkSeen}
 use Rattle.tm_io.specs.Sources.{TakesAll, TakesCount}
-use Rattle.tm_script.specs.declared.syntax.Script.{Script}
-use Rattle.tm_script.specs.Grammar.{Spells}
+use Rattle.tm_script.specs.declared.faults.ScriptFault.{ScriptFault}
 use Rattle.play_rules.specs.Interrupts.{Replies}
 use Rattle.play_rules.specs.Parts.{counted}
-use Rattle.tm_driver.specs.Plays.{CanPlay}
 use Rattle.script_main.specs.declared.commands.Recipe.{Recipe}
 use Rattle.script_main.specs.declared.commands.Command.{Command}
 use Rattle.script_main.specs.declared.commands.Command.TheVariants as commands
+use Rattle.script_main.specs.declared.inputs.Form.{Form}
+use Rattle.script_main.specs.declared.inputs.Form.TheVariants as forms
+use Rattle.script_main.specs.declared.inputs.Input.{Input}
+use Rattle.script_main.specs.declared.inputs.Input.TheVariants as inputs
 use Rattle.script_main.specs.declared.replies.Reply.{Reply}
 use Rattle.script_main.specs.declared.replies.Reply.TheVariants.{Usage, ReadFault, TooLong, Refused}
 use Rattle.script_main.specs.declared.replies.Reply.TheVariants.{JobUnknown, WorkSpent, Played}
 use Rattle.script_main.specs.declared.replies.Reply.TheVariants.{Made}
 use Rattle.script_main.specs.declared.statuses.TheConstants.{DONE, NO_MEMORY, READ_FAULT}
-use Rattle.script_main.specs.declared.statuses.TheConstants.{SCRIPT_REFUSED, WRITE_FAULT}
-use Rattle.script_main.specs.declared.statuses.TheConstants.{WORK_SPENT}
+use Rattle.script_main.specs.declared.statuses.TheConstants.{WRITE_FAULT, WORK_SPENT}
 use Rattle.script_main.specs.declared.statuses.TheConstants.{JOB_UNKNOWN}
-use Rattle.script_main.specs.Words.{recipe_in, IsPlayer}
-use Rattle.script_main.specs.Scripts.{BringsBy, IsOutput, spent_by}
-use Rattle.script_main.specs.Replies.{IsReplyBy, IsReplyTo, RepliesToScript, reply_text}
+use Rattle.script_main.specs.Inputs.{IsInputRefusalOf, SpellsInput}
+use Rattle.script_main.specs.Words.{form_of, recipe_in, IsPlayer}
+use Rattle.script_main.specs.Scripts.{BringsBy, CanEnd, IsOutput, KnowsJobs, LacksJob}
+use Rattle.script_main.specs.Replies.{IsReplyBy, IsReplyTo, RepliesToInput, refused_status}
+use Rattle.script_main.specs.Replies.{ReadsNone, reply_text}
 use Rattle.script_main.specs.Ends.{Breaks, EndsAs, EndsWith, whole, part, wanting, unwritten}
 use Rattle.script_main.specs.Statuses.{IsEither}
-use Rattle.script_main.specs.Causes.{Asks, HasScriptText, IsFine, IsJobUnknown, IsRefused}
-use Rattle.script_main.specs.Causes.{IsScriptBy, IsWorkSpent}
+use Rattle.script_main.specs.Causes.{Asks, HasText, IsFine, IsInputBy, IsJobUnknown}
+use Rattle.script_main.specs.Causes.{IsRefusedAs, IsWorkSpent}
 use Rattle.script_main.proofs.Endings.{Ended}
 
 -- ---- bytes that a source tells
@@ -85,50 +88,76 @@ module _ (text : List ℕ) (k m : SinkSeen) (status : ℕ) where
   out_whole (wanting count front so e) sound = inr e
   out_whole (unwritten e) sound = inr e.1
 
--- ---- the script that is asked for is the one that is replied to
+-- ---- the input that is asked for is the one that is replied to
 
--- a player's output is that of a script that can be played
-out_plays : (jobs : Replies) (table : ℕ) (command : Command) (script : Script) (text : List ℕ)
-    → IsPlayer command → IsOutput jobs table command script text → CanPlay jobs table script
-out_plays jobs table commands.Play script text plays out = out.can_play
-out_plays jobs table commands.Tree script text plays out = absurd plays
-out_plays jobs table (commands.Generate recipe) script text plays out = absurd plays
-out_plays jobs table (commands.Day recipe) script text plays out = out.can_play
+-- bytes that are refused spell no input of that form
+refuses : (form : Form) (bytes : List ℕ) (fault : ScriptFault) → IsInputRefusalOf form bytes fault
+    → (input : Input) → SpellsInput form bytes input → ⊥
+refuses forms.Script bytes fault is (inputs.Script script) spelled = is.1 script spelled
+refuses forms.Script bytes fault is (inputs.Trace trace) spelled = spelled
+refuses forms.Trace bytes fault is (inputs.Script script) spelled = spelled
+refuses forms.Trace bytes fault is (inputs.Trace trace) spelled = is.1 trace spelled
 
-same_script : (s t : SourceSeen) (r : Option Recipe) (x y : Script) → BringsBy r s t x
-    → IsScriptBy r s.left y → x ≡ y
-same_script s t None x y brought asked =
-    let Spelled : List ℕ → Type 0 = λ bs. Spells bs y in
+-- a job that the table hasn't isn't known
+not_both : (table : ℕ) (input : Input) (line job : ℕ) → LacksJob table input line job
+    → KnowsJobs table input → ⊥
+not_both table (inputs.Script script) line job lacks known = cc (lacks, known)
+not_both table (inputs.Trace trace) line job lacks known = lacks
+
+-- a player's output is that of an input that can be played
+out_plays : (jobs : Replies) (table : ℕ) (command : Command) (input : Input) (text : List ℕ)
+    → IsPlayer command → IsOutput jobs table command input text → CanEnd jobs table input
+out_plays jobs table commands.Play (inputs.Script script) text plays out =
+    record { known = out.can_play.known; within = ap (option_map counted) out.can_play.within }
+out_plays jobs table commands.Play (inputs.Trace trace) text plays out = absurd out
+out_plays jobs table commands.Tree input text plays out = absurd plays
+out_plays jobs table (commands.Generate recipe) input text plays out = absurd plays
+out_plays jobs table (commands.Day recipe) (inputs.Script script) text plays out =
+    record { known = out.can_play.known; within = ap (option_map counted) out.can_play.within }
+out_plays jobs table (commands.Day recipe) (inputs.Trace trace) text plays out = absurd out
+
+same_input : (s t : SourceSeen) (r : Option Recipe) (form : Form) (x y : Input)
+    → BringsBy r form s t x → IsInputBy r form s.left y → x ≡ y
+same_input s t None form x y brought asked =
+    let Spelled : List ℕ → Type 0 = λ bs. SpellsInput form bs y in
     let same = all_known s t asked.bytes asked.has.left_are brought.bytes brought.read in
     sym (brought.only y (subst Spelled same asked.spelled))
-same_script s t (Some recipe) x y brought asked = brought.made ∙ sym asked
+same_input s t (Some recipe) form x y brought asked = brought.made ∙ sym asked
 
 module _ (jobs : Replies) (table : ℕ) (words : List (String Global)) (s t : SourceSeen)
-    (command : Command) (script : Script) (asks : Asks words s.left command script) where
-  text_asked : recipe_in command ≡ None → HasScriptText s.left script
+    (command : Command) (input : Input) (asks : Asks words s.left command input) where
+  text_asked : recipe_in command ≡ None → HasText (form_of command) s.left input
   text_asked reader =
-      let By : Option Recipe → Type 0 = λ o. IsScriptBy o s.left script in
-      subst By reader asks.script_is
+      let By : Option Recipe → Type 0 = λ o. IsInputBy o (form_of command) s.left input in
+      subst By reader asks.input_is
 
-  to_asked : (reply : Reply) → RepliesToScript jobs table command s t reply
-      → IsReplyTo jobs table command script reply
+  to_asked : (reply : Reply) → RepliesToInput jobs table command s t reply
+      → IsReplyTo jobs table command input reply
   to_asked reply is =
-      let To : Script → Type 0 = λ x. IsReplyTo jobs table command x reply in
-      let same = same_script s t (recipe_in command) is.script script is.brought asks.script_is in
+      let To : Input → Type 0 = λ x. IsReplyTo jobs table command x reply in
+      let same =
+      same_input s t (recipe_in command) (form_of command) is.input input is.brought asks.input_is in
       subst To same is.reply_is
 
+  -- bytes that spell the input aren't refused
+  not_refused : (fault : ScriptFault) → recipe_in command ≡ None
+      → ReadsNone (form_of command) s t fault → ⊥
+  not_refused fault reader is =
+      let text = text_asked reader in
+      let Spelled : List ℕ → Type 0 = λ bs. SpellsInput (form_of command) bs input in
+      let same = all_known s t text.bytes text.has.left_are is.bytes is.read in
+      refuses (form_of command) is.bytes fault is.refusal input (subst Spelled same text.spelled)
+
   answered_by : (reply : Reply) → IsReplyBy jobs table (Some command) s t reply
-      → ((reply ≡ ReadFault) × SourceFailed s t) ⊎ IsReplyTo jobs table command script reply
+      → ((reply ≡ ReadFault) × SourceFailed s t) ⊎ IsReplyTo jobs table command input reply
   answered_by Usage is = absurd is
   answered_by ReadFault is = inl (refl, is.1)
   answered_by TooLong is =
       let text = text_asked is.0 in
       absurd (not_many s t text.bytes text.has.left_are text.has.few is.2)
-  answered_by (Refused fault) is =
-      let text = text_asked is.0 in
-      let Spelled : List ℕ → Type 0 = λ bs. Spells bs script in
-      let same = all_known s t text.bytes text.has.left_are is.2.bytes is.2.read in
-      absurd (is.2.refusal.1 script (subst Spelled same text.spelled))
+  answered_by (Refused form fault) is =
+      let Read : Form → Type 0 = λ f. ReadsNone f s t fault in
+      absurd (not_refused fault is.0 (subst Read (sym is.2) is.3))
   answered_by (JobUnknown line job) is = inr (to_asked (JobUnknown line job) is)
   answered_by (WorkSpent count) is = inr (to_asked (WorkSpent count) is)
   answered_by (Played text) is = inr (to_asked (Played text) is)
@@ -138,12 +167,12 @@ module _ (jobs : Replies) (table : ℕ) (words : List (String Global)) (s t : So
 
 module _ {jobs : Replies} {table : ℕ} {words : List (String Global)} {s t : SourceSeen}
     {k m : SinkSeen} {status : ℕ} (e : Ended jobs table words s t k m status) where
-  -- the reply to a script that is asked for, unless the source failed
-  answered : (command : Command) (script : Script) → Asks words s.left command script
-      → ((e.reply ≡ ReadFault) × SourceFailed s t) ⊎ IsReplyTo jobs table command script e.reply
-  answered command script asks =
+  -- the reply to an input that is asked for, unless the source failed
+  answered : (command : Command) (input : Input) → Asks words s.left command input
+      → ((e.reply ≡ ReadFault) × SourceFailed s t) ⊎ IsReplyTo jobs table command input e.reply
+  answered command input asks =
       let By : Option Command → Type 0 = λ o. IsReplyBy jobs table o s t e.reply in
-      answered_by jobs table words s t command script asks e.reply (subst By asks.named e.is)
+      answered_by jobs table words s t command input asks e.reply (subst By asks.named e.is)
 
   -- a fault of the source, where the status isn't its own
   no_read_fault : e.reply ≡ ReadFault → status ≢ READ_FAULT → status ≡ NO_MEMORY
@@ -156,75 +185,71 @@ module _ {jobs : Replies} {table : ℕ} {words : List (String Global)} {s t : So
 
   -- job unknown
   job_to : (j : IsJobUnknown table words s.left) (reply : Reply)
-      → IsReplyTo jobs table j.command j.script reply → EndsAs reply k m status
+      → IsReplyTo jobs table j.command j.input reply → EndsAs reply k m status
       → IsEither status JOB_UNKNOWN NO_MEMORY
   job_to j Usage is ends = absurd is
   job_to j ReadFault is ends = absurd is
   job_to j TooLong is ends = absurd is
-  job_to j (Refused fault) is ends = absurd is
+  job_to j (Refused form fault) is ends = absurd is
   job_to j (JobUnknown line job) is ends =
       either (reply_text (JobUnknown line job)) k m status JOB_UNKNOWN ends
   job_to j (WorkSpent count) is ends = absurd (j.unknown is.1.known)
   job_to j (Played text) is ends =
-      absurd (j.unknown (out_plays jobs table j.command j.script text j.plays is).known)
+      absurd (j.unknown (out_plays jobs table j.command j.input text j.plays is).known)
   job_to j (Made text) is ends =
-      absurd (j.unknown (out_plays jobs table j.command j.script text.items j.plays is).known)
+      absurd (j.unknown (out_plays jobs table j.command j.input text.items j.plays is).known)
 
   pub job_exactly : status ≢ READ_FAULT → IsJobUnknown table words s.left
       → IsEither status JOB_UNKNOWN NO_MEMORY
   job_exactly not j =
-      elim (answered j.command j.script j.asks) [
+      elim (answered j.command j.input j.asks) [
         | inl fault ↦ inr (no_read_fault fault.0 not)
         | inr to ↦ job_to j e.reply to e.ends
       ]
 
   -- work spent
   work_to : (w : IsWorkSpent jobs table words s.left) (reply : Reply)
-      → IsReplyTo jobs table w.command w.script reply → EndsAs reply k m status
+      → IsReplyTo jobs table w.command w.input reply → EndsAs reply k m status
       → IsEither status WORK_SPENT NO_MEMORY
   work_to w Usage is ends = absurd is
   work_to w ReadFault is ends = absurd is
   work_to w TooLong is ends = absurd is
-  work_to w (Refused fault) is ends = absurd is
-  work_to w (JobUnknown line job) is ends = absurd (cc (is.1, w.known))
+  work_to w (Refused form fault) is ends = absurd is
+  work_to w (JobUnknown line job) is ends = absurd (not_both table w.input line job is.1 w.known)
   work_to w (WorkSpent count) is ends =
       either (reply_text (WorkSpent count)) k m status WORK_SPENT ends
   work_to w (Played text) is ends =
-      absurd (w.spent (out_plays jobs table w.command w.script text w.plays is).within)
+      absurd (w.spent (out_plays jobs table w.command w.input text w.plays is).within)
   work_to w (Made text) is ends =
-      absurd (w.spent (out_plays jobs table w.command w.script text.items w.plays is).within)
+      absurd (w.spent (out_plays jobs table w.command w.input text.items w.plays is).within)
 
   pub work_exactly : status ≢ READ_FAULT → IsWorkSpent jobs table words s.left
       → IsEither status WORK_SPENT NO_MEMORY
   work_exactly not w =
-      elim (answered w.command w.script w.asks) [
+      elim (answered w.command w.input w.asks) [
         | inl fault ↦ inr (no_read_fault fault.0 not)
         | inr to ↦ work_to w e.reply to e.ends
       ]
 
   -- an output
-  not_spent : (o : Option ℕ) (count : ℕ) → o ≡ None → option_map counted o ≡ Some count → ⊥
-  not_spent None count none some = cc
-  not_spent (Some n) count none some = cc
-
   fine_text : (f : IsFine jobs table words s.left) (reply : Reply)
-      → IsReplyTo jobs table f.command f.script reply → EndsAs reply k m status
+      → IsReplyTo jobs table f.command f.input reply → EndsAs reply k m status
       → EndsWith (reply_text reply) DONE WRITE_FAULT k m status
   fine_text f Usage is ends = absurd is
   fine_text f ReadFault is ends = absurd is
   fine_text f TooLong is ends = absurd is
-  fine_text f (Refused fault) is ends = absurd is
+  fine_text f (Refused form fault) is ends = absurd is
   fine_text f (JobUnknown line job) is ends =
-      absurd (let known = (f.plays is.0).known in cc (is.1, known))
+      absurd (not_both table f.input line job is.1 (f.plays is.0).known)
   fine_text f (WorkSpent count) is ends =
-      absurd (not_spent (spent_by jobs f.script) count (f.plays is.0).within is.1.spent)
+      absurd (let within = (f.plays is.0).within in let spent = is.1.spent in cc (within, spent))
   fine_text f (Played text) is ends = ends
   fine_text f (Made text) is ends = ends
 
   pub fine_ends : status ≢ READ_FAULT → IsFine jobs table words s.left
       → (status ≡ WRITE_FAULT) ⊎ IsEither status DONE NO_MEMORY
   fine_ends not f =
-      elim (answered f.command f.script f.asks) [
+      elim (answered f.command f.input f.asks) [
         | inl fault ↦ inr (inr (no_read_fault fault.0 not))
         | inr to ↦ out_ends (reply_text e.reply) k m status (fine_text f e.reply to e.ends)
       ]
@@ -232,38 +257,40 @@ module _ {jobs : Replies} {table : ℕ} {words : List (String Global)} {s t : So
   pub fine_done : (SourceFailed s t → ⊥) → (Breaks k m → ⊥) → IsFine jobs table words s.left
       → IsEither status DONE NO_MEMORY
   fine_done sure sound f =
-      elim (answered f.command f.script f.asks) [
+      elim (answered f.command f.input f.asks) [
         | inl fault ↦ absurd (sure fault.1)
         | inr to ↦ out_whole (reply_text e.reply) k m status (fine_text f e.reply to e.ends) sound
       ]
 
-  -- script refused
-  no_text : (r : IsRefused words s.left) (reply : Reply)
-      → RepliesToScript jobs table r.reads.0 s t reply → ⊥
-  no_text r reply is =
-      let By : Option Recipe → Type 0 = λ o. BringsBy o s t is.script in
-      let read = subst By r.reads.2 is.brought in
-      let Spelled : List ℕ → Type 0 = λ bs. Spells bs is.script in
-      let same = all_known s t r.bytes r.has.left_are read.bytes read.read in
-      r.no_script is.script (subst Spelled (sym same) read.spelled)
+  -- what was to be read was refused
+  module _ (form : Form) (r : IsRefusedAs form words s.left) where
+    no_text : (reply : Reply) → RepliesToInput jobs table r.reads.0 s t reply → ⊥
+    no_text reply is =
+        let By : Option Recipe → Type 0 = λ o. BringsBy o (form_of r.reads.0) s t is.input in
+        let read = subst By r.reads.2 is.brought in
+        let same = all_known s t r.bytes r.has.left_are read.bytes read.read in
+        let Spelled : List ℕ → Type 0 = λ bs. SpellsInput (form_of r.reads.0) bs is.input in
+        let As : Form → Type 0 = λ f. SpellsInput f r.bytes is.input in
+        r.spells_none is.input (subst As r.reads.3 (subst Spelled (sym same) read.spelled))
 
-  refused_by : (r : IsRefused words s.left) (reply : Reply)
-      → IsReplyBy jobs table (Some r.reads.0) s t reply → e.reply ≡ reply → EndsAs reply k m status
-      → status ≢ READ_FAULT → IsEither status SCRIPT_REFUSED NO_MEMORY
-  refused_by r Usage is same ends not = absurd is
-  refused_by r ReadFault is same ends not = inr (no_read_fault same not)
-  refused_by r TooLong is same ends not =
-      absurd (not_many s t r.bytes r.has.left_are r.has.few is.2)
-  refused_by r (Refused fault) is same ends not =
-      either (reply_text (Refused fault)) k m status SCRIPT_REFUSED ends
-  refused_by r (JobUnknown line job) is same ends not =
-      absurd (no_text r (JobUnknown line job) is)
-  refused_by r (WorkSpent count) is same ends not = absurd (no_text r (WorkSpent count) is)
-  refused_by r (Played text) is same ends not = absurd (no_text r (Played text) is)
-  refused_by r (Made text) is same ends not = absurd (no_text r (Made text) is)
+    refused_by : (reply : Reply) → IsReplyBy jobs table (Some r.reads.0) s t reply
+        → e.reply ≡ reply → EndsAs reply k m status → status ≢ READ_FAULT
+        → IsEither status (refused_status form) NO_MEMORY
+    refused_by Usage is same ends not = absurd is
+    refused_by ReadFault is same ends not = inr (no_read_fault same not)
+    refused_by TooLong is same ends not =
+        absurd (not_many s t r.bytes r.has.left_are r.has.few is.2)
+    refused_by (Refused f fault) is same ends not =
+        let Own : Form → Type 0 = λ g. IsEither status (refused_status g) NO_MEMORY in
+        subst Own (sym is.2 ∙ r.reads.3)
+        (either (reply_text (Refused f fault)) k m status (refused_status f) ends)
+    refused_by (JobUnknown line job) is same ends not =
+        absurd (no_text (JobUnknown line job) is)
+    refused_by (WorkSpent count) is same ends not = absurd (no_text (WorkSpent count) is)
+    refused_by (Played text) is same ends not = absurd (no_text (Played text) is)
+    refused_by (Made text) is same ends not = absurd (no_text (Made text) is)
 
-  pub refused_exactly : status ≢ READ_FAULT → IsRefused words s.left
-      → IsEither status SCRIPT_REFUSED NO_MEMORY
-  refused_exactly not r =
-      let By : Option Command → Type 0 = λ o. IsReplyBy jobs table o s t e.reply in
-      refused_by r e.reply (subst By r.reads.1 e.is) refl e.ends not
+    pub refused_exactly : status ≢ READ_FAULT → IsEither status (refused_status form) NO_MEMORY
+    refused_exactly not =
+        let By : Option Command → Type 0 = λ o. IsReplyBy jobs table o s t e.reply in
+        refused_by e.reply (subst By r.reads.1 e.is) refl e.ends not

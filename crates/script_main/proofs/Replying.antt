@@ -1,37 +1,37 @@
--- a reply to a script, to bytes and to a source is one to the words
+-- a reply to an input, to bytes and to a source is one to the words
 use Rattle.std.proofs.Common.{◌≡◌, ℕ, List, Option, Some, None, refl, sym, subst}
 use Rattle.tm_base.specs.declared.limits.TheConstants.{MOST_BYTES}
 use Rattle.tm_io.specs.Seen.{SourceSeen, SourceUnbroken}
 use Rattle.tm_io.specs.Sources.{TakesAll}
-use Rattle.tm_script.specs.declared.syntax.Script.{Script}
-use Rattle.tm_script.specs.Grammar.{Spells}
-use Rattle.tm_script.specs.Reader.{IsOnlyScriptOf}
 use Rattle.play_rules.specs.Interrupts.{Replies}
 use Rattle.script_main.specs.declared.commands.Recipe.{Recipe}
 use Rattle.script_main.specs.declared.commands.Command.{Command}
+use Rattle.script_main.specs.declared.inputs.Input.{Input}
+use Rattle.script_main.specs.declared.inputs.Input.TheVariants as inputs
 use Rattle.script_main.specs.declared.replies.Reply.{Reply}
 use Rattle.script_main.specs.declared.replies.Reply.TheVariants.{Usage, ReadFault, TooLong, Refused}
 use Rattle.script_main.specs.declared.replies.Reply.TheVariants.{JobUnknown, WorkSpent, Played}
 use Rattle.script_main.specs.declared.replies.Reply.TheVariants.{Made}
-use Rattle.script_main.specs.Words.{recipe_in}
+use Rattle.script_main.specs.Inputs.{IsOnlyInputOf, SpellsInput}
+use Rattle.script_main.specs.Words.{form_of, recipe_in}
 use Rattle.script_main.specs.Scripts.{BringsBy, script_by}
-use Rattle.script_main.specs.Replies.{IsReplyOf, IsReplyTo, RepliesToScript}
+use Rattle.script_main.specs.Replies.{IsReplyOf, IsReplyTo, RepliesToInput}
 use Rattle.script_main.specs.Steps.{IsReplyToBytes, RepliesToSpelled}
 
 module _ (jobs : Replies) (table : ℕ) (command : Command) where
-  -- to a script that some bytes spell
-  module _ (bytes : List ℕ) (script : Script) (spelled : Spells bytes script)
-      (only : IsOnlyScriptOf bytes script) where
-    spelled_as : (reply : Reply) → IsReplyTo jobs table command script reply
+  -- to an input that some bytes spell
+  module _ (bytes : List ℕ) (input : Input) (spelled : SpellsInput (form_of command) bytes input)
+      (only : IsOnlyInputOf (form_of command) bytes input) where
+    spelled_as : (reply : Reply) → IsReplyTo jobs table command input reply
         → RepliesToSpelled jobs table command bytes reply
-    spelled_as reply is = record { script = script; spelled = spelled; only = only; reply_is = is }
+    spelled_as reply is = record { input = input; spelled = spelled; only = only; reply_is = is }
 
-    pub to_bytes : (reply : Reply) → IsReplyTo jobs table command script reply
+    pub to_bytes : (reply : Reply) → IsReplyTo jobs table command input reply
         → IsReplyToBytes jobs table command bytes reply
     to_bytes Usage is = absurd is
     to_bytes ReadFault is = absurd is
     to_bytes TooLong is = absurd is
-    to_bytes (Refused fault) is = absurd is
+    to_bytes (Refused form fault) is = absurd is
     to_bytes (JobUnknown line job) is = spelled_as (JobUnknown line job) is
     to_bytes (WorkSpent count) is = spelled_as (WorkSpent count) is
     to_bytes (Played text) is = spelled_as (Played text) is
@@ -41,11 +41,11 @@ module _ (jobs : Replies) (table : ℕ) (command : Command) where
   module _ (s t : SourceSeen) (bytes : List ℕ) (reader : recipe_in command ≡ None)
       (all : TakesAll s t MOST_BYTES bytes) (sound : SourceUnbroken s t) where
     read_as : (reply : Reply) → RepliesToSpelled jobs table command bytes reply
-        → RepliesToScript jobs table command s t reply
+        → RepliesToInput jobs table command s t reply
     read_as reply is =
-        let By : Option Recipe → Type 0 = λ o. BringsBy o s t is.script in
+        let By : Option Recipe → Type 0 = λ o. BringsBy o (form_of command) s t is.input in
         record {
-          script = is.script;
+          input = is.input;
           brought = subst By (sym reader) (record {
             bytes = bytes;
             read = all;
@@ -61,8 +61,8 @@ module _ (jobs : Replies) (table : ℕ) (command : Command) where
     to_source Usage is = absurd is.reply_is
     to_source ReadFault is = absurd is.reply_is
     to_source TooLong is = absurd is.reply_is
-    to_source (Refused fault) is =
-        (reader, sound, record { bytes = bytes; read = all; refusal = is })
+    to_source (Refused form fault) is =
+        (reader, sound, is.0, record { bytes = bytes; read = all; refusal = is.1 })
     to_source (JobUnknown line job) is = read_as (JobUnknown line job) is
     to_source (WorkSpent count) is = read_as (WorkSpent count) is
     to_source (Played text) is = read_as (Played text) is
@@ -70,23 +70,26 @@ module _ (jobs : Replies) (table : ℕ) (command : Command) where
 
   -- to a script that was generated
   module _ (s : SourceSeen) (recipe : Recipe) (maker : recipe_in command ≡ Some recipe) where
-    made_as : (reply : Reply) → IsReplyTo jobs table command (script_by recipe) reply
-        → RepliesToScript jobs table command s s reply
+    made_as : (reply : Reply)
+        → IsReplyTo jobs table command (inputs.Script (script_by recipe)) reply
+        → RepliesToInput jobs table command s s reply
     made_as reply is =
-        let By : Option Recipe → Type 0 = λ o. BringsBy o s s (script_by recipe) in
+        let script = inputs.Script (script_by recipe) in
+        let By : Option Recipe → Type 0 = λ o. BringsBy o (form_of command) s s script in
         record {
-          script = script_by recipe;
+          input = script;
           brought = subst By (sym maker) (record { made = refl; untouched = refl });
           unbroken = refl;
           reply_is = is;
         }
 
-    pub to_recipe : (reply : Reply) → IsReplyTo jobs table command (script_by recipe) reply
+    pub to_recipe : (reply : Reply)
+        → IsReplyTo jobs table command (inputs.Script (script_by recipe)) reply
         → IsReplyOf jobs table command s s reply
     to_recipe Usage is = absurd is
     to_recipe ReadFault is = absurd is
     to_recipe TooLong is = absurd is
-    to_recipe (Refused fault) is = absurd is
+    to_recipe (Refused form fault) is = absurd is
     to_recipe (JobUnknown line job) is = made_as (JobUnknown line job) is
     to_recipe (WorkSpent count) is = made_as (WorkSpent count) is
     to_recipe (Played text) is = made_as (Played text) is

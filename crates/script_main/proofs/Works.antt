@@ -1,5 +1,5 @@
 -- work that comes to the limit takes a late end
-use Rattle.std.proofs.Common.{◌≡◌, ℕ, ◌+◌, ◌*◌, ◌≤◌, ◌<◌, Bool, true, false, Option, Some, None, sym, ap, ◌∙◌, subst, arith, inl, inr, refl}
+use Rattle.std.proofs.Common.{◌≡◌, ℕ, ◌+◌, ◌*◌, ◌≤◌, true, false, Some, sym, ap, ◌∙◌, arith, inl, inr}
 use Rattle.std.specs.Prelude.{if◌then◌else◌, ◌==◌, option_map}
 use Rattle.std.proofs.lemmas.Bool.{cases_lt}
 use Rattle.std.proofs.lemmas.Option.{none-some}
@@ -12,6 +12,7 @@ use Rattle.play_rules.specs.Interrupts.{Replies}
 use Rattle.play_rules.specs.Parts.{counted}
 use Rattle.play_laws.specs.Work.Work.{WorkIsBounded}
 use Rattle.tm_driver.specs.Outcomes.{work_limit}
+use Rattle.script_main.specs.declared.inputs.Input.TheVariants as inputs
 use Rattle.script_main.specs.Scripts.{spent_by}
 
 limit_low : (version : ℕ) → work_limit version ≤ greatest_timeout
@@ -22,7 +23,7 @@ limit_low version =
     ]
 
 pub late_end : WorkIsBounded → (jobs : Replies) (script : Script) (count : ℕ) → IsScript script
-    → option_map counted (spent_by jobs script) ≡ Some count
+    → spent_by jobs (inputs.Script script) ≡ Some count
     → work_limit script.version ≤ script.end * (1 + cpu_count script + script.timers)
 late_end bounded jobs script count is spent =
     elim (cases_lt (script.end * (1 + cpu_count script + script.timers)) (work_limit script.version)) [

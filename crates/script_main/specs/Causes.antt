@@ -3,15 +3,16 @@
 use Rattle.std.specs.Prelude.{◌≡◌, ◌≢◌, ℕ, ◌<◌, ◌≤◌, List, length, String, Option, Some, None}
 use Rattle.std.specs.declared.alloc.Global.{Global}
 use Rattle.tm_base.specs.declared.limits.TheConstants.{MOST_BYTES}
-use Rattle.tm_script.specs.declared.syntax.Script.{Script}
-use Rattle.tm_script.specs.Grammar.{Spells}
 use Rattle.play_rules.specs.Interrupts.{Replies}
-use Rattle.play_rules.specs.Jobs.{first_unknown_job}
-use Rattle.tm_driver.specs.Plays.{CanPlay}
 use Rattle.script_main.specs.declared.commands.Recipe.{Recipe}
 use Rattle.script_main.specs.declared.commands.Command.{Command}
-use Rattle.script_main.specs.Words.{command_of, recipe_in, Reads, IsPlayer}
-use Rattle.script_main.specs.Scripts.{KnowsJobs, script_by, spent_by}
+use Rattle.script_main.specs.declared.inputs.Form.{Form}
+use Rattle.script_main.specs.declared.inputs.Form.TheVariants as forms
+use Rattle.script_main.specs.declared.inputs.Input.{Input}
+use Rattle.script_main.specs.declared.inputs.Input.TheVariants as inputs
+use Rattle.script_main.specs.Inputs.{SpellsInput}
+use Rattle.script_main.specs.Words.{command_of, form_of, recipe_in, Reads, ReadsAs, IsPlayer}
+use Rattle.script_main.specs.Scripts.{CanEnd, KnowsJobs, script_by, spent_by}
 
 -- the source has these bytes left, and they are few enough
 pub record HasFew (left : Option (List ℕ)) (bytes : List ℕ) : Type 0 where
@@ -25,54 +26,62 @@ pub record IsTooLong (words : List (String Global)) (left : Option (List ℕ)) :
   pub left_are : left ≡ Some bytes
   pub many : MOST_BYTES < length bytes
 
--- script refused: a command that reads, and bytes that spell no script
-pub record IsRefused (words : List (String Global)) (left : Option (List ℕ)) : Type 0 where
-  pub reads : Reads words
+-- refused: a command that reads an input of this form, and bytes that spell none
+pub record IsRefusedAs (form : Form) (words : List (String Global)) (left : Option (List ℕ))
+    : Type 0 where
+  pub reads : ReadsAs form words
   pub bytes : List ℕ
   pub has : HasFew left bytes
-  pub no_script : (s : Script) → Spells bytes s → ⊥
+  pub spells_none : (input : Input) → SpellsInput form bytes input → ⊥
 
--- the source has the text of a script left
-pub record HasScriptText (left : Option (List ℕ)) (script : Script) : Type 0 where
+-- script refused: a command that reads a script, and bytes that spell none
+abbrev pub IsRefused : List (String Global) → Option (List ℕ) → Type 0
+IsRefused words left = IsRefusedAs forms.Script words left
+
+-- trace refused: a command that reads a trace, and bytes that spell none
+abbrev pub IsTraceRefused : List (String Global) → Option (List ℕ) → Type 0
+IsTraceRefused words left = IsRefusedAs forms.Trace words left
+
+-- the source has the text of an input of this form left
+pub record HasText (form : Form) (left : Option (List ℕ)) (input : Input) : Type 0 where
   pub bytes : List ℕ
   pub has : HasFew left bytes
-  pub spelled : Spells bytes script
+  pub spelled : SpellsInput form bytes input
 
--- the script that a command has: read from the source, or made by a recipe
-abbrev pub IsScriptBy : Option Recipe → Option (List ℕ) → Script → Type 0
-IsScriptBy None left script = HasScriptText left script
-IsScriptBy (Some recipe) left script = script ≡ script_by recipe
+-- the input that a command has: read from the source, or made by a recipe
+abbrev pub IsInputBy : Option Recipe → Form → Option (List ℕ) → Input → Type 0
+IsInputBy None form left input = HasText form left input
+IsInputBy (Some recipe) form left input = input ≡ inputs.Script (script_by recipe)
 
--- the words name a command, and this is its script: what the source spells, or what its recipe
--- makes
+-- the words name a command, and this is its input: what the source spells, or what its recipe makes
 pub record Asks (words : List (String Global)) (left : Option (List ℕ)) (command : Command)
-    (script : Script) : Type 0 where
+    (input : Input) : Type 0 where
   pub named : command_of words ≡ Some command
-  pub script_is : IsScriptBy (recipe_in command) left script
+  pub input_is : IsInputBy (recipe_in command) (form_of command) left input
 
--- job unknown: a script that is to be played names a job that the table hasn't
+-- job unknown: an input that is to be played names a job that the table hasn't
 pub record IsJobUnknown (table : ℕ) (words : List (String Global)) (left : Option (List ℕ))
     : Type 0 where
   pub command : Command
-  pub script : Script
-  pub asks : Asks words left command script
+  pub input : Input
+  pub asks : Asks words left command input
   pub plays : IsPlayer command
-  pub unknown : first_unknown_job table script.moments ≢ None
+  pub unknown : KnowsJobs table input → ⊥
 
--- work spent: a script that is to be played takes more work than the limit allows
+-- work spent: an input that is to be played takes more work than the limit allows
 pub record IsWorkSpent (jobs : Replies) (table : ℕ) (words : List (String Global))
     (left : Option (List ℕ)) : Type 0 where
   pub command : Command
-  pub script : Script
-  pub asks : Asks words left command script
+  pub input : Input
+  pub asks : Asks words left command input
   pub plays : IsPlayer command
-  pub known : KnowsJobs table script
-  pub spent : spent_by jobs script ≢ None
+  pub known : KnowsJobs table input
+  pub spent : spent_by jobs input ≢ None
 
 -- none of these: there is an output, and nothing but the sink stands in its way
 pub record IsFine (jobs : Replies) (table : ℕ) (words : List (String Global))
     (left : Option (List ℕ)) : Type 0 where
   pub command : Command
-  pub script : Script
-  pub asks : Asks words left command script
-  pub plays : IsPlayer command → CanPlay jobs table script
+  pub input : Input
+  pub asks : Asks words left command input
+  pub plays : IsPlayer command → CanEnd jobs table input

@@ -1,5 +1,6 @@
 pub mod TreeText
 pub mod DayText
+pub mod Inputs
 pub mod Words
 pub mod Texts
 pub mod Scripts

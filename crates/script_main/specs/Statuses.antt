@@ -1,5 +1,5 @@
 -- what each status says
-use Rattle.std.specs.Prelude.{◌≡◌, ◌⊎◌, ℕ, ◌+◌, List, [], String, Some, None}
+use Rattle.std.specs.Prelude.{◌≡◌, ◌⊎◌, ℕ, ◌+◌, ◌≤◌, List, [], String, Some, None}
 use Rattle.std.specs.declared.alloc.Global.{Global}
 use Rattle.std.specs.Io.KnownBytes.{Appends}
 use Rattle.tm_base.specs.declared.limits.TheConstants.{MOST_BYTES}
@@ -7,42 +7,50 @@ use Rattle.tm_io.specs.Seen.{SourceSeen, SourceFailed, SourceUnbroken, SinkSeen}
 use Rattle.tm_io.specs.Sources.{TakesCount, TakesUpTo}
 use Rattle.tm_io.specs.Sinks.{AppendsFront}
 use Rattle.tm_script.specs.declared.faults.ScriptFault.{ScriptFault}
-use Rattle.tm_script.specs.declared.syntax.Script.{Script}
 use Rattle.play_rules.specs.Interrupts.{Replies}
 use Rattle.script_main.specs.declared.commands.Command.{Command}
+use Rattle.script_main.specs.declared.inputs.Form.{Form}
+use Rattle.script_main.specs.declared.inputs.Form.TheVariants as forms
+use Rattle.script_main.specs.declared.inputs.Input.{Input}
 use Rattle.script_main.specs.declared.replies.Reply.{Reply}
-use Rattle.script_main.specs.Words.{command_of, Reads, IsPlayer}
+use Rattle.script_main.specs.declared.statuses.TheConstants.{JOB_UNKNOWN, TRACE_REFUSED}
+use Rattle.script_main.specs.Words.{command_of, Reads, ReadsAs, IsPlayer}
 use Rattle.script_main.specs.Texts.{usage_text, read_fault_text, too_long_text, refused_text}
 use Rattle.script_main.specs.Texts.{job_unknown_text, work_spent_text}
-use Rattle.script_main.specs.Scripts.{Brings, IsOutput}
-use Rattle.script_main.specs.Replies.{IsReply, LacksJob, ReadsNoScript, SpendsWork, reply_text}
+use Rattle.script_main.specs.Scripts.{Brings, IsOutput, LacksJob}
+use Rattle.script_main.specs.Replies.{IsReply, ReadsNone, SpendsWork, reply_text}
 use Rattle.script_main.specs.Ends.{SinkSound, Writes, WritesAll, WritesFront}
 
--- the words name a command, it has this script, and the source didn't fail
-pub record HasScript (words : List (String Global)) (s t : SourceSeen) (command : Command)
-    (script : Script) : Type 0 where
+-- the words name a command, it has this input, and the source didn't fail
+pub record HasInput (words : List (String Global)) (s t : SourceSeen) (command : Command)
+    (input : Input) : Type 0 where
   pub named : command_of words ≡ Some command
-  pub brought : Brings command s t script
+  pub brought : Brings command s t input
   pub unbroken : SourceUnbroken s t
 
 -- 0: all was done, and all of the output was written; neither end failed, and the sink took all
 pub record SaysDone (jobs : Replies) (table : ℕ) (words : List (String Global))
     (s t : SourceSeen) (k m : SinkSeen) : Type 0 where
   pub command : Command
-  pub script : Script
-  pub has : HasScript words s t command script
+  pub input : Input
+  pub has : HasInput words s t command input
   pub text : List ℕ
-  pub output : IsOutput jobs table command script text
+  pub output : IsOutput jobs table command input text
   pub writes : WritesAll text k m
 
--- 1: what was read to its end spells no script; the text tells the first fault
-pub record SaysRefused (words : List (String Global)) (s t : SourceSeen) (k m : SinkSeen)
-    : Type 0 where
-  pub reads : Reads words
+-- what was read to its end spells no input of this form; the text tells the first fault
+pub record SaysRefusedAs (form : Form) (words : List (String Global)) (s t : SourceSeen)
+    (k m : SinkSeen) : Type 0 where
+  pub reads : ReadsAs form words
   pub unbroken : SourceUnbroken s t
   pub fault : ScriptFault
-  pub read : ReadsNoScript s t fault
-  pub writes : Writes (refused_text fault) k m
+  pub read : ReadsNone form s t fault
+  pub writes : Writes (refused_text form fault) k m
+
+-- 1: a script was to be read, and what was read to its end spells none
+abbrev pub SaysRefused : List (String Global) → SourceSeen → SourceSeen → SinkSeen → SinkSeen
+    → Type 0
+SaysRefused words s t k m = SaysRefusedAs forms.Script words s t k m
 
 -- 2: the words stand in no table
 pub record SaysUsage (words : List (String Global)) (k m : SinkSeen) : Type 0 where
@@ -61,10 +69,10 @@ pub record SaysReadFault (words : List (String Global)) (s t : SourceSeen) (k m 
 pub record SaysWriteFault (jobs : Replies) (table : ℕ) (words : List (String Global))
     (s t : SourceSeen) (k m : SinkSeen) : Type 0 where
   pub command : Command
-  pub script : Script
-  pub has : HasScript words s t command script
+  pub input : Input
+  pub has : HasInput words s t command input
   pub text : List ℕ
-  pub output : IsOutput jobs table command script text
+  pub output : IsOutput jobs table command input text
   pub writes : WritesFront text k m
 
 -- a front, and not all, of the text of a reply that the words and the source call for
@@ -83,15 +91,15 @@ pub record SaysNoMemory (jobs : Replies) (table : ℕ) (words : List (String Glo
   pub written : (SourceUnbroken s t × Appends k.held m.held [])
       ⊎ WritesReplyFront jobs table words s t k m
 
--- 6: the work of the script's play reached its limit before the end
+-- 6: the work of the input's play reached its limit before the end
 pub record SaysWorkSpent (jobs : Replies) (table : ℕ) (words : List (String Global))
     (s t : SourceSeen) (k m : SinkSeen) : Type 0 where
   pub command : Command
-  pub script : Script
-  pub has : HasScript words s t command script
+  pub input : Input
+  pub has : HasInput words s t command input
   pub plays : IsPlayer command
   pub count : ℕ
-  pub spends : SpendsWork jobs table script count
+  pub spends : SpendsWork jobs table input count
   pub writes : Writes (work_spent_text count) k m
 
 -- 7: the source gave one byte more than a script may have
@@ -102,17 +110,26 @@ pub record SaysTooLong (words : List (String Global)) (s t : SourceSeen) (k m : 
   pub read : TakesCount s t (MOST_BYTES + 1)
   pub writes : Writes too_long_text k m
 
--- 8: a line of the script names a job that the table hasn't; nothing was played
+-- 8: a line of the input names a job that the table hasn't; nothing was played
 pub record SaysJobUnknown (table : ℕ) (words : List (String Global))
     (s t : SourceSeen) (k m : SinkSeen) : Type 0 where
   pub command : Command
-  pub script : Script
-  pub has : HasScript words s t command script
+  pub input : Input
+  pub has : HasInput words s t command input
   pub plays : IsPlayer command
   pub line : ℕ
   pub job : ℕ
-  pub lacks : LacksJob table script line job
+  pub lacks : LacksJob table input line job
   pub writes : Writes (job_unknown_text line job) k m
+
+-- 10: a trace was to be read, and what was read to its end spells none
+abbrev pub SaysTraceRefused : List (String Global) → SourceSeen → SourceSeen → SinkSeen → SinkSeen
+    → Type 0
+SaysTraceRefused words s t k m = SaysRefusedAs forms.Trace words s t k m
+
+-- there is such a status
+abbrev pub IsStatus : (status : ℕ) → Type 0
+IsStatus status = (status ≤ JOB_UNKNOWN) ⊎ (status ≡ TRACE_REFUSED)
 
 -- one of two statuses
 abbrev pub IsEither : (status this that : ℕ) → Type 0

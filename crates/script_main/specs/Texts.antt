@@ -5,6 +5,8 @@ use Rattle.tm_script.specs.declared.faults.Kind.{Kind}
 use Rattle.tm_script.specs.declared.faults.Kind.TheVariants.{BadLine, BadNumber, OutOfRange}
 use Rattle.tm_script.specs.declared.faults.Kind.TheVariants.{OutOfOrder, NoEnd, TooManyLines}
 use Rattle.tm_script.specs.declared.faults.ScriptFault.{ScriptFault}
+use Rattle.script_main.specs.declared.inputs.Form.{Form}
+use Rattle.script_main.specs.declared.inputs.Form.TheVariants as forms
 
 -- the text of status 2
 abbrev pub usage_text : List ℕ
@@ -29,10 +31,15 @@ kind_number OutOfOrder = 4
 kind_number NoEnd = 5
 kind_number TooManyLines = 6
 
--- the text of status 1: the line at fault, and the kind of the fault
-unfoldable pub refused_text : ScriptFault → List ℕ
-refused_text fault =
-    codes "script refused line " ++ decimal fault.line
+-- what a refusal calls an input of this form
+abbrev pub form_name : Form → List ℕ
+form_name forms.Script = codes "script"
+form_name forms.Trace = codes "trace"
+
+-- the text of statuses 1 and 10: what was to be read, the line at fault, and the kind of the fault
+unfoldable pub refused_text : Form → ScriptFault → List ℕ
+refused_text form fault =
+    form_name form ++ codes " refused line " ++ decimal fault.line
     ++ codes " kind " ++ decimal (kind_number fault.kind) ++ codes "\n"
 
 -- the text of status 8: the line, and the job that it names

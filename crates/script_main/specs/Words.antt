@@ -10,6 +10,8 @@ use Rattle.script_main.specs.declared.commands.TheConstants.{MOST_NUMBER}
 use Rattle.script_main.specs.declared.commands.Recipe.{Recipe}
 use Rattle.script_main.specs.declared.commands.Command.{Command}
 use Rattle.script_main.specs.declared.commands.Command.TheVariants.{Play, Tree, Generate, Day}
+use Rattle.script_main.specs.declared.inputs.Form.{Form}
+use Rattle.script_main.specs.declared.inputs.Form.TheVariants as forms
 
 infixl 10 ◌>>=◌
 -- what comes of a value, where there is one
@@ -64,18 +66,31 @@ pub record IsRecipe (r : Recipe) : Type 0 where
   pub some_moments : 1 ≤ r.moments
   pub few_moments : r.moments ≤ MOST_MOMENTS
 
--- the recipe of a command that generates its script; the others read it from the source
+-- the recipe of a command that generates its script; the others read their input from the source
 abbrev pub recipe_in : Command → Option Recipe
 recipe_in Play = None
 recipe_in Tree = None
 recipe_in (Generate recipe) = Some recipe
 recipe_in (Day recipe) = Some recipe
 
--- the words name a command that reads its script from the source
+-- what a command works on
+abbrev pub form_of : Command → Form
+form_of Play = forms.Script
+form_of Tree = forms.Script
+form_of (Generate recipe) = forms.Script
+form_of (Day recipe) = forms.Script
+
+-- the words name a command that reads its input from the source
 abbrev pub Reads : List (String Global) → Type 0
 Reads words = (command : Command) × (command_of words ≡ Some command) × (recipe_in command ≡ None)
 
--- the command plays its script
+-- the words name a command that reads an input of this form from the source
+abbrev pub ReadsAs : Form → List (String Global) → Type 0
+ReadsAs form words =
+    (command : Command) × (command_of words ≡ Some command) × (recipe_in command ≡ None)
+    × (form_of command ≡ form)
+
+-- the command plays its input
 abbrev pub IsPlayer : Command → Type 0
 IsPlayer Play = Unit {0}
 IsPlayer Tree = ⊥

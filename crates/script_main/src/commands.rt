@@ -1,9 +1,10 @@
 //! The words of the command line.
 
 ghost use Rattle.std.specs.Prelude.{◌≡◌, ◌≤◌, ◌+◌, IfSome};
-ghost use Rattle.script_main.specs.Words.{IsRecipe, command_of, limited, lone_command};
+ghost use Rattle.script_main.specs.Words.{IsRecipe, command_of, form_of, limited, lone_command};
 ghost use Rattle.script_main.specs.Words.{making_command, number_within, recipe_in, recipe_of};
 
+use crate::inputs::Form;
 use text_words::read_number;
 use tm_base::{MOST_CPUS_V1, MOST_TIMERS};
 use tm_generate::MOST_MOMENTS;
@@ -45,6 +46,15 @@ impl Command {
         match self {
             Command::Play | Command::Tree => None,
             Command::Generate(recipe) | Command::Day(recipe) => Some(recipe),
+        }
+    }
+
+    /// What the command works on.
+    pub(crate) fn form(self) -> Form
+        ensures { result ≡ form_of self }
+    {
+        match self {
+            Command::Play | Command::Tree | Command::Generate(_) | Command::Day(_) => Form::Script,
         }
     }
 }

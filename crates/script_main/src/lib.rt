@@ -4,6 +4,7 @@
 
 mod commands;
 pub mod day_text;
+mod inputs;
 mod program;
 mod replies;
 mod statuses;
@@ -13,8 +14,8 @@ pub mod tree_text;
 pub use commands::MOST_NUMBER;
 pub use program::run_program;
 pub use statuses::{
-    DONE, JOB_UNKNOWN, NO_MEMORY, READ_FAULT, SCRIPT_REFUSED, Status, TOO_LONG, USAGE, WORK_SPENT,
-    WRITE_FAULT,
+    DONE, JOB_UNKNOWN, NO_MEMORY, READ_FAULT, SCRIPT_REFUSED, Status, TOO_LONG, TRACE_REFUSED,
+    USAGE, WORK_SPENT, WRITE_FAULT,
 };
 
 #[cfg(test)]

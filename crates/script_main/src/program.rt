@@ -1,21 +1,23 @@
 //! The whole program.
 
-ghost use Rattle.std.specs.Prelude.{◌≢◌, ◌≡◌, ◌≤◌, ◌⊎◌, None, MatchResult};
+ghost use Rattle.std.specs.Prelude.{◌≢◌, ◌≡◌, ◌⊎◌, None, MatchResult};
 ghost use Rattle.tm_io.specs.Seen.{SourceFailed, SourceUnbroken};
 ghost use Rattle.script_main.specs.Words.{Reads, command_of};
 ghost use Rattle.script_main.specs.Ends.{Breaks, EndsAs, EndsUnwritten, EndsWith};
-ghost use Rattle.script_main.specs.Statuses.{IsEither, SaysDone, SaysJobUnknown, SaysNoMemory};
+ghost use Rattle.script_main.specs.Statuses.{IsEither, IsStatus, SaysDone, SaysJobUnknown};
+ghost use Rattle.script_main.specs.Statuses.{SaysNoMemory, SaysTraceRefused};
 ghost use Rattle.script_main.specs.Statuses.{SaysReadFault, SaysRefused, SaysTooLong, SaysUsage};
 ghost use Rattle.script_main.specs.Statuses.{SaysWorkSpent, SaysWriteFault};
-ghost use Rattle.script_main.specs.Causes.{IsFine, IsJobUnknown, IsRefused, IsTooLong, IsWorkSpent};
+ghost use Rattle.script_main.specs.Causes.{IsFine, IsJobUnknown, IsRefused, IsTooLong};
+ghost use Rattle.script_main.specs.Causes.{IsTraceRefused, IsWorkSpent};
 
-use crate::replies::{Reply, reply_to};
+use crate::replies::{Reply, refused_status, reply_to};
 use crate::texts::{
     job_unknown_text, read_fault_text, refused_text, too_long_text, usage_text, work_spent_text,
 };
 use crate::{
-    DONE, JOB_UNKNOWN, NO_MEMORY, READ_FAULT, SCRIPT_REFUSED, Status, TOO_LONG, USAGE, WORK_SPENT,
-    WRITE_FAULT,
+    DONE, JOB_UNKNOWN, NO_MEMORY, READ_FAULT, SCRIPT_REFUSED, Status, TOO_LONG, TRACE_REFUSED,
+    USAGE, WORK_SPENT, WRITE_FAULT,
 };
 use job_table::Jobs;
 use std::alloc::Global;
@@ -56,7 +58,13 @@ fn write_reply<K: Sink>(alloc: Global, reply: &Reply, sink: &mut K) -> u8
         Reply::Usage => write_text(usage_text(), USAGE, USAGE, sink),
         Reply::ReadFault => write_text(read_fault_text(), READ_FAULT, READ_FAULT, sink),
         Reply::TooLong => write_text(too_long_text(), TOO_LONG, TOO_LONG, sink),
-        Reply::Refused(fault) => write_made(refused_text(alloc, *fault), SCRIPT_REFUSED, sink),
+        Reply::Refused { form, fault } => {
+            write_made(
+                refused_text(alloc, *form, *fault),
+                refused_status(*form),
+                sink,
+            )
+        }
         Reply::JobUnknown { line, job } => {
             write_made(job_unknown_text(alloc, *line, *job), JOB_UNKNOWN, sink)
         }
@@ -68,14 +76,14 @@ fn write_reply<K: Sink>(alloc: Global, reply: &Reply, sink: &mut K) -> u8
     }
 }
 
-/// Does all that the program does: what the words say, with the script that it reads from the
-/// source or generates. The first cause that comes decides: the words, a fault of the source, too
-/// many bytes, bytes that are no script, a job that there isn't, the work of the play, a fault of
-/// the sink. Want of memory may come at any place. Everything is written at the end, by one
-/// `write_all`.
+/// Does all that the program does: what the words say, with the input that it reads from the
+/// source, or the script that it generates. The first cause that comes decides: the words, a fault
+/// of the source, too many bytes, bytes that spell no such input, a job that there isn't, the work
+/// of the play, a fault of the sink. Want of memory may come at any place. Everything is written at
+/// the end, by one `write_all`.
 ///
 /// The words are `play`, `tree`, `generate NUMBER CPUS TIMERS MOMENTS` or
-/// `day NUMBER CPUS TIMERS MOMENTS`; of these `play` and `tree` read the source.
+/// `day NUMBER CPUS TIMERS MOMENTS`; of these `play` and `tree` read a script from the source.
 pub fn run_program<S: Source, K: Sink, J: Jobs>(
     alloc: Global,
     words: &[String],
@@ -104,7 +112,9 @@ pub fn run_program<S: Source, K: Sink, J: Jobs>(
         (S.seen source.old) (S.seen source.new) (K.seen sink.old) (K.seen sink.new) }
     ensures job_unknown { result.0 ≡ JOB_UNKNOWN → SaysJobUnknown (J.count jobs.now) words.now
         (S.seen source.old) (S.seen source.new) (K.seen sink.old) (K.seen sink.new) }
-    ensures no_other { result.0 ≤ JOB_UNKNOWN }
+    ensures trace_refused { result.0 ≡ TRACE_REFUSED → SaysTraceRefused words.now
+        (S.seen source.old) (S.seen source.new) (K.seen sink.old) (K.seen sink.new) }
+    ensures no_other { IsStatus result.0 }
 
     // When they come, in the order of the causes. Each yields to want of memory alone.
     ensures usage_exactly { command_of words.now ≡ None → IsEither result.0 USAGE NO_MEMORY }
@@ -117,6 +127,9 @@ pub fn run_program<S: Source, K: Sink, J: Jobs>(
     ensures refused_exactly { result.0 ≢ READ_FAULT
         → IsRefused words.now (S.seen source.old).left
         → IsEither result.0 SCRIPT_REFUSED NO_MEMORY }
+    ensures trace_refused_exactly { result.0 ≢ READ_FAULT
+        → IsTraceRefused words.now (S.seen source.old).left
+        → IsEither result.0 TRACE_REFUSED NO_MEMORY }
     ensures job_unknown_exactly { result.0 ≢ READ_FAULT
         → IsJobUnknown (J.count jobs.now) words.now (S.seen source.old).left
         → IsEither result.0 JOB_UNKNOWN NO_MEMORY }

@@ -4,14 +4,17 @@ ghost use Rattle.std.specs.Prelude.{◌≡◌, ℕ, None, IfOk, OnErr};
 ghost use Rattle.play_rules.specs.Interrupts.{Replies};
 ghost use Rattle.tm_io.specs.Seen.{SourceUnbroken};
 ghost use Rattle.tm_script.specs.Grammar.{IsScript};
-ghost use Rattle.script_main.specs.Words.{IsRecipe, Reads, recipe_in};
+ghost use Rattle.script_main.specs.Inputs.{IsInput};
+ghost use Rattle.script_main.specs.Words.{IsRecipe, Reads, form_of, recipe_in};
 ghost use Rattle.script_main.specs.Scripts.{script_by};
-ghost use Rattle.script_main.specs.Replies.{IsReply, IsReplyOf, IsReplyTo};
+ghost use Rattle.script_main.specs.Replies.{IsReply, IsReplyOf, IsReplyTo, refused_status};
 ghost use Rattle.script_main.specs.Steps.{IsReplyToBytes};
 
 use crate::commands::{Command, Recipe, read_command};
 use crate::day_text::print_day;
+use crate::inputs::{Form, Input, read_input};
 use crate::tree_text::print_tree;
+use crate::{SCRIPT_REFUSED, TRACE_REFUSED};
 use job_table::Jobs;
 use play_laws::law_work;
 use std::alloc::Global;
@@ -20,7 +23,7 @@ use tm_driver::{DriveFault, play, summary};
 use tm_generate::generate;
 use tm_io::{ReadFault, Source, read_all};
 use tm_report::Report;
-use tm_script::{ReadScript, Script, ScriptFault, print_script, read_script};
+use tm_script::{ReadScript, Script, ScriptFault, print_script};
 use tree_plan::plan;
 
 /// A text that the program writes, and what it says.
@@ -32,23 +35,34 @@ pub(crate) enum Reply {
     ReadFault,
     /// The source has too many bytes.
     TooLong,
-    /// What was read is no script.
-    Refused(ScriptFault),
-    /// A line of the script names a job that there isn't.
+    /// What was read is no input of this form.
+    Refused { form: Form, fault: ScriptFault },
+    /// A line of the input names a job that there isn't.
     JobUnknown { line: u32, job: u8 },
     /// The work of the play reached its limit.
     WorkSpent { count: u32 },
     /// The report of a play.
     Played(Report),
-    /// The output of a command but `play`: a tree, a script, or the numbers of a day.
+    /// Another output: a tree, a script, or the numbers of a day.
     Made(Vec<u8>),
+}
+
+/// The status of a refusal, by what was to be read.
+pub(crate) fn refused_status(form: Form) -> u8
+    ensures { result ≡ refused_status form }
+{
+    match form {
+        Form::Script => SCRIPT_REFUSED,
+        Form::Trace => TRACE_REFUSED,
+    }
 }
 
 /// Plays a script.
 fn play_script<J: Jobs>(alloc: Global, script: &Script, jobs: &J) -> Result<Reply, NoMemory>
     requires { IsScript script.now }
     ensures { IfOk result
-        (IsReplyTo (J.replies jobs.now) (J.count jobs.now) Command.Play script.now) }
+        (IsReplyTo (J.replies jobs.now) (J.count jobs.now) Command.Play
+        (Input.Script script.now)) }
 {
     law_work();
     let mut report = Report::new(alloc);
@@ -64,7 +78,8 @@ fn play_script<J: Jobs>(alloc: Global, script: &Script, jobs: &J) -> Result<Repl
 fn sum_up<J: Jobs>(alloc: Global, script: &Script, jobs: &J) -> Result<Reply, NoMemory>
     requires { IsScript script.now }
     ensures { (recipe : Recipe) → IfOk result
-        (IsReplyTo (J.replies jobs.now) (J.count jobs.now) (Command.Day recipe) script.now) }
+        (IsReplyTo (J.replies jobs.now) (J.count jobs.now) (Command.Day recipe)
+        (Input.Script script.now)) }
 {
     law_work();
     match summary(alloc, script, jobs) {
@@ -79,7 +94,7 @@ fn sum_up<J: Jobs>(alloc: Global, script: &Script, jobs: &J) -> Result<Reply, No
 fn draw_tree(alloc: Global, script: &Script) -> Result<Reply, NoMemory>
     requires { IsScript script.now }
     ensures { (jobs : Replies) (table : ℕ) → IfOk result
-        (IsReplyTo jobs table Command.Tree script.now) }
+        (IsReplyTo jobs table Command.Tree (Input.Script script.now)) }
 {
     let tree = plan(alloc, script.nodes, script.cpus, &script.isolated)?;
     Ok(Reply::Made(print_tree(alloc, &tree)?))
@@ -92,9 +107,10 @@ fn reply_to_script<J: Jobs>(
     script: &Script,
     jobs: &J,
 ) -> Result<Reply, NoMemory>
-    requires { IsScript script.now }
-    ensures { IfOk result
-        (IsReplyTo (J.replies jobs.now) (J.count jobs.now) command script.now) }
+    requires grammar { IsScript script.now }
+    requires form { form_of command ≡ Form.Script }
+    ensures { IfOk result (IsReplyTo (J.replies jobs.now) (J.count jobs.now) command
+        (Input.Script script.now)) }
 {
     match command {
         Command::Play => play_script(alloc, script, jobs),
@@ -104,7 +120,24 @@ fn reply_to_script<J: Jobs>(
     }
 }
 
-/// Does with the script that the bytes spell what the command says.
+/// Does with its input what the command says.
+fn reply_to_input<J: Jobs>(
+    alloc: Global,
+    command: Command,
+    input: &Input,
+    jobs: &J,
+) -> Result<Reply, NoMemory>
+    requires { IsInput (form_of command) input.now }
+    ensures { IfOk result
+        (IsReplyTo (J.replies jobs.now) (J.count jobs.now) command input.now) }
+{
+    match input {
+        Input::Script(script) => reply_to_script(alloc, command, script, jobs),
+        Input::Trace(_) => unreachable!(),
+    }
+}
+
+/// Does with the input that the bytes spell what the command says.
 fn reply_to_bytes<J: Jobs>(
     alloc: Global,
     command: Command,
@@ -114,14 +147,15 @@ fn reply_to_bytes<J: Jobs>(
     ensures { IfOk result
         (IsReplyToBytes (J.replies jobs.now) (J.count jobs.now) command bytes.now) }
 {
-    match read_script(alloc, bytes) {
-        Ok(script) => reply_to_script(alloc, command, &script, jobs),
-        Err(ReadScript::Refused(fault)) => Ok(Reply::Refused(fault)),
+    let form = command.form();
+    match read_input(alloc, form, bytes) {
+        Ok(input) => reply_to_input(alloc, command, &input, jobs),
+        Err(ReadScript::Refused(fault)) => Ok(Reply::Refused { form, fault }),
         Err(ReadScript::NoMemory) => Err(NoMemory),
     }
 }
 
-/// Reads the script from the source, and does with it what the command says.
+/// Reads the input from the source, and does with it what the command says.
 fn reply_to_source<S: Source, J: Jobs>(
     alloc: Global,
     command: Command,
@@ -148,9 +182,10 @@ fn reply_to_recipe<J: Jobs>(
     recipe: Recipe,
     jobs: &J,
 ) -> Result<Reply, NoMemory>
-    requires { IsRecipe recipe }
-    ensures { IfOk result
-        (IsReplyTo (J.replies jobs.now) (J.count jobs.now) command (script_by recipe)) }
+    requires recipe { IsRecipe recipe }
+    requires form { form_of command ≡ Form.Script }
+    ensures { IfOk result (IsReplyTo (J.replies jobs.now) (J.count jobs.now) command
+        (Input.Script (script_by recipe))) }
 {
     let Recipe {
         number,

@@ -1,6 +1,6 @@
 //! How the program ends.
 
-/// How the program ends: its exit status, one of the nine below.
+/// How the program ends: its exit status, one of those below.
 #[derive(Clone, Copy, Debug, PartialEq, Eq)]
 pub struct Status(pub u8);
 
@@ -30,3 +30,6 @@ pub const TOO_LONG: u8 = 7;
 
 /// The script names a job that there isn't.
 pub const JOB_UNKNOWN: u8 = 8;
+
+/// What was read is no trace.
+pub const TRACE_REFUSED: u8 = 10;

@@ -2,9 +2,10 @@
 
 ghost use Rattle.std.specs.Prelude.{◌≡◌, ◌++◌, IfOk};
 ghost use Rattle.std.specs.Fmt.{decimal};
-ghost use Rattle.script_main.specs.Texts.{job_unknown_text, kind_number, read_fault_text};
+ghost use Rattle.script_main.specs.Texts.{form_name, job_unknown_text, kind_number, read_fault_text};
 ghost use Rattle.script_main.specs.Texts.{refused_text, too_long_text, usage_text, work_spent_text};
 
+use crate::inputs::Form;
 use std::alloc::Global;
 use text_words::{push_bytes, push_number};
 use tm_base::NoMemory;
@@ -43,12 +44,27 @@ fn kind_number(kind: Kind) -> u8
     }
 }
 
+/// What a refusal calls an input of this form.
+fn form_name(form: Form) -> &'static [u8]
+    ensures { result.now ≡ form_name form }
+{
+    match form {
+        Form::Script => b"script",
+        Form::Trace => b"trace",
+    }
+}
+
 #[tactic(auto, unfolding(crate::specs::Texts::refused_text), using(std::proofs::lemmas::List::append_assoc))]
-pub(crate) fn refused_text(alloc: Global, fault: ScriptFault) -> Result<Vec<u8>, NoMemory>
-    ensures { IfOk result (λ text. text.items ≡ refused_text fault) }
+pub(crate) fn refused_text(
+    alloc: Global,
+    form: Form,
+    fault: ScriptFault,
+) -> Result<Vec<u8>, NoMemory>
+    ensures { IfOk result (λ text. text.items ≡ refused_text form fault) }
 {
     let mut text = Vec::new(alloc);
-    push_bytes(&mut text, b"script refused line ")?;
+    push_bytes(&mut text, form_name(form))?;
+    push_bytes(&mut text, b" refused line ")?;
     push_number(&mut text, u64::from(fault.line))?;
     push_bytes(&mut text, b" kind ")?;
     push_number(&mut text, u64::from(kind_number(fault.kind)))?;

@@ -1,6 +1,8 @@
 use Rattle.std.proofs.Common.{refl, inl}
 use Rattle.script_main.proofs.Endings.{appends_none, says_done, says_no_memory, says_write_fault}
-use Rattle.script_main.proofs.Endings.{says_work_spent, says_job_unknown}
+use Rattle.script_main.specs.declared.inputs.Form.TheVariants as forms
+use Rattle.script_main.proofs.Endings.{says_work_spent, says_job_unknown, says_refused}
+use Rattle.script_main.proofs.Refusals.{has_status}
 use Rattle.script_main.proofs.Exactly.{refused_exactly, job_exactly, work_exactly}
 use Rattle.script_main.proofs.Exactly.{fine_ends, fine_done}
 use Rattle.script_main.proofs.program.run_program.Goals as goal
@@ -45,13 +47,43 @@ returns-in-Ok-clause-job_unknown g c =
       ends = c.write_reply.ensures;
     })
 
+pub returns-in-Ok-clause-refused : goal.returns-in-Ok-clause-refused
+returns-in-Ok-clause-refused g c =
+    says_refused (record {
+      reply = c.in-Ok.reply;
+      is = c.in-Ok.ensures.reply;
+      ends = c.write_reply.ensures;
+    }) forms.Script
+
+pub returns-in-Ok-clause-trace_refused : goal.returns-in-Ok-clause-trace_refused
+returns-in-Ok-clause-trace_refused g c =
+    says_refused (record {
+      reply = c.in-Ok.reply;
+      is = c.in-Ok.ensures.reply;
+      ends = c.write_reply.ensures;
+    }) forms.Trace
+
+pub returns-in-Ok-clause-no_other : goal.returns-in-Ok-clause-no_other
+returns-in-Ok-clause-no_other g c =
+    has_status c.in-Ok.reply c.write_reply.ensures
+
 pub returns-in-Ok-clause-refused_exactly : goal.returns-in-Ok-clause-refused_exactly
 returns-in-Ok-clause-refused_exactly g c =
+    λ not r.
     refused_exactly (record {
       reply = c.in-Ok.reply;
       is = c.in-Ok.ensures.reply;
       ends = c.write_reply.ensures;
-    })
+    }) forms.Script r not
+
+pub returns-in-Ok-clause-trace_refused_exactly : goal.returns-in-Ok-clause-trace_refused_exactly
+returns-in-Ok-clause-trace_refused_exactly g c =
+    λ not r.
+    refused_exactly (record {
+      reply = c.in-Ok.reply;
+      is = c.in-Ok.ensures.reply;
+      ends = c.write_reply.ensures;
+    }) forms.Trace r not
 
 pub returns-in-Ok-clause-job_unknown_exactly : goal.returns-in-Ok-clause-job_unknown_exactly
 returns-in-Ok-clause-job_unknown_exactly g c =

@@ -1,9 +1,8 @@
-use Rattle.std.proofs.Common.{sym, subst}
+use Rattle.std.proofs.Common.{ℕ, sym, subst}
 use Rattle.script_main.specs.declared.replies.Reply.{Reply}
-use Rattle.script_main.specs.declared.statuses.TheConstants.{SCRIPT_REFUSED, JOB_UNKNOWN}
-use Rattle.script_main.specs.declared.statuses.TheConstants.{WORK_SPENT}
+use Rattle.script_main.specs.declared.statuses.TheConstants.{JOB_UNKNOWN, WORK_SPENT}
 use Rattle.script_main.specs.Texts.{refused_text, job_unknown_text, work_spent_text}
-use Rattle.script_main.specs.Ends.{EndsAs}
+use Rattle.script_main.specs.Ends.{EndsAs, EndsWith}
 use Rattle.script_main.proofs.Endings.{made_ends}
 use Rattle.script_main.proofs.program.write_reply.Goals as goal
 
@@ -12,10 +11,12 @@ returns-in-Refused g c =
     let k = g.K.Sink.seen c.args.sink.now in
     let m = g.K.Sink.seen c.write_made.new.sink in
     let Ends : Reply → Type 0 = λ r. EndsAs r k m c.write_made.result in
+    let wanted = refused_text c.in-Refused.form c.in-Refused.fault in
+    let Own : ℕ → Type 0 = λ own. EndsWith wanted own own k m c.write_made.result in
     let wrote =
-    made_ends k m c.write_made.result c.refused_text.result (refused_text c.in-Refused.fault)
-    SCRIPT_REFUSED c.refused_text.ensures c.write_made.ensures in
-    subst Ends (sym c.in-Refused.is) wrote
+    made_ends k m c.write_made.result c.refused_text.result wanted c.refused_status.result
+    c.refused_text.ensures c.write_made.ensures in
+    subst Ends (sym c.in-Refused.is) (subst Own c.refused_status.ensures wrote)
 
 pub returns-in-JobUnknown : goal.returns-in-JobUnknown
 returns-in-JobUnknown g c =

@@ -1,6 +1,7 @@
 use Rattle.std.proofs.Common.{Option, sym, subst}
 use Rattle.std.proofs.lemmas.Result.{IfOk-weaker}
 use Rattle.script_main.specs.declared.commands.Command.{Command}
+use Rattle.script_main.specs.declared.inputs.Input.TheVariants as inputs
 use Rattle.script_main.specs.Scripts.{script_by}
 use Rattle.script_main.specs.Replies.{IsReplyBy, IsReplyTo, IsReply}
 use Rattle.script_main.proofs.Replying.{to_recipe}
@@ -14,7 +15,8 @@ returns-in-Some-recipe-clause-reply g c =
     let command = c.in-Some.command in
     let recipe = c.in-Some-recipe.recipe in
     let maker = sym c.in-Some-recipe.ensures in
-    IfOk-weaker c.reply_to_recipe.result (IsReplyTo jobs table command (script_by recipe))
+    IfOk-weaker c.reply_to_recipe.result
+    (IsReplyTo jobs table command (inputs.Script (script_by recipe)))
     (IsReply jobs table c.args.words.now s s)
     (λ reply to.
     let By : Option Command → Type 0 = λ o. IsReplyBy jobs table o s s reply in

@@ -1,4 +1,7 @@
+use Rattle.std.proofs.Common.{subst}
 use Rattle.std.proofs.lemmas.Result.{IfOk-weaker}
+use Rattle.script_main.specs.declared.inputs.Form.{Form}
+use Rattle.script_main.specs.Inputs.{IsOnlyInputOf, SpellsInput}
 use Rattle.script_main.specs.Replies.{IsReplyTo}
 use Rattle.script_main.specs.Steps.{IsReplyToBytes}
 use Rattle.script_main.proofs.Replying.{to_bytes}
@@ -10,8 +13,12 @@ returns-in-Ok g c =
     let table = g.J.Jobs.count c.args.jobs.now in
     let command = c.args.command in
     let bytes = c.args.bytes.now in
-    let script = c.in-Ok.script in
-    IfOk-weaker c.reply_to_script.result (IsReplyTo jobs table command script)
+    let input = c.in-Ok.input in
+    let Spelled : Form → Type 0 = λ form. SpellsInput form bytes input in
+    let Only : Form → Type 0 = λ form. IsOnlyInputOf form bytes input in
+    IfOk-weaker c.reply_to_input.result (IsReplyTo jobs table command input)
     (IsReplyToBytes jobs table command bytes)
-    (to_bytes jobs table command bytes script c.in-Ok.ensures.spelled c.in-Ok.ensures.only)
-    c.reply_to_script.ensures
+    (to_bytes jobs table command bytes input
+    (subst Spelled c.form-form.ensures c.in-Ok.ensures.spelled)
+    (subst Only c.form-form.ensures c.in-Ok.ensures.only))
+    c.reply_to_input.ensures

@@ -1,6 +1,7 @@
 use Rattle.std.proofs.Common.{sym, subst}
 use Rattle.std.specs.Prelude.{IfOk}
 use Rattle.script_main.specs.declared.commands.Command.{Command}
+use Rattle.script_main.specs.declared.inputs.Input.TheVariants as inputs
 use Rattle.script_main.specs.Replies.{IsReplyTo}
 use Rattle.script_main.proofs.replies.reply_to_script.Goals as goal
 
@@ -9,7 +10,7 @@ returns-in-Tree g c =
     let jobs = g.J.Jobs.replies c.args.jobs.now in
     let table = g.J.Jobs.count c.args.jobs.now in
     let To : Command → Type 0 =
-    λ command. IfOk c.draw_tree.result (IsReplyTo jobs table command c.args.script.now) in
+    λ command. IfOk c.draw_tree.result (IsReplyTo jobs table command (inputs.Script c.args.script.now)) in
     subst To (sym c.in-Tree.is) (c.draw_tree.ensures jobs table)
 
 pub returns-in-Day : goal.returns-in-Day
@@ -17,5 +18,5 @@ returns-in-Day g c =
     let jobs = g.J.Jobs.replies c.args.jobs.now in
     let table = g.J.Jobs.count c.args.jobs.now in
     let To : Command → Type 0 =
-    λ command. IfOk c.sum_up.result (IsReplyTo jobs table command c.args.script.now) in
+    λ command. IfOk c.sum_up.result (IsReplyTo jobs table command (inputs.Script c.args.script.now)) in
     subst To (sym c.in-Day.is) (c.sum_up.ensures c.in-Day.field-0)

@@ -1,0 +1,60 @@
+//! What the program reads.
+
+ghost use Rattle.std.specs.Prelude.{IfErr, IfOk};
+ghost use Rattle.script_main.specs.Inputs.{IsOnlyInputOf, IsRefusalBy, SpellsInput};
+
+use std::alloc::Global;
+use tm_script::{ReadScript, Script, read_script};
+use trace_check::{ReadTrace, Trace, read_trace};
+
+/// What the bytes that a command reads are to spell.
+#[derive(Clone, Copy)]
+pub(crate) enum Form {
+    Script,
+    Trace,
+}
+
+/// What a command works on.
+#[derive(Drop)]
+pub(crate) enum Input {
+    Script(Script),
+    Trace(Trace),
+}
+
+/// The one script that these bytes spell.
+fn read_as_script(alloc: Global, bytes: &[u8]) -> Result<Input, ReadScript>
+    ensures spelled { IfOk result (SpellsInput Form.Script bytes.now) }
+    ensures only { IfOk result (IsOnlyInputOf Form.Script bytes.now) }
+    ensures refused { IfErr result (IsRefusalBy Form.Script bytes.now) }
+{
+    match read_script(alloc, bytes) {
+        Ok(script) => Ok(Input::Script(script)),
+        Err(fault) => Err(fault),
+    }
+}
+
+/// The one trace that these bytes spell.
+fn read_as_trace(alloc: Global, bytes: &[u8]) -> Result<Input, ReadScript>
+    ensures spelled { IfOk result (SpellsInput Form.Trace bytes.now) }
+    ensures only { IfOk result (IsOnlyInputOf Form.Trace bytes.now) }
+    ensures refused { IfErr result (IsRefusalBy Form.Trace bytes.now) }
+{
+    match read_trace(alloc, bytes) {
+        Ok(trace) => Ok(Input::Trace(trace)),
+        Err(ReadTrace::Refused(fault)) => Err(ReadScript::Refused(fault)),
+        Err(ReadTrace::NoMemory) => Err(ReadScript::NoMemory),
+    }
+}
+
+/// The one input of this form that these bytes spell. A refusal tells the first line at fault, from
+/// 1, and of the kinds that apply to it the first.
+pub(crate) fn read_input(alloc: Global, form: Form, bytes: &[u8]) -> Result<Input, ReadScript>
+    ensures spelled { IfOk result (SpellsInput form bytes.now) }
+    ensures only { IfOk result (IsOnlyInputOf form bytes.now) }
+    ensures refused { IfErr result (IsRefusalBy form bytes.now) }
+{
+    match form {
+        Form::Script => read_as_script(alloc, bytes),
+        Form::Trace => read_as_trace(alloc, bytes),
+    }
+}
