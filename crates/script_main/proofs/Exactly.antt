@@ -115,6 +115,7 @@ out_plays jobs table (commands.Generate recipe) input text plays out = absurd pl
 out_plays jobs table (commands.Day recipe) (inputs.Script script) text plays out =
     record { known = out.can_play.known; within = ap (option_map counted) out.can_play.within }
 out_plays jobs table (commands.Day recipe) (inputs.Trace trace) text plays out = absurd out
+out_plays jobs table commands.Check input text plays out = absurd plays
 
 same_input : (s t : SourceSeen) (r : Option Recipe) (form : Form) (x y : Input)
     → BringsBy r form s t x → IsInputBy r form s.left y → x ≡ y

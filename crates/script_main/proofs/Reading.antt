@@ -48,12 +48,13 @@ pub trace_input : (form : Form) (trace : Trace) → IsInput form (inputs.Trace t
 trace_input forms.Script trace is = absurd is
 trace_input forms.Trace trace is = (is, refl)
 
--- no command works on traces
-pub no_traces : (command : Command) → form_of command ≡ forms.Trace → ⊥
-no_traces commands.Play is = cc
-no_traces commands.Tree is = cc
-no_traces (commands.Generate recipe) is = cc
-no_traces (commands.Day recipe) is = cc
+-- one command works on traces
+pub checks : (command : Command) → form_of command ≡ forms.Trace → command ≡ commands.Check
+checks commands.Play is = cc
+checks commands.Tree is = cc
+checks (commands.Generate recipe) is = cc
+checks (commands.Day recipe) is = cc
+checks commands.Check is = refl
 
 -- what a recipe makes is a script
 pub makes_script : (command : Command) (recipe : Recipe) → recipe_in command ≡ Some recipe
@@ -62,3 +63,4 @@ makes_script commands.Play recipe is = cc
 makes_script commands.Tree recipe is = cc
 makes_script (commands.Generate r) recipe is = refl
 makes_script (commands.Day r) recipe is = refl
+makes_script commands.Check recipe is = cc

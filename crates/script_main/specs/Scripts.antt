@@ -13,15 +13,17 @@ use Rattle.play_rules.specs.Parts.{counted}
 use Rattle.play_rules.specs.Play.{play_text, play_spent}
 use Rattle.tm_driver.specs.Outcomes.{work_limit}
 use Rattle.tm_driver.specs.Plays.{CanPlay, LawsHold, summary_of}
+use Rattle.trace_check.specs.Answers.{IsCheckText}
 use Rattle.script_main.specs.TreeText.Trees.{tree_text}
 use Rattle.script_main.specs.DayText.Days.{day_text}
 use Rattle.script_main.specs.declared.commands.Recipe.{Recipe}
 use Rattle.script_main.specs.declared.commands.Command.{Command}
 use Rattle.script_main.specs.declared.commands.Command.TheVariants.{Play, Tree, Generate, Day}
+use Rattle.script_main.specs.declared.commands.Command.TheVariants.{Check}
 use Rattle.script_main.specs.declared.inputs.Form.{Form}
 use Rattle.script_main.specs.declared.inputs.Input.{Input}
 use Rattle.script_main.specs.declared.inputs.Input.TheVariants as inputs
-use Rattle.script_main.specs.Inputs.{IsOnlyInputOf, OfScript, SpellsInput}
+use Rattle.script_main.specs.Inputs.{IsOnlyInputOf, OfScript, OfTrace, SpellsInput}
 use Rattle.script_main.specs.Words.{form_of, recipe_in}
 
 -- the script that a recipe makes
@@ -103,3 +105,4 @@ IsOutput jobs table Tree input text = OfScript (IsTreeOf text) input
 IsOutput jobs table (Generate recipe) input text =
     OfScript (λ script. text ≡ script_text script) input
 IsOutput jobs table (Day recipe) input text = OfScript (IsDayOf jobs table text) input
+IsOutput jobs table Check input text = OfTrace (λ trace. IsCheckText trace text) input

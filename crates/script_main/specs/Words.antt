@@ -10,6 +10,7 @@ use Rattle.script_main.specs.declared.commands.TheConstants.{MOST_NUMBER}
 use Rattle.script_main.specs.declared.commands.Recipe.{Recipe}
 use Rattle.script_main.specs.declared.commands.Command.{Command}
 use Rattle.script_main.specs.declared.commands.Command.TheVariants.{Play, Tree, Generate, Day}
+use Rattle.script_main.specs.declared.commands.Command.TheVariants.{Check}
 use Rattle.script_main.specs.declared.inputs.Form.{Form}
 use Rattle.script_main.specs.declared.inputs.Form.TheVariants as forms
 
@@ -40,6 +41,7 @@ abbrev pub lone_command : List ℕ → Option Command
 lone_command word =
     if bytes_eq word (codes "play") then Some Play
     else if bytes_eq word (codes "tree") then Some Tree
+    else if bytes_eq word (codes "check") then Some Check
     else None
 
 -- the commands of a word and a recipe
@@ -72,6 +74,7 @@ recipe_in Play = None
 recipe_in Tree = None
 recipe_in (Generate recipe) = Some recipe
 recipe_in (Day recipe) = Some recipe
+recipe_in Check = None
 
 -- what a command works on
 abbrev pub form_of : Command → Form
@@ -79,6 +82,7 @@ form_of Play = forms.Script
 form_of Tree = forms.Script
 form_of (Generate recipe) = forms.Script
 form_of (Day recipe) = forms.Script
+form_of Check = forms.Trace
 
 -- the words name a command that reads its input from the source
 abbrev pub Reads : List (String Global) → Type 0
@@ -96,3 +100,4 @@ IsPlayer Play = Unit {0}
 IsPlayer Tree = ⊥
 IsPlayer (Generate recipe) = ⊥
 IsPlayer (Day recipe) = Unit {0}
+IsPlayer Check = ⊥

@@ -36,6 +36,8 @@ pub(crate) enum Command {
     Generate(Recipe),
     /// Plays a generated script, and writes what that came to.
     Day(Recipe),
+    /// Tells whether a trace that is read is a run of the core's steps, and who answers for timers.
+    Check,
 }
 
 impl Command {
@@ -44,7 +46,7 @@ impl Command {
         ensures { result ≡ recipe_in self }
     {
         match self {
-            Command::Play | Command::Tree => None,
+            Command::Play | Command::Tree | Command::Check => None,
             Command::Generate(recipe) | Command::Day(recipe) => Some(recipe),
         }
     }
@@ -55,6 +57,7 @@ impl Command {
     {
         match self {
             Command::Play | Command::Tree | Command::Generate(_) | Command::Day(_) => Form::Script,
+            Command::Check => Form::Trace,
         }
     }
 }
@@ -101,6 +104,8 @@ fn lone_command(word: &[u8]) -> Option<Command>
         Some(Command::Play)
     } else if word == b"tree".as_slice() {
         Some(Command::Tree)
+    } else if word == b"check".as_slice() {
+        Some(Command::Check)
     } else {
         None
     }

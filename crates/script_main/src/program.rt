@@ -82,8 +82,9 @@ fn write_reply<K: Sink>(alloc: Global, reply: &Reply, sink: &mut K) -> u8
 /// of the play, a fault of the sink. Want of memory may come at any place. Everything is written at
 /// the end, by one `write_all`.
 ///
-/// The words are `play`, `tree`, `generate NUMBER CPUS TIMERS MOMENTS` or
-/// `day NUMBER CPUS TIMERS MOMENTS`; of these `play` and `tree` read a script from the source.
+/// The words are `play`, `tree`, `generate NUMBER CPUS TIMERS MOMENTS`,
+/// `day NUMBER CPUS TIMERS MOMENTS` or `check`; of these `play` and `tree` read a script from the
+/// source, and `check` a trace.
 pub fn run_program<S: Source, K: Sink, J: Jobs>(
     alloc: Global,
     words: &[String],

@@ -4,6 +4,7 @@ ghost use Rattle.std.specs.Prelude.{◌≡◌, ℕ, None, IfOk, OnErr};
 ghost use Rattle.play_rules.specs.Interrupts.{Replies};
 ghost use Rattle.tm_io.specs.Seen.{SourceUnbroken};
 ghost use Rattle.tm_script.specs.Grammar.{IsScript};
+ghost use Rattle.trace_check.specs.Texts.{IsTrace};
 ghost use Rattle.script_main.specs.Inputs.{IsInput};
 ghost use Rattle.script_main.specs.Words.{IsRecipe, Reads, form_of, recipe_in};
 ghost use Rattle.script_main.specs.Scripts.{script_by};
@@ -24,6 +25,7 @@ use tm_generate::generate;
 use tm_io::{ReadFault, Source, read_all};
 use tm_report::Report;
 use tm_script::{ReadScript, Script, ScriptFault, print_script};
+use trace_check::{Trace, check};
 use tree_plan::plan;
 
 /// A text that the program writes, and what it says.
@@ -41,7 +43,7 @@ pub(crate) enum Reply {
     JobUnknown { line: u32, job: u8 },
     /// The work of the play reached its limit.
     WorkSpent { count: u32 },
-    /// The report of a play.
+    /// The report of a play or of a check.
     Played(Report),
     /// Another output: a tree, a script, or the numbers of a day.
     Made(Vec<u8>),
@@ -117,7 +119,19 @@ fn reply_to_script<J: Jobs>(
         Command::Tree => draw_tree(alloc, script),
         Command::Generate(_) => Ok(Reply::Made(print_script(alloc, script)?)),
         Command::Day(_) => sum_up(alloc, script, jobs),
+        Command::Check => unreachable!(),
     }
+}
+
+/// Tells whether a trace is a run, and what it asks.
+fn check_trace(alloc: Global, trace: &Trace) -> Result<Reply, NoMemory>
+    requires { IsTrace trace.now }
+    ensures { (jobs : Replies) (table : ℕ) → IfOk result
+        (IsReplyTo jobs table Command.Check (Input.Trace trace.now)) }
+{
+    let mut report = Report::new(alloc);
+    check(alloc, trace, &mut report)?;
+    Ok(Reply::Played(report))
 }
 
 /// Does with its input what the command says.
@@ -133,7 +147,7 @@ fn reply_to_input<J: Jobs>(
 {
     match input {
         Input::Script(script) => reply_to_script(alloc, command, script, jobs),
-        Input::Trace(_) => unreachable!(),
+        Input::Trace(trace) => check_trace(alloc, trace),
     }
 }
 

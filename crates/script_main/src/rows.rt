@@ -1,7 +1,7 @@
 //! Worked rows of the whole program: words and input, and the status and text that they come to.
 //! They were worked out from the rules before the program was, and none is its own output.
 
-use crate::{DONE, JOB_UNKNOWN, SCRIPT_REFUSED, USAGE, WORK_SPENT};
+use crate::{DONE, JOB_UNKNOWN, SCRIPT_REFUSED, TRACE_REFUSED, USAGE, WORK_SPENT};
 
 /// What one run is given, and what it comes to.
 #[derive(Clone, Copy)]
@@ -15,7 +15,7 @@ pub(crate) struct Row {
 }
 
 /// The rows.
-pub(crate) fn rows() -> [Row; 23] {
+pub(crate) fn rows() -> [Row; 26] {
     [
         // plain
         Row {
@@ -182,7 +182,7 @@ pub(crate) fn rows() -> [Row; 23] {
             input: b"",
             status: USAGE,
             text: b"usage: tmig play | tree | generate NUMBER CPUS TIMERS MOMENTS \
-              | day NUMBER CPUS TIMERS MOMENTS\n",
+              | day NUMBER CPUS TIMERS MOMENTS | check\n",
         },
         // words-table-d
         Row {
@@ -190,7 +190,7 @@ pub(crate) fn rows() -> [Row; 23] {
             input: b"",
             status: USAGE,
             text: b"usage: tmig play | tree | generate NUMBER CPUS TIMERS MOMENTS \
-              | day NUMBER CPUS TIMERS MOMENTS\n",
+              | day NUMBER CPUS TIMERS MOMENTS | check\n",
         },
         // words-table-f
         Row {
@@ -198,7 +198,7 @@ pub(crate) fn rows() -> [Row; 23] {
             input: b"",
             status: USAGE,
             text: b"usage: tmig play | tree | generate NUMBER CPUS TIMERS MOMENTS \
-              | day NUMBER CPUS TIMERS MOMENTS\n",
+              | day NUMBER CPUS TIMERS MOMENTS | check\n",
         },
         // statuses-b
         Row {
@@ -206,7 +206,30 @@ pub(crate) fn rows() -> [Row; 23] {
             input: b"",
             status: USAGE,
             text: b"usage: tmig play | tree | generate NUMBER CPUS TIMERS MOMENTS \
-              | day NUMBER CPUS TIMERS MOMENTS\n",
+              | day NUMBER CPUS TIMERS MOMENTS | check\n",
+        },
+        // check-held
+        Row {
+            words: "check",
+            input: b"trace 1\nnodes 1\ncpus 2\ntimers 1\nisolated\nclock 10\n\
+              arm 1 0 global 60 0 0 0\nidle 1\nwhy 1 0\nwalk 1\nwalk 1\nwalk 1\nwalk 1\nwalk 1\n\
+              walk 1\nwalk 1\nwalk 1\nwhy 1 0\nend\n",
+            status: DONE,
+            text: b"why 3 1 0 carried 1\nwhy 11 1 0 held 0:0 0\nyes 11\n",
+        },
+        // check-no
+        Row {
+            words: "check",
+            input: b"trace 1\nnodes 1\ncpus 2\ntimers 1\nisolated\nwake 0\nend\n",
+            status: DONE,
+            text: b"no 0\n",
+        },
+        // a first line of another version is a bad line, as in a script
+        Row {
+            words: "check",
+            input: b"trace 2\nnodes 1\ncpus 2\ntimers 1\nisolated\nend\n",
+            status: TRACE_REFUSED,
+            text: b"trace refused line 1 kind 1\n",
         },
     ]
 }

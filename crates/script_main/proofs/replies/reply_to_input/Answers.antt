@@ -1,8 +1,12 @@
-use Rattle.std.proofs.Common.{subst}
+use Rattle.std.proofs.Common.{sym, subst}
+use Rattle.std.specs.Prelude.{IfOk}
+use Rattle.script_main.specs.declared.commands.Command.{Command}
 use Rattle.script_main.specs.declared.inputs.Input.{Input}
+use Rattle.script_main.specs.declared.inputs.Input.TheVariants as inputs
 use Rattle.script_main.specs.Inputs.{IsInput}
 use Rattle.script_main.specs.Words.{form_of}
-use Rattle.script_main.proofs.Reading.{no_traces, script_input, trace_input}
+use Rattle.script_main.specs.Replies.{IsReplyTo}
+use Rattle.script_main.proofs.Reading.{checks, script_input, trace_input}
 use Rattle.script_main.proofs.replies.reply_to_input.Goals as goal
 
 pub reply_to_script-requires : goal.reply_to_script-requires
@@ -12,9 +16,23 @@ reply_to_script-requires g c =
     let is = script_input form c.in-Script.script (subst Is c.in-Script.is c.requires) in
     record { grammar = is.0; form = is.1 }
 
-pub unreachable-requires : goal.unreachable-requires
-unreachable-requires g c =
+pub check_trace-requires : goal.check_trace-requires
+check_trace-requires g c =
     let form = form_of c.args.command in
     let Is : Input → Type 0 = λ input. IsInput form input in
-    no_traces c.args.command
-    (trace_input form c.in-Trace.field-0 (subst Is c.in-Trace.is c.requires)).1
+    (trace_input form c.in-Trace.trace (subst Is c.in-Trace.is c.requires)).0
+
+pub returns-in-Trace : goal.returns-in-Trace
+returns-in-Trace g c =
+    let jobs = g.J.Jobs.replies c.args.jobs.now in
+    let table = g.J.Jobs.count c.args.jobs.now in
+    let form = form_of c.args.command in
+    let Is : Input → Type 0 = λ input. IsInput form input in
+    let is = (trace_input form c.in-Trace.trace (subst Is c.in-Trace.is c.requires)).1 in
+    let By : Command → Type 0 =
+    λ command. IfOk c.check_trace.result
+    (IsReplyTo jobs table command (inputs.Trace c.in-Trace.trace)) in
+    let To : Input → Type 0 =
+    λ input. IfOk c.check_trace.result (IsReplyTo jobs table c.args.command input) in
+    subst To (sym c.in-Trace.is)
+    (subst By (sym (checks c.args.command is)) (c.check_trace.ensures jobs table))
