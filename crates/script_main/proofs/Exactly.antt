@@ -116,6 +116,9 @@ out_plays jobs table (commands.Day recipe) (inputs.Script script) text plays out
     record { known = out.can_play.known; within = ap (option_map counted) out.can_play.within }
 out_plays jobs table (commands.Day recipe) (inputs.Trace trace) text plays out = absurd out
 out_plays jobs table commands.Check input text plays out = absurd plays
+out_plays jobs table commands.Deep (inputs.Script script) text plays out =
+    record { known = out.can_play.known; within = ap (option_map counted) out.can_play.within }
+out_plays jobs table commands.Deep (inputs.Trace trace) text plays out = absurd out
 
 same_input : (s t : SourceSeen) (r : Option Recipe) (form : Form) (x y : Input)
     → BringsBy r form s t x → IsInputBy r form s.left y → x ≡ y

@@ -55,6 +55,7 @@ checks commands.Tree is = cc
 checks (commands.Generate recipe) is = cc
 checks (commands.Day recipe) is = cc
 checks commands.Check is = refl
+checks commands.Deep is = cc
 
 -- what a recipe makes is a script
 pub makes_script : (command : Command) (recipe : Recipe) → recipe_in command ≡ Some recipe
@@ -64,3 +65,4 @@ makes_script commands.Tree recipe is = cc
 makes_script (commands.Generate r) recipe is = refl
 makes_script (commands.Day r) recipe is = refl
 makes_script commands.Check recipe is = cc
+makes_script commands.Deep recipe is = cc

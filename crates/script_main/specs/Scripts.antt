@@ -7,10 +7,12 @@ use Rattle.tm_script.specs.declared.syntax.Script.{Script}
 use Rattle.tm_script.specs.Texts.{cpu_count, script_text}
 use Rattle.tm_generate.specs.Generated.{generated}
 use Rattle.tree_plan.specs.Shape.{tree_of}
+use Rattle.tm_report.specs.Lines.{report_text}
 use Rattle.play_rules.specs.Interrupts.{Replies}
 use Rattle.play_rules.specs.Jobs.{first_unknown_job}
 use Rattle.play_rules.specs.Parts.{counted}
 use Rattle.play_rules.specs.Play.{play_text, play_spent}
+use Rattle.tm_driver.specs.Deep.{deep_lines, deep_text, without_device}
 use Rattle.tm_driver.specs.Outcomes.{work_limit}
 use Rattle.tm_driver.specs.Plays.{CanPlay, LawsHold, summary_of}
 use Rattle.trace_check.specs.Answers.{IsCheckText}
@@ -19,7 +21,7 @@ use Rattle.script_main.specs.DayText.Days.{day_text}
 use Rattle.script_main.specs.declared.commands.Recipe.{Recipe}
 use Rattle.script_main.specs.declared.commands.Command.{Command}
 use Rattle.script_main.specs.declared.commands.Command.TheVariants.{Play, Tree, Generate, Day}
-use Rattle.script_main.specs.declared.commands.Command.TheVariants.{Check}
+use Rattle.script_main.specs.declared.commands.Command.TheVariants.{Check, Deep}
 use Rattle.script_main.specs.declared.inputs.Form.{Form}
 use Rattle.script_main.specs.declared.inputs.Input.{Input}
 use Rattle.script_main.specs.declared.inputs.Input.TheVariants as inputs
@@ -94,6 +96,14 @@ pub record IsDayOf (jobs : Replies) (table : ℕ) (text : List ℕ) (script : Sc
   pub summed : text ≡ day_text (summary_of jobs script)
   pub laws : LawsHold jobs script
 
+-- the text is that of such a play under one broadcast device: that of the play, with the device's
+-- lines
+pub record IsDeepOf (jobs : Replies) (table : ℕ) (text : List ℕ) (script : Script) : Type 0 where
+  pub can_play : CanPlay jobs table script
+  pub played : text ≡ deep_text jobs script
+  pub as_play : report_text (without_device (deep_lines jobs script)) ≡ play_text jobs script
+  pub laws : LawsHold jobs script
+
 -- the text is the tree of the script's machine
 abbrev pub IsTreeOf : List ℕ → Script → Type 0
 IsTreeOf text script = text ≡ tree_text (tree_of script.nodes script.cpus script.isolated)
@@ -106,3 +116,4 @@ IsOutput jobs table (Generate recipe) input text =
     OfScript (λ script. text ≡ script_text script) input
 IsOutput jobs table (Day recipe) input text = OfScript (IsDayOf jobs table text) input
 IsOutput jobs table Check input text = OfTrace (λ trace. IsCheckText trace text) input
+IsOutput jobs table Deep input text = OfScript (IsDeepOf jobs table text) input

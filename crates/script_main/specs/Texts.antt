@@ -12,7 +12,7 @@ use Rattle.script_main.specs.declared.inputs.Form.TheVariants as forms
 abbrev pub usage_text : List ℕ
 usage_text =
     codes "usage: tmig play | tree | generate NUMBER CPUS TIMERS MOMENTS"
-    ++ codes " | day NUMBER CPUS TIMERS MOMENTS | check\n"
+    ++ codes " | day NUMBER CPUS TIMERS MOMENTS | check | deep\n"
 
 -- the text of status 3
 abbrev pub read_fault_text : List ℕ

@@ -10,7 +10,7 @@ use Rattle.script_main.specs.declared.commands.TheConstants.{MOST_NUMBER}
 use Rattle.script_main.specs.declared.commands.Recipe.{Recipe}
 use Rattle.script_main.specs.declared.commands.Command.{Command}
 use Rattle.script_main.specs.declared.commands.Command.TheVariants.{Play, Tree, Generate, Day}
-use Rattle.script_main.specs.declared.commands.Command.TheVariants.{Check}
+use Rattle.script_main.specs.declared.commands.Command.TheVariants.{Check, Deep}
 use Rattle.script_main.specs.declared.inputs.Form.{Form}
 use Rattle.script_main.specs.declared.inputs.Form.TheVariants as forms
 
@@ -42,6 +42,7 @@ lone_command word =
     if bytes_eq word (codes "play") then Some Play
     else if bytes_eq word (codes "tree") then Some Tree
     else if bytes_eq word (codes "check") then Some Check
+    else if bytes_eq word (codes "deep") then Some Deep
     else None
 
 -- the commands of a word and a recipe
@@ -75,6 +76,7 @@ recipe_in Tree = None
 recipe_in (Generate recipe) = Some recipe
 recipe_in (Day recipe) = Some recipe
 recipe_in Check = None
+recipe_in Deep = None
 
 -- what a command works on
 abbrev pub form_of : Command → Form
@@ -83,6 +85,7 @@ form_of Tree = forms.Script
 form_of (Generate recipe) = forms.Script
 form_of (Day recipe) = forms.Script
 form_of Check = forms.Trace
+form_of Deep = forms.Script
 
 -- the words name a command that reads its input from the source
 abbrev pub Reads : List (String Global) → Type 0
@@ -101,3 +104,4 @@ IsPlayer Tree = ⊥
 IsPlayer (Generate recipe) = ⊥
 IsPlayer (Day recipe) = Unit {0}
 IsPlayer Check = ⊥
+IsPlayer Deep = Unit {0}

@@ -38,6 +38,8 @@ pub(crate) enum Command {
     Day(Recipe),
     /// Tells whether a trace that is read is a run of the core's steps, and who answers for timers.
     Check,
+    /// Writes the report of the play of a script that is read, under one broadcast device.
+    Deep,
 }
 
 impl Command {
@@ -46,7 +48,7 @@ impl Command {
         ensures { result ≡ recipe_in self }
     {
         match self {
-            Command::Play | Command::Tree | Command::Check => None,
+            Command::Play | Command::Tree | Command::Check | Command::Deep => None,
             Command::Generate(recipe) | Command::Day(recipe) => Some(recipe),
         }
     }
@@ -56,7 +58,8 @@ impl Command {
         ensures { result ≡ form_of self }
     {
         match self {
-            Command::Play | Command::Tree | Command::Generate(_) | Command::Day(_) => Form::Script,
+            Command::Play | Command::Tree | Command::Deep => Form::Script,
+            Command::Generate(_) | Command::Day(_) => Form::Script,
             Command::Check => Form::Trace,
         }
     }
@@ -106,6 +109,8 @@ fn lone_command(word: &[u8]) -> Option<Command>
         Some(Command::Tree)
     } else if word == b"check".as_slice() {
         Some(Command::Check)
+    } else if word == b"deep".as_slice() {
+        Some(Command::Deep)
     } else {
         None
     }

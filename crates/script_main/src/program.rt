@@ -83,8 +83,8 @@ fn write_reply<K: Sink>(alloc: Global, reply: &Reply, sink: &mut K) -> u8
 /// the end, by one `write_all`.
 ///
 /// The words are `play`, `tree`, `generate NUMBER CPUS TIMERS MOMENTS`,
-/// `day NUMBER CPUS TIMERS MOMENTS` or `check`; of these `play` and `tree` read a script from the
-/// source, and `check` a trace.
+/// `day NUMBER CPUS TIMERS MOMENTS`, `check` or `deep`; of these `play`, `tree` and `deep` read a
+/// script from the source, and `check` a trace.
 pub fn run_program<S: Source, K: Sink, J: Jobs>(
     alloc: Global,
     words: &[String],

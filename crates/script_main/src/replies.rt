@@ -20,7 +20,7 @@ use job_table::Jobs;
 use play_laws::law_work;
 use std::alloc::Global;
 use tm_base::{MOST_BYTES, NoMemory};
-use tm_driver::{DriveFault, play, summary};
+use tm_driver::{DriveFault, deep, play, summary};
 use tm_generate::generate;
 use tm_io::{ReadFault, Source, read_all};
 use tm_report::Report;
@@ -76,6 +76,23 @@ fn play_script<J: Jobs>(alloc: Global, script: &Script, jobs: &J) -> Result<Repl
     }
 }
 
+/// Plays a script under one broadcast device.
+fn play_deep<J: Jobs>(alloc: Global, script: &Script, jobs: &J) -> Result<Reply, NoMemory>
+    requires { IsScript script.now }
+    ensures { IfOk result
+        (IsReplyTo (J.replies jobs.now) (J.count jobs.now) Command.Deep
+        (Input.Script script.now)) }
+{
+    law_work();
+    let mut report = Report::new(alloc);
+    match deep(alloc, script, jobs, &mut report) {
+        Ok(()) => Ok(Reply::Played(report)),
+        Err(DriveFault::BadJob { line, job }) => Ok(Reply::JobUnknown { line, job }),
+        Err(DriveFault::WorkSpent { count }) => Ok(Reply::WorkSpent { count }),
+        Err(DriveFault::NoMemory) => Err(NoMemory),
+    }
+}
+
 /// Plays a script, and sums up what that came to.
 fn sum_up<J: Jobs>(alloc: Global, script: &Script, jobs: &J) -> Result<Reply, NoMemory>
     requires { IsScript script.now }
@@ -120,6 +137,7 @@ fn reply_to_script<J: Jobs>(
         Command::Generate(_) => Ok(Reply::Made(print_script(alloc, script)?)),
         Command::Day(_) => sum_up(alloc, script, jobs),
         Command::Check => unreachable!(),
+        Command::Deep => play_deep(alloc, script, jobs),
     }
 }
 

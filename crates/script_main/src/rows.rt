@@ -15,7 +15,7 @@ pub(crate) struct Row {
 }
 
 /// The rows.
-pub(crate) fn rows() -> [Row; 26] {
+pub(crate) fn rows() -> [Row; 28] {
     [
         // plain
         Row {
@@ -182,7 +182,7 @@ pub(crate) fn rows() -> [Row; 26] {
             input: b"",
             status: USAGE,
             text: b"usage: tmig play | tree | generate NUMBER CPUS TIMERS MOMENTS \
-              | day NUMBER CPUS TIMERS MOMENTS | check\n",
+              | day NUMBER CPUS TIMERS MOMENTS | check | deep\n",
         },
         // words-table-d
         Row {
@@ -190,7 +190,7 @@ pub(crate) fn rows() -> [Row; 26] {
             input: b"",
             status: USAGE,
             text: b"usage: tmig play | tree | generate NUMBER CPUS TIMERS MOMENTS \
-              | day NUMBER CPUS TIMERS MOMENTS | check\n",
+              | day NUMBER CPUS TIMERS MOMENTS | check | deep\n",
         },
         // words-table-f
         Row {
@@ -198,7 +198,7 @@ pub(crate) fn rows() -> [Row; 26] {
             input: b"",
             status: USAGE,
             text: b"usage: tmig play | tree | generate NUMBER CPUS TIMERS MOMENTS \
-              | day NUMBER CPUS TIMERS MOMENTS | check\n",
+              | day NUMBER CPUS TIMERS MOMENTS | check | deep\n",
         },
         // statuses-b
         Row {
@@ -206,7 +206,7 @@ pub(crate) fn rows() -> [Row; 26] {
             input: b"",
             status: USAGE,
             text: b"usage: tmig play | tree | generate NUMBER CPUS TIMERS MOMENTS \
-              | day NUMBER CPUS TIMERS MOMENTS | check\n",
+              | day NUMBER CPUS TIMERS MOMENTS | check | deep\n",
         },
         // check-held
         Row {
@@ -230,6 +230,25 @@ pub(crate) fn rows() -> [Row; 26] {
             input: b"trace 2\nnodes 1\ncpus 2\ntimers 1\nisolated\nend\n",
             status: TRACE_REFUSED,
             text: b"trace refused line 1 kind 1\n",
+        },
+        // device
+        Row {
+            words: "deep",
+            input: b"tmig 1\nnodes 1\ncpus 2\ntimers 1\nat 10\narm 1 0 global 50 0 0\nidle 1\n\
+              at 20\nidle 0\nend 100\n",
+            status: DONE,
+            text: b"arm 10 1 0 global 61\nidle 10 1 never\ncover 10 1 61 migrator 0:0 0\n\
+              idle 20 0 61\ncover 20 1 61 wake 0 61\ndevice 20 61\nrun 61 0 0 1 61 done\n\
+              device 61 never\nend 100\n",
+        },
+        // device-for-nobody
+        Row {
+            words: "deep",
+            input: b"tmig 1\nnodes 1\ncpus 1\ntimers 1\nat 10\narm 0 0 pinned 50 0 0\nidle 0\n\
+              at 20\nwake 0\nend 100\n",
+            status: DONE,
+            text: b"arm 10 0 0 pinned 61\nidle 10 0 61\ndevice 10 61\nwake 20 0\n\
+              run 61 0 0 0 61 done\ndevice 61 never\nend 100\n",
         },
     ]
 }

@@ -15,7 +15,7 @@ pub(crate) fn usage_text() -> &'static [u8]
     ensures { result.now ≡ usage_text }
 {
     b"usage: tmig play | tree | generate NUMBER CPUS TIMERS MOMENTS \
-      | day NUMBER CPUS TIMERS MOMENTS | check\n"
+      | day NUMBER CPUS TIMERS MOMENTS | check | deep\n"
 }
 
 pub(crate) fn read_fault_text() -> &'static [u8]
