@@ -95,14 +95,20 @@ refuses : (form : Form) (bytes : List ℕ) (fault : ScriptFault) → IsInputRefu
     → (input : Input) → SpellsInput form bytes input → ⊥
 refuses forms.Script bytes fault is (inputs.Script script) spelled = is.1 script spelled
 refuses forms.Script bytes fault is (inputs.Trace trace) spelled = spelled
+refuses forms.Script bytes fault is (inputs.Works works) spelled = spelled
 refuses forms.Trace bytes fault is (inputs.Script script) spelled = spelled
 refuses forms.Trace bytes fault is (inputs.Trace trace) spelled = is.1 trace spelled
+refuses forms.Trace bytes fault is (inputs.Works works) spelled = spelled
+refuses forms.Works bytes fault is (inputs.Script script) spelled = spelled
+refuses forms.Works bytes fault is (inputs.Trace trace) spelled = spelled
+refuses forms.Works bytes fault is (inputs.Works works) spelled = is.1 works spelled
 
 -- a job that the table hasn't isn't known
 not_both : (table : ℕ) (input : Input) (line job : ℕ) → LacksJob table input line job
     → KnowsJobs table input → ⊥
 not_both table (inputs.Script script) line job lacks known = cc (lacks, known)
 not_both table (inputs.Trace trace) line job lacks known = lacks
+not_both table (inputs.Works works) line job lacks known = cc (lacks, known)
 
 -- a player's output is that of an input that can be played
 out_plays : (jobs : Replies) (table : ℕ) (command : Command) (input : Input) (text : List ℕ)
@@ -110,15 +116,22 @@ out_plays : (jobs : Replies) (table : ℕ) (command : Command) (input : Input) (
 out_plays jobs table commands.Play (inputs.Script script) text plays out =
     record { known = out.can_play.known; within = ap (option_map counted) out.can_play.within }
 out_plays jobs table commands.Play (inputs.Trace trace) text plays out = absurd out
+out_plays jobs table commands.Play (inputs.Works works) text plays out = absurd out
 out_plays jobs table commands.Tree input text plays out = absurd plays
 out_plays jobs table (commands.Generate recipe) input text plays out = absurd plays
 out_plays jobs table (commands.Day recipe) (inputs.Script script) text plays out =
     record { known = out.can_play.known; within = ap (option_map counted) out.can_play.within }
 out_plays jobs table (commands.Day recipe) (inputs.Trace trace) text plays out = absurd out
+out_plays jobs table (commands.Day recipe) (inputs.Works works) text plays out = absurd out
 out_plays jobs table commands.Check input text plays out = absurd plays
 out_plays jobs table commands.Deep (inputs.Script script) text plays out =
     record { known = out.can_play.known; within = ap (option_map counted) out.can_play.within }
 out_plays jobs table commands.Deep (inputs.Trace trace) text plays out = absurd out
+out_plays jobs table commands.Deep (inputs.Works works) text plays out = absurd out
+out_plays jobs table commands.Works (inputs.Script script) text plays out = absurd out
+out_plays jobs table commands.Works (inputs.Trace trace) text plays out = absurd out
+out_plays jobs table commands.Works (inputs.Works works) text plays out =
+    record { known = out.can_play.known; within = out.can_play.unspent }
 
 same_input : (s t : SourceSeen) (r : Option Recipe) (form : Form) (x y : Input)
     → BringsBy r form s t x → IsInputBy r form s.left y → x ≡ y

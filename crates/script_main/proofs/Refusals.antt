@@ -11,7 +11,7 @@ use Rattle.script_main.specs.declared.replies.Reply.TheVariants.{JobUnknown, Wor
 use Rattle.script_main.specs.declared.replies.Reply.TheVariants.{Made}
 use Rattle.script_main.specs.declared.statuses.TheConstants.{DONE, USAGE, READ_FAULT, WRITE_FAULT}
 use Rattle.script_main.specs.declared.statuses.TheConstants.{NO_MEMORY, TOO_LONG, SCRIPT_REFUSED}
-use Rattle.script_main.specs.declared.statuses.TheConstants.{TRACE_REFUSED, WORK_SPENT}
+use Rattle.script_main.specs.declared.statuses.TheConstants.{TRACE_REFUSED, WORKS_REFUSED, WORK_SPENT}
 use Rattle.script_main.specs.declared.statuses.TheConstants.{JOB_UNKNOWN}
 use Rattle.script_main.specs.Replies.{refused_status, status_written, status_broken}
 use Rattle.script_main.specs.Ends.{EndsAs, whole, part, wanting, unwritten}
@@ -21,12 +21,14 @@ use Rattle.script_main.specs.Statuses.{IsStatus}
 
 -- a status is that of a refusal
 is_refused : ℕ → Bool
-is_refused status = status == SCRIPT_REFUSED || status == TRACE_REFUSED
+is_refused status =
+    status == SCRIPT_REFUSED || (status == TRACE_REFUSED || status == WORKS_REFUSED)
 
 refused : (form : Form) → is_refused (refused_status form) ≡ true
 unfolding is_refused
 refused forms.Script = refl
 refused forms.Trace = refl
+refused forms.Works = refl
 
 -- another status is none
 not_refused : (form : Form) (x : ℕ) → is_refused x ≡ false → x ≡ refused_status form → ⊥
@@ -37,8 +39,13 @@ not_refused form x other e =
 same_form : (f g : Form) → refused_status f ≡ refused_status g → f ≡ g
 same_form forms.Script forms.Script e = refl
 same_form forms.Script forms.Trace e = cc
+same_form forms.Script forms.Works e = cc
 same_form forms.Trace forms.Script e = cc
 same_form forms.Trace forms.Trace e = refl
+same_form forms.Trace forms.Works e = cc
+same_form forms.Works forms.Script e = cc
+same_form forms.Works forms.Trace e = cc
+same_form forms.Works forms.Works e = refl
 
 -- a reply with the status of a refusal is one
 pub is_refusal : (form : Form) (reply : Reply) → status_written reply ≡ refused_status form
@@ -77,7 +84,8 @@ no_work form e = not_refused form WORK_SPENT refl e
 -- there is such a status
 refusal_status : (form : Form) → IsStatus (refused_status form)
 refusal_status forms.Script = inl (omega arith)
-refusal_status forms.Trace = inr refl
+refusal_status forms.Trace = inr (inl refl)
+refusal_status forms.Works = inr (inr refl)
 
 -- ---- which replies have which status
 

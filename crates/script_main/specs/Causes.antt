@@ -42,6 +42,10 @@ IsRefused words left = IsRefusedAs forms.Script words left
 abbrev pub IsTraceRefused : List (String Global) → Option (List ℕ) → Type 0
 IsTraceRefused words left = IsRefusedAs forms.Trace words left
 
+-- works refused: a command that reads a script of works, and bytes that spell none
+abbrev pub IsWorksRefused : List (String Global) → Option (List ℕ) → Type 0
+IsWorksRefused words left = IsRefusedAs forms.Works words left
+
 -- the source has the text of an input of this form left
 pub record HasText (form : Form) (left : Option (List ℕ)) (input : Input) : Type 0 where
   pub bytes : List ℕ

@@ -17,7 +17,7 @@ use Rattle.script_main.specs.declared.replies.Reply.TheVariants.{Made}
 use Rattle.script_main.specs.declared.statuses.TheConstants.{DONE, SCRIPT_REFUSED, USAGE}
 use Rattle.script_main.specs.declared.statuses.TheConstants.{READ_FAULT, WRITE_FAULT, WORK_SPENT}
 use Rattle.script_main.specs.declared.statuses.TheConstants.{TOO_LONG, JOB_UNKNOWN}
-use Rattle.script_main.specs.declared.statuses.TheConstants.{TRACE_REFUSED}
+use Rattle.script_main.specs.declared.statuses.TheConstants.{TRACE_REFUSED, WORKS_REFUSED}
 use Rattle.script_main.specs.Inputs.{IsInputRefusalOf}
 use Rattle.script_main.specs.Words.{command_of, form_of, recipe_in, IsPlayer}
 use Rattle.script_main.specs.Texts.{usage_text, read_fault_text, too_long_text, refused_text}
@@ -37,7 +37,7 @@ reply_text (Played text) = text
 reply_text (Made text) = text.items
 
 -- the work of the input's play is broken off at this count, as it is printed; so its end comes late
--- enough for its CPUs and timers to come to the limit
+-- enough for its CPUs and timers, or its works, to come to the limit
 pub record SpendsWork (jobs : Replies) (table : ℕ) (input : Input) (count : ℕ) : Type 0 where
   pub known : KnowsJobs table input
   pub spent : spent_by jobs input ≡ Some count
@@ -97,6 +97,7 @@ IsReply jobs table words s t reply = IsReplyBy jobs table (command_of words) s t
 abbrev pub refused_status : Form → ℕ
 refused_status forms.Script = SCRIPT_REFUSED
 refused_status forms.Trace = TRACE_REFUSED
+refused_status forms.Works = WORKS_REFUSED
 
 -- the status where all of the reply was written (no public clause cites it)
 abbrev pub status_written : Reply → ℕ

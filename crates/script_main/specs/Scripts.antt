@@ -1,6 +1,6 @@
 -- the input of a command, and what the command makes of it
 use Rattle.std.specs.Prelude.{◌≡◌, ℕ, ◌+◌, ◌*◌, ◌≤◌, List, Option, Some, None, option_map}
-use Rattle.tm_base.specs.declared.limits.TheConstants.{MOST_BYTES}
+use Rattle.tm_base.specs.declared.limits.TheConstants.{MOST_BYTES, WORK_LIMIT_V1}
 use Rattle.tm_io.specs.Seen.{SourceSeen}
 use Rattle.tm_io.specs.Sources.{TakesAll}
 use Rattle.tm_script.specs.declared.syntax.Script.{Script}
@@ -16,16 +16,18 @@ use Rattle.tm_driver.specs.Deep.{deep_lines, deep_text, without_device}
 use Rattle.tm_driver.specs.Outcomes.{work_limit}
 use Rattle.tm_driver.specs.Plays.{CanPlay, LawsHold, summary_of}
 use Rattle.trace_check.specs.Answers.{IsCheckText}
+use Rattle.work_script.specs.declared.syntax.WorkScript.{WorkScript}
+use Rattle.delayed_work.specs.Play.{CanPlayWorks, first_unknown_work_job, works_spent, works_text}
 use Rattle.script_main.specs.TreeText.Trees.{tree_text}
 use Rattle.script_main.specs.DayText.Days.{day_text}
 use Rattle.script_main.specs.declared.commands.Recipe.{Recipe}
 use Rattle.script_main.specs.declared.commands.Command.{Command}
 use Rattle.script_main.specs.declared.commands.Command.TheVariants.{Play, Tree, Generate, Day}
-use Rattle.script_main.specs.declared.commands.Command.TheVariants.{Check, Deep}
+use Rattle.script_main.specs.declared.commands.Command.TheVariants.{Check, Deep, Works}
 use Rattle.script_main.specs.declared.inputs.Form.{Form}
 use Rattle.script_main.specs.declared.inputs.Input.{Input}
 use Rattle.script_main.specs.declared.inputs.Input.TheVariants as inputs
-use Rattle.script_main.specs.Inputs.{IsOnlyInputOf, OfScript, OfTrace, SpellsInput}
+use Rattle.script_main.specs.Inputs.{IsOnlyInputOf, OfScript, OfTrace, OfWorks, SpellsInput}
 use Rattle.script_main.specs.Words.{form_of, recipe_in}
 
 -- the script that a recipe makes
@@ -58,12 +60,15 @@ Brings command s t input = BringsBy (recipe_in command) (form_of command) s t in
 abbrev pub KnowsJobs : (table : ℕ) → Input → Type 0
 KnowsJobs table (inputs.Script script) = first_unknown_job table script.moments ≡ None
 KnowsJobs table (inputs.Trace trace) = Unit {0}
+KnowsJobs table (inputs.Works works) = first_unknown_work_job table works ≡ None
 
 -- this job of this line is the input's first that the table hasn't
 abbrev pub LacksJob : (table : ℕ) → Input → (line job : ℕ) → Type 0
 LacksJob table (inputs.Script script) line job =
     first_unknown_job table script.moments ≡ Some (record { line = line; job = job })
 LacksJob table (inputs.Trace trace) line job = ⊥
+LacksJob table (inputs.Works works) line job =
+    first_unknown_work_job table works ≡ Some (record { line = line; job = job })
 
 -- the count of work at which the input's play is broken off, as it is printed, if it is; a trace
 -- isn't played
@@ -71,12 +76,15 @@ abbrev pub spent_by : Replies → Input → Option ℕ
 spent_by jobs (inputs.Script script) =
     option_map counted (play_spent jobs (work_limit script.version) script)
 spent_by jobs (inputs.Trace trace) = None
+spent_by jobs (inputs.Works works) = works_spent jobs works
 
--- the input's end comes late enough for its CPUs and timers to come to the limit of work
+-- the input's end comes late enough for its CPUs and timers, or its works, to come to the limit of
+-- work
 abbrev pub EndsLate : Input → Type 0
 EndsLate (inputs.Script script) =
     work_limit script.version ≤ script.end * (1 + cpu_count script + script.timers)
 EndsLate (inputs.Trace trace) = ⊥
+EndsLate (inputs.Works works) = WORK_LIMIT_V1 ≤ works.end * (1 + works.count)
 
 -- every job of the input is in the table, and its work stays below the limit
 pub record CanEnd (jobs : Replies) (table : ℕ) (input : Input) : Type 0 where
@@ -108,6 +116,12 @@ pub record IsDeepOf (jobs : Replies) (table : ℕ) (text : List ℕ) (script : S
 abbrev pub IsTreeOf : List ℕ → Script → Type 0
 IsTreeOf text script = text ≡ tree_text (tree_of script.nodes script.cpus script.isolated)
 
+-- the text is that of the play of the script of works, which can be played to its end
+pub record IsWorksOf (jobs : Replies) (table : ℕ) (text : List ℕ) (works : WorkScript) : Type 0
+  where
+    pub can_play : CanPlayWorks jobs table works
+    pub played : text ≡ works_text jobs works
+
 -- WHAT A COMMAND WRITES of its input, where all goes well
 abbrev pub IsOutput : Replies → (table : ℕ) → Command → Input → List ℕ → Type 0
 IsOutput jobs table Play input text = OfScript (IsPlayOf jobs table text) input
@@ -117,3 +131,4 @@ IsOutput jobs table (Generate recipe) input text =
 IsOutput jobs table (Day recipe) input text = OfScript (IsDayOf jobs table text) input
 IsOutput jobs table Check input text = OfTrace (λ trace. IsCheckText trace text) input
 IsOutput jobs table Deep input text = OfScript (IsDeepOf jobs table text) input
+IsOutput jobs table Works input text = OfWorks (IsWorksOf jobs table text) input

@@ -14,6 +14,7 @@ use Rattle.script_main.specs.declared.inputs.Form.TheVariants as forms
 use Rattle.script_main.specs.declared.inputs.Input.{Input}
 use Rattle.script_main.specs.declared.replies.Reply.{Reply}
 use Rattle.script_main.specs.declared.statuses.TheConstants.{JOB_UNKNOWN, TRACE_REFUSED}
+use Rattle.script_main.specs.declared.statuses.TheConstants.{WORKS_REFUSED}
 use Rattle.script_main.specs.Words.{command_of, Reads, ReadsAs, IsPlayer}
 use Rattle.script_main.specs.Texts.{usage_text, read_fault_text, too_long_text, refused_text}
 use Rattle.script_main.specs.Texts.{job_unknown_text, work_spent_text}
@@ -127,9 +128,15 @@ abbrev pub SaysTraceRefused : List (String Global) → SourceSeen → SourceSeen
     → Type 0
 SaysTraceRefused words s t k m = SaysRefusedAs forms.Trace words s t k m
 
+-- 11: a script of works was to be read, and what was read to its end spells none
+abbrev pub SaysWorksRefused : List (String Global) → SourceSeen → SourceSeen → SinkSeen → SinkSeen
+    → Type 0
+SaysWorksRefused words s t k m = SaysRefusedAs forms.Works words s t k m
+
 -- there is such a status
 abbrev pub IsStatus : (status : ℕ) → Type 0
-IsStatus status = (status ≤ JOB_UNKNOWN) ⊎ (status ≡ TRACE_REFUSED)
+IsStatus status =
+    (status ≤ JOB_UNKNOWN) ⊎ ((status ≡ TRACE_REFUSED) ⊎ (status ≡ WORKS_REFUSED))
 
 -- one of two statuses
 abbrev pub IsEither : (status this that : ℕ) → Type 0

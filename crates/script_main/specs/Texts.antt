@@ -12,7 +12,7 @@ use Rattle.script_main.specs.declared.inputs.Form.TheVariants as forms
 abbrev pub usage_text : List ℕ
 usage_text =
     codes "usage: tmig play | tree | generate NUMBER CPUS TIMERS MOMENTS"
-    ++ codes " | day NUMBER CPUS TIMERS MOMENTS | check | deep\n"
+    ++ codes " | day NUMBER CPUS TIMERS MOMENTS | check | deep | works\n"
 
 -- the text of status 3
 abbrev pub read_fault_text : List ℕ
@@ -35,8 +35,9 @@ kind_number TooManyLines = 6
 abbrev pub form_name : Form → List ℕ
 form_name forms.Script = codes "script"
 form_name forms.Trace = codes "trace"
+form_name forms.Works = codes "works"
 
--- the text of statuses 1 and 10: what was to be read, the line at fault, and the kind of the fault
+-- the text of statuses 1, 10 and 11: what was to be read, the line at fault, and the kind of the fault
 unfoldable pub refused_text : Form → ScriptFault → List ℕ
 refused_text form fault =
     form_name form ++ codes " refused line " ++ decimal fault.line

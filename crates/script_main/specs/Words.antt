@@ -10,7 +10,7 @@ use Rattle.script_main.specs.declared.commands.TheConstants.{MOST_NUMBER}
 use Rattle.script_main.specs.declared.commands.Recipe.{Recipe}
 use Rattle.script_main.specs.declared.commands.Command.{Command}
 use Rattle.script_main.specs.declared.commands.Command.TheVariants.{Play, Tree, Generate, Day}
-use Rattle.script_main.specs.declared.commands.Command.TheVariants.{Check, Deep}
+use Rattle.script_main.specs.declared.commands.Command.TheVariants.{Check, Deep, Works}
 use Rattle.script_main.specs.declared.inputs.Form.{Form}
 use Rattle.script_main.specs.declared.inputs.Form.TheVariants as forms
 
@@ -43,6 +43,7 @@ lone_command word =
     else if bytes_eq word (codes "tree") then Some Tree
     else if bytes_eq word (codes "check") then Some Check
     else if bytes_eq word (codes "deep") then Some Deep
+    else if bytes_eq word (codes "works") then Some Works
     else None
 
 -- the commands of a word and a recipe
@@ -77,6 +78,7 @@ recipe_in (Generate recipe) = Some recipe
 recipe_in (Day recipe) = Some recipe
 recipe_in Check = None
 recipe_in Deep = None
+recipe_in Works = None
 
 -- what a command works on
 abbrev pub form_of : Command → Form
@@ -86,6 +88,7 @@ form_of (Generate recipe) = forms.Script
 form_of (Day recipe) = forms.Script
 form_of Check = forms.Trace
 form_of Deep = forms.Script
+form_of Works = forms.Works
 
 -- the words name a command that reads its input from the source
 abbrev pub Reads : List (String Global) → Type 0
@@ -105,3 +108,4 @@ IsPlayer (Generate recipe) = ⊥
 IsPlayer (Day recipe) = Unit {0}
 IsPlayer Check = ⊥
 IsPlayer Deep = Unit {0}
+IsPlayer Works = Unit {0}

@@ -40,6 +40,8 @@ pub(crate) enum Command {
     Check,
     /// Writes the report of the play of a script that is read, under one broadcast device.
     Deep,
+    /// Writes what comes of a script of works that is read.
+    Works,
 }
 
 impl Command {
@@ -48,7 +50,8 @@ impl Command {
         ensures { result ≡ recipe_in self }
     {
         match self {
-            Command::Play | Command::Tree | Command::Check | Command::Deep => None,
+            Command::Play | Command::Tree | Command::Check => None,
+            Command::Deep | Command::Works => None,
             Command::Generate(recipe) | Command::Day(recipe) => Some(recipe),
         }
     }
@@ -61,6 +64,7 @@ impl Command {
             Command::Play | Command::Tree | Command::Deep => Form::Script,
             Command::Generate(_) | Command::Day(_) => Form::Script,
             Command::Check => Form::Trace,
+            Command::Works => Form::Works,
         }
     }
 }
@@ -111,6 +115,8 @@ fn lone_command(word: &[u8]) -> Option<Command>
         Some(Command::Check)
     } else if word == b"deep".as_slice() {
         Some(Command::Deep)
+    } else if word == b"works".as_slice() {
+        Some(Command::Works)
     } else {
         None
     }

@@ -6,12 +6,14 @@ ghost use Rattle.script_main.specs.Inputs.{IsOnlyInputOf, IsRefusalBy, SpellsInp
 use std::alloc::Global;
 use tm_script::{ReadScript, Script, read_script};
 use trace_check::{ReadTrace, Trace, read_trace};
+use work_script::{WorkScript, read_works};
 
 /// What the bytes that a command reads are to spell.
 #[derive(Clone, Copy)]
 pub(crate) enum Form {
     Script,
     Trace,
+    Works,
 }
 
 /// What a command works on.
@@ -19,6 +21,7 @@ pub(crate) enum Form {
 pub(crate) enum Input {
     Script(Script),
     Trace(Trace),
+    Works(WorkScript),
 }
 
 /// The one script that these bytes spell.
@@ -46,6 +49,18 @@ fn read_as_trace(alloc: Global, bytes: &[u8]) -> Result<Input, ReadScript>
     }
 }
 
+/// The one script of works that these bytes spell.
+fn read_as_works(alloc: Global, bytes: &[u8]) -> Result<Input, ReadScript>
+    ensures spelled { IfOk result (SpellsInput Form.Works bytes.now) }
+    ensures only { IfOk result (IsOnlyInputOf Form.Works bytes.now) }
+    ensures refused { IfErr result (IsRefusalBy Form.Works bytes.now) }
+{
+    match read_works(alloc, bytes) {
+        Ok(works) => Ok(Input::Works(works)),
+        Err(fault) => Err(fault),
+    }
+}
+
 /// The one input of this form that these bytes spell. A refusal tells the first line at fault, from
 /// 1, and of the kinds that apply to it the first.
 pub(crate) fn read_input(alloc: Global, form: Form, bytes: &[u8]) -> Result<Input, ReadScript>
@@ -56,5 +71,6 @@ pub(crate) fn read_input(alloc: Global, form: Form, bytes: &[u8]) -> Result<Inpu
     match form {
         Form::Script => read_as_script(alloc, bytes),
         Form::Trace => read_as_trace(alloc, bytes),
+        Form::Works => read_as_works(alloc, bytes),
     }
 }

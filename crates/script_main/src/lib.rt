@@ -15,7 +15,7 @@ pub use commands::MOST_NUMBER;
 pub use program::run_program;
 pub use statuses::{
     DONE, JOB_UNKNOWN, NO_MEMORY, READ_FAULT, SCRIPT_REFUSED, Status, TOO_LONG, TRACE_REFUSED,
-    USAGE, WORK_SPENT, WRITE_FAULT,
+    USAGE, WORK_SPENT, WORKS_REFUSED, WRITE_FAULT,
 };
 
 #[cfg(test)]

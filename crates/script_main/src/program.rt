@@ -5,11 +5,11 @@ ghost use Rattle.tm_io.specs.Seen.{SourceFailed, SourceUnbroken};
 ghost use Rattle.script_main.specs.Words.{Reads, command_of};
 ghost use Rattle.script_main.specs.Ends.{Breaks, EndsAs, EndsUnwritten, EndsWith};
 ghost use Rattle.script_main.specs.Statuses.{IsEither, IsStatus, SaysDone, SaysJobUnknown};
-ghost use Rattle.script_main.specs.Statuses.{SaysNoMemory, SaysTraceRefused};
+ghost use Rattle.script_main.specs.Statuses.{SaysNoMemory, SaysTraceRefused, SaysWorksRefused};
 ghost use Rattle.script_main.specs.Statuses.{SaysReadFault, SaysRefused, SaysTooLong, SaysUsage};
 ghost use Rattle.script_main.specs.Statuses.{SaysWorkSpent, SaysWriteFault};
 ghost use Rattle.script_main.specs.Causes.{IsFine, IsJobUnknown, IsRefused, IsTooLong};
-ghost use Rattle.script_main.specs.Causes.{IsTraceRefused, IsWorkSpent};
+ghost use Rattle.script_main.specs.Causes.{IsTraceRefused, IsWorkSpent, IsWorksRefused};
 
 use crate::replies::{Reply, refused_status, reply_to};
 use crate::texts::{
@@ -17,7 +17,7 @@ use crate::texts::{
 };
 use crate::{
     DONE, JOB_UNKNOWN, NO_MEMORY, READ_FAULT, SCRIPT_REFUSED, Status, TOO_LONG, TRACE_REFUSED,
-    USAGE, WORK_SPENT, WRITE_FAULT,
+    USAGE, WORK_SPENT, WORKS_REFUSED, WRITE_FAULT,
 };
 use job_table::Jobs;
 use std::alloc::Global;
@@ -83,8 +83,8 @@ fn write_reply<K: Sink>(alloc: Global, reply: &Reply, sink: &mut K) -> u8
 /// the end, by one `write_all`.
 ///
 /// The words are `play`, `tree`, `generate NUMBER CPUS TIMERS MOMENTS`,
-/// `day NUMBER CPUS TIMERS MOMENTS`, `check` or `deep`; of these `play`, `tree` and `deep` read a
-/// script from the source, and `check` a trace.
+/// `day NUMBER CPUS TIMERS MOMENTS`, `check`, `deep` or `works`; of these `play`, `tree` and `deep`
+/// read a script from the source, `check` a trace, and `works` a script of works.
 pub fn run_program<S: Source, K: Sink, J: Jobs>(
     alloc: Global,
     words: &[String],
@@ -115,6 +115,8 @@ pub fn run_program<S: Source, K: Sink, J: Jobs>(
         (S.seen source.old) (S.seen source.new) (K.seen sink.old) (K.seen sink.new) }
     ensures trace_refused { result.0 ≡ TRACE_REFUSED → SaysTraceRefused words.now
         (S.seen source.old) (S.seen source.new) (K.seen sink.old) (K.seen sink.new) }
+    ensures works_refused { result.0 ≡ WORKS_REFUSED → SaysWorksRefused words.now
+        (S.seen source.old) (S.seen source.new) (K.seen sink.old) (K.seen sink.new) }
     ensures no_other { IsStatus result.0 }
 
     // When they come, in the order of the causes. Each yields to want of memory alone.
@@ -131,6 +133,9 @@ pub fn run_program<S: Source, K: Sink, J: Jobs>(
     ensures trace_refused_exactly { result.0 ≢ READ_FAULT
         → IsTraceRefused words.now (S.seen source.old).left
         → IsEither result.0 TRACE_REFUSED NO_MEMORY }
+    ensures works_refused_exactly { result.0 ≢ READ_FAULT
+        → IsWorksRefused words.now (S.seen source.old).left
+        → IsEither result.0 WORKS_REFUSED NO_MEMORY }
     ensures job_unknown_exactly { result.0 ≢ READ_FAULT
         → IsJobUnknown (J.count jobs.now) words.now (S.seen source.old).left
         → IsEither result.0 JOB_UNKNOWN NO_MEMORY }

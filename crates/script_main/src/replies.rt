@@ -5,6 +5,7 @@ ghost use Rattle.play_rules.specs.Interrupts.{Replies};
 ghost use Rattle.tm_io.specs.Seen.{SourceUnbroken};
 ghost use Rattle.tm_script.specs.Grammar.{IsScript};
 ghost use Rattle.trace_check.specs.Texts.{IsTrace};
+ghost use Rattle.work_script.specs.Grammar.{IsWorkScript};
 ghost use Rattle.script_main.specs.Inputs.{IsInput};
 ghost use Rattle.script_main.specs.Words.{IsRecipe, Reads, form_of, recipe_in};
 ghost use Rattle.script_main.specs.Scripts.{script_by};
@@ -15,7 +16,8 @@ use crate::commands::{Command, Recipe, read_command};
 use crate::day_text::print_day;
 use crate::inputs::{Form, Input, read_input};
 use crate::tree_text::print_tree;
-use crate::{SCRIPT_REFUSED, TRACE_REFUSED};
+use crate::{SCRIPT_REFUSED, TRACE_REFUSED, WORKS_REFUSED};
+use delayed_work::{WorksFault, play_works};
 use job_table::Jobs;
 use play_laws::law_work;
 use std::alloc::Global;
@@ -27,6 +29,7 @@ use tm_report::Report;
 use tm_script::{ReadScript, Script, ScriptFault, print_script};
 use trace_check::{Trace, check};
 use tree_plan::plan;
+use work_script::WorkScript;
 
 /// A text that the program writes, and what it says.
 #[derive(Drop)]
@@ -45,7 +48,7 @@ pub(crate) enum Reply {
     WorkSpent { count: u32 },
     /// The report of a play or of a check.
     Played(Report),
-    /// Another output: a tree, a script, or the numbers of a day.
+    /// Another output: a tree, a script, the numbers of a day, or what comes of works.
     Made(Vec<u8>),
 }
 
@@ -56,6 +59,7 @@ pub(crate) fn refused_status(form: Form) -> u8
     match form {
         Form::Script => SCRIPT_REFUSED,
         Form::Trace => TRACE_REFUSED,
+        Form::Works => WORKS_REFUSED,
     }
 }
 
@@ -136,7 +140,7 @@ fn reply_to_script<J: Jobs>(
         Command::Tree => draw_tree(alloc, script),
         Command::Generate(_) => Ok(Reply::Made(print_script(alloc, script)?)),
         Command::Day(_) => sum_up(alloc, script, jobs),
-        Command::Check => unreachable!(),
+        Command::Check | Command::Works => unreachable!(),
         Command::Deep => play_deep(alloc, script, jobs),
     }
 }
@@ -150,6 +154,20 @@ fn check_trace(alloc: Global, trace: &Trace) -> Result<Reply, NoMemory>
     let mut report = Report::new(alloc);
     check(alloc, trace, &mut report)?;
     Ok(Reply::Played(report))
+}
+
+/// Plays a script of works.
+fn play_delayed<J: Jobs>(alloc: Global, works: &WorkScript, jobs: &J) -> Result<Reply, NoMemory>
+    requires { IsWorkScript works.now }
+    ensures { IfOk result
+        (IsReplyTo (J.replies jobs.now) (J.count jobs.now) Command.Works (Input.Works works.now)) }
+{
+    match play_works(alloc, works, jobs) {
+        Ok(text) => Ok(Reply::Made(text)),
+        Err(WorksFault::BadJob { line, job }) => Ok(Reply::JobUnknown { line, job }),
+        Err(WorksFault::WorkSpent { count }) => Ok(Reply::WorkSpent { count }),
+        Err(WorksFault::NoMemory) => Err(NoMemory),
+    }
 }
 
 /// Does with its input what the command says.
@@ -166,6 +184,7 @@ fn reply_to_input<J: Jobs>(
     match input {
         Input::Script(script) => reply_to_script(alloc, command, script, jobs),
         Input::Trace(trace) => check_trace(alloc, trace),
+        Input::Works(works) => play_delayed(alloc, works, jobs),
     }
 }
 

@@ -1,7 +1,7 @@
 //! Worked rows of the whole program: words and input, and the status and text that they come to.
 //! They were worked out from the rules before the program was, and none is its own output.
 
-use crate::{DONE, JOB_UNKNOWN, SCRIPT_REFUSED, TRACE_REFUSED, USAGE, WORK_SPENT};
+use crate::{DONE, JOB_UNKNOWN, SCRIPT_REFUSED, TRACE_REFUSED, USAGE, WORK_SPENT, WORKS_REFUSED};
 
 /// What one run is given, and what it comes to.
 #[derive(Clone, Copy)]
@@ -14,8 +14,8 @@ pub(crate) struct Row {
     pub text: &'static [u8],
 }
 
-/// The rows.
-pub(crate) fn rows() -> [Row; 28] {
+/// The rows of scripts that are played or drawn, and of words.
+pub(crate) fn rows() -> [Row; 23] {
     [
         // plain
         Row {
@@ -182,7 +182,7 @@ pub(crate) fn rows() -> [Row; 28] {
             input: b"",
             status: USAGE,
             text: b"usage: tmig play | tree | generate NUMBER CPUS TIMERS MOMENTS \
-              | day NUMBER CPUS TIMERS MOMENTS | check | deep\n",
+              | day NUMBER CPUS TIMERS MOMENTS | check | deep | works\n",
         },
         // words-table-d
         Row {
@@ -190,7 +190,7 @@ pub(crate) fn rows() -> [Row; 28] {
             input: b"",
             status: USAGE,
             text: b"usage: tmig play | tree | generate NUMBER CPUS TIMERS MOMENTS \
-              | day NUMBER CPUS TIMERS MOMENTS | check | deep\n",
+              | day NUMBER CPUS TIMERS MOMENTS | check | deep | works\n",
         },
         // words-table-f
         Row {
@@ -198,7 +198,7 @@ pub(crate) fn rows() -> [Row; 28] {
             input: b"",
             status: USAGE,
             text: b"usage: tmig play | tree | generate NUMBER CPUS TIMERS MOMENTS \
-              | day NUMBER CPUS TIMERS MOMENTS | check | deep\n",
+              | day NUMBER CPUS TIMERS MOMENTS | check | deep | works\n",
         },
         // statuses-b
         Row {
@@ -206,8 +206,14 @@ pub(crate) fn rows() -> [Row; 28] {
             input: b"",
             status: USAGE,
             text: b"usage: tmig play | tree | generate NUMBER CPUS TIMERS MOMENTS \
-              | day NUMBER CPUS TIMERS MOMENTS | check | deep\n",
+              | day NUMBER CPUS TIMERS MOMENTS | check | deep | works\n",
         },
+    ]
+}
+
+/// The rows of traces, of plays under a broadcast device, and of scripts of works.
+pub(crate) fn further_rows() -> [Row; 8] {
+    [
         // check-held
         Row {
             words: "check",
@@ -249,6 +255,29 @@ pub(crate) fn rows() -> [Row; 28] {
             status: DONE,
             text: b"arm 10 0 0 pinned 61\nidle 10 0 61\ndevice 10 61\nwake 20 0\n\
               run 61 0 0 0 61 done\ndevice 61 never\nend 100\n",
+        },
+        // works
+        Row {
+            words: "works",
+            input: b"works 1\ncount 2\nat 10\nqueue 0 50 0 0\nqueue 0 5 0 0\nqueue 1 0 3 7\nat 20\n\
+              cancel 0\ncancel 0\nend 100\n",
+            status: DONE,
+            text: b"queued 10 0 61\npending 10 0\nqueued 10 1 ready\nran 10 1 mark 7\n\
+              cancelled 20 0\nnone 20 0\nend 100\n",
+        },
+        // works-again
+        Row {
+            words: "works",
+            input: b"works 1\ncount 1\nat 10\nqueue 0 50 1 100\nend 200\n",
+            status: DONE,
+            text: b"queued 10 0 61\nran 61 0 again 168\nran 168 0 again 272\nleft 0 272\nend 200\n",
+        },
+        // a number of works past the limit, by the kinds of a script
+        Row {
+            words: "works",
+            input: b"works 1\ncount 4097\nend 0\n",
+            status: WORKS_REFUSED,
+            text: b"works refused line 2 kind 3\n",
         },
     ]
 }

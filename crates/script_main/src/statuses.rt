@@ -33,3 +33,6 @@ pub const JOB_UNKNOWN: u8 = 8;
 
 /// What was read is no trace.
 pub const TRACE_REFUSED: u8 = 10;
+
+/// What was read is no script of works.
+pub const WORKS_REFUSED: u8 = 11;

@@ -1,5 +1,5 @@
 use super::*;
-use crate::rows::{Row, rows};
+use crate::rows::{Row, further_rows, rows};
 use job_table::{Job, JobTable, Marker, OneShot, Periodic};
 use std::alloc::{AllocError, Global};
 use std::test::Fail;
@@ -63,6 +63,17 @@ fn holds(alloc: Global, row: &Row) -> Result<bool, AllocError> {
 #[test]
 fn each_worked_row_comes_to_its_status_and_text(rt: HostRuntime) -> Result<(), Fail> {
     for (i, row) in rows().iter().enumerate() {
+        let holds = holds(rt.alloc(), row)?;
+        assert!(rt; holds, "row {i}");
+    }
+    Ok(())
+}
+
+#[test]
+fn each_row_of_traces_devices_and_works_comes_to_its_status_and_text(
+    rt: HostRuntime,
+) -> Result<(), Fail> {
+    for (i, row) in further_rows().iter().enumerate() {
         let holds = holds(rt.alloc(), row)?;
         assert!(rt; holds, "row {i}");
     }

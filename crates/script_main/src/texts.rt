@@ -15,7 +15,7 @@ pub(crate) fn usage_text() -> &'static [u8]
     ensures { result.now ≡ usage_text }
 {
     b"usage: tmig play | tree | generate NUMBER CPUS TIMERS MOMENTS \
-      | day NUMBER CPUS TIMERS MOMENTS | check | deep\n"
+      | day NUMBER CPUS TIMERS MOMENTS | check | deep | works\n"
 }
 
 pub(crate) fn read_fault_text() -> &'static [u8]
@@ -51,6 +51,7 @@ fn form_name(form: Form) -> &'static [u8]
     match form {
         Form::Script => b"script",
         Form::Trace => b"trace",
+        Form::Works => b"works",
     }
 }
 

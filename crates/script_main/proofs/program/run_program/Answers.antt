@@ -63,6 +63,14 @@ returns-in-Ok-clause-trace_refused g c =
       ends = c.write_reply.ensures;
     }) forms.Trace
 
+pub returns-in-Ok-clause-works_refused : goal.returns-in-Ok-clause-works_refused
+returns-in-Ok-clause-works_refused g c =
+    says_refused (record {
+      reply = c.in-Ok.reply;
+      is = c.in-Ok.ensures.reply;
+      ends = c.write_reply.ensures;
+    }) forms.Works
+
 pub returns-in-Ok-clause-no_other : goal.returns-in-Ok-clause-no_other
 returns-in-Ok-clause-no_other g c =
     has_status c.in-Ok.reply c.write_reply.ensures
@@ -84,6 +92,15 @@ returns-in-Ok-clause-trace_refused_exactly g c =
       is = c.in-Ok.ensures.reply;
       ends = c.write_reply.ensures;
     }) forms.Trace r not
+
+pub returns-in-Ok-clause-works_refused_exactly : goal.returns-in-Ok-clause-works_refused_exactly
+returns-in-Ok-clause-works_refused_exactly g c =
+    λ not r.
+    refused_exactly (record {
+      reply = c.in-Ok.reply;
+      is = c.in-Ok.ensures.reply;
+      ends = c.write_reply.ensures;
+    }) forms.Works r not
 
 pub returns-in-Ok-clause-job_unknown_exactly : goal.returns-in-Ok-clause-job_unknown_exactly
 returns-in-Ok-clause-job_unknown_exactly g c =

@@ -6,7 +6,8 @@ use Rattle.script_main.specs.declared.inputs.Input.TheVariants as inputs
 use Rattle.script_main.specs.Inputs.{IsInput}
 use Rattle.script_main.specs.Words.{form_of}
 use Rattle.script_main.specs.Replies.{IsReplyTo}
-use Rattle.script_main.proofs.Reading.{checks, script_input, trace_input}
+use Rattle.script_main.proofs.Reading.{checks, script_input, trace_input, works}
+use Rattle.script_main.proofs.Reading.{works_input}
 use Rattle.script_main.proofs.replies.reply_to_input.Goals as goal
 
 pub reply_to_script-requires : goal.reply_to_script-requires
@@ -36,3 +37,23 @@ returns-in-Trace g c =
     λ input. IfOk c.check_trace.result (IsReplyTo jobs table c.args.command input) in
     subst To (sym c.in-Trace.is)
     (subst By (sym (checks c.args.command is)) (c.check_trace.ensures jobs table))
+
+pub play_delayed-requires : goal.play_delayed-requires
+play_delayed-requires g c =
+    let form = form_of c.args.command in
+    let Is : Input → Type 0 = λ input. IsInput form input in
+    (works_input form c.in-Works.works (subst Is c.in-Works.is c.requires)).0
+
+pub returns-in-Works : goal.returns-in-Works
+returns-in-Works g c =
+    let jobs = g.J.Jobs.replies c.args.jobs.now in
+    let table = g.J.Jobs.count c.args.jobs.now in
+    let form = form_of c.args.command in
+    let Is : Input → Type 0 = λ input. IsInput form input in
+    let is = (works_input form c.in-Works.works (subst Is c.in-Works.is c.requires)).1 in
+    let By : Command → Type 0 =
+    λ command. IfOk c.play_delayed.result
+    (IsReplyTo jobs table command (inputs.Works c.in-Works.works)) in
+    let To : Input → Type 0 =
+    λ input. IfOk c.play_delayed.result (IsReplyTo jobs table c.args.command input) in
+    subst To (sym c.in-Works.is) (subst By (sym (works c.args.command is)) c.play_delayed.ensures)
