@@ -153,7 +153,8 @@ module _ (jobs : Replies) (table : ℕ) (words : List (String Global)) (s t : So
   to_asked reply is =
       let To : Input → Type 0 = λ x. IsReplyTo jobs table command x reply in
       let same =
-      same_input s t (recipe_in command) (form_of command) is.input input is.brought asks.input_is in
+      same_input s t (recipe_in command) (form_of command) is.input input is.brought
+      asks.input_is in
       subst To same is.reply_is
 
   -- bytes that spell the input aren't refused

@@ -11,8 +11,8 @@ use Rattle.script_main.specs.declared.replies.Reply.TheVariants.{JobUnknown, Wor
 use Rattle.script_main.specs.declared.replies.Reply.TheVariants.{Made}
 use Rattle.script_main.specs.declared.statuses.TheConstants.{DONE, USAGE, READ_FAULT, WRITE_FAULT}
 use Rattle.script_main.specs.declared.statuses.TheConstants.{NO_MEMORY, TOO_LONG, SCRIPT_REFUSED}
-use Rattle.script_main.specs.declared.statuses.TheConstants.{TRACE_REFUSED, WORKS_REFUSED, WORK_SPENT}
-use Rattle.script_main.specs.declared.statuses.TheConstants.{JOB_UNKNOWN}
+use Rattle.script_main.specs.declared.statuses.TheConstants.{TRACE_REFUSED, WORKS_REFUSED}
+use Rattle.script_main.specs.declared.statuses.TheConstants.{WORK_SPENT, JOB_UNKNOWN}
 use Rattle.script_main.specs.Replies.{refused_status, status_written, status_broken}
 use Rattle.script_main.specs.Ends.{EndsAs, whole, part, wanting, unwritten}
 use Rattle.script_main.specs.Statuses.{IsStatus}
@@ -109,7 +109,8 @@ never_no_memory (WorkSpent count) e = cc
 never_no_memory (Played text) e = cc
 never_no_memory (Made text) e = cc
 
-pub broken_output : (reply : Reply) → status_broken reply ≡ WRITE_FAULT → status_written reply ≡ DONE
+pub broken_output : (reply : Reply) → status_broken reply ≡ WRITE_FAULT
+    → status_written reply ≡ DONE
 broken_output Usage e = cc
 broken_output ReadFault e = cc
 broken_output TooLong e = cc

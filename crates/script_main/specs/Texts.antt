@@ -37,7 +37,8 @@ form_name forms.Script = codes "script"
 form_name forms.Trace = codes "trace"
 form_name forms.Works = codes "works"
 
--- the text of statuses 1, 10 and 11: what was to be read, the line at fault, and the kind of the fault
+-- the text of statuses 1, 10 and 11: what was to be read, the line at fault, and the kind of the
+-- fault
 unfoldable pub refused_text : Form → ScriptFault → List ℕ
 refused_text form fault =
     form_name form ++ codes " refused line " ++ decimal fault.line
