@@ -12,3 +12,6 @@ pub mod Filters
 pub mod Left
 pub mod PrintedTurns
 pub mod LeftLaw
+pub mod Answers
+pub mod Covers
+pub mod CoverTurns

@@ -1,6 +1,7 @@
 //! Of the lines that a report shows, against the machine that is played: what they tell is so. Each
 //! of these functions does nothing; its contract is the law.
 
+ghost use Rattle.play_laws.specs.Told.Covers.{CoversAreTrue};
 ghost use Rattle.play_laws.specs.Told.Journals.{EachTimerIsTold, RunsAreHandOuts};
 ghost use Rattle.play_laws.specs.Told.Left.{LeftAreQueued};
 
@@ -17,4 +18,11 @@ pub fn law_lines()
 /// each once, in ascending order: timer, CPU, class and wheel expiry.
 pub fn law_left()
     ensures { LeftAreQueued }
+{}
+
+/// The `cover` lines of each moment of a script tell who answers in the state after it, by the
+/// definitions of `coverage`, for the first global timer of an idle CPU. Each online idle CPU that
+/// has one has one such line, and other moments have none.
+pub fn law_covers()
+    ensures { CoversAreTrue }
 {}

@@ -11,7 +11,8 @@ use Rattle.tm_base.specs.declared.names.Child.{Child}
 use Rattle.tm_base.specs.declared.names.Child.TheVariants as children
 use Rattle.coverage.specs.Coverage.{HasEvent, Held, IsAnsweredFor, Leads, Told, TopWakes, to_cpu}
 use Rattle.coverage.specs.Coverage.{to_group}
-use Rattle.tree_plan.specs.Paths.{bit_of, bit_towards, child_at, group_at_of, group_count_of}
+use Rattle.tree_plan.specs.Paths.{bit_of, bit_towards, child_at, child_towards, group_at_of}
+use Rattle.tree_plan.specs.Paths.{group_count_of}
 use Rattle.tree_plan.specs.Paths.{has_group_in, is_below, is_placed_in, is_under, level_count_of}
 use Rattle.tree_plan.specs.Paths.{level_of}
 use Rattle.tree_plan.proofs.Below.{below_laws, paths, placed_laws}
@@ -26,7 +27,7 @@ use Rattle.play_laws.proofs.Answered.Ranges.{filter_member, in_range, least_abov
 use Rattle.play_laws.proofs.Answered.Ranges.{range_low}
 use Rattle.play_laws.proofs.Answered.States.{IsKept, Nobody}
 
-some_or_none : {X : Type 0} (o : Option X) → (o ≡ None) ⊎ ((x : X) × (o ≡ Some x))
+pub some_or_none : {X : Type 0} (o : Option X) → (o ≡ None) ⊎ ((x : X) × (o ≡ Some x))
 some_or_none None = inl refl
 some_or_none (Some x) = inr (x, refl)
 
@@ -35,7 +36,7 @@ comes time soon = cond-false (time == NEVER) None (Some time)
     (ne_eqb time NEVER (λ same. omega (arith, soon, same)))
 
 module _ (s : State) (kept : IsKept Nobody (Unit {0}) s) where
-  keeps : (w : ℕ) → rests (cpu_at s w) ≡ true → kept_by (cpu_at s w) ≡ Some (cpu_at s w).wakeup
+  pub keeps : (w : ℕ) → rests (cpu_at s w) ≡ true → kept_by (cpu_at s w) ≡ Some (cpu_at s w).wakeup
   keeps w is = cond-true (rests (cpu_at s w)) (Some (cpu_at s w).wakeup) None is
 
   -- LEADS: from a group with a migrator one comes to an active CPU
@@ -76,7 +77,7 @@ module _ (s : State) (kept : IsKept Nobody (Unit {0}) s) where
       ]
 
   -- a group with a migrator leads on
-  leads_on : (g k : ℕ) → g < group_count_of s.tree → migrator_at s g ≡ Some k
+  pub leads_on : (g k : ℕ) → g < group_count_of s.tree → migrator_at s g ≡ Some k
       → (e : ℕ) × Leads (machine_of s) e g
   leads_on g k within migrator =
       let child = kept.holds.led.some g k within migrator in
@@ -87,22 +88,23 @@ module _ (s : State) (kept : IsKept Nobody (Unit {0}) s) where
 
   -- EVENTS of a CPU that told a time
   module _ (c : ℕ) (low : c < cpu_count s) (told : (cpu_at s c).told < NEVER) where
-    grouped : has_group_in s.tree c ≡ true
+    pub grouped : has_group_in s.tree c ≡ true
     grouped = teller_grouped s.tree kept.planned (cpu_at s) s.clock c (kept.holds.each c) told
 
-    placed_c : is_placed_in s.tree c ≡ true
+    pub placed_c : is_placed_in s.tree c ≡ true
     placed_c = (placed_laws s.tree kept.planned).has_group c grouped
 
     -- the event at a level of its path
-    record EventAt (level : ℕ) : Type 0 where
-      group : ℕ
-      child : Child
-      on_path : group_at_of s.tree c level ≡ Some group
-      is : child_at s.tree group (bit_towards s.tree c level) ≡ Some child
-      by_told : least_told s (filter (λ d. is_under s.tree d child) (all_cpus s))
+    pub record EventAt (level : ℕ) : Type 0 where
+      pub group : ℕ
+      pub child : Child
+      pub on_path : group_at_of s.tree c level ≡ Some group
+      pub towards : child_towards s.tree c level ≡ Some child
+      pub is : child_at s.tree group (bit_towards s.tree c level) ≡ Some child
+      pub by_told : least_told s (filter (λ d. is_under s.tree d child) (all_cpus s))
           ≤ (cpu_at s c).told
 
-    event_at : (level : ℕ) → level < level_count_of s.tree → EventAt level
+    pub event_at : (level : ℕ) → level < level_count_of s.tree → EventAt level
     event_at level below =
         let there = (paths s.tree kept.planned).there c level placed_c below in
         let way = (paths s.tree kept.planned).towards c level there.0 there.1 in
@@ -114,6 +116,7 @@ module _ (s : State) (kept : IsKept Nobody (Unit {0}) s) where
           group = there.0;
           child = way.0;
           on_path = there.1;
+          towards = way.1;
           is = ap (child_at s.tree there.0) bit ∙ way.3;
           by_told = least_below (λ d. (cpu_at s d).told) NEVER
               (filter (λ d. is_under s.tree d way.0) (all_cpus s)) c
@@ -121,10 +124,10 @@ module _ (s : State) (kept : IsKept Nobody (Unit {0}) s) where
               (in_range (cpu_count s) c low) under);
         }
 
-    abbrev expiry : (level : ℕ) → EventAt level → ℕ
+    abbrev pub expiry : (level : ℕ) → EventAt level → ℕ
     expiry level e = least_told s (filter (λ d. is_under s.tree d e.child) (all_cpus s))
 
-    event_is : (level : ℕ) (e : EventAt level)
+    pub event_is : (level : ℕ) (e : EventAt level)
         → coming (told_below s (child_at s.tree e.group (bit_towards s.tree c level)))
         ≡ Some (expiry level e)
     event_is level e =
@@ -147,10 +150,10 @@ module _ (s : State) (kept : IsKept Nobody (Unit {0}) s) where
           }
 
       -- the groups of its path below a level are inactive
-      abbrev Quiet : ℕ → Type 0
+      abbrev pub Quiet : ℕ → Type 0
       Quiet level = (k g : ℕ) → k < level → group_at_of s.tree c k ≡ Some g → migrator_at s g ≡ None
 
-      told_to : (level : ℕ) → level < level_count_of s.tree → Quiet level
+      pub told_to : (level : ℕ) → level < level_count_of s.tree → Quiet level
           → Told (machine_of s) c wheel level
       told_to level below quiet = record {
         inactive = quiet;
@@ -174,7 +177,7 @@ module _ (s : State) (kept : IsKept Nobody (Unit {0}) s) where
           }
 
       -- WOKEN, where none of them is active
-      none_placed : (level g : ℕ) → suc level ≡ level_count_of s.tree
+      pub none_placed : (level g : ℕ) → suc level ≡ level_count_of s.tree
           → group_at_of s.tree c level ≡ Some g
           → migrator_at s g ≡ None → NonePlacedActive s.tree (cpu_at s)
       none_placed level g last on_path none d placed =
@@ -185,7 +188,7 @@ module _ (s : State) (kept : IsKept Nobody (Unit {0}) s) where
           ((below_laws s.tree kept.planned).top d g top placed) in
           false_from_ne_true (is_active s d) (λ on. kept.holds.led.none g d within none on below)
 
-      waker_by : (w : ℕ) (e : Child) → WakesForAll s.tree (cpu_at s) w
+      pub waker_by : (w : ℕ) (e : Child) → WakesForAll s.tree (cpu_at s) w
           → (cpu_at s w).wakeup ≤ least_told s (filter (λ d. is_under s.tree d e) (all_cpus s))
       waker_by w e wakes =
           let count = kept.cpus in
@@ -224,7 +227,7 @@ module _ (s : State) (kept : IsKept Nobody (Unit {0}) s) where
           }
 
       -- from a level upwards, below which the path is inactive
-      one_more : (level h : ℕ) → Quiet level → group_at_of s.tree c level ≡ Some h
+      pub one_more : (level h : ℕ) → Quiet level → group_at_of s.tree c level ≡ Some h
           → migrator_at s h ≡ None
           → Quiet (level + 1)
       one_more level h quiet at none k g up on_path =
