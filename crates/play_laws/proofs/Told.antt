@@ -15,3 +15,6 @@ pub mod LeftLaw
 pub mod Answers
 pub mod Covers
 pub mod CoverTurns
+pub mod Stories
+pub mod AtTurns
+pub mod RunsLaw

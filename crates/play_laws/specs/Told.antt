@@ -1,4 +1,5 @@
 pub mod Kinds
 pub mod Left
 pub mod Covers
+pub mod Runs
 pub mod Journals

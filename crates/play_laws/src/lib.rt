@@ -10,5 +10,5 @@ mod work_laws;
 
 pub use answered_law::law_settled;
 pub use jiffy_laws::{law_ends, law_in_its_jiffy, law_runners};
-pub use told_laws::{law_covers, law_left, law_lines};
+pub use told_laws::{law_covers, law_each_runs, law_left, law_lines};
 pub use work_laws::{law_moments, law_work};
