@@ -18,3 +18,4 @@ pub mod CoverTurns
 pub mod Stories
 pub mod AtTurns
 pub mod RunsLaw
+pub mod Runners

@@ -71,7 +71,8 @@ least_fits : (Q : ℕ → Type 0) (items : List Item) (wheel : ℕ) → least it
     → All (λ item. Q item.wheel) items → Q wheel
 least_fits Q [] wheel is all = absurd (none-some wheel is)
 least_fits Q (item ∷ items) wheel is all =
-    least_with Q item items wheel (least items) is (All-head (λ (i : Item). Q i.wheel) item items all)
+    least_with Q item items wheel (least items) is
+    (All-head (λ (i : Item). Q i.wheel) item items all)
     (λ other there.
     least_fits Q items other there (All-tail (λ (i : Item). Q i.wheel) item items all))
 

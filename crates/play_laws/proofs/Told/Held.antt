@@ -29,7 +29,8 @@ module _ (s : State) (timer : ℕ) (held : Queued) where
       → option_and_then (queued_at s timer) o ≡ Some held → HeldIs s timer held
   by_holder None holder is = absurd (none-some held is)
   by_holder (Some c) holder is =
-      let at = found_there (λ d. is_some (class_in timer (bases_at s d))) 0 (cpu_count s) c holder in
+      let at =
+      found_there (λ d. is_some (class_in timer (bases_at s d))) 0 (cpu_count s) c holder in
       let low = at.below in
       on_it c (found_in timer (bases_at s c)) refl is (omega (arith, low))
 

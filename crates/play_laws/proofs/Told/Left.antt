@@ -1,6 +1,7 @@
 -- for crates above: the `left` lines are the timers that are still queued
 use Rattle.std.proofs.Common.{◌≡◌, ℕ, zero, suc, ◌+◌, ◌<◌, ◌≤◌, List, [], ◌∷◌, true, false}
-use Rattle.std.proofs.Common.{Option, Some, None, refl, sym, ap, ◌∙◌, subst, arith, get_or, inl, inr}
+use Rattle.std.proofs.Common.{Option, Some, None, refl, sym, ap, ◌∙◌, subst, arith, get_or}
+use Rattle.std.proofs.Common.{inl, inr}
 use Rattle.std.specs.Prelude.{All, Contains, IsSomeAnd, is_some, option_and_then}
 use Rattle.std.specs.Prelude.{option_map}
 use Rattle.std.proofs.lemmas.Bool.{both_ways, cases_eq}
@@ -84,9 +85,11 @@ module _ (timers cpus levels : ℕ) (s : State) (homes : AreHomes timers cpus le
     by_holder None none =
         absurd
         (found_some (λ d. is_some (class_in item.id (bases_at s d))) 0 (cpu_count s) c
-        (omega arith) (omega (arith, in_range)) (ap (λ o. is_some (option_map (λ f. f.0) o)) found_here) none)
+        (omega arith) (omega (arith, in_range))
+        (ap (λ o. is_some (option_map (λ f. f.0) o)) found_here) none)
     by_holder (Some d) is =
-        let at = found_there (λ d. is_some (class_in item.id (bases_at s d))) 0 (cpu_count s) d is in
+        let at =
+        found_there (λ d. is_some (class_in item.id (bases_at s d))) 0 (cpu_count s) d is in
         let below = at.below in
         let count = homes.count in
         let same : d ≡ c =

@@ -106,8 +106,8 @@ module _ {S : Type 0} (jobs : Replies) (r : Rules S) (Q : Line → Type 0)
       → All Q (interrupt_where jobs r b c s).lines
   turn_prints false c s is = All-nil Q
   turn_prints true c s is =
-      interrupt_prints jobs r Q c (λ now timer home wheel reply. runs c now timer home wheel reply is)
-      s
+      interrupt_prints jobs r Q c
+      (λ now timer home wheel reply. runs c now timer home wheel reply is) s
 
   pub interrupts_print : (n c : ℕ) (s : S) → All Q (interrupts jobs r n c due s).lines
   unfolding interrupts

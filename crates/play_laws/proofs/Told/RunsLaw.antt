@@ -1,7 +1,7 @@
 -- for crates above: each arming that a report tells of has its run
 use Rattle.std.proofs.Common.{◌≡◌, ℕ, zero, suc, ◌+◌, ◌<◌, List, [], ◌∷◌, ◌++◌, true, false}
-use Rattle.std.proofs.Common.{Option, Some, None, refl, sym, ap, ◌∙◌, arith, inl, inr, length, subst}
-use Rattle.std.proofs.Common.{take}
+use Rattle.std.proofs.Common.{Option, Some, None, refl, sym, ap, ◌∙◌, arith, inl, inr, length}
+use Rattle.std.proofs.Common.{subst, take}
 use Rattle.std.specs.Prelude.{All, filter}
 use Rattle.std.proofs.Math.Seq.{take-length}
 use Rattle.std.proofs.lemmas.Bool.{both_ways, cases_Bool}
@@ -42,7 +42,7 @@ use Rattle.play_laws.proofs.Told.AtTurns.{IsAtTime, last_at, turns_hold}
 use Rattle.play_laws.proofs.Told.Filters.{after_last}
 use Rattle.play_laws.proofs.Told.Journals.{each_timer_is_told}
 use Rattle.play_laws.proofs.Told.LeftLaw.{some_turn}
-use Rattle.play_laws.proofs.Told.Stories.{is_its, told_its, turns_from}
+use Rattle.play_laws.proofs.Told.Stories.{told_its, turns_from}
 
 -- WHAT IS STILL QUEUED in a state is to come
 module _ (s : State) (jiffy : InItsJiffy s) (c : ℕ) (low : c < cpu_count s) where

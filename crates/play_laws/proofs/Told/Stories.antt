@@ -2,8 +2,8 @@
 use Rattle.std.proofs.Common.{◌≡◌, ℕ, List, [], ◌∷◌, ◌++◌, Bool, true, false, Option, Some}
 use Rattle.std.proofs.Common.{None, refl, sym, ap, ◌∙◌, subst, inl, inr}
 use Rattle.std.specs.Prelude.{◌||◌, ◌==◌, ◌&&◌, All, IsSomeAnd, filter, if◌then◌else◌}
-use Rattle.std.proofs.lemmas.Bool.{and_from, and_parts, both_ways, cases_Bool, cond-false, cond-true}
-use Rattle.std.proofs.lemmas.Bool.{eqb-true, false_from_ne_true}
+use Rattle.std.proofs.lemmas.Bool.{and_from, and_parts, both_ways, cases_Bool, cond-false}
+use Rattle.std.proofs.lemmas.Bool.{cond-true, eqb-true, false_from_ne_true}
 use Rattle.std.proofs.lemmas.List.Elements.{All-head, All-tail, filter-append}
 use Rattle.std.proofs.lemmas.Option.{none-some}
 use Rattle.cpu_bases.specs.declared.entry.Act.{Act}
@@ -212,7 +212,8 @@ module _ (timer : ℕ) where
     turns_from queued [] distinct each times last (Some a) queues = last a queues
     turns_from queued (entry ∷ journal) distinct each times last o queues =
         let on_time = λ (e : Entry). HandedOnTime e.act e in
-        one_more queued journal entry distinct each.0 (All-head on_time entry journal times) o queues
+        one_more queued journal entry distinct each.0 (All-head on_time entry journal times) o
+        queues
         (λ p is.
         turns_from (queued_after entry.act queued entry) journal
         (distinct_after entry.act queued entry distinct each.0) each.1

@@ -3,11 +3,6 @@ use Rattle.std.specs.Prelude.{Bool, true, false}
 use Rattle.tm_report.specs.declared.lines.Line.{Line}
 use Rattle.tm_report.specs.declared.lines.Line.TheVariants as lines
 
--- whether a timer's job ran
-abbrev pub is_run : Line → Bool
-is_run (lines.Run now runner timer home wheel reply) = true
-is_run line = false
-
 -- whether it tells who answers for an idle CPU's first global timer
 abbrev pub is_cover : Line → Bool
 is_cover (lines.Cover now cpu wheel cover) = true

@@ -50,8 +50,8 @@ pub record IsStory (end timer : ℕ) (journal : List Entry) (told : List Told) :
   pub by_turns : TakeTurns end None (entries_of_timer timer journal)
 
 -- EACH ARMING HAS ITS RUN: in the report of every script's play, whatever its jobs answer, what the
--- lines tell of a timer on a CPU is such a story. So each arming of a pinned or global timer (`arm`,
--- `again`, `moved`) whose wheel expiry comes by the end has a `run` line in that jiffy, and no
+-- lines tell of a timer on a CPU is such a story. So each arming (`arm`, `again`, `moved`) of a
+-- pinned or global timer whose wheel expiry comes by the end has a `run` line in that jiffy, and no
 -- other, unless a `cancel` or `moved` line comes before it; and each `run` line ends an arming
 abbrev pub EachHasItsRun : Type 0
 EachHasItsRun = (jobs : Replies) (script : Script) (timer c : ℕ) → IsScript script
