@@ -20,3 +20,4 @@ pub mod Jiffies
 pub mod Endings
 pub mod FirstDrains
 pub mod Runners
+pub mod Looks

@@ -1,1 +1,2 @@
 pub mod Jiffies
+pub mod Looks

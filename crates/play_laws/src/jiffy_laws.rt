@@ -3,6 +3,7 @@
 
 ghost use Rattle.play_laws.specs.Jiffies.Jiffies.{EachHasEndedAfterEach, InFirstDrain};
 ghost use Rattle.play_laws.specs.Jiffies.Jiffies.{InItsJiffyAfterEach, RunnersAreOnline};
+ghost use Rattle.play_laws.specs.Jiffies.Looks.{LooksAreWhole};
 
 /// After each moment of every script's play each pinned or global timer that was handed out was so
 /// in the jiffy of its wheel expiry, none that is queued on an online CPU is due, and the next
@@ -24,4 +25,11 @@ pub fn law_ends()
 /// begins and as it ends.
 pub fn law_runners()
     ensures { RunnersAreOnline }
+{}
+
+/// Where a CPU has looked after its group at a level, in its interrupt in a moment of any script's
+/// play, no CPU below an inactive child of that group has told a time that has come. So as many
+/// tries as there are CPUs are enough.
+pub fn law_looks()
+    ensures { LooksAreWhole }
 {}

@@ -1,6 +1,7 @@
 -- what is kept holds after each interrupt
 use Rattle.std.proofs.Common.{◌≡◌, ℕ, zero, suc, ◌+◌, ◌<◌, List, [], ◌∷◌, Bool, true, false}
-use Rattle.std.proofs.Common.{Option, Some, None, refl, ◌∙◌, subst, arith, zero-add}
+use Rattle.std.proofs.Common.{Option, Some, None, refl, sym, ap, ◌∙◌, subst, arith, zero-add}
+use Rattle.std.proofs.Common.{◌≤◌}
 use Rattle.std.specs.Prelude.{All}
 use Rattle.std.specs.Ordering.{nat_cmp}
 use Rattle.std.specs.FinSet as set
@@ -12,7 +13,7 @@ use Rattle.job_table.specs.declared.jobs.JobReply.TheVariants as replies
 use Rattle.wheel_core.specs.declared.item.Item.{Item}
 use Rattle.play_rules.specs.declared.asks.Arming.{Arming}
 use Rattle.play_rules.specs.declared.asks.Queued.{Queued}
-use Rattle.play_rules.specs.Parts.{Played}
+use Rattle.play_rules.specs.Parts.{Played, and_then}
 use Rattle.play_rules.specs.State.{State, cpu_count}
 use Rattle.play_rules.specs.Hierarchy.{looks_after, named}
 use Rattle.play_rules.specs.Timers.{armed_on, drained_on, queued_on}
@@ -75,7 +76,7 @@ module _ (jobs : Replies) where
         keeps.drained_all now due c _ low third
 
     -- a CPU that is tried
-    try_kept : (level n : ℕ) (tried : set.FinSet nat_cmp) (d : ℕ) (s : State)
+    pub try_kept : (level n : ℕ) (tried : set.FinSet nat_cmp) (d : ℕ) (s : State)
         → named s c level ≡ Some d → P now (looking due c level (suc n) tried) s
         → P now (looking due c level n (set.insert tried d)) (try jobs plain_rules c d s).state
     try_kept level n tried d s is holds =
@@ -133,6 +134,53 @@ module _ (jobs : Replies) where
         (omega (arith, all)) refl holds
         (λ t at. looks_kept n (level + 1) t (omega (arith, all)) at)
 
+    -- as far as it looks after its groups it climbs
+    climb_one : (n level : ℕ) (s : State) → looks_after s c level ≡ true
+        → looks jobs plain_rules (suc n) c level s
+        ≡ and_then (look jobs plain_rules (cpu_count s) c level set.empty s)
+        (looks jobs plain_rules n c (level + 1))
+    unfolding looks
+    climb_one n level s is =
+        ap (λ b. look_where jobs plain_rules b c level (looks jobs plain_rules n c (level + 1)) s)
+        is
+
+    pub climbs_to : (n level : ℕ) (s : State) → level + n ≤ levels → P now (climbed due c level) s
+        → ((l : ℕ) → l < n
+        → looks_after (looks jobs plain_rules l c level s).state c (level + l) ≡ true)
+        → P now (climbed due c (level + n)) (looks jobs plain_rules n c level s).state
+    unfolding looks
+    climbs_to zero level s within holds up =
+        let same : level ≡ level + 0 = omega arith in
+        subst (λ k. P now (climbed due c k) s) same holds
+    climbs_to (suc n) level s within holds up =
+        let here : looks_after s c level ≡ true =
+        subst (λ k. looks_after s c k ≡ true) (add_none level) (up 0 (omega arith)) in
+        let after = (look jobs plain_rules (cpu_count s) c level set.empty s).state in
+        let next = look_kept (cpu_count s) level set.empty s
+        (keeps.looks now due c level s low (omega (arith, within)) here holds) in
+        subst (λ (p : Played State). P now (climbed due c (level + suc n)) p.state)
+        (sym (climb_one n level s here))
+        (subst
+        (λ k. P now (climbed due c k) (looks jobs plain_rules n c (level + 1) after).state)
+        (add_one level n)
+        (climbs_to n (level + 1) after (omega (arith, within)) next
+        (λ l below.
+        subst (λ k. looks_after (looks jobs plain_rules l c (level + 1) after).state c k ≡ true)
+        (sym (add_one level l))
+        (subst (λ (p : Played State). looks_after p.state c (level + suc l) ≡ true)
+        (climb_one l level s here) (up (suc l) (omega (arith, below)))))))
+      where
+        add_none : (k : ℕ) → k + 0 ≡ k
+        add_none k = omega arith
+
+        add_one : (k m : ℕ) → (k + 1) + m ≡ k + suc m
+        add_one k m = omega arith
+
+    -- where a CPU that is due comes to look, and to its group at a level
+    pub comes_to_look : (s : State) → set.contains due c ≡ true → P now (begun due c) s
+        → P now (climbed due c 0) (drains jobs plain_rules c s).state
+    comes_to_look s is holds = drains_kept s (keeps.entered now due c s low is holds)
+
     interrupt_kept : (s : State) → set.contains due c ≡ true → P now (begun due c) s
         → P now (begun due (c + 1)) (interrupt jobs plain_rules c s).state
     interrupt_kept s is holds =
@@ -165,3 +213,19 @@ module _ (jobs : Replies) where
         let all : 0 + cpu_count s ≡ cpus =
         zero-add (cpu_count s) ∙ keeps.all_cpus now due s holds in
         keeps.interrupted now due _ (from_kept (cpu_count s) 0 s all holds)
+
+    -- those of the first n CPUs
+    pub first_kept : (n c : ℕ) (s : State) → c + n ≤ cpus → P now (begun due c) s
+        → P now (begun due (c + n)) (interrupts jobs plain_rules n c due s).state
+    unfolding interrupts
+    first_kept zero c s within holds =
+        let same : c ≡ c + 0 = omega arith in subst (λ k. P now (begun due k) s) same holds
+    first_kept (suc n) c s within holds =
+        let same : (c + 1) + n ≡ c + suc n = omega arith in
+        let next = turn_kept cpus levels P keeps now due c (omega (arith, within))
+        (set.contains due c) s refl holds in
+        subst
+        (λ k. P now (begun due k)
+        (interrupts jobs plain_rules n (c + 1) due
+        (interrupt_where jobs plain_rules (set.contains due c) c s).state).state)
+        same (first_kept n (c + 1) _ (omega (arith, within)) next)

@@ -1,7 +1,7 @@
 -- what is kept holds after each moment of a play, beside what else is known to
 use Rattle.std.proofs.Common.{◌≡◌, ℕ, zero, suc, ◌+◌, ◌^◌, ◌<◌, ◌≤◌, List, [], ◌∷◌, Bool, true}
 use Rattle.std.proofs.Common.{false, Option, Some, None, refl, subst, arith, inl, inr, max}
-use Rattle.std.specs.Prelude.{All, ◌≢◌, ◌==◌, if◌then◌else◌}
+use Rattle.std.specs.Prelude.{All, ◌≢◌, ◌==◌, if◌then◌else◌, slice_get, take}
 use Rattle.std.specs.Option.{ForSome}
 use Rattle.std.proofs.lemmas.Bool.{cases_eq, eq-eqb, eqb-false, ne_eqb}
 use Rattle.std.proofs.lemmas.Option.{none-some, same_Some}
@@ -10,6 +10,7 @@ use Rattle.tm_script.specs.declared.syntax.Moment.{Moment}
 use Rattle.tm_script.specs.Grammar.{IsMoment}
 use Rattle.play_rules.specs.State.{State}
 use Rattle.play_rules.specs.Interrupts.{Replies, having_interrupt}
+use Rattle.play_rules.specs.Moments.{last_state}
 use Rattle.play_rules.specs.Moments.{AfterEach, Turn, moment_at, moment_now, moments_after}
 use Rattle.play_rules.specs.Moments.{next_moment, next_said, scripted, turn, turn_then, turns}
 use Rattle.play_rules.specs.Play.{at_clock, next_interrupt, plain_rules}
@@ -89,7 +90,7 @@ module _ (jobs : Replies) (cpus levels end version timers : ℕ)
     (comes : (now next : ℕ) (s : State) → P now between s → Known s → now < next → next ≤ end
     → next ≤ max (s.clock + 1) (next_interrupt s)
     → P next (begun (having_interrupt plain_rules (at_clock next s)) 0) (at_clock next s)) where
-  abbrev Due : ℕ → State → Type 0
+  abbrev pub Due : ℕ → State → Type 0
   Due now s = P now (begun (having_interrupt plain_rules s) 0) s
 
   scripted_kept : (now : ℕ) (o : Option Moment) (s : State)
@@ -129,7 +130,7 @@ module _ (jobs : Replies) (cpus levels end version timers : ℕ)
       All-cons (λ u. Both u.played.state) t (rest t.played.state) (here, this)
       (there refl this (All-tail (λ u. Known u.played.state) t (rest t.played.state) known))
 
-  abbrev Playing : (now : ℕ) → List Moment → State → Type 0
+  abbrev pub Playing : (now : ℕ) → List Moment → State → Type 0
   Playing now ms s =
       All (IsMoment version cpus timers) ms × Rise now end ms × (now ≤ end)
       × Due now (at_clock now s)
@@ -166,3 +167,59 @@ module _ (jobs : Replies) (cpus levels end version timers : ℕ)
       → Due now (at_clock now s) → AfterEach Known (turns jobs plain_rules n end now ms s)
       → AfterEach Both (turns jobs plain_rules n end now ms s)
   course_kept n now ms s known up low holds all = turns_from n now ms s (known, up, low, holds) all
+
+  -- AS EACH MOMENT BEGINS it holds
+  abbrev pub EachBegins : State → List (Turn State) → Type 0
+  EachBegins s ts = (n : ℕ) (t : Turn State) → slice_get ts n ≡ Some t
+      → Due t.at (at_clock t.at (last_state s (take n ts)))
+
+  one_begins : (s : State) (t : Turn State) (ts : List (Turn State)) → Due t.at (at_clock t.at s)
+      → EachBegins t.played.state ts → EachBegins s (t ∷ ts)
+  one_begins s t ts here rest zero u is =
+      subst (λ (x : Turn State). Due x.at (at_clock x.at s)) (same_Some t u is) here
+  one_begins s t ts here rest (suc n) u is = rest n u is
+
+  then_begins : (is_last : Bool) (rest : State → List (Turn State)) (s : State) (t : Turn State)
+      → AfterEach Known (turn_then is_last rest t) → Due t.at (at_clock t.at s)
+      → (is_last ≡ false → Known t.played.state → AfterEach Known (rest t.played.state)
+      → EachBegins t.played.state (rest t.played.state))
+      → EachBegins s (turn_then is_last rest t)
+  then_begins true rest s t known here there =
+      one_begins s t [] here (λ n u is. absurd (none-some u is))
+  then_begins false rest s t known here there =
+      let this =
+      All-head (λ (u : Turn State). Known u.played.state) t (rest t.played.state) known in
+      one_begins s t (rest t.played.state) here
+      (there refl this (All-tail (λ u. Known u.played.state) t (rest t.played.state) known))
+
+  begin_from : (n now : ℕ) (ms : List Moment) (s : State) → Playing now ms s
+      → AfterEach Known (turns jobs plain_rules n end now ms s)
+      → EachBegins s (turns jobs plain_rules n end now ms s)
+  unfolding turns
+  begin_from zero now ms s playing all = λ k u is. absurd (none-some u is)
+  begin_from (suc n) now ms s (known, up, low, holds) all =
+      let here = turn jobs plain_rules ms now s in
+      let after = moment_kept now ms (at_clock now s) known holds in
+      let left = moments_after now ms in
+      then_begins (now == end)
+      (λ t. turns jobs plain_rules n end (next_moment plain_rules end left t) left t) s here all
+      holds
+      (λ more this rest.
+      let apart : now ≢ end = eqb-false now end more in
+      let next =
+      next_is end now left here.played.state (after_rise now end ms up)
+      (omega (arith, low, apart))
+      (keeps.clock now here.played.state after) in
+      begin_from n (next_moment plain_rules end left here.played.state) left here.played.state (
+        after_in (IsMoment version cpus timers) now ms known,
+        next.rise,
+        next.by_the_end,
+        comes now (next_moment plain_rules end left here.played.state) here.played.state after this
+            next.later next.by_the_end next.no_later,
+      ) rest)
+
+  pub each_begins : (n now : ℕ) (ms : List Moment) (s : State)
+      → All (IsMoment version cpus timers) ms → Rise now end ms → now ≤ end
+      → Due now (at_clock now s) → AfterEach Known (turns jobs plain_rules n end now ms s)
+      → EachBegins s (turns jobs plain_rules n end now ms s)
+  each_begins n now ms s known up low holds all = begin_from n now ms s (known, up, low, holds) all

@@ -49,7 +49,7 @@ use Rattle.play_laws.proofs.Jiffies.OperationSteps.{Leaves, Leaving, arms, cance
 use Rattle.play_laws.proofs.Jiffies.OperationSteps.{goes_offline, idles, rested_of_bases, wakes}
 
 -- AT EACH STAGE
-abbrev Keep : (cpus levels now : ℕ) → Stage → State → Type 0
+abbrev pub Keep : (cpus levels now : ℕ) → Stage → State → Type 0
 Keep cpus levels now between s = Between cpus levels now s
 Keep cpus levels now (begun due c) s = Begun cpus levels now due c s
 Keep cpus levels now (own due c bases) s = Own cpus levels now due c bases s
@@ -70,7 +70,7 @@ module _ (cpus levels : ℕ) where
       let count = was.quiet.holds.count in
       wakes_leaving cpus levels now c d s (omega (arith, low, count)) was
 
-  course : KeepsCourse cpus levels (Keep cpus levels)
+  pub course : KeepsCourse cpus levels (Keep cpus levels)
   course = record {
     clock = λ now s was. was.at;
     all_cpus = λ now due s was. was.holds.count;
@@ -185,10 +185,10 @@ module _ (jobs : Replies) (script : Script) (is : IsScript script) where
   abbrev tree : Shape
   tree = tree_for script
 
-  abbrev Known : State → Type 0
+  abbrev pub Known : State → Type 0
   Known s = (now : ℕ) × Whole tree now s
 
-  comes_on : (now next : ℕ) (s : State) → Between (cpu_count_of tree) (level_count_of tree) now s
+  pub comes_on : (now next : ℕ) (s : State) → Between (cpu_count_of tree) (level_count_of tree) now s
       → Known s → now < next
       → next ≤ script.end → next ≤ max (s.clock + 1) (next_interrupt s)
       → Begun (cpu_count_of tree) (level_count_of tree) next
@@ -200,7 +200,7 @@ module _ (jobs : Replies) (script : Script) (is : IsScript script) where
       (omega (arith, clock, later))
       (omega (arith, by_end, early)) no_later
 
-  few_timers : script.timers ≤ 2 ^ 16
+  pub few_timers : script.timers ≤ 2 ^ 16
   few_timers = let few = is.few_timers in omega (arith, few)
 
   law : AfterEachMoment InItsJiffy jobs script
