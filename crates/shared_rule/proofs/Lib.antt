@@ -6,6 +6,11 @@ pub mod Starting
 pub mod Moving
 pub mod Owing
 pub mod Noting
+pub mod Stale
 pub mod Made
 pub mod Waking
 pub mod Rising
+pub mod Fronts
+pub mod Growing
+pub mod Entering
+pub mod Acted

@@ -1,26 +1,22 @@
 -- for crates above: a step of the core that leaves all timers, as a step of the table
-use Rattle.std.proofs.Common.{◌≡◌, ◌≢◌, ◌↔◌, ◌⊎◌, ⊎_elim, ℕ, suc, ◌+◌, ◌-◌, ◌/◌, ◌^◌, ◌<◌, ◌≤◌, eqb}
+use Rattle.std.proofs.Common.{◌≡◌, ◌≢◌, ◌↔◌, ◌⊎◌, ⊎_elim, ℕ, suc, ◌+◌, ◌-◌, ◌^◌, ◌<◌, ◌≤◌, eqb}
 use Rattle.std.proofs.Common.{eq-eqb, ne_eqb, cond, Bool, true, false, List, [], ◌∷◌, ◌++◌, map}
-use Rattle.std.proofs.Common.{length, Option, Some, None, refl, sym, ap, ◌∙◌, subst, inl, inr}
+use Rattle.std.proofs.Common.{length, Option, Some, refl, sym, ap, ◌∙◌, subst, inl, inr}
 use Rattle.std.proofs.Common.{arith}
-use Rattle.std.specs.Prelude.{option_map, Contains, ◌&&◌, slice_get}
-use Rattle.std.specs.Option.{option_map_or}
+use Rattle.std.specs.Prelude.{option_map, Contains, slice_get}
 use Rattle.std.proofs.lemmas.Bool.{cases_eq}
 use Rattle.std.proofs.lemmas.List.{get_or-set_same, get_or-set_other, set-get_or}
-use Rattle.std.proofs.lemmas.Option.{none-some, same_Some}
 use Rattle.group_word.specs.State.{state_word, IsStateOf}
 use Rattle.event_queue.specs.declared.event.Event.{Event}
 use Rattle.event_queue.specs.EventMap.{event_at}
 use Rattle.cpu_bases.specs.CpuBases.{CpuBases, class_in}
 use Rattle.cpu_bases.specs.Replay.{AddsReplay}
-use Rattle.tree_plan.specs.Shape.{Shape, IsPlanned}
-use Rattle.tree_plan.specs.Paths.{group_at_of}
+use Rattle.tree_plan.specs.Shape.{IsPlanned}
 use Rattle.walk_rules.specs.declared.walk.Walk.{Walk}
 use Rattle.walk_rules.specs.declared.walk.WalkKind.TheVariants as kinds
 use Rattle.walk_rules.specs.Scene.{Group, no_group}
 use Rattle.walk_rules.specs.Stages.{forget}
-use Rattle.core_world.specs.World.{World, CpuRecord, cpu_of, group_of, moved, is_reading, reads_at}
-use Rattle.core_world.specs.World.{stale_walk}
+use Rattle.core_world.specs.World.{World, CpuRecord, cpu_of, group_of, moved}
 use Rattle.core_world.specs.declared.step.Step.{Step}
 use Rattle.core_world.specs.Enabled.{Enabled}
 use Rattle.core_world.specs.Lawful.{IsLawful}
@@ -42,13 +38,14 @@ use Rattle.shared_rule.specs.Whole.{layout_of, state_at, lock_at, slot_at, cpu_a
 use Rattle.shared_rule.specs.Whole.{box_of, box_as, quiet, own_word, group_word, group_state}
 use Rattle.shared_rule.specs.Whole.{leaf_of}
 use Rattle.shared_rule.specs.declared.parts.Did.{Did}
-use Rattle.shared_rule.specs.Shows.{IsShown, FlagsOf, reevaluates, Reads, ReadsOf, owes, sum_to}
+use Rattle.shared_rule.specs.Shows.{IsShown, FlagsOf, Reads, ReadsOf, owes, sum_to}
 use Rattle.shared_rule.specs.Shows.{raised, after, journal_of, DidRight}
 use Rattle.shared_rule.specs.Rule.{Each, Me, seat_of, pass_cpu, Goes}
 use Rattle.shared_rule.proofs.Sums.{sum_swap}
 use Rattle.shared_rule.proofs.Fits.{shown_walk, seq_low}
 use Rattle.shared_rule.proofs.Moving.{set_here, set_else, quiet_else, owes_else, field_else}
 use Rattle.shared_rule.proofs.Noting.{did_same, noted_same}
+use Rattle.shared_rule.proofs.Stale.{flags_beside, stale_reads}
 
 -- a step that leaves time, timers and which CPUs are online
 pub record IsPlain (r : Reach) : Type 0 where
@@ -59,8 +56,8 @@ pub record IsPlain (r : Reach) : Type 0 where
 
 -- what such a step by the seat of CPU c's box has to show, with the passes ps that become qs
 pub record Made (o : World) (s : Whole) (c g : ℕ) (x : Group) (y : CpuRecord) (r : Bool) (n : ℕ)
-    (looked : List Look) (pass : ℕ → PassView) (ps qs : List PassView) (p : SharedWord) (f : ℕ
-    → ℕ) (then : ℕ → Me → Type 0) : Type 0 where
+    (stray : ℕ → ℕ → Bool) (looked : List Look) (pass : ℕ → PassView) (ps qs : List PassView)
+    (p : SharedWord) (f : ℕ → ℕ) (then : ℕ → Me → Type 0) : Type 0 where
   pub step : Step
   pub enabled : Enabled s.world step
   pub is : stepped s.world step ≡ moved s.world g x c y r
@@ -70,7 +67,7 @@ pub record Made (o : World) (s : Whole) (c g : ℕ) (x : Group) (y : CpuRecord) 
   pub kept : r ≡ false → (x.active ≡ (group_of s.world g).active)
       × (x.migrator ≡ (group_of s.world g).migrator)
   pub staying : (k : Walk) → y.walk ≡ Some k → k.kind ≢ kinds.Offline
-  pub reads : ReadsOf s.world.tree c y.walk n (group_word (after s g x c y r n looked pass))
+  pub reads : ReadsOf s.world.tree c y.walk n (group_word (after s g x c y r n stray looked pass))
       (raised r g s.seq)
   pub owed : (m : ℕ) → raised r g s.seq m + owes o.tree m c y.walk + sum_to (length o.cpus)
       (λ d. (s.pass d).walks) ≤ s.seq m + owes o.tree m c (cpu_of s.world c).walk + sum_to
@@ -89,13 +86,15 @@ pub record Made (o : World) (s : Whole) (c g : ℕ) (x : Group) (y : CpuRecord) 
   pub leaf : Option Event
   pub leaf_is : leaf ≡ leaf_of (moved s.world g x c y r) c
   pub leaves : (d : ℕ) → d ≢ c → leaf_of (moved s.world g x c y r) d ≡ leaf_of s.world d
-  pub word : word_at (after s g x c y r n looked pass) p ≡ f (word_at s p)
+  pub word : word_at (after s g x c y r n stray looked pass) p ≡ f (word_at s p)
   pub state : index_of (layout_of o) (state_at g) ≢ index_of (layout_of o) p
       → state_word (group_state x (raised r g s.seq g)) ≡ group_word s g
   pub lock : index_of (layout_of o) (lock_at g) ≢ index_of (layout_of o) p
       → x.lock ≡ (group_of s.world g).lock
   pub slots : (k : ℕ) → k < 8 → index_of (layout_of o) (slot_at g k) ≢ index_of (layout_of o) p
-      → event_at x.events k ≡ event_at (group_of s.world g).events k
+      → word_of_slot (stray g k) (event_at x.events k)
+      ≡ word_of_slot (s.stray g k) (event_at (group_of s.world g).events k)
+  pub strays : (m k : ℕ) → m ≢ g → stray m k ≡ s.stray m k
   pub cpu : index_of (layout_of o) (cpu_at c) ≢ index_of (layout_of o) p
       → own_word y ≡ own_word (cpu_of s.world c)
   pub same : map pass_cpu qs ≡ map pass_cpu ps
@@ -103,84 +102,16 @@ pub record Made (o : World) (s : Whole) (c g : ℕ) (x : Group) (y : CpuRecord) 
   pub others : (d : ℕ) → Each (λ z. z.cpu ≢ d) ps → pass d ≡ s.pass d
   pub told : then (word_at s p) (seat_of (box_as o c y leaf n looked ∷ []) qs)
 
-flags_cond : (b : Bool) (j : Walk) → reevaluates (Some
-    (cond b (record j { fresh = false }) j)) ≡ reevaluates (Some j)
-flags_cond true j = refl
-flags_cond false j = refl
-
-reeval_stale : (t : Shape) (g d : ℕ) (m : Option Walk)
-    → reevaluates (option_map (stale_walk t g d) m) ≡ reevaluates m
-reeval_stale t g d None = refl
-reeval_stale t g d (Some j) = flags_cond (reads_at t g d j) j
-
-pub flags_beside : (t : Shape) (r : Bool) (g d : ℕ) (y : CpuRecord) (p : PassView) → FlagsOf y p
-    → FlagsOf (beside t r g d y) p
-flags_beside t true g d y p f = record {
-  idle = f.idle;
-  inside = f.inside;
-  wakeup = f.wakeup;
-  reeval = f.reeval ∙ sym (reeval_stale t g d y.walk);
-}
-flags_beside t false g d y p f = f
-
-stage_cond : (b : Bool) (j k : Walk) → cond b (record j { fresh = false }) j ≡ k
-    → (j.stage ≡ k.stage) × (j.level ≡ k.level)
-stage_cond true j k e = (ap (λ (z : Walk). z.stage) e, ap (λ (z : Walk). z.level) e)
-stage_cond false j k e = (ap (λ (z : Walk). z.stage) e, ap (λ (z : Walk). z.level) e)
-
--- another walk's reading after an exchange of g's word, by which its sequence rose
-module _ (t : Shape) (g d : ℕ) (n : ℕ) (word word' seq seq' : ℕ → ℕ)
-    (grew : (h : ℕ) → seq h ≤ seq' h) (past : word' g / 2 ^ 16 ≡ suc (seq g)) (else : (h : ℕ)
-    → h ≢ g → word' h ≡ word h) where
-  stale_reads : (m : Option Walk) → ReadsOf t d m n word seq
-      → ReadsOf t d (option_map (stale_walk t g d) m) n word' seq'
-  stale_reads None was = record {
-    fresh = λ k h e. absurd (none-some k e);
-    before = λ k h e. absurd (none-some k e);
-    good = λ k e. absurd (none-some k e);
-  }
-  stale_reads (Some j) was = record {
-    fresh = λ k h e rd here.
-        let is = same_Some _ _ e in
-        let st = stage_cond (reads_at t g d j) j k is in
-        let rd' : is_reading j.stage ≡ true = ap is_reading st.0 ∙ rd in
-        let here' : group_at_of t d j.level ≡ Some h = ap (group_at_of t d) st.1 ∙ here in
-        let by : reads_at t g d j ≡ eqb h g = (λ i. rd' i && option_map_or (λ z. eqb z g)
-        (here' i) false) in
-        elim (cases_eq h g) [
-          | inl same ↦
-              let yes' : reads_at t g d j ≡ true = by ∙ eq-eqb h g same in
-              let low : n / 2 ^ 16 ≤ seq g = subst (λ z. n / 2 ^ 16 ≤ seq z) same
-              (was.before j h refl rd' here') in
-              let apart : word' h ≢ n = λ z. absurd
-              (omega (arith, past, low, ap (λ m. m / 2 ^ 16) (sym (ap word' same) ∙ z))) in
-              ap (λ (z : Walk). z.fresh) (sym is) ∙
-              (ap (λ b. (cond b (record j { fresh = false }) j).fresh) yes'
-              ∙ sym (ne_eqb _ _ apart))
-          | inr away ↦
-              let not' : reads_at t g d j ≡ false = by ∙ ne_eqb h g away in
-              ap (λ (z : Walk). z.fresh) (sym is) ∙
-              (ap (λ b. (cond b (record j { fresh = false }) j).fresh) not'
-              ∙ (was.fresh j h refl rd' here' ∙ ap (λ m. eqb m n) (sym (else h away))))
-        ];
-    before = λ k h e rd here.
-        let st = stage_cond (reads_at t g d j) j k (same_Some _ _ e) in
-        let old = was.before j h refl (ap is_reading st.0 ∙ rd) (ap (group_at_of t d) st.1
-        ∙ here) in
-        omega (arith, old, grew h);
-    good = λ k e rd. was.good j refl (ap is_reading
-        (stage_cond (reads_at t g d j) j k (same_Some _ _ e)).0 ∙ rd);
-  }
-
 module _ (law : CoreLaws) (o : World) (s : Whole) (h : IsShown o s) (c g : ℕ) (x : Group)
-    (y : CpuRecord) (r : Bool) (n : ℕ) (looked : List Look) (pass : ℕ → PassView)
+    (y : CpuRecord) (r : Bool) (n : ℕ) (stray : ℕ → ℕ → Bool)
+    (looked : List Look) (pass : ℕ → PassView)
     (ps qs : List PassView) (p : SharedWord) (f : ℕ → ℕ) (then : ℕ → Me → Type 0)
-    (q : Made o s c g x y r n looked pass ps qs p f then) where
+    (q : Made o s c g x y r n stray looked pass ps qs p f then) where
   abbrev v : World
   v = moved s.world g x c y r
 
   abbrev next : Whole
-  next = after s g x c y r n looked pass
+  next = after s g x c y r n stray looked pass
 
   keeps : Keeps (reach_of q.step) s.world v
   keeps = subst (Keeps (reach_of q.step) s.world) q.is (law.frame s.world q.step q.enabled)
@@ -387,13 +318,15 @@ module _ (law : CoreLaws) (o : World) (s : Whole) (h : IsShown o s) (c g : ℕ) 
         ∙ ap (λ k. lock_word (group_of s.world k).lock) (sym e)))
     | inr other ↦ ap (λ (z : Group). lock_word z.lock) (else_group m.0 other)
   ]
-  frame (Slot m k) low ne = ap (word_of_slot (s.stray m.0 k)) (elim (cases_eq m.0 g) [
-    | inl e ↦ ap (λ j. event_at (group_of v j).events k) e
-        ∙ (ap (λ (z : Group). event_at z.events k) own_group
+  frame (Slot m k) low ne = elim (cases_eq m.0 g) [
+    | inl e ↦
+        ap (λ j. word_of_slot (stray j k) (event_at (group_of v j).events k)) e
+        ∙ (ap (λ (z : Group). word_of_slot (stray g k) (event_at z.events k)) own_group
         ∙ (q.slots k low.1 (λ z. ne (ap (λ j. at' (slot_at j k)) e ∙ z))
-        ∙ ap (λ j. event_at (group_of s.world j).events k) (sym e)))
-    | inr other ↦ ap (λ (z : Group). event_at z.events k) (else_group m.0 other)
-  ])
+        ∙ ap (λ j. word_of_slot (s.stray j k) (event_at (group_of s.world j).events k)) (sym e)))
+    | inr other ↦
+        λ i. word_of_slot (q.strays m.0 k other i) (event_at (else_group m.0 other i).events k)
+  ]
   frame (Cpu d) low ne = elim (cases_eq d.0 c) [
     | inl e ↦ ap (λ m. own_word (cpu_of v m)) e ∙ (ap own_word own_cpu
         ∙ (q.cpu (λ z. ne (ap (λ k. at' (cpu_at k)) e ∙ z))

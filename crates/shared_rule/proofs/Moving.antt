@@ -1,11 +1,20 @@
 -- for crates above: what a step of another CPU leaves of a CPU
 use Rattle.std.proofs.Common.{◌≡◌, ◌≢◌, ℕ, eq-eqb, ne_eqb, cond, Bool, true, false, Option, Some}
-use Rattle.std.proofs.Common.{None, refl, ap}
+use Rattle.std.proofs.Common.{None, refl, ap, sym, ◌∙◌, inl, inr}
 use Rattle.std.specs.Prelude.{option_map}
 use Rattle.tree_plan.specs.Shape.{Shape}
 use Rattle.walk_rules.specs.declared.walk.Walk.{Walk}
 use Rattle.walk_rules.specs.Stages.{forget}
 use Rattle.core_world.specs.World.{CpuRecord, reads_at, stale_walk}
+use Rattle.std.proofs.lemmas.Bool.{cases_eq}
+use Rattle.event_queue.specs.EventMap.{event_at}
+use Rattle.tree_plan.specs.Paths.{group_at_of}
+use Rattle.walk_rules.specs.Hierarchy.{side}
+use Rattle.walk_rules.specs.Scene.{Group}
+use Rattle.core_world.specs.World.{World, own}
+use Rattle.core_world.proofs.Quiet.{own_group}
+use Rattle.shared_rule.specs.declared.parts.PassView.{PassView}
+use Rattle.shared_rule.specs.Whole.{leaf_in, leaf_of}
 use Rattle.core_world.proofs.Moves.{beside}
 use Rattle.shared_rule.specs.Whole.{quiet}
 use Rattle.shared_rule.specs.Shows.{owes, set_at}
@@ -51,3 +60,22 @@ pub field_else : {X : Type 0} (f : CpuRecord → X) → ((y : CpuRecord) (m : Op
     → f (beside t r g d y) ≡ f y
 field_else f e t true g d y = e y _
 field_else f e t false g d y = refl
+
+-- a step that changes no group leaves each CPU its slot in its leaf
+own_leaf_in : (w : World) (c d : ℕ) (y : CpuRecord) (m : Option ℕ)
+    → leaf_in (own w c y) d m ≡ leaf_in w d m
+own_leaf_in w c d y None = refl
+own_leaf_in w c d y (Some g) = ap (λ (z : Group). event_at z.events (side w.tree d 0))
+    (own_group w c y g)
+
+pub own_leaf : (w : World) (c d : ℕ) (y : CpuRecord) → leaf_of (own w c y) d ≡ leaf_of w d
+own_leaf w c d y = own_leaf_in w c d y (group_at_of w.tree d 0)
+
+-- a field of the passes, where that of c became q
+pub pass_field : {X : Type 0} (f : PassView → X) (pass : ℕ → PassView) (c : ℕ) (q : PassView)
+    → f q ≡ f (pass c) → (d : ℕ) → f (set_at c q pass d) ≡ f (pass d)
+pass_field f pass c q e d = elim (cases_eq d c) [
+  | inl is ↦ ap (λ m. f (set_at c q pass m)) is ∙ (ap f (set_here c q pass)
+      ∙ (e ∙ ap (λ m. f (pass m)) (sym is)))
+  | inr ne ↦ ap f (set_else c q pass d ne)
+]

@@ -152,7 +152,7 @@ rise_hit law o s c gg j ps old new h hc known at is_up path_o join e =
           ∙ field_else (λ v. v.mark) (λ v m. refl) w.tree true gg d (cpu_of w d)
     ] in
     let none_there : not (shows_migrator old) ≡ more = none_in old _ spelled in
-    made law o s h c gg x y true (s.read c) (s.looked c) s.pass ps ps (state_at gg) _ _ (record {
+    made law o s h c gg x y true (s.read c) s.stray (s.looked c) s.pass ps ps (state_at gg) _ _ (record {
       step = steps.Walk (record { 0 = c });
       enabled = record {
         in_range = hc';
@@ -209,6 +209,7 @@ rise_hit law o s c gg j ps old new h hc known at is_up path_o join e =
       state = λ ne. absurd (ne refl);
       lock = λ ne. refl;
       slots = λ k low ne. refl;
+      strays = λ m k ne. refl;
       cpu = λ ne. refl;
       same = refl;
       brought = as_they_were o s ps known;

@@ -6,32 +6,29 @@ use Rattle.std.specs.Prelude.{option_map, Contains, is_some, slice_get}
 use Rattle.std.proofs.lemmas.Bool.{cases_eq}
 use Rattle.std.proofs.lemmas.Option.{none-some, same_Some}
 use Rattle.tm_base.specs.declared.names.TheConstants.{NEVER}
-use Rattle.event_queue.specs.EventMap.{event_at}
 use Rattle.cpu_bases.specs.CpuBases.{events_of}
 use Rattle.tree_plan.specs.Paths.{group_at_of}
 use Rattle.walk_rules.specs.declared.walk.Walk.{Walk}
 use Rattle.walk_rules.specs.declared.walk.WalkKind.{WalkKind}
 use Rattle.walk_rules.specs.declared.walk.WalkKind.TheVariants as kinds
 use Rattle.walk_rules.specs.declared.walk.Stage.TheVariants as stages
-use Rattle.walk_rules.specs.Hierarchy.{side}
-use Rattle.walk_rules.specs.Scene.{Group}
 use Rattle.walk_rules.specs.Stages.{forget}
 use Rattle.core_world.specs.declared.step.Step.TheVariants as steps
 use Rattle.core_world.specs.Steps.{begun_where}
-use Rattle.core_world.specs.World.{World, CpuRecord, cpu_of, group_of, own, is_reading}
+use Rattle.core_world.specs.World.{World, CpuRecord, cpu_of, group_of, is_reading}
 use Rattle.core_world.proofs.Moves.{cpu_same}
-use Rattle.core_world.proofs.Quiet.{own_group, own_field}
+use Rattle.core_world.proofs.Quiet.{own_field}
 use Rattle.shared_rule.specs.declared.parts.BoxView.{BoxView}
 use Rattle.shared_rule.specs.declared.parts.PassView.{PassView}
 use Rattle.shared_rule.specs.CoreLaws.{CoreLaws}
-use Rattle.shared_rule.specs.Whole.{cpu_at, Whole, box_of, quiet, own_word, leaf_of, leaf_in}
+use Rattle.shared_rule.specs.Whole.{cpu_at, Whole, box_of, quiet, own_word, leaf_of}
 use Rattle.shared_rule.specs.Shows.{IsShown, FlagsOf, reevaluates, owes, set_at}
 use Rattle.shared_rule.specs.Rule.{seat_of, Goes}
 use Rattle.shared_rule.specs.Plays.{on_both, woken, woken_box, woken_pass}
 use Rattle.shared_rule.specs.Laws.{WakeStays}
 use Rattle.shared_rule.proofs.Sums.{sum_swap}
 use Rattle.shared_rule.proofs.Owing.{owes_one}
-use Rattle.shared_rule.proofs.Moving.{set_here, set_else}
+use Rattle.shared_rule.proofs.Moving.{own_leaf, pass_field, set_here, set_else}
 use Rattle.shared_rule.proofs.Made.{made}
 use Rattle.shared_rule.proofs.Going.{allows}
 
@@ -67,24 +64,6 @@ is_offline kinds.Offline = true
 is_offline kinds.Reeval = false
 is_offline (kinds.Remote by) = false
 
-own_leaf_in : (w : World) (c d : ℕ) (y : CpuRecord) (m : Option ℕ)
-    → leaf_in (own w c y) d m ≡ leaf_in w d m
-own_leaf_in w c d y None = refl
-own_leaf_in w c d y (Some g) = ap (λ (z : Group). event_at z.events (side w.tree d 0))
-    (own_group w c y g)
-
-pub own_leaf : (w : World) (c d : ℕ) (y : CpuRecord) → leaf_of (own w c y) d ≡ leaf_of w d
-own_leaf w c d y = own_leaf_in w c d y (group_at_of w.tree d 0)
-
--- a field of the passes, where that of c became q
-pub pass_field : {X : Type 0} (f : PassView → X) (pass : ℕ → PassView) (c : ℕ) (q : PassView)
-    → f q ≡ f (pass c) → (d : ℕ) → f (set_at c q pass d) ≡ f (pass d)
-pass_field f pass c q e d = elim (cases_eq d c) [
-  | inl is ↦ ap (λ m. f (set_at c q pass m)) is ∙ (ap f (set_here c q pass)
-      ∙ (e ∙ ap (λ m. f (pass m)) (sym is)))
-  | inr ne ↦ ap f (set_else c q pass d ne)
-]
-
 wake_goes : (law : CoreLaws) (o : World) (s : Whole) (c : ℕ) (p : PassView) (new : ℕ)
     → IsShown o s → c < length o.cpus → p ≡ s.pass p.cpu → p.cpu ≡ c
     → (cpu_of s.world c).walk ≡ None → (cpu_of s.world c).online ≡ true
@@ -102,7 +81,7 @@ wake_goes law o s c p new h hc is mine free online idle few new_is =
     let nxt = (events_of y0.bases).next in
     let b = is_some (group_at_of w.tree c 0) in
     let hw : c < length w.cpus = omega (arith, hc, h.same.cpus) in
-    made law o s h c 0 (group_of w 0) y false (s.read c) [] (set_at c q s.pass) (p ∷ []) (q ∷ [])
+    made law o s h c 0 (group_of w 0) y false (s.read c) s.stray [] (set_at c q s.pass) (p ∷ []) (q ∷ [])
     (cpu_at c) _ _ (record {
       step = steps.Wake (record { 0 = c });
       enabled = record {
@@ -172,6 +151,7 @@ wake_goes law o s c p new h hc is mine free online idle few new_is =
       state = λ ne. refl;
       lock = λ ne. refl;
       slots = λ k low ne. refl;
+      strays = λ m k ne. refl;
       cpu = λ ne. absurd (ne refl);
       same = refl;
       brought = (sym (ap (set_at c q s.pass) mine ∙ set_here c q s.pass), tt);

@@ -229,12 +229,13 @@ abbrev pub set_at : {X : Type 0} → ℕ → X → (ℕ → X) → ℕ → X
 set_at c x f d = if d == c then x else f d
 
 -- the whole after a step of the core on the group g and the CPU c that leaves all timers
-abbrev pub after : Whole → ℕ → Group → ℕ → CpuRecord → Bool → ℕ → List Look → (ℕ → PassView)
-    → Whole
-after s g x c y r n looked pass = record s {
+abbrev pub after : Whole → ℕ → Group → ℕ → CpuRecord → Bool → ℕ → (ℕ → ℕ → Bool) → List Look
+    → (ℕ → PassView) → Whole
+after s g x c y r n stray looked pass = record s {
   world = moved s.world g x c y r;
   seq = raised r g s.seq;
   read = set_at c n s.read;
+  stray = stray;
   looked = set_at c looked s.looked;
   pass = pass;
 }
