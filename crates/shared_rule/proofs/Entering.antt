@@ -13,7 +13,7 @@ use Rattle.shared_rule.specs.declared.parts.Receipt.{Receipt}
 use Rattle.shared_rule.specs.Shows.{HasReceipt, IsTrueReceipt, Noted, journal_of, receipt_of}
 use Rattle.shared_rule.proofs.Fronts.{get_left, get_end, get_snoc}
 
--- which pass has the receipt of a place, once that of the entry at the end of c's journal is at `at`
+-- which pass has the receipt of a place, once that of the new entry of c is at `at`
 abbrev pub holder_after : (ℕ → ℕ → ℕ × ℕ) → (c end : ℕ) → ℕ × ℕ → ℕ → ℕ → ℕ × ℕ
 holder_after holder c end at d place =
     cond (eqb d c) (cond (eqb place end) at (holder d place)) (holder d place)

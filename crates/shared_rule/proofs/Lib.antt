@@ -2,6 +2,7 @@ pub mod Sums
 pub mod Fits
 pub mod Going
 pub mod Parting
+pub mod Seats
 pub mod Starting
 pub mod Moving
 pub mod Owing
@@ -14,3 +15,5 @@ pub mod Fronts
 pub mod Growing
 pub mod Entering
 pub mod Acted
+pub mod Histories
+pub mod Seeing

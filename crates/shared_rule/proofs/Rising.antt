@@ -152,7 +152,8 @@ rise_hit law o s c gg j ps old new h hc known at is_up path_o join e =
           ∙ field_else (λ v. v.mark) (λ v m. refl) w.tree true gg d (cpu_of w d)
     ] in
     let none_there : not (shows_migrator old) ≡ more = none_in old _ spelled in
-    made law o s h c gg x y true (s.read c) s.stray (s.looked c) s.pass ps ps (state_at gg) _ _ (record {
+    made law o s h c gg x y true (s.read c) s.stray (s.looked c) s.pass ps ps (state_at gg) _ _
+    (record {
       step = steps.Walk (record { 0 = c });
       enabled = record {
         in_range = hc';

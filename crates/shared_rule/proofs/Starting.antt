@@ -65,7 +65,7 @@ module _ (o : World) (h : WorldFits o) (t : ℕ) where
       → spot_in o t ≡ Some (spot_at d class)
   spot_found d class e = found_below (length o.cpus) d class (beyond o t d class e) e
 
-  abbrev IsSpot : ℕ → Spot → Type 0
+  abbrev pub IsSpot : ℕ → Spot → Type 0
   IsSpot n p = (p.cpu.0 < n) × (class_in t (cpu_of o p.cpu.0).bases ≡ Some p.class)
 
   by_class : (n : ℕ) (p : Spot) (m : Option Class) → class_in t (cpu_of o n).bases ≡ m
@@ -74,7 +74,7 @@ module _ (o : World) (h : WorldFits o) (t : ℕ) where
   by_class n p None is below z = let r = below z in (omega (arith, r.0), r.1)
   by_class n p (Some class) is below z = subst (IsSpot (suc n)) (same_Some _ _ z) (omega arith, is)
 
-  names_below : (n : ℕ) (p : Spot) → spot_below o t n ≡ Some p → IsSpot n p
+  pub names_below : (n : ℕ) (p : Spot) → spot_below o t n ≡ Some p → IsSpot n p
   names_below zero p e = absurd (none-some p e)
   names_below (suc n) p e =
       by_class n p (class_in t (cpu_of o n).bases) refl (names_below n p) e

@@ -81,7 +81,8 @@ wake_goes law o s c p new h hc is mine free online idle few new_is =
     let nxt = (events_of y0.bases).next in
     let b = is_some (group_at_of w.tree c 0) in
     let hw : c < length w.cpus = omega (arith, hc, h.same.cpus) in
-    made law o s h c 0 (group_of w 0) y false (s.read c) s.stray [] (set_at c q s.pass) (p ∷ []) (q ∷ [])
+    made law o s h c 0 (group_of w 0) y false (s.read c) s.stray [] (set_at c q s.pass) (p ∷ [])
+    (q ∷ [])
     (cpu_at c) _ _ (record {
       step = steps.Wake (record { 0 = c });
       enabled = record {

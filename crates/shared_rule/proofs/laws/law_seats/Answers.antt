@@ -1,4 +1,4 @@
-use Rattle.shared_rule.proofs.Parting.{cuts_box, cuts_pass, joins}
+use Rattle.shared_rule.proofs.Seats.{cuts_box, cuts_pass, joins}
 use Rattle.shared_rule.proofs.laws.law_seats.Goals as goal
 
 pub returns : goal.returns
