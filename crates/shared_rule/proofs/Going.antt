@@ -26,7 +26,7 @@ use Rattle.shared_rule.specs.Rule.{box_cpu, pass_cpu, boxes_in, passes_in, times
 use Rattle.shared_rule.specs.Plays.{Sound}
 use Rattle.shared_rule.proofs.Fits.{sound_of}
 
-spells : (l : Layout) (words : List ℕ) (s next : Whole) (p : SharedWord) (n : ℕ) → Spell l words s
+pub spells : (l : Layout) (words : List ℕ) (s next : Whole) (p : SharedWord) (n : ℕ) → Spell l words s
     → IsWordOf l p → word_at next p ≡ n → ((q : SharedWord) → IsWordOf l q
     → index_of l q ≢ index_of l p → word_at next q ≡ word_at s q)
     → Spell l (set words (index_of l p) n) next
@@ -108,7 +108,7 @@ stands_on cpu parts views owner id d v was at e h =
     ]
 
 -- the parts of another view are as they were
-other_boxes : (o : World) (s next : Whole) (boxer : ℕ → ℕ) (j : ℕ) (bs : List BoxView)
+pub other_boxes : (o : World) (s next : Whole) (boxer : ℕ → ℕ) (j : ℕ) (bs : List BoxView)
     → ((d : ℕ) → boxer d ≡ j → box_of o next d ≡ box_of o s d) → Each (IsBoxOf o s boxer j) bs
     → Each (IsBoxOf o next boxer j) bs
 other_boxes o s next boxer j [] same h = tt
@@ -121,7 +121,7 @@ other_boxes o s next boxer j (b ∷ bs) same h = (
   other_boxes o s next boxer j bs same h.1,
 )
 
-other_passes : (o : World) (s next : Whole) (passer : ℕ → ℕ) (j : ℕ) (ps : List PassView)
+pub other_passes : (o : World) (s next : Whole) (passer : ℕ → ℕ) (j : ℕ) (ps : List PassView)
     → ((d : ℕ) → passer d ≡ j → next.pass d ≡ s.pass d) → Each (IsPassOf o s passer j) ps
     → Each (IsPassOf o next passer j) ps
 other_passes o s next passer j [] same h = tt

@@ -17,3 +17,4 @@ pub mod Entering
 pub mod Acted
 pub mod Histories
 pub mod Seeing
+pub mod Looking

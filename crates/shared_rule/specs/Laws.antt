@@ -12,7 +12,7 @@ use Rattle.core_world.specs.World.{World}
 use Rattle.core_state.specs.Kept.{WorldFits}
 use Rattle.shared_words.specs.declared.layout.SharedWord.{SharedWord}
 use Rattle.shared_words.specs.Exchanges.{IsJoinOf}
-use Rattle.shared_words.specs.Layout.{index_of}
+use Rattle.shared_words.specs.Layout.{IsWordOf, index_of}
 use Rattle.shared_rule.specs.declared.parts.BoxView.{BoxView}
 use Rattle.shared_rule.specs.declared.parts.PassView.{PassView}
 use Rattle.shared_rule.specs.declared.parts.Said.{Said}
@@ -22,7 +22,7 @@ use Rattle.shared_rule.specs.Rule.{HasFirstBox, HasFirstPass, Holds, Me, Shows, 
 use Rattle.shared_rule.specs.Rule.{first_pass, nothing, seat_of, together, without_box}
 use Rattle.shared_rule.specs.Rule.{without_pass}
 use Rattle.shared_rule.specs.Starts.{first_view, first_whole}
-use Rattle.shared_rule.specs.Plays.{Looks, Rises, Wakes, woken}
+use Rattle.shared_rule.specs.Plays.{Looks, Rises, Sees, SeesState, Wakes, woken}
 
 -- THE START: words that spell a settled core show it, together with the view that has all parts of
 -- it, however many walks count as begun
@@ -86,3 +86,17 @@ RiseStays o = (slots id g : ℕ) (b : BoxView) (k : Walk) (ps : List PassView) (
     MayRise o b k g old new →
     Stays o slots id b ps (state_at g) (λ n. either (n == old) new n)
     (Rises (step slots (index_of (layout_of o) (state_at g)) old new none) (seat_of (b ∷ []) ps))
+
+-- LOADS BY A PASS: a load of any word keeps the rule, and the pass remembers what it found
+abbrev pub SeeStays : World → Type 0
+SeeStays o = (slots id : ℕ) (q : PassView) (m : SharedWord) → IsWordOf (layout_of o) m →
+    Allows {S = Said} {V = View} (Holds o) slots id (seat_of [] (q ∷ []))
+    (index_of (layout_of o) m) (λ n. n)
+    (Sees (step slots (index_of (layout_of o) m) 0 0 none) (seat_of [] (q ∷ [])))
+
+-- a load of a group's word besides finds the word of a state
+abbrev pub SeeStateStays : World → Type 0
+SeeStateStays o = (slots id g : ℕ) (q : PassView) → g < length o.groups →
+    Allows {S = Said} {V = View} (Holds o) slots id (seat_of [] (q ∷ []))
+    (index_of (layout_of o) (state_at g)) (λ n. n)
+    (SeesState (step slots (index_of (layout_of o) (state_at g)) 0 0 none) (seat_of [] (q ∷ [])))

@@ -1,6 +1,6 @@
 -- what each step tells the seat that makes it
 use Rattle.std.specs.Prelude.{◌≡◌, ◌↔◌, ◌≢◌, ℕ, suc, not, ◌^◌, ◌<◌, ◌≤◌, ◌==◌, Contains, Bool}
-use Rattle.std.specs.Prelude.{true, false, List, [], ◌∷◌, length, Option, Some, None, is_some}
+use Rattle.std.specs.Prelude.{true, false, List, [], ◌∷◌, ◌++◌, length, Option, Some, None, is_some}
 use Rattle.std.specs.Option.{ForSome}
 use Rattle.tm_base.specs.declared.names.TheConstants.{NEVER}
 use Rattle.event_queue.specs.EventMap as events
@@ -24,6 +24,7 @@ use Rattle.core_state.specs.Kept.{WorldFits}
 use Rattle.shared_words.specs.Exchanges.{HasRoom, shows_migrator}
 use Rattle.shared_rule.specs.declared.parts.BoxView.{BoxView}
 use Rattle.shared_rule.specs.declared.parts.PassView.{PassView}
+use Rattle.shared_rule.specs.declared.parts.Deed.TheVariants as deeds
 use Rattle.shared_rule.specs.Shows.{BeginsWith, reevaluates}
 use Rattle.shared_rule.specs.Rule.{Each, Me, Step}
 
@@ -98,6 +99,10 @@ abbrev pub on_both : (BoxView → BoxView) → (BoxView → PassView → PassVie
 on_both f h v =
     (record { boxes = head_box f v.0.boxes; passes = by_box h v.0.boxes v.0.passes }, v.1)
 
+-- the pass of a seat changes
+abbrev pub on_pass : (PassView → PassView) → Me → Me
+on_pass f v = (record { boxes = v.0.boxes; passes = head_pass f v.0.passes }, v.1)
+
 -- a walk, if there is one, goes on or ends
 abbrev pub bound_walk : (Walk → Option Walk) → Option Walk → Option Walk
 bound_walk f None = None
@@ -106,6 +111,20 @@ bound_walk f (Some k) = f k
 -- the walk of a box goes on or ends
 abbrev pub by_walk : (BoxView → Walk → Option Walk) → BoxView → BoxView
 by_walk f b = record b { own = record b.own { walk = bound_walk (f b) b.own.walk } }
+
+-- LOADS BY A PASS: it keeps the word, what it found, and how many receipts it had then
+abbrev pub seen_pass : (word found : ℕ) → PassView → PassView
+seen_pass word found p = record p {
+  did = p.did ++ record { held = length p.receipts; deed = deeds.Saw word found } ∷ [];
+}
+
+-- a load of any word by a pass
+abbrev pub Sees : Step → Me → ℕ → Me → Type 0
+Sees t v found w = w ≡ on_pass (seen_pass t.word found) v
+
+-- a load of a group's word by a pass, which is the word of a state
+abbrev pub SeesState : Step → Me → ℕ → Me → Type 0
+SeesState t v found w = (w ≡ on_pass (seen_pass t.word found) v) × HasRoom found
 
 -- WAKE: the CPU wakes, and an activation begins
 abbrev pub woken : World → (c : ℕ) → CpuRecord → CpuRecord

@@ -3,6 +3,7 @@
 ghost use Rattle.shared_rule.specs.CoreLaws.{CoreLaws};
 ghost use Rattle.core_world.specs.World.{World};
 ghost use Rattle.shared_rule.specs.Laws.{Begins, LookStays, RiseStays, SeatsStay, WakeStays};
+ghost use Rattle.shared_rule.specs.Laws.{SeeStateStays, SeeStays};
 
 use core_facts::{
     law_bounds, law_frame, law_height, law_lock, law_mark, law_once_a_level, law_own_event,
@@ -60,6 +61,15 @@ pub fn law_wake()
 pub fn law_rise()
     ensures look { (o : World) → LookStays o }
     ensures rise { (o : World) → RiseStays o }
+{
+    core_laws();
+}
+
+/// Does nothing: its contract says that the rule stays as a pass loads a word, and that what it
+/// found is remembered and right: a timer's word that names a CPU, and one that names none.
+pub fn law_see()
+    ensures word { (o : World) → SeeStays o }
+    ensures state { (o : World) → SeeStateStays o }
 {
     core_laws();
 }

@@ -87,3 +87,17 @@ pub struct Rises;
 impl Play<Said, View> for Rises {
     ghost then = { plays.Rises };
 }
+
+/// A pass loads a word.
+pub struct Sees;
+
+impl Play<Said, View> for Sees {
+    ghost then = { plays.Sees };
+}
+
+/// A pass loads the word of a group.
+pub struct SeesState;
+
+impl Play<Said, View> for SeesState {
+    ghost then = { plays.SeesState };
+}

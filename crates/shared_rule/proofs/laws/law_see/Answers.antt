@@ -1,0 +1,8 @@
+use Rattle.shared_rule.proofs.Looking.{sees, sees_state}
+use Rattle.shared_rule.proofs.laws.law_see.Goals as goal
+
+pub returns-clause-word : goal.returns-clause-word
+returns-clause-word c = λ o. sees c.core_laws.ensures o
+
+pub returns-clause-state : goal.returns-clause-state
+returns-clause-state c = λ o. sees_state c.core_laws.ensures o
