@@ -18,3 +18,4 @@ pub mod Acted
 pub mod Histories
 pub mod Seeing
 pub mod Looking
+pub mod Finishing

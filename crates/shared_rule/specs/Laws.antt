@@ -2,7 +2,7 @@
 use Rattle.std.specs.Prelude.{◌≡◌, ℕ, suc, ◌^◌, ◌<◌, ◌==◌, true, List, [], ◌∷◌, length, None, Some}
 use mathlib.Core.Option.{none}
 use prog.Atomic.{either}
-use Rattle.atomic_table.specs.Table.{Allows, Joins, Splits, step}
+use Rattle.atomic_table.specs.Table.{Allows, Final, Joins, Seen, Splits, step}
 use Rattle.tree_plan.specs.Paths.{group_at_of}
 use Rattle.walk_rules.specs.declared.walk.Walk.{Walk}
 use Rattle.walk_rules.specs.declared.walk.Stage.TheVariants as stages
@@ -18,10 +18,11 @@ use Rattle.shared_rule.specs.declared.parts.PassView.{PassView}
 use Rattle.shared_rule.specs.declared.parts.Said.{Said}
 use Rattle.shared_rule.specs.declared.parts.View.{View}
 use Rattle.shared_rule.specs.Whole.{Spell, cpu_at, layout_of, own_word, state_at}
+use Rattle.shared_rule.specs.Rule.{seen}
 use Rattle.shared_rule.specs.Rule.{HasFirstBox, HasFirstPass, Holds, Me, Shows, first_box}
 use Rattle.shared_rule.specs.Rule.{first_pass, nothing, seat_of, together, without_box}
 use Rattle.shared_rule.specs.Rule.{without_pass}
-use Rattle.shared_rule.specs.Starts.{first_view, first_whole}
+use Rattle.shared_rule.specs.Starts.{EndsAs, HasAll, first_view, first_whole}
 use Rattle.shared_rule.specs.Plays.{Looks, Rises, Sees, SeesState, Wakes, woken}
 
 -- THE START: words that spell a settled core show it, together with the view that has all parts of
@@ -29,6 +30,13 @@ use Rattle.shared_rule.specs.Plays.{Looks, Rises, Sees, SeesState, Wakes, woken}
 abbrev pub Begins : Type 0
 Begins = (o : World) (made : ℕ) (words : List ℕ) → WorldFits o → IsSettled o → made < 2 ^ 32
     → Spell (layout_of o) words (first_whole o made) → Shows o words (first_view o made ∷ [])
+
+-- THE END: what the words of a table that is closed show, with a seat that has all parts
+abbrev pub Ends : Type 0
+Ends = (o : World) (id : ℕ) (boxes : List BoxView) (passes : List PassView) (words : List ℕ)
+    (slots : List Said) → HasAll o boxes passes
+    → Final (Seen {S = Said} {V = View} (Holds o) id (seen boxes passes)) words slots
+    → EndsAs o words boxes passes
 
 -- SEATS: the rule stays where a part goes off to a seat of its own, and where two seats are joined
 pub record SeatsStay (o : World) : Type 0 where

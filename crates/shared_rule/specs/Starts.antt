@@ -1,15 +1,18 @@
--- the table at its start: the whole of a settled core, and the view of the seat that knows all
-use Rattle.std.specs.Prelude.{ℕ, zero, suc, false, List, [], ◌∷◌, ◌++◌, Option, Some, None, length}
+-- the table at its start and end: the whole of a settled core, and the seat that knows all
+use Rattle.std.specs.Prelude.{◌≡◌, ℕ, zero, suc, false, List, [], ◌∷◌, ◌++◌, Option, Some, None}
+use Rattle.std.specs.Prelude.{length, slice_get}
 use Rattle.tm_base.specs.declared.names.Class.{Class}
 use Rattle.cpu_bases.specs.CpuBases.{class_in}
+use Rattle.core_world.specs.Covered.{IsSettled}
 use Rattle.core_world.specs.World.{World, cpu_of}
+use Rattle.core_facts.specs.Cover.Rest.{GroupsRest}
 use Rattle.shared_words.specs.declared.spot.Spot.{Spot}
 use Rattle.shared_rule.specs.declared.parts.BoxView.{BoxView}
 use Rattle.shared_rule.specs.declared.parts.PassView.{PassView}
 use Rattle.shared_rule.specs.declared.parts.View.{View}
-use Rattle.shared_rule.specs.Whole.{Whole, box_of, spot_at}
-use Rattle.shared_rule.specs.Shows.{journal_of}
-use Rattle.shared_rule.specs.Rule.{seen}
+use Rattle.shared_rule.specs.Whole.{Spell, Whole, box_of, layout_of, spot_at}
+use Rattle.shared_rule.specs.Shows.{IsShown, journal_of}
+use Rattle.shared_rule.specs.Rule.{Each, box_cpu, pass_cpu, seen}
 
 -- the timer is queued on c, or where it is queued otherwise
 abbrev pub spot_or : Option Class → (c : ℕ) → Option Spot → Option Spot
@@ -70,3 +73,27 @@ whole_view o s = seen (all_boxes o s (length o.cpus)) (all_passes s (length o.cp
 -- the view of the first seat
 abbrev pub first_view : World → (made : ℕ) → View
 first_view o made = whole_view o (first_whole o made)
+
+-- THE END: a part for each CPU, in order
+pub record IsFull {X : Type 0} (n : ℕ) (cpu : X → ℕ) (xs : List X) : Type 0 where
+  pub count : length xs ≡ n
+  pub order : (i : ℕ) (x : X) → slice_get xs i ≡ Some x → cpu x ≡ i
+
+-- a seat that has all parts, no box with a walk and no pass inside an interrupt
+pub record HasAll (o : World) (bs : List BoxView) (ps : List PassView) : Type 0 where
+  pub boxes : IsFull (length o.cpus) box_cpu bs
+  pub passes : IsFull (length o.cpus) pass_cpu ps
+  pub free : Each (λ b. b.own.walk ≡ None) bs
+  pub outside : Each (λ p. p.inside ≡ false) ps
+
+-- the core that words and such a seat show: it fits, is settled and at rest; its CPUs are those of
+-- the boxes, its groups are spelled by the words, and the passes are those of the whole
+pub record EndsAs (o : World) (words : List ℕ) (bs : List BoxView) (ps : List PassView) : Type 0
+  where
+    pub whole : Whole
+    pub shown : IsShown o whole
+    pub spelled : Spell (layout_of o) words whole
+    pub settled : IsSettled whole.world
+    pub rests : GroupsRest whole.world
+    pub cpus : (i : ℕ) (b : BoxView) → slice_get bs i ≡ Some b → cpu_of whole.world i ≡ b.own
+    pub passes : (i : ℕ) (p : PassView) → slice_get ps i ≡ Some p → p ≡ whole.pass i

@@ -2,7 +2,7 @@
 
 ghost use Rattle.shared_rule.specs.CoreLaws.{CoreLaws};
 ghost use Rattle.core_world.specs.World.{World};
-ghost use Rattle.shared_rule.specs.Laws.{Begins, LookStays, RiseStays, SeatsStay, WakeStays};
+ghost use Rattle.shared_rule.specs.Laws.{Begins, Ends, LookStays, RiseStays, SeatsStay, WakeStays};
 ghost use Rattle.shared_rule.specs.Laws.{SeeStateStays, SeeStays};
 
 use core_facts::{
@@ -38,6 +38,14 @@ pub fn core_laws()
 /// that has all its parts.
 pub fn law_begins()
     ensures { Begins }
+{
+    core_laws();
+}
+
+/// Does nothing: its contract says what the words of a closed table show, with the seat that has all
+/// parts, where no CPU has a walk or is inside an interrupt: a settled core with these CPUs.
+pub fn law_ends()
+    ensures { Ends }
 {
     core_laws();
 }
