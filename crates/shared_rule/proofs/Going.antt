@@ -26,7 +26,8 @@ use Rattle.shared_rule.specs.Rule.{box_cpu, pass_cpu, boxes_in, passes_in, times
 use Rattle.shared_rule.specs.Plays.{Sound}
 use Rattle.shared_rule.proofs.Fits.{sound_of}
 
-pub spells : (l : Layout) (words : List ℕ) (s next : Whole) (p : SharedWord) (n : ℕ) → Spell l words s
+pub spells : (l : Layout) (words : List ℕ) (s next : Whole) (p : SharedWord) (n : ℕ)
+    → Spell l words s
     → IsWordOf l p → word_at next p ≡ n → ((q : SharedWord) → IsWordOf l q
     → index_of l q ≢ index_of l p → word_at next q ≡ word_at s q)
     → Spell l (set words (index_of l p) n) next

@@ -19,3 +19,4 @@ pub mod Histories
 pub mod Seeing
 pub mod Looking
 pub mod Finishing
+pub mod Locking

@@ -162,7 +162,8 @@ allows_load o slots id q m then within may t h homes at fits =
         passer,
         learns o s h.3 c l.did l.right,
         spells (layout_of o) t.words s next m (slice_index t.words (index_of (layout_of o) m)) h.4
-            within (word_stays s c (learned l.did (s.pass c)) m ∙ sym is) (λ z low ne. word_stays s c (learned l.did (s.pass c)) z),
+            within (word_stays s c (learned l.did (s.pass c)) m ∙ sym is)
+            (λ z low ne. word_stays s c (learned l.did (s.pass c)) z),
         λ j u there. ⊎_elim
             (λ (e : (j ≡ id) × (v ≡ u)).
             subst (λ (y : ℕ × View). IsViewOf o next boxer passer y.0 y.1)

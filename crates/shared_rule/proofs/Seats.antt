@@ -17,7 +17,8 @@ use Rattle.shared_rule.specs.Rule.{Each, box_cpu, pass_cpu, IsBoxOf, IsPassOf, I
 use Rattle.shared_rule.specs.Rule.{Holds, seen, nothing, together, times, boxes_in, passes_in}
 use Rattle.shared_rule.specs.Rule.{HasFirst, HasFirstBox, HasFirstPass, without_box}
 use Rattle.shared_rule.specs.Rule.{first_box, without_pass, first_pass}
-use Rattle.shared_rule.proofs.Parting.{apart, clear, cut, each_append, has, moved_in, off, owned_off}
+use Rattle.shared_rule.proofs.Parting.{apart, clear, cut, each_append, has, moved_in, off}
+use Rattle.shared_rule.proofs.Parting.{owned_off}
 use Rattle.shared_rule.proofs.Parting.{put_in, stands_cut, stands_joined, stay, stayed_in}
 
 -- no view at the end of a list is one of those before it

@@ -1,5 +1,6 @@
 -- what the rule says, as laws for crates above
-use Rattle.std.specs.Prelude.{◌≡◌, ℕ, suc, ◌^◌, ◌<◌, ◌==◌, true, List, [], ◌∷◌, length, None, Some}
+use Rattle.std.specs.Prelude.{◌≡◌, ◌+◌, ℕ, suc, ◌^◌, ◌<◌, ◌==◌, true, List, [], ◌∷◌, length, None}
+use Rattle.std.specs.Prelude.{Some}
 use mathlib.Core.Option.{none}
 use prog.Atomic.{either}
 use Rattle.atomic_table.specs.Table.{Allows, Final, Joins, Seen, Splits, step}
@@ -17,13 +18,13 @@ use Rattle.shared_rule.specs.declared.parts.BoxView.{BoxView}
 use Rattle.shared_rule.specs.declared.parts.PassView.{PassView}
 use Rattle.shared_rule.specs.declared.parts.Said.{Said}
 use Rattle.shared_rule.specs.declared.parts.View.{View}
-use Rattle.shared_rule.specs.Whole.{Spell, cpu_at, layout_of, own_word, state_at}
+use Rattle.shared_rule.specs.Whole.{Spell, cpu_at, layout_of, lock_at, own_word, state_at}
 use Rattle.shared_rule.specs.Rule.{seen}
 use Rattle.shared_rule.specs.Rule.{HasFirstBox, HasFirstPass, Holds, Me, Shows, first_box}
 use Rattle.shared_rule.specs.Rule.{first_pass, nothing, seat_of, together, without_box}
 use Rattle.shared_rule.specs.Rule.{without_pass}
 use Rattle.shared_rule.specs.Starts.{EndsAs, HasAll, first_view, first_whole}
-use Rattle.shared_rule.specs.Plays.{Looks, Rises, Sees, SeesState, Wakes, woken}
+use Rattle.shared_rule.specs.Plays.{Locks, Looks, Rises, Sees, SeesState, Wakes, woken}
 
 -- THE START: words that spell a settled core show it, together with the view that has all parts of
 -- it, however many walks count as begun
@@ -94,6 +95,22 @@ RiseStays o = (slots id g : ℕ) (b : BoxView) (k : Walk) (ps : List PassView) (
     MayRise o b k g old new →
     Stays o slots id b ps (state_at g) (λ n. either (n == old) new n)
     (Rises (step slots (index_of (layout_of o) (state_at g)) old new none) (seat_of (b ∷ []) ps))
+
+-- LOCK: what has to be known where a walk tries to take the lock of its group
+pub record MayTakeLock (o : World) (b : BoxView) (k : Walk) (g : ℕ) : Type 0 where
+  pub group : g < length o.groups
+  pub walk : b.own.walk ≡ Some k
+  pub stage : k.stage ≡ stages.LockGroup
+  pub path : group_at_of o.tree b.cpu k.level ≡ Some g
+
+-- the try keeps the rule, and the seat is told that its walk has the lock and has gone on, or that
+-- nothing has changed
+abbrev pub LockStays : World → Type 0
+LockStays o = (slots id g : ℕ) (b : BoxView) (k : Walk) (ps : List PassView) →
+    MayTakeLock o b k g →
+    Stays o slots id b ps (lock_at g) (λ n. either (n == 0) (1 + b.cpu) n)
+    (Locks (step slots (index_of (layout_of o) (lock_at g)) 0 (1 + b.cpu) none)
+    (seat_of (b ∷ []) ps))
 
 -- LOADS BY A PASS: a load of any word keeps the rule, and the pass remembers what it found
 abbrev pub SeeStays : World → Type 0

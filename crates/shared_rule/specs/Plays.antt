@@ -13,7 +13,7 @@ use Rattle.walk_rules.specs.declared.walk.WalkKind.TheVariants as kinds
 use Rattle.walk_rules.specs.declared.walk.Stage.TheVariants as stages
 use Rattle.walk_rules.specs.Hierarchy.{HasGroup, at_top}
 use Rattle.walk_rules.specs.Standing.{FitsStage, FlagsAt, StandsAlone}
-use Rattle.walk_rules.specs.Stages.{up_next}
+use Rattle.walk_rules.specs.Stages.{at_stage, first_sight, up_next}
 use Rattle.core_world.specs.World.{World, CpuRecord, cpu_of, is_reading}
 use Rattle.core_world.specs.Steps.{begun_where}
 use Rattle.core_world.specs.Wakeups.{WalkTimes}
@@ -166,3 +166,16 @@ up_box false word b = b
 -- the exchange of an activation was made, or nothing changed
 abbrev pub Rises : Step → Me → ℕ → Me → Type 0
 Rises t v found w = (w ≡ on_box (up_box (found == t.first) t.first) v) × Sound w
+
+-- LOCK: the walk that has taken the lock of its group goes on to look
+abbrev pub locked_walk : BoxView → Walk → Option Walk
+locked_walk b k = Some (at_stage k (first_sight k.level))
+
+-- the box where the lock was taken, or where another walk had it
+abbrev pub lock_box : Bool → BoxView → BoxView
+lock_box true b = by_walk locked_walk b
+lock_box false b = b
+
+-- the exchange that takes a lock was made, or nothing changed
+abbrev pub Locks : Step → Me → ℕ → Me → Type 0
+Locks t v found w = (w ≡ on_box (lock_box (found == t.first)) v) × Sound w

@@ -2,7 +2,8 @@
 
 ghost use Rattle.shared_rule.specs.CoreLaws.{CoreLaws};
 ghost use Rattle.core_world.specs.World.{World};
-ghost use Rattle.shared_rule.specs.Laws.{Begins, Ends, LookStays, RiseStays, SeatsStay, WakeStays};
+ghost use Rattle.shared_rule.specs.Laws.{Begins, Ends, LockStays, LookStays};
+ghost use Rattle.shared_rule.specs.Laws.{RiseStays, SeatsStay, WakeStays};
 ghost use Rattle.shared_rule.specs.Laws.{SeeStateStays, SeeStays};
 
 use core_facts::{
@@ -42,8 +43,8 @@ pub fn law_begins()
     core_laws();
 }
 
-/// Does nothing: its contract says what the words of a closed table show, with the seat that has all
-/// parts, where no CPU has a walk or is inside an interrupt: a settled core with these CPUs.
+/// Does nothing: its contract says what the words of a closed table show, with the seat that has
+/// all parts, where no CPU has a walk or is inside an interrupt: a settled core with these CPUs.
 pub fn law_ends()
     ensures { Ends }
 {
@@ -78,6 +79,14 @@ pub fn law_rise()
 pub fn law_see()
     ensures word { (o : World) → SeeStays o }
     ensures state { (o : World) → SeeStateStays o }
+{
+    core_laws();
+}
+
+/// Does nothing: its contract says that the rule stays as a walk tries to take the lock of its
+/// group, whether or not another has it.
+pub fn law_lock_group()
+    ensures { (o : World) → LockStays o }
 {
     core_laws();
 }

@@ -6,8 +6,11 @@ mod laws;
 mod parts;
 mod table;
 
-pub use laws::{core_laws, law_begins, law_ends, law_rise, law_seats, law_see, law_wake};
+pub use laws::{
+    core_laws, law_begins, law_ends, law_lock_group, law_rise, law_seats, law_see, law_wake,
+};
 pub use parts::{BoxView, Deed, Did, Look, PassView, Receipt, Said, View};
 pub use table::{
-    BoxOff, Looks, Opening, PassOff, Rises, Seat, Sees, SeesState, Shown, Together, Wakes, Words,
+    BoxOff, Locks, Looks, Opening, PassOff, Rises, Seat, Sees, SeesState, Shown, Together, Wakes,
+    Words,
 };

@@ -101,3 +101,10 @@ pub struct SeesState;
 impl Play<Said, View> for SeesState {
     ghost then = { plays.SeesState };
 }
+
+/// A walk tries to take the lock of its group.
+pub struct Locks;
+
+impl Play<Said, View> for Locks {
+    ghost then = { plays.Locks };
+}

@@ -1,0 +1,228 @@
+-- for crates above: a walk's step that takes or gives back a group's lock
+use Rattle.std.proofs.Common.{◌≡◌, ◌↔◌, ℕ, zero, suc, ◌+◌, ◌<◌, eqb, eq-eqb, ne_eqb}
+use Rattle.std.proofs.Common.{cond, Bool, true, false, true≢false, List, [], ◌∷◌, length, Option}
+use Rattle.std.proofs.Common.{Some, None, refl, sym, ap, ◌∙◌, subst, inl, inr, arith}
+use Rattle.std.specs.Prelude.{Contains, ◌&&◌, ◌||◌, nat_le, nat_lt, not, option_map, unwrap_or}
+use Rattle.std.proofs.lemmas.Bool.{cases_eq}
+use Rattle.std.proofs.lemmas.List.{get_or-set_same}
+use Rattle.std.proofs.lemmas.Option.{same_Some}
+use prog.Atomic.{either}
+use Rattle.event_queue.specs.EventMap.{EventMap, event_at}
+use Rattle.tree_plan.specs.Shape.{Shape}
+use Rattle.tree_plan.specs.Paths.{group_at_of, level_of}
+use Rattle.walk_rules.specs.declared.walk.Walk.{Walk}
+use Rattle.walk_rules.specs.declared.walk.Stage.TheVariants as stages
+use Rattle.walk_rules.specs.Hierarchy.{side}
+use Rattle.walk_rules.specs.Scene.{Group, no_group}
+use Rattle.walk_rules.specs.Stages.{at_stage, first_sight, forget, with_lock}
+use Rattle.core_world.specs.declared.step.Step.TheVariants as steps
+use Rattle.core_world.specs.Enabled.{MayGoOn}
+use Rattle.core_world.specs.Steps.{here, walk_made, walked, with_walk}
+use Rattle.core_world.specs.World.{World, CpuRecord, cpu_of, group_of, moved, is_reading}
+use Rattle.core_world.proofs.Moves.{cpu_same, cpu_else}
+use Rattle.core_world.proofs.Quiet.{moved_group_field}
+use Rattle.core_facts.specs.Exchanges.{place_of}
+use Rattle.shared_words.specs.Words.{lock_word}
+use Rattle.shared_rule.specs.declared.parts.BoxView.{BoxView}
+use Rattle.shared_rule.specs.declared.parts.PassView.{PassView}
+use Rattle.shared_rule.specs.CoreLaws.{CoreLaws}
+use Rattle.shared_rule.specs.Whole.{Whole, box_as, box_of, leaf_in, leaf_of, lock_at, quiet}
+use Rattle.shared_rule.specs.Shows.{IsShown, exchanges, is_on_path, owes, reevaluates}
+use Rattle.shared_rule.specs.Shows.{is_reeval}
+use Rattle.shared_rule.specs.Rule.{Each, Goes, Me, seat_of}
+use Rattle.shared_rule.specs.Plays.{bound_walk, lock_box, locked_walk, on_box}
+use Rattle.shared_rule.specs.Laws.{LockStays}
+use Rattle.shared_rule.proofs.Fits.{shown_walk}
+use Rattle.shared_rule.proofs.Made.{made}
+use Rattle.shared_rule.proofs.Going.{allows}
+use Rattle.shared_rule.proofs.Rising.{as_they_were, still}
+
+leaf_in_same : (w : World) (g : ℕ) (x : Group) (c : ℕ) (y : CpuRecord) (d : ℕ) (m : Option ℕ)
+    → ((n : ℕ) → (group_of (moved w g x c y false) n).events ≡ (group_of w n).events)
+    → leaf_in (moved w g x c y false) d m ≡ leaf_in w d m
+leaf_in_same w g x c y d None ev = refl
+leaf_in_same w g x c y d (Some n) ev = ap (λ (z : EventMap). event_at z (side w.tree d 0)) (ev n)
+
+-- 1 where an exchange is owed: by a kind that makes one, on the path, at a level that isn't past
+abbrev owed_with : (e q a b d : Bool) → ℕ
+owed_with e q a b d = cond (e && (q && not (a || (b && d)))) 1 0
+
+-- a walk that stays at its level, on the same side of its exchange, owes what it owed
+pub owes_kept : (t : Shape) (h c : ℕ) (j k : Walk) → j.kind ≡ k.kind → j.level ≡ k.level
+    → nat_le 5 (place_of j.stage) ≡ nat_le 5 (place_of k.stage)
+    → owes t h c (Some j) ≡ owes t h c (Some k)
+owes_kept t h c j k kind level place =
+    λ i. owed_with (exchanges (kind i)) (is_on_path t h c (level_of t h))
+    (nat_lt (level_of t h) (level i)) (eqb (level i) (level_of t h)) (place i)
+
+module _ (law : CoreLaws) (o : World) (s : Whole) (h : IsShown o s) (c g : ℕ) (j k : Walk)
+    (l : Option ℕ) (ps : List PassView) (f : ℕ → ℕ) (then : ℕ → Me → Type 0) where
+  abbrev w : World
+  w = s.world
+
+  abbrev x : Group
+  x = with_lock (group_of s.world g) l
+
+  abbrev y : CpuRecord
+  y = with_walk (cpu_of s.world c) (Some j)
+
+  abbrev v : World
+  v = moved s.world g x c y false
+
+  events_stay : (m : ℕ) → (group_of v m).events ≡ (group_of w m).events
+  events_stay m = moved_group_field w g x c y false (λ (z : Group). z.events) refl m
+
+  leaf_stays : (d : ℕ) → leaf_of v d ≡ leaf_of w d
+  leaf_stays d = leaf_in_same w g x c y d (group_at_of w.tree d 0) events_stay
+
+  mark_stays : c < length w.cpus → (d : ℕ) → (cpu_of v d).mark ≡ (cpu_of w d).mark
+  mark_stays hc d = elim (cases_eq d c) [
+    | inl z ↦
+        ap (λ n. (cpu_of v n).mark) z
+        ∙ (ap (λ (u : CpuRecord). u.mark) (cpu_same w g x c y false hc)
+        ∙ ap (λ n. (cpu_of w n).mark) (sym z))
+    | inr ne ↦ ap (λ (u : CpuRecord). u.mark) (cpu_else w g x c y false d ne)
+  ]
+
+  -- the lock of g becomes l, and the walk of c goes on from k to j
+  pub relocked : c < length o.cpus → g < length o.groups
+      → Each (λ z. (z.cpu < length o.cpus) × (z ≡ s.pass z.cpu)) ps
+      → (cpu_of s.world c).walk ≡ Some k → MayGoOn s.world c k k.stage
+      → walked s.world c k k.stage ≡ v → j.kind ≡ k.kind → is_reading j.stage ≡ false
+      → ((m : ℕ) → owes o.tree m c (Some j) ≡ owes o.tree m c (Some k))
+      → lock_word l ≡ f (lock_word (group_of s.world g).lock)
+      → then (lock_word (group_of s.world g).lock)
+      (seat_of (box_as o c y (leaf_of s.world c) (s.read c) (s.looked c) ∷ []) ps)
+      → Goes o s (box_of o s c) ps (lock_at g) f then
+  relocked hc hg known at may is kind reads_not owed word told =
+      let hc' : c < length w.cpus = omega (arith, hc, h.same.cpus) in
+      let hg' : g < length w.groups = omega (arith, hg, h.same.groups) in
+      let same_kind : (z : Walk) → ◌≡◌ {A = Option Walk} (Some j) (Some z) → z.kind ≡ k.kind
+      = λ z e. ap (λ (u : Walk). u.kind) (sym (same_Some _ _ e)) ∙ kind in
+      let not_reading : (z : Walk) → ◌≡◌ {A = Option Walk} (Some j) (Some z)
+      → is_reading z.stage ≡ true → ⊥
+      = λ z e rd. true≢false
+      (sym rd ∙ (ap (λ (u : Walk). is_reading u.stage) (sym (same_Some _ _ e))
+      ∙ reads_not)) in
+      made law o s h c g x y false (s.read c) s.stray (s.looked c) s.pass ps ps (lock_at g) f then
+      (record {
+        step = steps.Walk (record { 0 = c });
+        enabled = record { in_range = hc'; made = k; walk = at; may_go_on = may };
+        is = ap (walk_made w c) at ∙ is;
+        plain = record { time = refl; queues = refl; journals = refl; online = refl };
+        in_range = hc;
+        group = inl hg;
+        kept = λ z. (refl, refl);
+        staying = λ z e q. h.staying c k at (sym (same_kind z e) ∙ q);
+        reads = record {
+          fresh = λ z m e rd there. absurd (not_reading z e rd);
+          before = λ z m e rd there. absurd (not_reading z e rd);
+          good = λ z e rd. absurd (not_reading z e rd);
+        };
+        owed = λ m.
+            let a = owed m in
+            let b : owes o.tree m c (cpu_of w c).walk ≡ owes o.tree m c (Some k)
+            = ap (owes o.tree m c) at in
+            omega (arith, a, b);
+        few = h.few;
+        opened = h.opened;
+        passes = h.passes;
+        flags =
+            let was = h.flags c in
+            record {
+              idle = was.idle;
+              inside = was.inside;
+              wakeup = was.wakeup;
+              reeval = was.reeval ∙ (ap reevaluates at ∙ ap is_reeval (sym kind));
+            };
+        flags_else = λ d ne. h.flags d;
+        marked = λ d m.
+            subst (λ z. (z ≡ Some m) ↔ Contains (s.pass m).marks d) (sym (mark_stays hc' d))
+            (h.marked d m);
+        journal = λ d. refl;
+        receipts = λ d. refl;
+        did = h.seen;
+        leaf = leaf_of w c;
+        leaf_is = sym (leaf_stays c);
+        leaves = λ d ne. leaf_stays d;
+        word =
+            ap (λ (z : Group). lock_word z.lock) (get_or-set_same w.groups g x no_group hg') ∙ word;
+        state = λ ne. refl;
+        lock = λ ne. absurd (ne refl);
+        slots = λ m low ne. refl;
+        strays = λ m n ne. refl;
+        cpu = λ ne. refl;
+        same = refl;
+        brought = as_they_were o s ps known;
+        others = λ d ne. refl;
+        told = told;
+      })
+
+no_lock : (m : Option ℕ) → lock_word m ≡ 0 → m ≡ None
+no_lock None e = refl
+no_lock (Some c) e = absurd (omega (arith, e))
+
+sight_reads : (l : ℕ) → is_reading (first_sight l) ≡ false
+sight_reads zero = refl
+sight_reads (suc l) = refl
+
+sight_past : (l : ℕ) → nat_le 5 (place_of (first_sight l)) ≡ true
+sight_past zero = refl
+sight_past (suc l) = refl
+
+lock_hit : (law : CoreLaws) (o : World) (s : Whole) (c g : ℕ) (k : Walk) (ps : List PassView)
+    → IsShown o s → c < length o.cpus → g < length o.groups
+    → Each (λ z. (z.cpu < length o.cpus) × (z ≡ s.pass z.cpu)) ps
+    → (cpu_of s.world c).walk ≡ Some k → k.stage ≡ stages.LockGroup
+    → group_at_of o.tree c k.level ≡ Some g → lock_word (group_of s.world g).lock ≡ 0
+    → Goes o s (box_of o s c) ps (lock_at g) (λ n. either (eqb n 0) (1 + c) n)
+    (λ n v. v ≡ on_box (lock_box (eqb n 0)) (seat_of (box_of o s c ∷ []) ps))
+lock_hit law o s c g k ps h hc hg known at stage path_o free =
+    let w = s.world in
+    let path : group_at_of w.tree c k.level ≡ Some g
+    = ap (λ z. group_at_of z c k.level) h.same.tree ∙ path_o in
+    let at_g : here w c k ≡ g = ap (λ m. unwrap_or m 0) path in
+    let j : Walk = at_stage k (first_sight k.level) in
+    relocked law o s h c g j k (Some c) ps _ _ hc hg known at
+    (subst (MayGoOn w c k) (sym stage)
+    (ap (λ m. (group_of w m).lock) at_g ∙ no_lock (group_of w g).lock free))
+    (ap (walked w c k) stage
+    ∙ (λ i. moved w (at_g i) (with_lock (group_of w (at_g i)) (Some c)) c
+    (with_walk (cpu_of w c) (Some j)) false))
+    refl (sight_reads k.level)
+    (λ m. owes_kept o.tree m c j k refl refl
+    (sight_past k.level ∙ ap (λ z. nat_le 5 (place_of z)) (sym stage)))
+    (sym (ap (λ b. either b (1 + c) (lock_word (group_of w g).lock)) (eq-eqb _ _ free)))
+    (subst (λ b. ◌≡◌ {A = Me}
+    (seat_of (record (box_of o s c) {
+      own = quiet (with_walk (cpu_of w c) (Some j));
+    } ∷ []) ps)
+    (on_box (lock_box b) (seat_of (box_of o s c ∷ []) ps))) (sym (eq-eqb _ _ free))
+    (λ i. seat_of (record (box_of o s c) {
+      own = record (cpu_of w c) {
+        walk = bound_walk (locked_walk (box_of o s c)) (option_map forget (sym at i));
+      };
+    } ∷ []) ps))
+
+pub locks : (law : CoreLaws) (o : World) → LockStays o
+locks law o slots id g b k ps may =
+    let f : ℕ → ℕ = λ n. either (eqb n 0) (1 + b.cpu) n in
+    allows law o slots id b ps (lock_at g) f
+    (λ n v. v ≡ on_box (lock_box (eqb n 0)) (seat_of (b ∷ []) ps)) may.group
+    (λ s h hc is known fits.
+    subst (λ (z : BoxView). Goes o s z ps (lock_at g) f
+    (λ n v. v ≡ on_box (lock_box (eqb n 0)) (seat_of (z ∷ []) ps))) (sym is)
+    (elim (cases_eq (lock_word (group_of s.world g).lock) 0) [
+      | inl e ↦
+          let j = shown_walk _ k (ap (λ (z : BoxView). z.own.walk) (sym is) ∙ may.walk) in
+          let lv : k.level ≡ j.0.level = ap (λ (z : Walk). z.level) (sym j.2) in
+          lock_hit law o s b.cpu g j.0 ps h hc may.group known j.1
+          (ap (λ (z : Walk). z.stage) j.2 ∙ may.stage)
+          (ap (λ n. group_at_of o.tree b.cpu n) (sym lv) ∙ may.path) e
+      | inr ne ↦
+          still o s b.cpu ps (lock_at g) _ _ h known
+          (ap (λ z. either z (1 + b.cpu) (lock_word (group_of s.world g).lock)) (ne_eqb _ _ ne))
+          (subst (λ z. ◌≡◌ {A = Me} (seat_of (box_of o s b.cpu ∷ []) ps)
+          (on_box (lock_box z) (seat_of (box_of o s b.cpu ∷ []) ps)))
+          (sym (ne_eqb _ _ ne)) refl)
+    ]))
