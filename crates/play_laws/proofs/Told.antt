@@ -15,7 +15,7 @@ pub mod LeftLaw
 pub mod Answers
 pub mod Covers
 pub mod CoverTurns
-pub mod Stories
+pub mod ArmingsAndEnds
 pub mod AtTurns
 pub mod RunsLaw
 pub mod Runners

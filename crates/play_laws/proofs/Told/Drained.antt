@@ -18,7 +18,7 @@ use Rattle.cpu_bases.specs.declared.entry.Entry.{Entry}
 use Rattle.cpu_bases.specs.CpuBases.{CpuBases, after_hand_out, base_of, drained, entry_of}
 use Rattle.cpu_bases.specs.CpuBases.{handed_out, ticked_entry}
 use Rattle.play_rules.specs.Timers.{due_items, item_then}
-use Rattle.play_laws.specs.Told.Journals.{Told, arms, by_journal}
+use Rattle.play_laws.specs.Told.Journals.{Deed, arms, by_journal}
 use Rattle.play_laws.specs.Told.Journals.{hands_out, told_if}
 use Rattle.play_laws.proofs.Work.Drains.{handed_is}
 use Rattle.play_laws.proofs.Work.Homes.{all_apart}
@@ -142,14 +142,14 @@ due_apart (suc n) now base sound =
         )
 
 -- no arming of a timer passes beside a hand-out of another one
-abbrev pub Swaps : (Told → Bool) → Type 0
+abbrev pub Swaps : (Deed → Bool) → Type 0
 Swaps passes = (now timer : ℕ) (class : Class) (wheel at other due by : ℕ)
     → (other ≡ timer → ⊥) → passes (arms now timer class wheel) ≡ true
     → passes (hands_out at other due by) ≡ false
 
 module _ (now home runner : ℕ) where
   -- what the drained items tell of CPU c
-  abbrev pub outs : (c : ℕ) → List Item → List Told
+  abbrev pub outs : (c : ℕ) → List Item → List Deed
   outs c items =
       flat_map (λ (item : Item). told_if (c == home) (hands_out now item.id item.wheel runner))
       items
@@ -170,8 +170,8 @@ module _ (now home runner : ℕ) where
       ∙ outs_other c other items
 
 -- none of them passes
-module _ (passes : Told → Bool) (now home runner : ℕ) where
-  pub if_none : (b : Bool) (told : Told) → passes told ≡ false
+module _ (passes : Deed → Bool) (now home runner : ℕ) where
+  pub if_none : (b : Bool) (told : Deed) → passes told ≡ false
       → filter passes (told_if b told) ≡ []
   if_none false told not = refl
   if_none true told not = ap (λ p. if p then told ∷ [] else []) not

@@ -12,7 +12,7 @@ use Rattle.cpu_bases.specs.declared.entry.Entry.{Entry}
 use Rattle.cpu_bases.specs.CpuBases.{CpuBases}
 use Rattle.play_rules.specs.State.{Cpu, State, cpu_at, cpu_count, with_bases}
 use Rattle.play_rules.specs.Timers.{bases_at}
-use Rattle.play_laws.specs.Told.Journals.{Told, by_entry, by_journal, by_line}
+use Rattle.play_laws.specs.Told.Journals.{Deed, by_entry, by_journal, by_line}
 use Rattle.play_laws.proofs.Answered.States.{written}
 use Rattle.play_laws.proofs.Answered.Invariant.{put_other, put_same}
 use Rattle.play_laws.proofs.Told.Tells.{is_quiet}
@@ -49,9 +49,9 @@ middle a b c d swap =
     ∙ ap (λ x. a ++ x) (sym (append_assoc b c d) ∙ ap (λ x. x ++ d) swap ∙ append_assoc c b d)
     ∙ sym (append_assoc a c (b ++ d))
 
-module _ (passes : Told → Bool) where
+module _ (passes : Deed → Bool) where
   -- JOURNALS GROW by what is told, of what passes
-  pub record Goes (s : State) (told : ℕ → List Told) (t : State) : Type 0 where
+  pub record Goes (s : State) (told : ℕ → List Deed) (t : State) : Type 0 where
     pub count : cpu_count t ≡ cpu_count s
     pub timers : t.timers ≡ s.timers
     pub grows : (c : ℕ) → c < cpu_count s
@@ -66,7 +66,7 @@ module _ (passes : Told → Bool) where
   }
 
   -- the same is told
-  pub goes_same : (s t : State) (told as_told : ℕ → List Told)
+  pub goes_same : (s t : State) (told as_told : ℕ → List Deed)
       → ((c : ℕ) → filter passes (told c) ≡ filter passes (as_told c)) → Goes s told t
       → Goes s as_told t
   goes_same s t told as_told same goes = record {
@@ -77,7 +77,7 @@ module _ (passes : Told → Bool) where
   }
 
   -- one after the other
-  pub goes_both : (s t u : State) (told more : ℕ → List Told) → Goes s told t → Goes t more u
+  pub goes_both : (s t u : State) (told more : ℕ → List Deed) → Goes s told t → Goes t more u
       → Goes s (λ c. told c ++ more c) u
   goes_both s t u told more first rest = record {
     count = rest.count ∙ first.count;
@@ -104,7 +104,7 @@ module _ (passes : Told → Bool) where
 
   -- a journal is written
   module _ (s : State) (d : ℕ) (b : CpuBases) (more : List Entry)
-      (is : b.journal ≡ (bases_at s d).journal ++ more) (told : ℕ → List Told)
+      (is : b.journal ≡ (bases_at s d).journal ++ more) (told : ℕ → List Deed)
       (here : filter passes (by_journal more) ≡ filter passes (told d))
       (others : (c : ℕ) → (c ≡ d → ⊥) → told c ≡ []) where
     own_grows : filter passes (by_journal b.journal)

@@ -25,20 +25,20 @@ use Rattle.play_rules.specs.State.{State}
 use Rattle.play_rules.specs.Timers.{armed_bases, armed_item, armed_on, bases_at, drained_on}
 use Rattle.play_rules.specs.Timers.{due_items}
 use Rattle.play_rules.specs.Play.{plain_rules}
-use Rattle.play_laws.specs.Told.Journals.{Told, arms, by_lines, by_reply, hands_out, told_if}
+use Rattle.play_laws.specs.Told.Journals.{Deed, arms, by_lines, by_reply, hands_out, told_if}
 use Rattle.play_laws.proofs.Shape.ShapeInterrupts.{answer_kept}
 use Rattle.play_laws.proofs.Told.Goes.{Goes, goes_both, goes_none, goes_same, goes_written, middle}
 use Rattle.play_laws.proofs.Told.Drained.{AreApart, Swaps, all_handed, drain_writes, due_apart}
 use Rattle.play_laws.proofs.Told.Drained.{if_none, outs, outs_home, outs_none, outs_other}
 
 -- what is told of CPU d alone
-pub told_other : (c d : ℕ) (told : Told) → (c ≡ d → ⊥) → told_if (c == d) told ≡ []
+pub told_other : (c d : ℕ) (told : Deed) → (c ≡ d → ⊥) → told_if (c == d) told ≡ []
 told_other c d told other = ap (λ b. told_if b told) (ne_eqb c d other)
 
-pub told_own : (d : ℕ) (told : Told) → told_if (d == d) told ≡ told ∷ []
+pub told_own : (d : ℕ) (told : Deed) → told_if (d == d) told ≡ told ∷ []
 told_own d told = ap (λ b. told_if b told) (eq-eqb d d refl)
 
-module _ (passes : Told → Bool) where
+module _ (passes : Deed → Bool) where
   -- AN ARMING by CPU c
   pub arms_go : (s : State) (c : ℕ) (a : Arming)
       → Goes passes s
@@ -67,15 +67,15 @@ module _ (passes : Told → Bool) where
         again_goes (plain_rules.queued s item.id) class delay
 
 -- the armings that these lines tell of
-abbrev again_by : (c : ℕ) → Line → List Told
+abbrev again_by : (c : ℕ) → Line → List Deed
 again_by c (lines.Run now runner timer home wheel reply) =
     by_reply c now runner.0 timer.0 reply
 again_by c line = []
 
-abbrev agains : (c : ℕ) → List Line → List Told
+abbrev agains : (c : ℕ) → List Line → List Deed
 agains c ls = flat_map (again_by c) ls
 
-module _ (passes : Told → Bool) (swaps : Swaps passes) (jobs : Replies) (home runner : ℕ) where
+module _ (passes : Deed → Bool) (swaps : Swaps passes) (jobs : Replies) (home runner : ℕ) where
   clock_still : (now : ℕ) (item : Item) (s : State) → s.clock ≡ now
       → (reply_to jobs plain_rules runner item s).state.clock ≡ now
   clock_still now item s at =

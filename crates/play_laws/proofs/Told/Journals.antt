@@ -12,14 +12,14 @@ use Rattle.play_rules.specs.State.{Cpu, start}
 use Rattle.play_rules.specs.Timers.{bases_at}
 use Rattle.play_rules.specs.Play.{plain_rules, play_start, play_turns}
 use Rattle.play_laws.specs.Told.Journals.{EachTimerIsTold, RunsAreHandOuts, TellSameAfterEach}
-use Rattle.play_laws.specs.Told.Journals.{Told, by_journal, by_lines, is_hand_out, is_of}
+use Rattle.play_laws.specs.Told.Journals.{Deed, by_journal, by_lines, is_hand_out, is_of}
 use Rattle.play_laws.proofs.Answered.Scripts.{moments_in, moments_rise, tree_for}
 use Rattle.play_laws.proofs.Work.Whole.{Fits, Stands, new_at, rules_keep, start_homes}
 use Rattle.play_laws.proofs.Told.Drained.{Swaps}
 use Rattle.play_laws.proofs.Told.Rules.{LinesGo, rules_tell}
 use Rattle.play_laws.proofs.Told.TellsTurns.{turns_tell}
 
-module _ (passes : Told → Bool) (swaps : Swaps passes) (jobs : Replies) (script : Script)
+module _ (passes : Deed → Bool) (swaps : Swaps passes) (jobs : Replies) (script : Script)
     (is : IsScript script) (n : ℕ) where
   -- from the start to the n-th moment
   pub goes_to : LinesGo passes (play_start script) (turn_lines (take n (play_turns jobs script)))
@@ -39,7 +39,7 @@ module _ (passes : Told → Bool) (swaps : Swaps passes) (jobs : Replies) (scrip
         record { at = refl; homes = start_homes tree script.timers },
       ) n
 
-pub tell_same : (passes : Told → Bool) → Swaps passes → TellSameAfterEach passes
+pub tell_same : (passes : Deed → Bool) → Swaps passes → TellSameAfterEach passes
 tell_same passes swaps jobs script n is c low =
     let goes = goes_to passes swaps jobs script is n in
     let count = goes.count in

@@ -29,7 +29,7 @@ use Rattle.play_rules.specs.Timers.{armed_item, bases_at, cancelled_on, controll
 use Rattle.play_rules.specs.Timers.{moved_into, moved_one, moved_out_of}
 use Rattle.play_rules.specs.Play.{at_clock, ended, plain_rules}
 use Rattle.play_rules.proofs.FirstMoves.{first_is}
-use Rattle.play_laws.specs.Told.Journals.{Told, by_line, by_lines, cancels, moves_in}
+use Rattle.play_laws.specs.Told.Journals.{Deed, by_line, by_lines, cancels, moves_in}
 use Rattle.play_laws.specs.Told.Journals.{moves_out, told_if}
 use Rattle.play_laws.proofs.Shape.Shape.{nth_class}
 use Rattle.play_laws.proofs.Work.Alikes.{controlling_alike, ended_alike, idled_alike, offline_alike}
@@ -43,7 +43,7 @@ use Rattle.play_laws.proofs.Told.Held.{held_is}
 use Rattle.play_laws.proofs.Told.Jobs.{arms_go, drain_goes, told_other, told_own}
 use Rattle.play_laws.proofs.Told.Tells.{Tell, Tells, is_quiet}
 
-module _ (passes : Told → Bool) where
+module _ (passes : Deed → Bool) where
   -- LINES tell what the journals grow by
   abbrev pub LinesGo : State → List Line → State → Type 0
   LinesGo s ls t = Goes passes s (λ c. by_lines c ls) t

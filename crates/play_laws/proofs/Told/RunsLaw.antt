@@ -33,7 +33,7 @@ use Rattle.play_rules.specs.Timers.{bases_at}
 use Rattle.play_rules.specs.Play.{plain_rules, play_start, play_turns}
 use Rattle.play_laws.specs.Jiffies.Jiffies.{InItsJiffy, OfWaking, wakes}
 use Rattle.play_laws.specs.Told.Journals.{by_journal, by_line, by_lines, is_of}
-use Rattle.play_laws.specs.Told.Runs.{EachHasItsRun, IsStory, IsToCome}
+use Rattle.play_laws.specs.Told.Runs.{EachHasItsRun, AreArmingsAndEnds, IsToCome}
 use Rattle.play_laws.proofs.Answered.Scripts.{moments_in, moments_rise, tree_for}
 use Rattle.play_laws.proofs.Jiffies.Jiffies.{in_its_jiffy_after_each}
 use Rattle.play_laws.proofs.Work.Courses.{each_comes}
@@ -42,7 +42,7 @@ use Rattle.play_laws.proofs.Told.AtTurns.{IsAtTime, last_at, turns_hold}
 use Rattle.play_laws.proofs.Told.Filters.{after_last}
 use Rattle.play_laws.proofs.Told.Journals.{each_timer_is_told}
 use Rattle.play_laws.proofs.Told.LeftLaw.{some_turn}
-use Rattle.play_laws.proofs.Told.Stories.{told_its, turns_from}
+use Rattle.play_laws.proofs.Told.ArmingsAndEnds.{told_its, turns_from}
 
 -- WHAT IS STILL QUEUED in a state is to come
 module _ (s : State) (jiffy : InItsJiffy s) (c : ℕ) (low : c < cpu_count s) where
@@ -154,7 +154,7 @@ module _ (jobs : Replies) (script : Script) (is : IsScript script) where
       all (each_timer_is_told timer jobs script (length ts) is c) low
 
   law : (timer c : ℕ) → c < cpu_count last
-      → IsStory script.end timer (bases_at last c).journal
+      → AreArmingsAndEnds script.end timer (bases_at last c).journal
       (filter (is_of timer) (by_lines c (whole_lines plain_rules script.end first ts)))
   law timer c low =
       let journal = (bases_at last c).journal in
@@ -163,7 +163,7 @@ module _ (jobs : Replies) (script : Script) (is : IsScript script) where
         told_is =
             ap (filter (is_of timer)) (closing_quiet c)
             ∙ (told_there timer c low ∙ told_its timer journal);
-        by_turns =
+        alternate =
             turns_from timer script.end [] journal tt recorded.consistent.each_may_follow
             recorded.on_time
             (λ a queues. subst (λ end. IsToCome end a) at_end

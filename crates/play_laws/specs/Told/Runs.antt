@@ -13,7 +13,7 @@ use Rattle.play_rules.specs.State.{cpu_count}
 use Rattle.play_rules.specs.Timers.{bases_at}
 use Rattle.play_rules.specs.Play.{plain_rules, play_start, play_turns}
 use Rattle.play_laws.specs.Jiffies.Jiffies.{IsOnTime, wakes}
-use Rattle.play_laws.specs.Told.Journals.{Told, by_journal, by_lines, is_of}
+use Rattle.play_laws.specs.Told.Journals.{Deed, by_journal, by_lines, is_of}
 
 -- AN END of an arming: it was handed out, cancelled or moved away, in its class and at its wheel
 -- expiry. Where it was handed out, it was so in that jiffy; a deferrable timer not before it
@@ -28,15 +28,15 @@ pub record Ends (arming ending : Entry) : Type 0 where
 abbrev pub IsToCome : (end : ℕ) → Entry → Type 0
 IsToCome end arming = wakes arming.class ≡ true → end < arming.wheel
 
--- ARMINGS AND ENDS by turns: behind an arming that has no end yet, if there is one, these entries
+-- ARMINGS AND ENDS alternate: behind an arming that has no end yet, if there is one, these entries
 -- are its end, an arming, its end, and so on. Only the last arming may have none, where it is still
 -- to come
-abbrev pub TakeTurns : (end : ℕ) → Option Entry → List Entry → Type 0
-TakeTurns end None [] = Unit {0}
-TakeTurns end (Some arming) [] = IsToCome end arming
-TakeTurns end None (entry ∷ entries) =
-    (is_arming entry.act ≡ true) × TakeTurns end (Some entry) entries
-TakeTurns end (Some arming) (entry ∷ entries) = Ends arming entry × TakeTurns end None entries
+abbrev pub Alternate : (end : ℕ) → Option Entry → List Entry → Type 0
+Alternate end None [] = Unit {0}
+Alternate end (Some arming) [] = IsToCome end arming
+Alternate end None (entry ∷ entries) =
+    (is_arming entry.act ≡ true) × Alternate end (Some entry) entries
+Alternate end (Some arming) (entry ∷ entries) = Ends arming entry × Alternate end None entries
 
 -- the armings of a timer and their ends in a journal, in order
 abbrev pub entries_of_timer : (timer : ℕ) → List Entry → List Entry
@@ -44,20 +44,22 @@ entries_of_timer timer journal =
     filter (λ entry. (is_arming entry.act || is_end entry.act) && entry.timer.0 == timer) journal
 
 -- what is told of a timer on a CPU is what its entries in that CPU's journal tell: armings and
--- their ends, by turns
-pub record IsStory (end timer : ℕ) (journal : List Entry) (told : List Told) : Type 0 where
+-- their ends, which alternate
+pub record AreArmingsAndEnds (end timer : ℕ) (journal : List Entry) (told : List Deed)
+    : Type 0 where
   pub told_is : told ≡ by_journal (entries_of_timer timer journal)
-  pub by_turns : TakeTurns end None (entries_of_timer timer journal)
+  pub alternate : Alternate end None (entries_of_timer timer journal)
 
--- EACH ARMING HAS ITS RUN: in the report of every script's play, whatever its jobs answer, what the
--- lines tell of a timer on a CPU is such a story. So each arming (`arm`, `again`, `moved`) of a
--- pinned or global timer whose wheel expiry comes by the end has a `run` line in that jiffy, and no
--- other, unless a `cancel` or `moved` line comes before it; and each `run` line ends an arming
+-- EACH ARMING HAS ITS RUN: in the report of every script's play, whatever its jobs answer, what
+-- the lines tell of a timer on a CPU are such armings and ends. So each arming (`arm`, `again`,
+-- `moved`) of a pinned or global timer whose wheel expiry comes by the end has a `run` line in that
+-- jiffy, and no other, unless a `cancel` or `moved` line comes before it; and each `run` line ends
+-- an arming
 abbrev pub EachHasItsRun : Type 0
 EachHasItsRun = (jobs : Replies) (script : Script) (timer c : ℕ) → IsScript script
     → let turns = play_turns jobs script in
     let start = play_start script in
     let last = last_state start turns in
     c < cpu_count last
-    → IsStory script.end timer (bases_at last c).journal
+    → AreArmingsAndEnds script.end timer (bases_at last c).journal
     (filter (is_of timer) (by_lines c (whole_lines plain_rules script.end start turns)))

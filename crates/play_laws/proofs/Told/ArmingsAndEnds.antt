@@ -1,4 +1,4 @@
--- in a legal journal the entries of a timer are armings and their ends, by turns
+-- in a legal journal the entries of a timer are armings and their ends, which alternate
 use Rattle.std.proofs.Common.{◌≡◌, ℕ, List, [], ◌∷◌, ◌++◌, Bool, true, false, Option, Some}
 use Rattle.std.proofs.Common.{None, refl, sym, ap, ◌∙◌, subst, inl, inr}
 use Rattle.std.specs.Prelude.{◌||◌, ◌==◌, ◌&&◌, All, IsSomeAnd, filter, if◌then◌else◌}
@@ -18,7 +18,7 @@ use Rattle.cpu_bases.proofs.Keyed.{HasDistinctKeys, drop_key, none_dropped, push
 use Rattle.cpu_bases.proofs.Legal.{distinct_after, ended_is}
 use Rattle.play_laws.specs.Jiffies.Jiffies.{HandedOnTime, IsOnTime}
 use Rattle.play_laws.specs.Told.Journals.{by_entry, by_journal, is_of}
-use Rattle.play_laws.specs.Told.Runs.{IsToCome, TakeTurns}
+use Rattle.play_laws.specs.Told.Runs.{IsToCome, Alternate}
 
 -- whether an act is one on a timer
 abbrev pub is_deed : Act → Bool
@@ -81,7 +81,7 @@ module _ (timer : ℕ) where
         → All (λ entry. HandedOnTime entry.act entry) journal
         → ((a : Entry) → arming_of timer (queued_from queued journal) ≡ Some a → IsToCome end a)
         → (o : Option Entry) → arming_of timer queued ≡ o
-        → TakeTurns end o (filter is_its journal)
+        → Alternate end o (filter is_its journal)
 
     handed_then : (act : Act) (entry : Entry) → act ≡ acts.Handed → HandedOnTime act entry
         → IsOnTime entry.class entry.at entry.wheel
@@ -120,8 +120,8 @@ module _ (timer : ℕ) where
         -- an arming comes where there is none
         arms : is_arming entry.act ≡ true → (o : Option Entry) → arming_of timer queued ≡ o
             → ((p : Option Entry) → arming_of timer after ≡ p
-            → TakeTurns end p (filter is_its journal))
-            → TakeTurns end o (entry ∷ filter is_its journal)
+            → Alternate end p (filter is_its journal))
+            → Alternate end o (entry ∷ filter is_its journal)
         arms is (Some a) queues rest =
             absurd
             (none-some a
@@ -139,8 +139,8 @@ module _ (timer : ℕ) where
         -- an end comes behind its arming
         ends : is_end entry.act ≡ true → (o : Option Entry) → arming_of timer queued ≡ o
             → ((p : Option Entry) → arming_of timer after ≡ p
-            → TakeTurns end p (filter is_its journal))
-            → TakeTurns end o (entry ∷ filter is_its journal)
+            → Alternate end p (filter is_its journal))
+            → Alternate end o (entry ∷ filter is_its journal)
         ends is o queues rest =
             by o
             (subst
@@ -156,8 +156,8 @@ module _ (timer : ℕ) where
           where
             by : (x : Option Entry)
                 → IsSomeAnd x (λ (a : Entry). (a.class ≡ entry.class) × (a.wheel ≡ entry.wheel))
-                → TakeTurns end None (filter is_its journal)
-                → TakeTurns end x (entry ∷ filter is_its journal)
+                → Alternate end None (filter is_its journal)
+                → Alternate end x (entry ∷ filter is_its journal)
             by None one turns = absurd one
             by (Some a) one turns = (
               record {
@@ -174,8 +174,8 @@ module _ (timer : ℕ) where
 
         its_turn : (o : Option Entry) → arming_of timer queued ≡ o
             → ((p : Option Entry) → arming_of timer after ≡ p
-            → TakeTurns end p (filter is_its journal))
-            → TakeTurns end o (entry ∷ filter is_its journal)
+            → Alternate end p (filter is_its journal))
+            → Alternate end o (entry ∷ filter is_its journal)
         its_turn o queues rest =
             elim (kind entry.act) [
               | inl is ↦ arms is o queues rest
@@ -191,17 +191,17 @@ module _ (timer : ℕ) where
 
       one_more : (o : Option Entry) → arming_of timer queued ≡ o
           → ((p : Option Entry) → arming_of timer after ≡ p
-          → TakeTurns end p (filter is_its journal))
-          → TakeTurns end o (filter is_its (entry ∷ journal))
+          → Alternate end p (filter is_its journal))
+          → Alternate end o (filter is_its (entry ∷ journal))
       one_more o queues rest =
           elim (cases_Bool (is_its entry)) [
             | inl its ↦
-                subst (TakeTurns end o)
+                subst (Alternate end o)
                 (sym (cond-true (is_its entry) (entry ∷ filter is_its journal)
                 (filter is_its journal) its))
                 (its_turn its o queues rest)
             | inr not ↦
-                subst (TakeTurns end o)
+                subst (Alternate end o)
                 (sym (cond-false (is_its entry) (entry ∷ filter is_its journal)
                 (filter is_its journal) not))
                 (rest o (stays not ∙ queues))
