@@ -54,7 +54,7 @@ module _ (passes : Deed → Bool) where
   pub record Goes (s : State) (told : ℕ → List Deed) (t : State) : Type 0 where
     pub count : cpu_count t ≡ cpu_count s
     pub timers : t.timers ≡ s.timers
-    pub grows : (c : ℕ) → c < cpu_count s
+    pub grows : (c : ℕ)
         → filter passes (by_journal (bases_at t c).journal)
         ≡ filter passes (by_journal (bases_at s c).journal) ++ filter passes (told c)
 
@@ -62,7 +62,7 @@ module _ (passes : Deed → Bool) where
   goes_none s = record {
     count = refl;
     timers = refl;
-    grows = λ c low. sym (append-nil (filter passes (by_journal (bases_at s c).journal)));
+    grows = λ c. sym (append-nil (filter passes (by_journal (bases_at s c).journal)));
   }
 
   -- the same is told
@@ -72,7 +72,7 @@ module _ (passes : Deed → Bool) where
   goes_same s t told as_told same goes = record {
     count = goes.count;
     timers = goes.timers;
-    grows = λ c low. goes.grows c low
+    grows = λ c. goes.grows c
         ∙ ap (λ x. filter passes (by_journal (bases_at s c).journal) ++ x) (same c);
   }
 
@@ -82,11 +82,10 @@ module _ (passes : Deed → Bool) where
   goes_both s t u told more first rest = record {
     count = rest.count ∙ first.count;
     timers = rest.timers ∙ first.timers;
-    grows = λ c low.
+    grows = λ c.
         let old = filter passes (by_journal (bases_at s c).journal) in
-        let many = first.count in
-        rest.grows c (omega (arith, low, many))
-        ∙ (ap (λ x. x ++ filter passes (more c)) (first.grows c low)
+        rest.grows c
+        ∙ (ap (λ x. x ++ filter passes (more c)) (first.grows c)
         ∙ (append_assoc old (filter passes (told c)) (filter passes (more c))
         ∙ ap (λ x. old ++ x) (sym (filter-append passes (told c) (more c)))));
   }
@@ -97,13 +96,13 @@ module _ (passes : Deed → Bool) where
   goes_alike s t count timers same = record {
     count = count;
     timers = timers;
-    grows = λ c low.
+    grows = λ c.
         ap (λ (b : CpuBases). filter passes (by_journal b.journal)) (same c)
         ∙ sym (append-nil (filter passes (by_journal (bases_at s c).journal)));
   }
 
   -- a journal is written
-  module _ (s : State) (d : ℕ) (b : CpuBases) (more : List Entry)
+  module _ (s : State) (d : ℕ) (there : d < cpu_count s) (b : CpuBases) (more : List Entry)
       (is : b.journal ≡ (bases_at s d).journal ++ more) (told : ℕ → List Deed)
       (here : filter passes (by_journal more) ≡ filter passes (told d))
       (others : (c : ℕ) → (c ≡ d → ⊥) → told c ≡ []) where
@@ -128,13 +127,12 @@ module _ (passes : Deed → Bool) where
     abbrev x : Cpu
     x = record (cpu_at s d) { bases = b }
 
-    at_each : (c : ℕ) → c < cpu_count s
+    at_each : (c : ℕ)
         → filter passes (by_journal (bases_at (with_bases s d b) c).journal)
         ≡ filter passes (by_journal (bases_at s c).journal) ++ filter passes (told c)
-    at_each c low =
+    at_each c =
         elim (cases_eq c d) [
           | inl same ↦
-              let there : d < cpu_count s = omega (arith, low, same) in
               let now : bases_at (with_bases s d b) c ≡ b =
               ap (λ k. bases_at (with_bases s d b) k) same
               ∙ (ap (λ (f : ℕ → Cpu). (f d).bases) (written s d x there)
@@ -150,13 +148,8 @@ module _ (passes : Deed → Bool) where
       where
         elsewhere : (c : ℕ) → (c ≡ d → ⊥) → bases_at (with_bases s d b) c ≡ bases_at s c
         elsewhere c other =
-            elim (cases_lt d (cpu_count s)) [
-              | inl there ↦
-                  ap (λ (f : ℕ → Cpu). (f c).bases) (written s d x there)
-                  ∙ ap (λ (y : Cpu). y.bases) (put_other (cpu_at s) d x c other)
-              | inr beyond ↦
-                  ap (λ list. bases_at (record s { cpus = list }) c) (set_past s.cpus d x beyond)
-            ]
+            ap (λ (f : ℕ → Cpu). (f c).bases) (written s d x there)
+            ∙ ap (λ (y : Cpu). y.bases) (put_other (cpu_at s) d x c other)
 
     pub goes_written : Goes s told (with_bases s d b)
     goes_written = record {

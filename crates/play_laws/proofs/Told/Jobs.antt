@@ -1,9 +1,10 @@
 -- the lines of a drain and of its jobs tell what they write into the journals
+use Rattle.std.proofs.Common.{◌<◌}
 use Rattle.std.proofs.Common.{◌≡◌, ℕ, List, [], ◌∷◌, ◌++◌, Bool, true, false, Option, Some}
 use Rattle.std.proofs.Common.{None, refl, sym, ap, ◌∙◌, arith, inl, inr, length}
 use Rattle.std.specs.Prelude.{All, ◌==◌, filter, flat_map}
 use Rattle.std.proofs.lemmas.Bool.{cases_Bool, eq-eqb, ne_eqb}
-use Rattle.std.proofs.lemmas.List.{append-nil}
+use Rattle.std.proofs.lemmas.List.{append-nil, length-set}
 use Rattle.std.proofs.lemmas.List.Elements.{All-weaker, filter-append}
 use Rattle.tm_base.specs.declared.names.Class.{Class}
 use Rattle.tm_base.specs.declared.names.CpuId.{CpuId}
@@ -21,7 +22,7 @@ use Rattle.play_rules.specs.declared.asks.Arming.{Arming}
 use Rattle.play_rules.specs.declared.asks.Queued.{Queued}
 use Rattle.play_rules.specs.Interrupts.{Replies, again, answered, arming_again, drain, job_call}
 use Rattle.play_rules.specs.Interrupts.{reply_to, run_jobs}
-use Rattle.play_rules.specs.State.{State}
+use Rattle.play_rules.specs.State.{State, cpu_count}
 use Rattle.play_rules.specs.Timers.{armed_bases, armed_item, armed_on, bases_at, drained_on}
 use Rattle.play_rules.specs.Timers.{due_items}
 use Rattle.play_rules.specs.Play.{plain_rules}
@@ -40,23 +41,23 @@ told_own d told = ap (λ b. told_if b told) (eq-eqb d d refl)
 
 module _ (passes : Deed → Bool) where
   -- AN ARMING by CPU c
-  pub arms_go : (s : State) (c : ℕ) (a : Arming)
+  pub arms_go : (s : State) (c : ℕ) (a : Arming) → c < cpu_count s
       → Goes passes s
       (λ d. told_if (d == c) (arms s.clock a.timer.0 a.class (armed_item s c a).wheel))
       (armed_on s c a).state
-  arms_go s c a =
+  arms_go s c a low =
       let told = arms s.clock a.timer.0 a.class (armed_item s c a).wheel in
-      goes_written passes s c (armed_bases s c a)
+      goes_written passes s c low (armed_bases s c a)
       (entry_of acts.Armed a.line s.clock a.class (armed_item s c a) (record { 0 = c }) ∷ []) refl
       (λ d. told_if (d == c) told) (ap (filter passes) (sym (told_own c told)))
       (λ d other. told_other d c told other)
 
   -- ONE JOB
-  module _ (runner : ℕ) (item : Item) (s : State) where
+  module _ (runner : ℕ) (item : Item) (s : State) (low : runner < cpu_count s) where
     again_goes : (o : Option Queued) (class : Class) (delay : ℕ)
         → let reply = again plain_rules o runner item class delay s in
         Goes passes s (λ c. by_reply c s.clock runner item.id reply.reply) reply.state
-    again_goes None class delay = arms_go s runner (arming_again item class delay)
+    again_goes None class delay = arms_go s runner (arming_again item class delay) low
     again_goes (Some held) class delay = goes_none passes s
 
     answer_goes : (reply : JobReply) → let all = answered plain_rules reply runner item s in
@@ -83,18 +84,20 @@ module _ (passes : Deed → Bool) (swaps : Swaps passes) (jobs : Replies) (home 
       (λ t a fits none is. is) (jobs item.job (job_call plain_rules s runner item)) item s
       (λ class delay. tt) at
 
-  jobs_go : (items : List Item) (s : State)
+  jobs_go : (items : List Item) (s : State) → runner < cpu_count s
       → let all = run_jobs jobs plain_rules home runner items s in
       Goes passes s (λ c. agains c all.lines) all.state
   unfolding run_jobs
-  jobs_go [] s = goes_none passes s
-  jobs_go (item ∷ items) s =
+  jobs_go [] s low = goes_none passes s
+  jobs_go (item ∷ items) s low =
       let answer = reply_to jobs plain_rules runner item s in
       let rest = run_jobs jobs plain_rules home runner items answer.state in
+      let here =
+      answer_goes passes runner item s low (jobs item.job (job_call plain_rules s runner item)) in
+      let count = here.count in
       goes_both passes s answer.state rest.state
-      (λ c. by_reply c s.clock runner item.id answer.reply) (λ c. agains c rest.lines)
-      (answer_goes passes runner item s (jobs item.job (job_call plain_rules s runner item)))
-      (jobs_go items answer.state)
+      (λ c. by_reply c s.clock runner item.id answer.reply) (λ c. agains c rest.lines) here
+      (jobs_go items answer.state (omega (arith, low, count)))
 
   -- THE LINES, against what was handed out and what was armed again
   module _ (now c : ℕ) where
@@ -165,16 +168,18 @@ module _ (passes : Deed → Bool) (swaps : Swaps passes) (jobs : Replies) (home 
         (sym at)))))))
 
   -- A DRAIN of a base of CPU `home` by CPU `runner`, and its jobs
-  pub drain_goes : (class : Class) (s : State) → IsSound (base_of class (bases_at s home)).items
+  pub drain_goes : (class : Class) (s : State) → home < cpu_count s → runner < cpu_count s
+      → IsSound (base_of class (bases_at s home)).items
       → let all = drain jobs plain_rules home class runner s in
       Goes passes s (λ c. by_lines c all.lines) all.state
-  drain_goes class s sound =
+  drain_goes class s low runner_low sound =
       let b = bases_at s home in
       let n = length (base_of class b).items in
       let by : CpuId = record { 0 = runner } in
       let items = due_items n s.clock (base_of class b) in
       let out = drained_on s home class runner in
       let all = run_jobs jobs plain_rules home runner items out.state in
+      let many : cpu_count out.state ≡ cpu_count s = length-set s.cpus home _ in
       goes_same passes s all.state
       (λ c. outs s.clock home runner c items ++ agains c all.lines) (λ c. by_lines c all.lines)
       (λ c.
@@ -183,10 +188,10 @@ module _ (passes : Deed → Bool) (swaps : Swaps passes) (jobs : Replies) (home 
       (due_apart n s.clock (base_of class b) sound)))
       (goes_both passes s out.state all.state (λ c. outs s.clock home runner c items)
       (λ c. agains c all.lines)
-      (goes_written passes s home (drained n s.clock class by b)
+      (goes_written passes s home low (drained n s.clock class by b)
       (all_handed s.clock class by items)
       (drain_writes s.clock class by n b sound (omega arith))
       (λ c. outs s.clock home runner c items)
       (ap (filter passes) (outs_home s.clock home runner class items))
       (λ c other. outs_other s.clock home runner c other items))
-      (jobs_go items out.state))
+      (jobs_go items out.state (omega (arith, runner_low, many))))

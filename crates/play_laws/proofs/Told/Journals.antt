@@ -40,16 +40,15 @@ module _ (passes : Deed → Bool) (swaps : Swaps passes) (jobs : Replies) (scrip
       ) n
 
 pub tell_same : (passes : Deed → Bool) → Swaps passes → TellSameAfterEach passes
-tell_same passes swaps jobs script n is c low =
+tell_same passes swaps jobs script n is c =
     let goes = goes_to passes swaps jobs script is n in
-    let count = goes.count in
     let first = play_start script in
     let tree = tree_for script in
     let last = last_state first (take n (play_turns jobs script)) in
     let told = filter passes (by_lines c (turn_lines (take n (play_turns jobs script)))) in
     let new : filter passes (by_journal (bases_at first c).journal) ≡ [] =
     ap (λ (x : Cpu). filter passes (by_journal x.bases.journal)) (new_at (cpu_count_of tree) c) in
-    sym (goes.grows c (omega (arith, low, count)) ∙ ap (λ x. x ++ told) new)
+    sym (goes.grows c ∙ ap (λ x. x ++ told) new)
 
 pub runs_swap : Swaps is_hand_out
 runs_swap now timer class wheel at other due by apart is = absurd (true≢false (sym is))

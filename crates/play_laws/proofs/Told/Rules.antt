@@ -1,8 +1,9 @@
 -- what the lines of Play's rules tell is what they write into the journals
 use Rattle.std.proofs.Common.{◌≡◌, ℕ, ◌+◌, ◌<◌, List, [], ◌∷◌, ◌++◌, Bool, true, false}
+use Rattle.std.proofs.Common.{arith}
 use Rattle.std.proofs.Common.{Option, Some, None, refl, sym, ap, ◌∙◌, subst}
 use Rattle.std.specs.Prelude.{◌==◌, filter, if◌then◌else◌, option_map}
-use Rattle.std.proofs.lemmas.List.{append-nil}
+use Rattle.std.proofs.lemmas.List.{append-nil, length-set}
 use Rattle.std.proofs.lemmas.Grind.{flat_map-append}
 use Rattle.std.proofs.lemmas.Option.{none-some, same_Some}
 use Rattle.tm_base.specs.declared.limits.TheConstants.{SCRIPT_TIME_LIMIT}
@@ -22,6 +23,7 @@ use Rattle.play_rules.specs.declared.asks.Queued.{Queued}
 use Rattle.play_rules.specs.Interrupts.{Replies, cpu_id}
 use Rattle.play_rules.specs.Operations.{arm}
 use Rattle.play_rules.specs.Rules.{Moved}
+use Rattle.play_rules.specs.State.{cpu_count}
 use Rattle.play_rules.specs.State.{State, cpu_at, with_bases}
 use Rattle.play_rules.specs.Hierarchy.{come_online, gone_offline, idled, reevaluated, told_again}
 use Rattle.play_rules.specs.Hierarchy.{woken}
@@ -80,23 +82,24 @@ module _ (passes : Deed → Bool) where
       goes_same passes s t (λ c. by_line c line) (λ c. by_lines c (line ∷ []))
       (λ c. ap (filter passes) (sym (append-nil (by_line c line)))) goes
 
-  arm_goes : (cpu : CpuId) (s : State) (a : Arming) → Tell LinesGo s (arm plain_rules cpu a s)
-  arm_goes cpu s a = line_goes
+  arm_goes : (cpu : CpuId) (s : State) (a : Arming) → cpu.0 < cpu_count s
+      → Tell LinesGo s (arm plain_rules cpu a s)
+  arm_goes cpu s a low = line_goes
       (lines.Arm s.clock cpu a.timer a.class (armed_item s cpu.0 a).wheel) s _
-      (arms_go passes s cpu.0 a)
+      (arms_go passes s cpu.0 a low)
 
   -- CANCELLING
   cancel_goes : (s : State) (held : Queued) (a : Cancelling) (item : Item)
-      → item.id ≡ a.timer.0
+      → item.id ≡ a.timer.0 → held.cpu.0 < cpu_count s
       → (b : CpuBases)
       → b ≡ after_cancel (Some (held.class, item)) s.clock a.line a.by (bases_at s held.cpu.0)
       → LinesGo s (lines.Cancel s.clock a.by a.timer held.cpu ∷ [])
       (with_bases s held.cpu.0 b)
-  cancel_goes s held a item id b is =
+  cancel_goes s held a item id low b is =
       let home = held.cpu.0 in
       let told = cancels s.clock a.timer.0 a.by.0 in
       line_goes (lines.Cancel s.clock a.by a.timer held.cpu) s (with_bases s home b)
-      (goes_written passes s home b
+      (goes_written passes s home low b
       (entry_of acts.Cancelled a.line s.clock held.class item a.by ∷ [])
       (ap (λ (x : CpuBases). x.journal) is) (λ c. told_if (c == home) told)
       (ap (λ t. filter passes (cancels s.clock t a.by.0 ∷ [])) id
@@ -111,12 +114,13 @@ module _ (passes : Deed → Bool) where
       let at = held_is s a.timer.0 held is in
       let home = held.cpu.0 in
       cancel_goes s held a at.item
-      (found_at a.timer.0 held.class at.item (bases_at s home) at.found).same
+      (found_at a.timer.0 held.class at.item (bases_at s home) at.found).same at.low
       (cancelled s.clock a.timer.0 a.line a.by (bases_at s home))
       (ap (λ o. after_cancel o s.clock a.line a.by (bases_at s home)) at.found)
 
   -- MOVING: out of one CPU's base, and into another's
-  module _ (s : State) (from to : ℕ) (class : Class) (item : Item)
+  module _ (s : State) (from to : ℕ) (from_low : from < cpu_count s) (to_low : to < cpu_count s)
+      (class : Class) (item : Item)
       (first : oldest_in (base_of class (bases_at s from)).items ≡ Some item) where
     abbrev by : CpuId
     by = record { 0 = to }
@@ -127,7 +131,7 @@ module _ (passes : Deed → Bool) where
     out_goes : Goes passes s (λ c. told_if (c == from) (moves_out s.clock item.id to)) mid
     out_goes =
         let told = moves_out s.clock item.id to in
-        goes_written passes s from (moved_out s.clock class by (bases_at s from))
+        goes_written passes s from from_low (moved_out s.clock class by (bases_at s from))
         (entry_of acts.MovedOut 0 s.clock class item by ∷ [])
         (ap (λ (o : Option Item).
         (after_move_out o s.clock class by (bases_at s from)).journal) first)
@@ -141,8 +145,10 @@ module _ (passes : Deed → Bool) where
     in_goes : Goes passes mid (λ c. told_if (c == to) (moves_in s.clock item.id placed.wheel))
         (moved_into mid to (class, item)).state
     in_goes =
+        let many : cpu_count mid ≡ cpu_count s = length-set s.cpus from _ in
+        let to_there : to < cpu_count mid = omega (arith, to_low, many) in
         let told = moves_in s.clock item.id placed.wheel in
-        goes_written passes mid to
+        goes_written passes mid to to_there
         (moved_in s.clock class item.id item.expires item.job item.arg by (bases_at mid to))
         (entry_of acts.MovedIn 0 s.clock class placed by ∷ []) refl (λ c. told_if (c == to) told)
         (ap (filter passes) (sym (told_own to told))) (λ c other. told_other c to told other)
@@ -158,18 +164,19 @@ module _ (passes : Deed → Bool) where
         (λ c. told_if (c == from) (moves_out s.clock item.id to))
         (λ c. told_if (c == to) (moves_in s.clock item.id placed.wheel)) out_goes in_goes)
 
-  move_goes : (s : State) (from to : ℕ) (o : Option (Class × Item)) (m : Moved State)
+  move_goes : (s : State) (from to : ℕ) → from < cpu_count s → to < cpu_count s
+      → (o : Option (Class × Item)) (m : Moved State)
       → first_to_move (bases_at s from) ≡ o → option_map (moved_one s from to) o ≡ Some m
       → LinesGo s
       (lines.Moved s.clock m.mover.timer (cpu_id from) (cpu_id to) m.mover.wheel ∷ []) m.state
-  move_goes s from to None m first is = absurd (none-some m is)
-  move_goes s from to (Some (class, item)) m first is =
+  move_goes s from to from_low to_low None m first is = absurd (none-some m is)
+  move_goes s from to from_low to_low (Some (class, item)) m first is =
       subst
       (λ (x : Moved State).
       LinesGo s
       (lines.Moved s.clock x.mover.timer (cpu_id from) (cpu_id to) x.mover.wheel ∷ []) x.state)
       (same_Some (moved_one s from to (class, item)) m is)
-      (one_goes s from to class item (first_is (bases_at s from) (class, item) first))
+      (one_goes s from to from_low to_low class item (first_is (bases_at s from) (class, item) first))
 
   -- EACH RULE
   pub rules_tell : (swaps : Swaps passes) (jobs : Replies) (timers cpus levels end : ℕ)
@@ -194,12 +201,19 @@ module _ (passes : Deed → Bool) where
         alike_goes s (controlling s d) (controlling_timers s d (cpu_at s d).idle)
         (controlling_alike s d);
     drained = λ now due c k s low few was.
-        drain_goes passes swaps jobs c c (nth_class k) s
+        let at : c < cpu_count s = in_machine c s low was.homes.count in
+        drain_goes passes swaps jobs c c (nth_class k) s at at
         (was.homes.each c (nth_class k) low).sound;
     drained_for = λ now due c level n tried d s low was.
-        drain_goes passes swaps jobs d c Global s (was.0.homes.each d Global was.1).sound;
-    armed = λ now cpu s a low known short none was. arm_goes cpu s a;
+        drain_goes passes swaps jobs d c Global s (in_machine d s was.1 was.0.homes.count)
+        (in_machine c s low was.0.homes.count) (was.0.homes.each d Global was.1).sound;
+    armed = λ now cpu s a low known short none was.
+        arm_goes cpu s a (in_machine cpu.0 s low was.homes.count);
     cancelled = λ now s held a is was. cancels_go s held a is;
     moved = λ now from to n s m low is was.
-        move_goes s from to (first_to_move (bases_at s from)) m refl is;
+        move_goes s from to (in_machine from s low was.0.homes.count)
+        (in_machine to s was.1 was.0.homes.count) (first_to_move (bases_at s from)) m refl is;
   }
+    where
+      in_machine : (c : ℕ) (s : State) → c < cpus → cpu_count s ≡ cpus → c < cpu_count s
+      in_machine c s low count = omega (arith, low, count)

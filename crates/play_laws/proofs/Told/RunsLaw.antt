@@ -142,16 +142,15 @@ module _ (jobs : Replies) (script : Script) (is : IsScript script) where
       ∙ (append-nil (by_lines c lefts) ∙ left_quiet c last.timers 0 last))
       ∙ append-nil (by_lines c (turn_lines ts)))
 
-  told_there : (timer c : ℕ) → c < cpu_count last
+  told_there : (timer c : ℕ)
       → filter (is_of timer) (by_lines c (turn_lines ts))
       ≡ filter (is_of timer) (by_journal (bases_at last c).journal)
-  told_there timer c low =
+  told_there timer c =
       let all : take (length ts) ts ≡ ts = take-length ts in
       subst
-      (λ us. c < cpu_count (last_state first us)
-      → filter (is_of timer) (by_lines c (turn_lines us))
+      (λ us. filter (is_of timer) (by_lines c (turn_lines us))
       ≡ filter (is_of timer) (by_journal (bases_at (last_state first us) c).journal))
-      all (each_timer_is_told timer jobs script (length ts) is c) low
+      all (each_timer_is_told timer jobs script (length ts) is c)
 
   law : (timer c : ℕ) → c < cpu_count last
       → AreArmingsAndEnds script.end timer (bases_at last c).journal
@@ -162,7 +161,7 @@ module _ (jobs : Replies) (script : Script) (is : IsScript script) where
       record {
         told_is =
             ap (filter (is_of timer)) (closing_quiet c)
-            ∙ (told_there timer c low ∙ told_its timer journal);
+            ∙ (told_there timer c ∙ told_its timer journal);
         alternate =
             turns_from timer script.end [] journal tt recorded.consistent.each_may_follow
             recorded.on_time

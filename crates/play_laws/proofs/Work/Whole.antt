@@ -20,7 +20,8 @@ use Rattle.play_rules.specs.Hierarchy.{come_online, gone_offline, idled, told_ag
 use Rattle.play_rules.specs.Timers.{controlling, drained_on}
 use Rattle.play_rules.specs.Play.{at_clock, ended as interrupt_ended, plain_rules}
 use Rattle.play_laws.proofs.Answered.Timers.{moves_frame}
-use Rattle.play_laws.proofs.Shape.Shape.{Keeps, MayRunAgain, Stage, nth_class, taking}
+use Rattle.play_laws.proofs.Answered.Hotplug.{controller_is}
+use Rattle.play_laws.proofs.Shape.Shape.{Keeps, MayRunAgain, Stage, moving, nth_class, taking}
 use Rattle.play_laws.proofs.Jiffies.Sleepers.{named_is}
 use Rattle.play_laws.proofs.Work.Alikes.{alike_homes, controlling_alike, ended_alike, idled_alike}
 use Rattle.play_laws.proofs.Work.Alikes.{offline_alike, online_alike, timed_homes, told_alike}
@@ -48,9 +49,10 @@ module _ (timers cpus levels end : ℕ) (in_time : end < SCRIPT_TIME_LIMIT) wher
     pub at : s.clock ≡ now
     pub homes : AreHomes timers cpus levels all s
 
-  -- AT EACH STAGE; a CPU that was taken is in the machine
+  -- AT EACH STAGE; a CPU that was taken, or that timers move to, is in the machine
   abbrev pub Stands : (now : ℕ) → Stage → State → Type 0
   Stands now (taking due c level n tried d) s = AtTime now s × (d < cpus)
+  Stands now (moving from to n) s = AtTime now s × (to < cpus)
   Stands now stage s = AtTime now s
 
   alike : (now : ℕ) (s t : State) → Alike s t → AtTime now s → AtTime now t
@@ -114,6 +116,12 @@ module _ (timers cpus levels end : ℕ) (in_time : end < SCRIPT_TIME_LIMIT) wher
       let count = was.homes.count in
       omega (arith, low, count)
 
+  controls : (now d : ℕ) (s : State) → plain_rules.controller s ≡ Some d → AtTime now s → d < cpus
+  controls now d s is was =
+      let low = (controller_is s d is).low in
+      let count = was.homes.count in
+      omega (arith, low, count)
+
   moves_at : (now from to : ℕ) (s : State) (m : Moved State) → from < cpus
       → plain_rules.moved s from to ≡ Some m → AtTime now s → AtTime now m.state
   moves_at now from to s m low is was = record {
@@ -163,11 +171,13 @@ module _ (timers cpus levels end : ℕ) (in_time : end < SCRIPT_TIME_LIMIT) wher
     keeps_on = λ now c s low none was. was;
     no_successor = λ now c s low hands none was. was;
     handed_on = λ now c d s low hands is was. alike now s (woken s d) (woken_alike s d) was;
-    controlling = λ now from d s low offline is was.
-        alike now s (controlling s d) (controlling_alike s d) was;
-    moved = λ now from to n s m low is was. moves_at now from to s m low is was;
-    moved_none = λ now from to n s low none was. was;
-    all_moved = λ now from to s low was. was;
+    controlling = λ now from d s low offline is was. (
+        alike now s (controlling s d) (controlling_alike s d) was,
+        controls now d s is was,
+    );
+    moved = λ now from to n s m low is was. (moves_at now from to s m low is was.0, was.1);
+    moved_none = λ now from to n s low none was. was.0;
+    all_moved = λ now from to s low was. was.0;
   }
 
 -- THE START: nothing is queued

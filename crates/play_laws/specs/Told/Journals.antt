@@ -52,8 +52,8 @@ by_reply c now runner timer (shown.Again class wheel) =
 by_reply c now runner timer reply = []
 
 -- BY LINES: what a line tells of the timers of CPU c. `arm` tells of an arming, `run` of a hand-out
--- by the CPU that it is queued on and of an arming where the job's reply is `again`, `cancel` of a
--- cancelling, `moved` of leaving one CPU and coming to another; every other line of none
+-- on the timer's home and of an arming on the runner where the job's reply is `again`, `cancel` of
+-- a cancelling, `moved` of leaving one CPU and coming to another; every other line of none
 abbrev pub by_line : (c : ℕ) → Line → List Deed
 by_line c (lines.Arm now cpu timer class wheel) =
     told_if (c == cpu.0) (arms now timer.0 class wheel)
@@ -91,7 +91,7 @@ is_of timer told = timer_of told == timer
 -- these lines tell of each CPU's timers what its journal tells, of what passes a test: the same, as
 -- often, and in the same order
 abbrev pub TellSame : (Deed → Bool) → List Line → State → Type 0
-TellSame passes ls s = (c : ℕ) → c < cpu_count s
+TellSame passes ls s = (c : ℕ)
     → filter passes (by_lines c ls) ≡ filter passes (by_journal (bases_at s c).journal)
 
 -- it is so after each moment of every script's play, whatever its jobs answer: the lines up to
