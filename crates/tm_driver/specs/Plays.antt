@@ -8,6 +8,10 @@ use Rattle.play_rules.specs.Moments.{last_state, whole_lines}
 use Rattle.play_rules.specs.Parts.{counted}
 use Rattle.play_laws.specs.Jiffies.Jiffies.{EachHasEnded, InItsJiffy}
 use Rattle.play_laws.specs.Answered.Settled.{IsSettled}
+use Rattle.play_laws.specs.Told.Covers.{EachCoverIn}
+use Rattle.play_laws.specs.Told.Journals.{TellSameUpTo, is_hand_out}
+use Rattle.play_laws.specs.Told.Left.{LeftIn}
+use Rattle.play_laws.specs.Told.Runs.{LinesAlternate}
 use Rattle.play_laws.specs.Work.Course.{ComesToItsEnd, times_of}
 use Rattle.play_rules.specs.Play.{AfterEachMoment, plain_rules, play_spent, play_start, play_text}
 use Rattle.play_rules.specs.Play.{play_turns}
@@ -26,8 +30,18 @@ pub record CanPlay (jobs : Replies) (table : ℕ) (script : Script) : Type 0 whe
   pub known : first_unknown_job table script.moments ≡ None
   pub within : play_spent jobs (work_limit script.version) script ≡ None
 
+-- what the lines of a script's play tell is so: the `run` lines are the hand-outs of the journals, up
+-- to each moment; each arming has its run, unless it is cancelled or moved before it, and each run
+-- its arming; the `left` lines are the timers that are still queued; the `cover` lines tell who
+-- answers
+pub record LinesHold (jobs : Replies) (script : Script) : Type 0 where
+  pub runs : (n : ℕ) → TellSameUpTo is_hand_out jobs script n
+  pub alternate : (timer c : ℕ) → LinesAlternate jobs script timer c
+  pub left : LeftIn jobs script
+  pub covers : EachCoverIn jobs script
+
 -- what holds of a script's play, whatever comes of it: the core plays it by steps; its moments go
--- on to the script's end; and after each of them each global timer that is queued on an online idle
+-- on to the script's end; its lines are true; and after each of them each global timer that is queued on an online idle
 -- CPU is held or woken for, and each pinned or global timer whose wheel expiry has come has its
 -- end, and was handed out in that jiffy where it was handed out
 pub record LawsHold (jobs : Replies) (script : Script) : Type 0 where
@@ -36,6 +50,7 @@ pub record LawsHold (jobs : Replies) (script : Script) : Type 0 where
   pub settled : AfterEachMoment IsSettled jobs script
   pub in_its_jiffy : AfterEachMoment InItsJiffy jobs script
   pub ended : AfterEachMoment EachHasEnded jobs script
+  pub lines : LinesHold jobs script
 
 -- THE LAWS hold of the play of every script of the grammar, whatever its jobs answer (no public
 -- clause cites it)

@@ -24,7 +24,10 @@ use core_facts::law_settled as law_core_settled;
 use core_machine::Player;
 use core_state::Core;
 use job_table::Jobs;
-use play_laws::{law_ends, law_in_its_jiffy, law_moments, law_settled};
+use play_laws::{
+    law_covers, law_each_runs, law_ends, law_in_its_jiffy, law_left, law_lines, law_moments,
+    law_settled,
+};
 use std::alloc::Global;
 use step_play::law_steps_are_play;
 use tm_base::{CpuSet, Jiffy, NoMemory};
@@ -33,7 +36,7 @@ use tm_script::Script;
 use wheel_base::WheelBase;
 
 /// Every script's play is made of the core's steps, of which the headline holds; it goes on to the
-/// script's end, and keeps the laws of Play.
+/// script's end, keeps the laws of Play, and its lines are true.
 pub(crate) fn law_plays()
     ensures { LawsHoldOfEach }
 {
@@ -41,6 +44,10 @@ pub(crate) fn law_plays()
     law_settled();
     law_in_its_jiffy();
     law_ends();
+    law_lines();
+    law_left();
+    law_covers();
+    law_each_runs();
     law_steps_are_play();
     law_core_settled();
 }

@@ -97,11 +97,15 @@ abbrev pub CoversIn : Bool → State → List Line → Type 0
 CoversIn true s ls = TellCovers s ls
 CoversIn false s ls = ls ≡ []
 
--- in every script's play, whatever its jobs answer, the `cover` lines of each moment of the script
--- tell who answers in the state after it; other moments have none
-abbrev pub CoversAreTrue : Type 0
-CoversAreTrue = (jobs : Replies) (script : Script) → IsScript script
-    → All
+-- in a script's play the `cover` lines of each moment of the script tell who answers in the state
+-- after it; other moments have none
+abbrev pub EachCoverIn : Replies → Script → Type 0
+EachCoverIn jobs script =
+    All
     (λ (t : Turn State).
     CoversIn (has_at script.moments t.at) t.played.state (filter is_cover t.played.lines))
     (play_turns jobs script)
+
+-- and so in every script's play, whatever its jobs answer
+abbrev pub CoversAreTrue : Type 0
+CoversAreTrue = (jobs : Replies) (script : Script) → IsScript script → EachCoverIn jobs script

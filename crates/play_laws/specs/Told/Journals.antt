@@ -94,12 +94,17 @@ abbrev pub TellSame : (Deed → Bool) → List Line → State → Type 0
 TellSame passes ls s = (c : ℕ)
     → filter passes (by_lines c ls) ≡ filter passes (by_journal (bases_at s c).journal)
 
--- it is so after each moment of every script's play, whatever its jobs answer: the lines up to
--- there against the journals there
+-- it is so after the first n moments of a script's play: the lines up to there against the journals
+-- there
+abbrev pub TellSameUpTo : (Deed → Bool) → Replies → Script → (n : ℕ) → Type 0
+TellSameUpTo passes jobs script n =
+    let first = take n (play_turns jobs script) in
+    TellSame passes (turn_lines first) (last_state (play_start script) first)
+
+-- and so after each moment of every script's play, whatever its jobs answer
 abbrev pub TellSameAfterEach : (Deed → Bool) → Type 0
 TellSameAfterEach passes = (jobs : Replies) (script : Script) (n : ℕ) → IsScript script
-    → let first = take n (play_turns jobs script) in
-    TellSame passes (turn_lines first) (last_state (play_start script) first)
+    → TellSameUpTo passes jobs script n
 
 -- RUNS ARE HAND-OUTS: the `run` lines of the timers of a CPU are, one to one and in order, the
 -- hand-outs of its journal: timer, jiffy, wheel expiry and the CPU that runs the job

@@ -42,11 +42,14 @@ pub record TellLeft (s : State) (ls : List Line) : Type 0 where
       → All (λ item. Contains ls (left_line c class item)) (base_of class (bases_at s c)).items
   pub ascend : TimersAscend 0 ls
 
--- the `left` lines of every script's play, whatever its jobs answer, are the timers that are queued
--- after its last moment
-abbrev pub LeftAreQueued : Type 0
-LeftAreQueued = (jobs : Replies) (script : Script) → IsScript script
-    → let turns = play_turns jobs script in
+-- the `left` lines of a script's play are the timers that are queued after its last moment
+abbrev pub LeftIn : Replies → Script → Type 0
+LeftIn jobs script =
+    let turns = play_turns jobs script in
     let start = play_start script in
     TellLeft (last_state start turns)
     (filter is_left (whole_lines plain_rules script.end start turns))
+
+-- and so in every script's play, whatever its jobs answer
+abbrev pub LeftAreQueued : Type 0
+LeftAreQueued = (jobs : Replies) (script : Script) → IsScript script → LeftIn jobs script

@@ -50,6 +50,16 @@ pub record AreArmingsAndEnds (end timer : ℕ) (journal : List Entry) (told : Li
   pub told_is : told ≡ by_journal (entries_of_timer timer journal)
   pub alternate : Alternate end None (entries_of_timer timer journal)
 
+-- what the lines of a script's play tell of a timer on CPU c are such armings and ends
+abbrev pub LinesAlternate : Replies → Script → (timer c : ℕ) → Type 0
+LinesAlternate jobs script timer c =
+    let turns = play_turns jobs script in
+    let start = play_start script in
+    let last = last_state start turns in
+    c < cpu_count last
+    → AreArmingsAndEnds script.end timer (bases_at last c).journal
+    (filter (is_of timer) (by_lines c (whole_lines plain_rules script.end start turns)))
+
 -- EACH ARMING HAS ITS RUN: in the report of every script's play, whatever its jobs answer, what
 -- the lines tell of a timer on a CPU are such armings and ends. So each arming (`arm`, `again`,
 -- `moved`) of a pinned or global timer whose wheel expiry comes by the end has a `run` line in that
@@ -57,9 +67,4 @@ pub record AreArmingsAndEnds (end timer : ℕ) (journal : List Entry) (told : Li
 -- an arming
 abbrev pub EachHasItsRun : Type 0
 EachHasItsRun = (jobs : Replies) (script : Script) (timer c : ℕ) → IsScript script
-    → let turns = play_turns jobs script in
-    let start = play_start script in
-    let last = last_state start turns in
-    c < cpu_count last
-    → AreArmingsAndEnds script.end timer (bases_at last c).journal
-    (filter (is_of timer) (by_lines c (whole_lines plain_rules script.end start turns)))
+    → LinesAlternate jobs script timer c

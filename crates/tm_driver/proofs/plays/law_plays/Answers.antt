@@ -9,4 +9,10 @@ returns c = λ jobs script is. record {
   settled = c.law_settled.ensures jobs script is;
   in_its_jiffy = c.law_in_its_jiffy.ensures jobs script is;
   ended = c.law_ends.ensures.each_has_ended jobs script is;
+  lines = record {
+    runs = λ n. c.law_lines.ensures.runs jobs script n is;
+    alternate = λ timer cpu. c.law_each_runs.ensures jobs script timer cpu is;
+    left = c.law_left.ensures jobs script is;
+    covers = c.law_covers.ensures jobs script is;
+  };
 }
