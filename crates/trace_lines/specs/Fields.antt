@@ -6,7 +6,7 @@ use Rattle.trace_lines.specs.declared.faults.LineFault.TheVariants.{OutOfRange}
 use Rattle.trace_lines.specs.declared.events.TheConstants.{NO_EXPIRY}
 use Rattle.trace_lines.specs.declared.events.Place.{Place}
 use Rattle.trace_lines.specs.declared.numbers.Base.TheVariants.{Ten}
-use Rattle.trace_lines.specs.Parts.{value_in}
+use Rattle.trace_lines.specs.Parts.{has_key, value_in}
 use Rattle.trace_lines.specs.Numbers.{number_in, mask_in, pointer_in, within}
 
 -- a step, and what follows it where it gave something
@@ -54,6 +54,12 @@ child_of mask =
 -- the one child of the mask behind this word
 unfoldable pub bit_at : List ℕ → List (List ℕ) → Result ℕ LineFault
 bit_at key parts = mask_at key 255 parts >>= child_of
+
+-- the child of a joining or an exchange; kernels name the field so or so
+unfoldable pub child_at : List (List ℕ) → Result ℕ LineFault
+child_at parts =
+    if has_key (codes "groupmask=") parts then bit_at (codes "groupmask=") parts
+    else bit_at (codes "childmask=") parts
 
 -- the node: none where it is -1
 unfoldable pub node_at : List (List ℕ) → Result (Option ℕ) LineFault

@@ -1,4 +1,5 @@
 pub mod Parts
 pub mod Numbers
 pub mod Fields
+pub mod Times
 pub mod Lines

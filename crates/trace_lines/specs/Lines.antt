@@ -8,6 +8,7 @@ use Rattle.tm_base.specs.declared.limits.TheConstants.{CPU_SET_SIZE}
 use Rattle.tm_base.specs.declared.names.CpuId.{CpuId}
 use Rattle.trace_lines.specs.declared.faults.LineFault.{LineFault}
 use Rattle.trace_lines.specs.declared.faults.LineFault.TheVariants.{NoEvent, BadCpu}
+use Rattle.trace_lines.specs.declared.events.TheConstants.{NO_EXPIRY}
 use Rattle.trace_lines.specs.declared.events.Joining.{Joining}
 use Rattle.trace_lines.specs.declared.events.Exchange.{Exchange}
 use Rattle.trace_lines.specs.declared.events.CpuEvent.{CpuEvent}
@@ -25,9 +26,10 @@ use Rattle.trace_lines.specs.declared.events.Happening.TheVariants.{Handling}
 use Rattle.trace_lines.specs.declared.events.Line.{Line}
 use Rattle.trace_lines.specs.declared.events.Line.TheVariants.{Remark, Loss, Foreign, Told}
 use Rattle.trace_lines.specs.declared.numbers.Base.TheVariants.{Ten}
+use Rattle.trace_lines.specs.Times.{stamp_time}
 use Rattle.trace_lines.specs.Parts.{before, behind, bracketed, parts_of}
 use Rattle.trace_lines.specs.Numbers.{number_of}
-use Rattle.trace_lines.specs.Fields.{◌>>=◌, bit_at, expiry_at, mask_at, number_at, place_at}
+use Rattle.trace_lines.specs.Fields.{◌>>=◌, child_at, expiry_at, mask_at, number_at, place_at}
 use Rattle.trace_lines.specs.Fields.{pointer_at}
 
 -- ---- what the events say, by the parts behind their names
@@ -35,7 +37,7 @@ use Rattle.trace_lines.specs.Fields.{pointer_at}
 -- a group or a CPU that is hung below a parent
 unfoldable pub joining_in : List (List ℕ) → Result Joining LineFault
 joining_in parts = do
-  bit ← bit_at (codes "groupmask=") parts
+  bit ← child_at parts
   parent ← place_at (codes "parent=") parts
   children ← number_at (codes "num_children=") 255 parts
   Ok (record { bit = bit; parent = parent; children = children })
@@ -51,7 +53,7 @@ exchange_in joins parts = do
   active ← mask_at (codes "active=") 255 parts
   migrator ← mask_at (codes "migrator=") 255 parts
   parent ← pointer_at (codes "parent=") parts
-  bit ← bit_at (codes "childmask=") parts
+  bit ← child_at parts
   Ok (record {
     place = place;
     active = active;
@@ -61,12 +63,30 @@ exchange_in joins parts = do
     joins = joins;
   })
 
+-- the first expiry that a CPU tells; the other kinds than these two tell none
+unfoldable pub expiry_told : CpuKind → List (List ℕ) → Result ℕ LineFault
+expiry_told kinds.Asleep parts = expiry_at (codes "nextevt=") parts
+expiry_told kinds.StillAsleep parts = expiry_at (codes "nextevt=") parts
+expiry_told kinds.Online parts = Ok NO_EXPIRY
+expiry_told kinds.Awake parts = Ok NO_EXPIRY
+expiry_told kinds.Offline parts = Ok NO_EXPIRY
+expiry_told kinds.NewTimer parts = Ok NO_EXPIRY
+expiry_told kinds.RunElsewhere parts = Ok NO_EXPIRY
+
 -- an event of a CPU and its leaf
 unfoldable pub cpu_event_in : CpuKind → List (List ℕ) → Result CpuEvent LineFault
 cpu_event_in kind parts = do
   cpu ← number_at (codes "cpu=") (CPU_SET_SIZE - 1) parts
   leaf ← pointer_at (codes "parent=") parts
-  Ok (record { kind = kind; cpu = record { 0 = cpu }; leaf = leaf })
+  expiry ← expiry_told kind parts
+  wakeup ← expiry_at (codes "wakeup=") parts
+  Ok (record {
+    kind = kind;
+    cpu = record { 0 = cpu };
+    leaf = leaf;
+    expiry = expiry;
+    wakeup = wakeup;
+  })
 
 -- the expiries that an update names
 unfoldable pub expiries_in : List (List ℕ) → Result Expiries LineFault
@@ -83,12 +103,14 @@ update_in parts = do
   group ← pointer_at (codes "group=") parts
   level ← number_at (codes "group_lvl=") 255 parts
   child_active ← mask_at (codes "child_active=") 255 parts
+  group_active ← mask_at (codes "group_active=") 255 parts
   expiries ← expiries_in parts
   Ok (record {
     child = child;
     group = group;
     level = level;
     child_active = child_active;
+    group_active = group_active;
     expiries = expiries;
   })
 
@@ -189,29 +211,31 @@ is_time (Some (c ∷ cs)) = are_digits_or_dots (c ∷ cs)
 abbrev pub is_stamp : List ℕ → Bool
 is_stamp part = is_time (before (codes ":") part)
 
--- the parts behind the time, before which there may be flags
-abbrev pub stamped_in : List (List ℕ) → Result (List (List ℕ)) LineFault
+-- the time, before which there may be flags, and the parts behind it
+abbrev pub stamped_in : List (List ℕ) → Result (Option ℕ × List (List ℕ)) LineFault
 stamped_in [] = Err NoEvent
-stamped_in (p ∷ []) = if is_stamp p then Ok [] else Err NoEvent
+stamped_in (p ∷ []) = if is_stamp p then Ok (stamp_time p, []) else Err NoEvent
 stamped_in (p ∷ q ∷ ps) =
-    if is_stamp p then Ok (q ∷ ps) else if is_stamp q then Ok ps else Err NoEvent
+    if is_stamp p then Ok (stamp_time p, q ∷ ps)
+    else if is_stamp q then Ok (stamp_time q, ps)
+    else Err NoEvent
 
--- an event of this CPU, where its name is known
-abbrev pub told_in : CpuId → Option EventName → List (List ℕ) → Result Line LineFault
-told_in cpu None parts = Ok (Foreign cpu)
-told_in cpu (Some name) parts = happening_of name parts >>= λ x. Ok (Told cpu x)
+-- an event of this CPU at this time, where its name is known
+abbrev pub told_in : CpuId → Option ℕ → Option EventName → List (List ℕ) → Result Line LineFault
+told_in cpu at None parts = Ok (Foreign cpu)
+told_in cpu at (Some name) parts = happening_of name parts >>= λ x. Ok (Told cpu at x)
 
 -- the parts from the name on
-abbrev pub named_in : CpuId → List (List ℕ) → Result Line LineFault
-named_in cpu [] = Ok (Foreign cpu)
-named_in cpu (name ∷ parts) = told_in cpu (event_of name) parts
+abbrev pub named_in : CpuId → Option ℕ → List (List ℕ) → Result Line LineFault
+named_in cpu at [] = Ok (Foreign cpu)
+named_in cpu at (name ∷ parts) = told_in cpu at (event_of name) parts
 
 -- the event of a line
 abbrev pub event_in : List (List ℕ) → Result Line LineFault
 event_in parts = do
   head ← head_in parts
   named ← stamped_in head.1
-  named_in head.0 named
+  named_in head.0 named.0 named.1
 
 -- a line without parts
 abbrev pub has_none : List (List ℕ) → Bool

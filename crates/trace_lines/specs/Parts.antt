@@ -35,3 +35,12 @@ abbrev pub value_in : List ℕ → List (List ℕ) → Result (List ℕ) LineFau
 value_in key [] = Err FieldMissing
 value_in key (p ∷ ps) =
     if bytes_eq (take (length key) p) key then Ok (drop (length key) p) else value_in key ps
+
+-- a field of this key stands there
+abbrev pub is_found : Result (List ℕ) LineFault → Bool
+is_found (Ok value) = true
+is_found (Err fault) = false
+
+-- some part begins with this key
+unfoldable pub has_key : List ℕ → List (List ℕ) → Bool
+has_key key parts = is_found (value_in key parts)

@@ -71,6 +71,11 @@ pub struct CpuEvent {
     pub cpu: CpuId,
     /// Its leaf.
     pub leaf: u64,
+    /// The first expiry that a sleeping CPU tells, in nanoseconds; `NO_EXPIRY` for none, and with
+    /// the other kinds than `Asleep` and `StillAsleep`, which tell none.
+    pub expiry: u64,
+    /// The wakeup that the CPU keeps for the hierarchy, in nanoseconds; `NO_EXPIRY` for none.
+    pub wakeup: u64,
 }
 
 /// Expiries in nanoseconds; `NO_EXPIRY` for none.
@@ -95,6 +100,8 @@ pub struct Update {
     pub level: u8,
     /// The child's active set, 0 at a leaf.
     pub child_active: u8,
+    /// The group's active set.
+    pub group_active: u8,
     pub expiries: Expiries,
 }
 
@@ -126,6 +133,7 @@ pub enum Line {
     Loss,
     /// An event of another name, of this CPU.
     Foreign(CpuId),
-    /// An event of timer migration, of this CPU.
-    Told(CpuId, Happening),
+    /// An event of timer migration, of this CPU. The time in nanoseconds is that at the head of the
+    /// line, to its microsecond's end where it has microseconds; None where it counts lines.
+    Told(CpuId, Option<u64>, Happening),
 }

@@ -1,10 +1,10 @@
 //! The fields of an event.
 
 ghost use Rattle.std.specs.Prelude.{◌≡◌, ◌≤◌, ◌<◌, IfOk};
-ghost use Rattle.trace_lines.specs.Parts.{parts_of};
+ghost use Rattle.trace_lines.specs.Parts.{has_key, parts_of};
 ghost use Rattle.trace_lines.specs.Fields.{number_at, mask_at, pointer_at, bit_at, node_at};
 ghost use Rattle.trace_lines.specs.Fields.{expiry_at, place_at};
-ghost use Rattle.trace_lines.specs.Fields.{child_of};
+ghost use Rattle.trace_lines.specs.Fields.{child_at, child_of};
 
 use crate::numbers::{Base, read_mask, read_number, read_pointer, within};
 use crate::parts::value_in;
@@ -76,6 +76,31 @@ pub fn bit_at(bytes: &[u8], key: &[u8]) -> Result<u8, LineFault>
 {
     let mask = mask_at(bytes, key, 255)?;
     child_of(mask)
+}
+
+/// Whether a field of this key stands there.
+#[tactic(auto, unfolding(crate::specs::Parts::has_key))]
+fn has_key(bytes: &[u8], key: &[u8]) -> bool
+    ensures { result ≡ has_key key.now (parts_of bytes.now) }
+{
+    match value_in(bytes, key) {
+        Ok(_) => true,
+        Err(_) => false,
+    }
+}
+
+/// The number of the child that a group or a CPU is: Linux 6.9 names the field `childmask`, and
+/// from 6.10 on the lines of the tree have `groupmask`.
+#[tactic(auto, unfolding(crate::specs::Fields::child_at))]
+pub fn child_at(bytes: &[u8]) -> Result<u8, LineFault>
+    ensures value { result ≡ child_at (parts_of bytes.now) }
+    ensures bound { IfOk result (λ k. k < 8) }
+{
+    if has_key(bytes, b"groupmask=") {
+        bit_at(bytes, b"groupmask=")
+    } else {
+        bit_at(bytes, b"childmask=")
+    }
 }
 
 /// The node: none where it is -1.

@@ -5,11 +5,11 @@ ghost use Rattle.trace_lines.specs.Parts.{parts_of};
 ghost use Rattle.trace_lines.specs.Lines.{joining_in, exchange_in, cpu_event_in, update_in};
 ghost use Rattle.trace_lines.specs.Lines.{cpu_kind_of, handling_in, group_joining_in};
 ghost use Rattle.trace_lines.specs.Lines.{cpu_joining_in, event_of, expiries_in, happening_of};
-ghost use Rattle.trace_lines.specs.Lines.{migrator_of};
+ghost use Rattle.trace_lines.specs.Lines.{expiry_told, migrator_of};
 
-use crate::LineFault;
 use crate::events::{CpuEvent, CpuKind, Exchange, Expiries, Happening, Joining, Update};
-use crate::fields::{bit_at, expiry_at, mask_at, number_at, place_at, pointer_at};
+use crate::fields::{child_at, expiry_at, mask_at, number_at, place_at, pointer_at};
+use crate::{LineFault, NO_EXPIRY};
 use tm_base::{CPU_SET_SIZE, CpuId};
 
 /// The events of timer migration, by their names.
@@ -38,7 +38,7 @@ pub enum EventName {
 fn read_joining(bytes: &[u8]) -> Result<Joining, LineFault>
     ensures { result ≡ joining_in (parts_of bytes.now) }
 {
-    let bit = bit_at(bytes, b"groupmask=")?;
+    let bit = child_at(bytes)?;
     let parent = place_at(bytes, b"parent=")?;
     let children = number_at(bytes, b"num_children=", 255)?;
     Ok(Joining {
@@ -64,7 +64,7 @@ fn read_exchange(bytes: &[u8], joins: bool) -> Result<Exchange, LineFault>
     let active = mask_at(bytes, b"active=", 255)?;
     let migrator = mask_at(bytes, b"migrator=", 255)?;
     let parent = pointer_at(bytes, b"parent=")?;
-    let bit = bit_at(bytes, b"childmask=")?;
+    let bit = child_at(bytes)?;
     Ok(Exchange {
         place,
         active: active as u8,
@@ -75,6 +75,21 @@ fn read_exchange(bytes: &[u8], joins: bool) -> Result<Exchange, LineFault>
     })
 }
 
+/// The first expiry that a CPU tells, or none.
+#[tactic(auto, unfolding(crate::specs::Lines::expiry_told))]
+fn expiry_told(kind: CpuKind, bytes: &[u8]) -> Result<u64, LineFault>
+    ensures { result ≡ expiry_told kind (parts_of bytes.now) }
+{
+    match kind {
+        CpuKind::Asleep | CpuKind::StillAsleep => expiry_at(bytes, b"nextevt="),
+        CpuKind::Online
+        | CpuKind::Awake
+        | CpuKind::Offline
+        | CpuKind::NewTimer
+        | CpuKind::RunElsewhere => Ok(NO_EXPIRY),
+    }
+}
+
 /// An event of a CPU.
 #[tactic(auto, unfolding(crate::specs::Lines::cpu_event_in))]
 fn read_cpu_event(bytes: &[u8], kind: CpuKind) -> Result<CpuEvent, LineFault>
@@ -82,10 +97,14 @@ fn read_cpu_event(bytes: &[u8], kind: CpuKind) -> Result<CpuEvent, LineFault>
 {
     let cpu = number_at(bytes, b"cpu=", u64::from(CPU_SET_SIZE) - 1)?;
     let leaf = pointer_at(bytes, b"parent=")?;
+    let expiry = expiry_told(kind, bytes)?;
+    let wakeup = expiry_at(bytes, b"wakeup=")?;
     Ok(CpuEvent {
         kind,
         cpu: CpuId(cpu as u16),
         leaf,
+        expiry,
+        wakeup,
     })
 }
 
@@ -113,12 +132,14 @@ fn read_update(bytes: &[u8]) -> Result<Update, LineFault>
     let group = pointer_at(bytes, b"group=")?;
     let level = number_at(bytes, b"group_lvl=", 255)?;
     let child_active = mask_at(bytes, b"child_active=", 255)?;
+    let group_active = mask_at(bytes, b"group_active=", 255)?;
     let expiries = read_expiries(bytes)?;
     Ok(Update {
         child,
         group,
         level: level as u8,
         child_active: child_active as u8,
+        group_active: group_active as u8,
         expiries,
     })
 }

@@ -10,6 +10,7 @@ mod happenings;
 mod lines;
 mod numbers;
 mod parts;
+mod times;
 
 pub use events::{
     CpuEvent, CpuKind, Exchange, Expiries, Happening, Joining, Line, NO_EXPIRY, Place, Update,

@@ -8,6 +8,7 @@ ghost use Rattle.trace_lines.specs.Lines.{are_digits_or_dots, is_remark, named_i
 use crate::happenings::{event_of, read_happening};
 use crate::numbers::{Base, number};
 use crate::parts::{behind, bracketed, next_part};
+use crate::times::stamp_time;
 use crate::{Line, LineFault};
 use tm_base::{CPU_SET_SIZE, CpuId};
 
@@ -77,37 +78,37 @@ fn are_digits_or_dots(bytes: &[u8]) -> bool
     bytes.iter().all(|b| b.is_ascii_digit() || *b == b'.')
 }
 
-/// What stands behind the time, before which there may be flags.
-fn behind_stamp(bytes: &[u8]) -> Result<&[u8], LineFault>
+/// The time, before which there may be flags, and what stands behind it.
+fn behind_stamp(bytes: &[u8]) -> Result<(Option<u64>, &[u8]), LineFault>
     ensures { MatchResult result
-        (λ rest. stamped_in (parts_of bytes.now) ≡ Ok (parts_of rest.now))
+        (λ x. stamped_in (parts_of bytes.now) ≡ Ok (x.0, parts_of x.1.now))
         (λ fault. stamped_in (parts_of bytes.now) ≡ Err fault) }
 {
     let Some((first, rest)) = next_part(bytes) else {
         return Err(LineFault::NoEvent);
     };
     if is_stamp(first) {
-        return Ok(rest);
+        return Ok((stamp_time(first), rest));
     }
     let Some((second, rest)) = next_part(rest) else {
         return Err(LineFault::NoEvent);
     };
     if is_stamp(second) {
-        Ok(rest)
+        Ok((stamp_time(second), rest))
     } else {
         Err(LineFault::NoEvent)
     }
 }
 
-/// What an event of this CPU says, by what stands behind its time.
-fn read_named(cpu: CpuId, bytes: &[u8]) -> Result<Line, LineFault>
-    ensures { result ≡ named_in cpu (parts_of bytes.now) }
+/// What an event of this CPU at this time says, by what stands behind its time.
+fn read_named(cpu: CpuId, at: Option<u64>, bytes: &[u8]) -> Result<Line, LineFault>
+    ensures { result ≡ named_in cpu at (parts_of bytes.now) }
 {
     let Some((name, rest)) = next_part(bytes) else {
         return Ok(Line::Foreign(cpu));
     };
     match event_of(name) {
-        Some(event) => Ok(Line::Told(cpu, read_happening(event, rest)?)),
+        Some(event) => Ok(Line::Told(cpu, at, read_happening(event, rest)?)),
         None => Ok(Line::Foreign(cpu)),
     }
 }
@@ -117,8 +118,8 @@ fn read_event(bytes: &[u8]) -> Result<Line, LineFault>
     ensures { result ≡ event_in (parts_of bytes.now) }
 {
     let (cpu, rest) = read_head(bytes)?;
-    let named = behind_stamp(rest)?;
-    read_named(cpu, named)
+    let (at, named) = behind_stamp(rest)?;
+    read_named(cpu, at, named)
 }
 
 /// Whether a line has no part, or begins with `#`.

@@ -7,11 +7,12 @@ fn an_exchange_is_read_field_by_field(rt: HostRuntime) -> Result<(), Fail> {
     let line = b"          <idle>-0       [004] d..4.     7.700416: tmigr_group_set_cpu_inactive: \
           group=ffff88be02c09400 lvl=0 numa=0 active=c2 migrator=2 parent=ffff88be08f8c200 \
           childmask=10";
-    let Ok(Line::Told(cpu, Happening::Exchanged(exchange))) = read_line(line) else {
+    let Ok(Line::Told(cpu, at, Happening::Exchanged(exchange))) = read_line(line) else {
         assert!(rt; false, "not read");
         return Ok(());
     };
     assert_eq!(rt; cpu.0, 4);
+    assert_eq!(rt; at, Some(7_700_416_999));
     assert_eq!(rt; exchange.place.group, 0xffff_88be_02c0_9400);
     assert_eq!(rt; exchange.place.level, 0);
     assert_eq!(rt; exchange.place.node, Some(0));
@@ -36,15 +37,16 @@ fn each_kind_of_line_is_told_apart(rt: HostRuntime) -> Result<(), Fail> {
     assert!(rt;
         matches!(
             read_line(report),
-            Ok(Line::Told(_, Happening::Handling(255)))
+            Ok(Line::Told(_, _, Happening::Handling(255)))
         )
     );
     let wake = b" <idle>-0 [001] dN.2. 7708329: tmigr_cpu_active: cpu=4 parent=(nil) wakeup=7";
-    let Ok(Line::Told(_, Happening::CpuTold(event))) = read_line(wake) else {
+    let Ok(Line::Told(_, None, Happening::CpuTold(event))) = read_line(wake) else {
         assert!(rt; false, "not read");
         return Ok(());
     };
     assert!(rt; matches!(event.kind, CpuKind::Awake) && event.cpu.0 == 4 && event.leaf == 0);
+    assert_eq!(rt; event.wakeup, 7);
     Ok(())
 }
 

@@ -1,1 +1,4 @@
 pub mod Verdicts
+mod Steps
+mod Answering
+mod Answered

@@ -7,7 +7,8 @@ use Rattle.trace_lines.specs.Lines.{line_of}
 use Rattle.trace_rules.specs.declared.judge.Course.{Course}
 use Rattle.trace_rules.specs.declared.judge.Misfit.{Misfit}
 use Rattle.trace_rules.specs.declared.judge.Verdict.{Verdict}
-use Rattle.trace_rules.specs.Judge.{EachFits, IsFirstAt, IsFitting, counted, judged, line_misfit}
+use Rattle.trace_rules.specs.Judge.{EachFits, IsFirstAt, IsFitting, judged, line_misfit}
+use Rattle.trace_rules.specs.Told.{counted}
 use Rattle.trace_rules.specs.Judge.{said_verdict, start, text_after, text_verdict, verdict_of}
 use Rattle.trace_rules.specs.Judge.{verdict_or}
 
@@ -33,7 +34,7 @@ decide : (v : Option Verdict) (later : Verdict) (P : Type 0) → NoFit v → (Is
 decide None later P n f h = (refl, f h)
 decide (Some w) later P n f h = absurd (n h)
 
-fits_each : (k : Course) (texts : List (List ℕ)) → IsFitting (judged k texts) → EachFits k texts
+pub fits_each : (k : Course) (texts : List (List ℕ)) → IsFitting (judged k texts) → EachFits k texts
 fits_each k [] h = tt
 fits_each k (t ∷ ts) h =
     decide (text_verdict k t) (judged (text_after k t) ts) (EachFits (text_after k t) ts)

@@ -14,6 +14,7 @@ use Rattle.trace_lines.specs.declared.events.CpuKind.TheVariants.{RunElsewhere}
 use Rattle.trace_rules.specs.declared.rules.Rule.{Rule}
 use Rattle.trace_rules.specs.declared.rules.Rule.TheVariants as rules
 use Rattle.trace_rules.specs.declared.seen.Spot.{Spot}
+use Rattle.trace_rules.specs.declared.seen.Run.TheVariants as runs
 use Rattle.trace_rules.specs.declared.seen.Walk.{Walk}
 use Rattle.trace_rules.specs.declared.seen.Walk.TheVariants.{Unknown, Closed, Rising, Falling}
 use Rattle.trace_rules.specs.declared.seen.Walk.TheVariants.{Ending, Hung}
@@ -22,7 +23,9 @@ use Rattle.trace_rules.specs.declared.seen.CpuSeen.{CpuSeen}
 use Rattle.trace_rules.specs.Seen.{Sight, cpu_at, group_at}
 use Rattle.trace_rules.specs.Tree.{parent_fits}
 use Rattle.trace_rules.specs.Walks.{may_end, may_rest, quiet}
-use Rattle.trace_rules.specs.Exchanges.{spot_of, with_cpu, with_group}
+use Rattle.trace_rules.specs.Exchanges.{fault_or, spot_of, with_cpu, with_group}
+use Rattle.trace_rules.specs.Queues.{first_after, run_told, spoken, told_fault, with_event}
+use Rattle.trace_rules.specs.Queues.{with_hidden}
 
 -- it is known to be awake
 abbrev pub is_awake : Option Bool → Bool
@@ -73,7 +76,8 @@ abbrev pub cpu_fault : Sight → CpuId → CpuEvent → Option Rule
 cpu_fault s own t =
     if not (parent_fits (cpu_at s t.cpu).leaf t.leaf) then Some rules.Tree
     else if not (is_elsewhere t.kind) && not (t.cpu.0 == own.0) then Some rules.Cpu
-    else state_fault t.kind (cpu_at s t.cpu).active (cpu_at s own).walk
+    else fault_or (state_fault t.kind (cpu_at s t.cpu).active (cpu_at s own).walk)
+    (told_fault t.kind s.clock t (cpu_at s t.cpu))
 
 -- whether a CPU is awake after its event
 abbrev pub active_after : CpuKind → Option Bool
@@ -98,13 +102,19 @@ walk_told RunElsewhere t walk = quiet walk
 -- the CPU that the event names is learned
 unfoldable pub with_named : Sight → CpuEvent → Sight
 with_named s t =
-    with_cpu s (record (cpu_at s t.cpu) { leaf = Some t.leaf; active = active_after t.kind })
+    with_cpu s
+    (spoken t.kind t
+    (record (cpu_at s t.cpu) { leaf = Some t.leaf; active = active_after t.kind }))
 
 -- .. and the CPU that wrote the line
 unfoldable pub with_writer : Sight → ℕ → CpuId → CpuEvent → Sight
 with_writer s line own t =
     with_cpu s
-    (record (cpu_at s own) { walk = walk_told t.kind t (cpu_at s own).walk; last = line })
+    (record (cpu_at s own) {
+      walk = walk_told t.kind t (cpu_at s own).walk;
+      last = line;
+      run = run_told t.kind t;
+    })
 
 -- what an event of a CPU teaches
 abbrev pub learned_cpu : Sight → ℕ → CpuId → CpuEvent → Sight
@@ -113,7 +123,26 @@ learned_cpu s line own t = with_writer (with_named s t) line own t
 -- the CPU did something else than walk
 unfoldable pub moved : Sight → ℕ → CpuId → Sight
 moved s line own =
-    with_cpu s (record (cpu_at s own) { walk = quiet (cpu_at s own).walk; last = line })
+    with_cpu s
+    (record (cpu_at s own) { walk = quiet (cpu_at s own).walk; last = line; run = runs.Own })
+
+-- the CPU has gone on in its walk or its run by an update, and found a wakeup or not
+unfoldable pub with_first : Sight → ℕ → CpuId → Option ℕ → Sight
+with_first s line own first =
+    with_cpu s
+    (record (cpu_at s own) { walk = quiet (cpu_at s own).walk; last = line; first = first })
+
+-- the wakeup that a CPU's walk has found after its update
+unfoldable pub first_seen : Sight → CpuId → Update → Option ℕ
+first_seen s own u =
+    first_after (cpu_at s own).run (group_at s u.group).parent u (cpu_at s own).first
+
+-- what an update of a queue teaches
+unfoldable pub learned_update : Sight → ℕ → CpuId → Update → Sight
+learned_update s line own u =
+    with_first
+    (with_hidden (with_event s (cpu_at s own).run own u) (cpu_at s own).run u.group) line own
+    (first_seen s own u)
 
 -- a group that may stand at this level
 abbrev pub is_level : Option Spot → ℕ → Bool
@@ -154,12 +183,17 @@ learned_place s place =
 unfoldable pub with_link : Sight → ℕ → Joining → Sight
 with_link s child j =
     with_group s
-    (record (group_at s child) { parent = Some j.parent.group; bit = Some j.bit; told = false })
+    (record (group_at s child) {
+      parent = Some j.parent.group;
+      bit = Some j.bit;
+      told = false;
+      event = None;
+    })
 
 -- .. and that its CPU goes on from there
 unfoldable pub with_hung : Sight → ℕ → CpuId → ℕ → Joining → Sight
 with_hung s line own child j =
-    with_cpu s (record (cpu_at s own) { walk = hung child j; last = line })
+    with_cpu s (record (cpu_at s own) { walk = hung child j; last = line; run = runs.Own })
 
 -- what the hanging of a group teaches
 abbrev pub learned_group_link : Sight → ℕ → CpuId → ℕ → Joining → Sight
@@ -170,7 +204,12 @@ learned_group_link s line own child j =
 unfoldable pub with_leaf : Sight → CpuId → Joining → Sight
 with_leaf s cpu j =
     with_cpu s
-    (record (cpu_at s cpu) { leaf = Some j.parent.group; bit = Some j.bit; told = false })
+    (record (cpu_at s cpu) {
+      leaf = Some j.parent.group;
+      bit = Some j.bit;
+      told = false;
+      event = None;
+    })
 
 -- what the hanging of a CPU teaches
 abbrev pub learned_cpu_link : Sight → ℕ → CpuId → CpuId → Joining → Sight

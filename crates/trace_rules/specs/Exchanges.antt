@@ -7,6 +7,7 @@ use Rattle.trace_lines.specs.declared.events.Exchange.{Exchange}
 use Rattle.trace_rules.specs.declared.rules.Rule.{Rule}
 use Rattle.trace_rules.specs.declared.rules.Rule.TheVariants as rules
 use Rattle.trace_rules.specs.declared.seen.Spot.{Spot}
+use Rattle.trace_rules.specs.declared.seen.Run.TheVariants as runs
 use Rattle.trace_rules.specs.declared.seen.Word.{Word}
 use Rattle.trace_rules.specs.declared.seen.Late.{Late}
 use Rattle.trace_rules.specs.declared.seen.GroupSeen.{GroupSeen}
@@ -15,6 +16,7 @@ use Rattle.trace_rules.specs.Seen.{Sight, cpu_at, group_at, put_cpu, put_group}
 use Rattle.trace_rules.specs.Words.{follows, state_of, word_after}
 use Rattle.trace_rules.specs.Tree.{bit_fits, cpus_free, groups_free, is_below, node_fits}
 use Rattle.trace_rules.specs.Tree.{parent_fits, spot_fits}
+use Rattle.trace_rules.specs.Queues.{event_after, first_begun}
 use Rattle.trace_rules.specs.Walks.{allows, came_from, walk_after}
 
 -- with this group as it is seen now
@@ -108,9 +110,13 @@ abbrev pub settled : GroupSeen → ℕ → CpuId → Exchange → GroupSeen
 settled g line cpu e = settled_by g.late g line cpu e
 
 -- a group after an exchange
-abbrev pub group_after : GroupSeen → ℕ → CpuId → Exchange → GroupSeen
+unfoldable pub group_after : GroupSeen → ℕ → CpuId → Exchange → GroupSeen
 group_after g line cpu e =
-    settled (record g { spot = Some (spot_of e.place); parent = Some e.parent }) line cpu e
+    settled (record g {
+      spot = Some (spot_of e.place);
+      parent = Some e.parent;
+      event = event_after e g.event;
+    }) line cpu e
 
 -- its child group after it
 abbrev pub child_after : GroupSeen → Exchange → GroupSeen
@@ -125,7 +131,12 @@ told_by c (Some from) e =
 -- the CPU that made it, after it
 unfoldable pub cpu_after : CpuSeen → ℕ → Option Word → Exchange → CpuSeen
 cpu_after c line before e =
-    record (told_by c (came_from c.walk e) e) { walk = walk_after before e; last = line }
+    record (told_by c (came_from c.walk e) e) {
+      walk = walk_after before e;
+      last = line;
+      run = runs.Own;
+      first = first_begun e c.first;
+    }
 
 -- what an exchange teaches of its child
 unfoldable pub learned_child : Sight → Option ℕ → Exchange → Sight

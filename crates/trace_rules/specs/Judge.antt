@@ -1,5 +1,5 @@
 -- the fold over the lines of a trace
-use Rattle.std.specs.Prelude.{◌≡◌, ◌⊎◌, ℕ, ◌+◌, ◌==◌, not, nat_lt, Bool, true, false, List, [], ◌∷◌}
+use Rattle.std.specs.Prelude.{◌≡◌, ◌⊎◌, ℕ, ◌==◌, not, Bool, true, false, List, [], ◌∷◌}
 use Rattle.std.specs.Prelude.{Option, Some, None, is_some, Result, Ok, Err, if◌then◌else◌}
 use Rattle.std.specs.Prelude.{count_by}
 use Rattle.text_words.specs.Words.{lines_of}
@@ -19,13 +19,14 @@ use Rattle.trace_rules.specs.declared.judge.Course.{Course}
 use Rattle.trace_rules.specs.declared.judge.Misfit.{Misfit}
 use Rattle.trace_rules.specs.declared.judge.Verdict.{Verdict}
 use Rattle.trace_rules.specs.declared.judge.Verdict.TheVariants.{Fits, Broken, NoTrace}
-use Rattle.trace_rules.specs.Seen.{Sight, cpu_at}
+use Rattle.trace_rules.specs.Seen.{Sight, cpu_at, timed}
 use Rattle.trace_rules.specs.Tree.{cpu_joining_fault, group_joining_fault, spot_fits}
 use Rattle.trace_rules.specs.Walks.{may_rest}
 use Rattle.trace_rules.specs.Exchanges.{exchange_fault, late_line, learned_exchange, with_cpu}
 use Rattle.trace_rules.specs.Cpus.{cpu_fault, learned_cpu, learned_cpu_link, learned_group_link}
-use Rattle.trace_rules.specs.Cpus.{learned_place, moved, update_fault}
+use Rattle.trace_rules.specs.Cpus.{learned_place, learned_update, moved, update_fault}
 use Rattle.trace_rules.specs.Rests.{at_rest, rest_fits}
+use Rattle.trace_rules.specs.Told.{answers_if, counted, no_answers, told_fits}
 
 -- ---- one event
 
@@ -60,31 +61,33 @@ learned s line cpu (GroupJoined child j) = learned_group_link s line cpu child j
 learned s line cpu (CpuJoined joined j) = learned_cpu_link s line cpu joined j
 learned s line cpu (Exchanged e) = learned_exchange s line cpu e
 learned s line cpu (CpuTold t) = learned_cpu s line cpu t
-learned s line cpu (Updated u) = moved s line cpu
+learned s line cpu (Updated u) = learned_update s line cpu u
 learned s line cpu (Handling group) = moved s line cpu
 
--- the misfit of a line after which the rest is wrong
-abbrev pub rest_misfit : ℕ → Bool → Option Misfit
-rest_misfit line true = None
-rest_misfit line false = Some (record { line = line; rule = rules.Rest })
+-- the misfit of a line after which the rest is wrong, by its bits or by what was told
+abbrev pub rest_misfit : ℕ → Bool → Bool → Option Misfit
+rest_misfit line true true = None
+rest_misfit line true false = Some (record { line = line; rule = rules.Told })
+rest_misfit line false told = Some (record { line = line; rule = rules.Rest })
 
 -- the misfit of a line, by the first rule that it breaks
-abbrev pub misfit_by : Option Rule → Option ℕ → ℕ → Bool → Option Misfit
-misfit_by (Some rule) late line fits = Some (record { line = line; rule = rule })
-misfit_by None (Some late) line fits = Some (record { line = late; rule = rules.Exchange })
-misfit_by None None line fits = rest_misfit line fits
+abbrev pub misfit_by : Option Rule → Option ℕ → ℕ → Bool → Bool → Option Misfit
+misfit_by (Some rule) late line fits told = Some (record { line = line; rule = rule })
+misfit_by None (Some late) line fits told = Some (record { line = late; rule = rules.Exchange })
+misfit_by None None line fits told = rest_misfit line fits told
 
 -- where an event leaves the rules: by its own line, by a late exchange that it doesn't explain, or
 -- by what is known after it
 unfoldable pub told_misfit : Sight → ℕ → CpuId → Happening → Option Misfit
 told_misfit s line cpu h =
     misfit_by (fault_of s cpu h) (late_fault s cpu h) line (rest_fits (learned s line cpu h))
+    (told_fits (learned s line cpu h))
 
 -- ---- one line
 
 -- nothing is known
 abbrev pub no_sight : Sight
-no_sight = record { groups = []; cpus = [] }
+no_sight = record { groups = []; cpus = []; clock = None }
 
 -- the number of the CPU's last line
 abbrev pub noted : Sight → ℕ → CpuId → Sight
@@ -95,22 +98,14 @@ unfoldable pub seen_after : Sight → ℕ → Line → Sight
 seen_after s line Remark = s
 seen_after s line Loss = no_sight
 seen_after s line (Foreign cpu) = noted s line cpu
-seen_after s line (Told cpu h) = learned s line cpu h
+seen_after s line (Told cpu at h) = learned (timed s at) line cpu h
 
 -- the misfit of a line, if it has one
 unfoldable pub line_misfit : Sight → ℕ → Line → Option Misfit
 line_misfit s line Remark = None
 line_misfit s line Loss = None
 line_misfit s line (Foreign cpu) = None
-line_misfit s line (Told cpu h) = told_misfit s line cpu h
-
--- the most that is counted
-abbrev pub MOST : ℕ
-MOST = 18446744073709551615
-
--- one more, or the same at the end of the type
-abbrev pub counted : ℕ → ℕ
-counted n = if nat_lt n MOST then n + 1 else n
+line_misfit s line (Told cpu at h) = told_misfit (timed s at) line cpu h
 
 -- counted, or not
 abbrev pub counted_if : Bool → ℕ → ℕ
@@ -119,20 +114,20 @@ counted_if false n = n
 
 -- a line that tells an exchange
 abbrev pub is_exchange : Line → Bool
-is_exchange (Told cpu (Exchanged e)) = true
-is_exchange (Told cpu (GroupMade place)) = false
-is_exchange (Told cpu (GroupJoined child j)) = false
-is_exchange (Told cpu (CpuJoined joined j)) = false
-is_exchange (Told cpu (CpuTold t)) = false
-is_exchange (Told cpu (Updated u)) = false
-is_exchange (Told cpu (Handling group)) = false
+is_exchange (Told cpu at (Exchanged e)) = true
+is_exchange (Told cpu at (GroupMade place)) = false
+is_exchange (Told cpu at (GroupJoined child j)) = false
+is_exchange (Told cpu at (CpuJoined joined j)) = false
+is_exchange (Told cpu at (CpuTold t)) = false
+is_exchange (Told cpu at (Updated u)) = false
+is_exchange (Told cpu at (Handling group)) = false
 is_exchange Remark = false
 is_exchange Loss = false
 is_exchange (Foreign cpu) = false
 
 -- a line of timer migration
 abbrev pub is_told : Line → Bool
-is_told (Told cpu h) = true
+is_told (Told cpu at h) = true
 is_told Remark = false
 is_told Loss = false
 is_told (Foreign cpu) = false
@@ -142,11 +137,11 @@ abbrev pub is_loss_line : Line → Bool
 is_loss_line Loss = true
 is_loss_line Remark = false
 is_loss_line (Foreign cpu) = false
-is_loss_line (Told cpu h) = false
+is_loss_line (Told cpu at h) = false
 
 -- no walk is under way after a line of timer migration
 abbrev pub rests_after : Line → Sight → Bool
-rests_after (Told cpu h) s = at_rest s
+rests_after (Told cpu at h) s = at_rest s
 rests_after Remark s = false
 rests_after Loss s = false
 rests_after (Foreign cpu) s = false
@@ -159,13 +154,21 @@ tally_after t said s = record {
   exchanges = counted_if (is_exchange said) t.exchanges;
   rests = counted_if (rests_after said s) t.rests;
   losses = counted_if (is_loss_line said) t.losses;
+  answers = answers_if (rests_after said s) t.answers s;
 }
 
 -- ---- the trace
 
 -- nothing is counted
 abbrev pub no_tally : Tally
-no_tally = record { lines = 0; events = 0; exchanges = 0; rests = 0; losses = 0 }
+no_tally = record {
+  lines = 0;
+  events = 0;
+  exchanges = 0;
+  rests = 0;
+  losses = 0;
+  answers = no_answers;
+}
 
 -- before the first line
 abbrev pub start : Course

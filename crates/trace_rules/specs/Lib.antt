@@ -5,4 +5,7 @@ pub mod Walks
 pub mod Exchanges
 pub mod Cpus
 pub mod Rests
+pub mod Queues
+pub mod Told
 pub mod Judge
+pub mod Agrees

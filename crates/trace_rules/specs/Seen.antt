@@ -1,15 +1,18 @@
 -- what was seen of a machine so far
 use Rattle.std.specs.Prelude.{ℕ, ◌==◌, List, [], ◌∷◌, ◌++◌, Bool, false, find, position, slice_set}
-use Rattle.std.specs.Prelude.{Option, Some, None}
+use Rattle.std.specs.Prelude.{Option, Some, None, max}
 use Rattle.tm_base.specs.declared.names.CpuId.{CpuId}
 use Rattle.trace_rules.specs.declared.seen.GroupSeen.{GroupSeen}
 use Rattle.trace_rules.specs.declared.seen.CpuSeen.{CpuSeen}
 use Rattle.trace_rules.specs.declared.seen.Walk.TheVariants.{Unknown}
+use Rattle.trace_rules.specs.declared.seen.Run.TheVariants as runs
 
 -- the groups and CPUs of which something was seen
 pub record Sight : Type 0 where
   pub groups : List GroupSeen
   pub cpus : List CpuSeen
+  -- the latest time at the head of a line, in nanoseconds
+  pub clock : Option ℕ
 
 -- a group of which nothing is known
 abbrev pub unknown_group : ℕ → GroupSeen
@@ -21,6 +24,7 @@ unknown_group pointer = record {
   told = false;
   word = None;
   late = None;
+  event = None;
 }
 
 -- a CPU of which nothing is known
@@ -33,6 +37,11 @@ unknown_cpu cpu = record {
   active = None;
   walk = Unknown;
   last = 0;
+  run = runs.Unknown;
+  event = None;
+  timer = None;
+  wakeup = None;
+  first = None;
 }
 
 -- what is there, or else this
@@ -60,3 +69,13 @@ put_group gs g = put_at (position (λ h. h.pointer == g.pointer) gs) gs g
 -- a CPU likewise
 abbrev pub put_cpu : List CpuSeen → CpuSeen → List CpuSeen
 put_cpu cs c = put_at (position (λ d. d.cpu.0 == c.cpu.0) cs) cs c
+
+-- the later of two times
+abbrev pub later : Option ℕ → ℕ → ℕ
+later None at = at
+later (Some now) at = max now at
+
+-- the time at the head of a line is learned; a trace may have none
+unfoldable pub timed : Sight → Option ℕ → Sight
+timed s None = s
+timed s (Some at) = record s { clock = Some (later s.clock at) }

@@ -6,18 +6,20 @@ ghost use Rattle.trace_rules.specs.Cpus.{learned_cpu_link, learned_group_link, l
 ghost use Rattle.trace_rules.specs.Cpus.{moved};
 ghost use Rattle.trace_rules.specs.Cpus.{with_hung, with_leaf, with_link, with_named, with_writer};
 ghost use Rattle.trace_rules.specs.Cpus.{hung, is_elsewhere, is_level, must_rise, state_fault};
+ghost use Rattle.trace_rules.specs.Cpus.{first_seen, learned_update, with_first};
 ghost use Rattle.trace_rules.specs.Cpus.{update_fault, walk_told};
 
 use crate::Rule;
 use crate::exchanges::spot_of;
-use crate::seen::{CpuSeen, GroupSeen, Next, Seen, Spot, Walk};
+use crate::queues::{first_after, forget_hidden, learn_event, run_told, spoken, told_fault};
+use crate::seen::{CpuSeen, GroupSeen, Next, Run, Seen, Spot, Walk};
 use crate::tree::parent_fits;
 use crate::walks::{may_end, may_rest, quiet};
 use tm_base::{CpuId, NoMemory};
 use trace_lines::{CpuEvent, CpuKind, Joining, NO_EXPIRY, Place, Update};
 
 /// Whether a CPU is known to be awake.
-fn is_awake(active: Option<bool>) -> bool
+pub fn is_awake(active: Option<bool>) -> bool
     ensures { result ≡ is_awake active }
 {
     match active {
@@ -27,7 +29,7 @@ fn is_awake(active: Option<bool>) -> bool
 }
 
 /// Whether a CPU is known to sleep.
-fn is_asleep(active: Option<bool>) -> bool
+pub fn is_asleep(active: Option<bool>) -> bool
     ensures { result ≡ is_asleep active }
 {
     match active {
@@ -82,7 +84,10 @@ pub fn cpu_fault(seen: &Seen, own: CpuId, event: &CpuEvent) -> Option<Rule>
     if !is_elsewhere(event.kind) && event.cpu.0 != own.0 {
         return Some(Rule::Cpu);
     }
-    state_fault(event.kind, named.active, writer.walk)
+    if let Some(rule) = state_fault(event.kind, named.active, writer.walk) {
+        return Some(rule);
+    }
+    told_fault(seen.clock(), event, &named)
 }
 
 /// Whether the named CPU is awake after its event.
@@ -123,11 +128,12 @@ fn learn_named(seen: &mut Seen, event: &CpuEvent) -> Result<(), NoMemory>
     ensures { OnOk result (seen.new ≡ with_named seen.old event.now) }
 {
     let named = seen.cpu(event.cpu);
-    seen.put_cpu(CpuSeen {
+    let told = CpuSeen {
         leaf: Some(event.leaf),
         active: active_after(event.kind),
         ..named
-    })
+    };
+    seen.put_cpu(spoken(event, told))
 }
 
 /// Keeps what an event shows of the CPU that wrote its line.
@@ -139,6 +145,7 @@ fn learn_writer(seen: &mut Seen, line: u64, own: CpuId, event: &CpuEvent) -> Res
     seen.put_cpu(CpuSeen {
         walk: walk_told(event, writer.walk),
         last: line,
+        run: run_told(event),
         ..writer
     })
 }
@@ -161,8 +168,46 @@ pub fn move_on(seen: &mut Seen, line: u64, own: CpuId) -> Result<(), NoMemory>
     seen.put_cpu(CpuSeen {
         walk: quiet(writer.walk),
         last: line,
+        run: Run::Own,
         ..writer
     })
+}
+
+/// Keeps that a CPU went on in its walk or its run by an update, and the wakeup that it has found.
+#[tactic(auto, unfolding(crate::specs::Cpus::with_first))]
+fn learn_first(seen: &mut Seen, line: u64, own: CpuId, first: Option<u64>) -> Result<(), NoMemory>
+    ensures { OnOk result (seen.new ≡ with_first seen.old line own first) }
+{
+    let writer = seen.cpu(own);
+    seen.put_cpu(CpuSeen {
+        walk: quiet(writer.walk),
+        last: line,
+        first,
+        ..writer
+    })
+}
+
+/// The wakeup that a CPU's walk has found after its update.
+#[tactic(auto, unfolding(crate::specs::Cpus::first_seen))]
+fn first_seen(seen: &Seen, own: CpuId, update: &Update) -> Option<u64>
+    ensures { result ≡ first_seen seen.now own update.now }
+{
+    let writer = seen.cpu(own);
+    let group = seen.group(update.group);
+    first_after(writer.run, group.parent, update, writer.first)
+}
+
+/// Keeps what an update of a queue shows.
+#[tactic(auto, unfolding(crate::specs::Cpus::learned_update))]
+pub fn learn_update(seen: &mut Seen, line: u64, own: CpuId, update: &Update) -> Result<(), NoMemory>
+    ensures { OnOk result (seen.new ≡ learned_update seen.old line own update.now) }
+{
+    let run = seen.cpu(own).run;
+    let first = first_seen(seen, own, update);
+    learn_event(seen, run, own, update)?;
+    forget_hidden(seen, run, update.group)?;
+    learn_first(seen, line, own, first)?;
+    Ok(())
 }
 
 /// Whether a group's level is this, where it was seen.
@@ -250,6 +295,7 @@ fn learn_link(seen: &mut Seen, child: u64, joining: &Joining) -> Result<(), NoMe
         parent: Some(joining.parent.group),
         bit: Some(joining.bit),
         told: false,
+        event: None,
         ..group
     })
 }
@@ -269,6 +315,7 @@ fn learn_hung(
     seen.put_cpu(CpuSeen {
         walk: hung(child, joining),
         last: line,
+        run: Run::Own,
         ..writer
     })
 }
@@ -299,6 +346,7 @@ fn learn_leaf(seen: &mut Seen, cpu: CpuId, joining: &Joining) -> Result<(), NoMe
         leaf: Some(joining.parent.group),
         bit: Some(joining.bit),
         told: false,
+        event: None,
         ..known
     })
 }

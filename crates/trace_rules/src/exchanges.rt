@@ -9,7 +9,8 @@ ghost use Rattle.trace_rules.specs.Exchanges.{learned_child, learned_group, lear
 ghost use Rattle.trace_rules.specs.Exchanges.{source_seen, word_seen};
 
 use crate::Rule;
-use crate::seen::{CpuSeen, GroupSeen, Late, Seen, Spot, Word};
+use crate::queues::{event_after, first_begun};
+use crate::seen::{CpuSeen, GroupSeen, Late, Run, Seen, Spot, Word};
 use crate::tree::{bit_fits, cpus_free, groups_free, is_below, node_fits, parent_fits, spot_fits};
 use crate::walks::{allows, came_from, walk_after};
 use crate::words::{follows, state_of, word_after};
@@ -160,12 +161,14 @@ fn settled(group: GroupSeen, line: u64, cpu: CpuId, exchange: &Exchange) -> Grou
 }
 
 /// What is known of a group after an exchange on it.
+#[tactic(auto, unfolding(crate::specs::Exchanges::group_after))]
 fn group_after(group: GroupSeen, line: u64, cpu: CpuId, exchange: &Exchange) -> GroupSeen
     ensures { result ≡ group_after group line cpu exchange.now }
 {
     let placed = GroupSeen {
         spot: Some(spot_of(&exchange.place)),
         parent: Some(exchange.parent),
+        event: event_after(exchange, group.event),
         ..group
     };
     settled(placed, line, cpu, exchange)
@@ -213,6 +216,8 @@ fn cpu_after(own: CpuSeen, line: u64, before: Option<Word>, exchange: &Exchange)
     CpuSeen {
         walk: walk_after(before, exchange),
         last: line,
+        run: Run::Own,
+        first: first_begun(exchange, own.first),
         ..told
     }
 }

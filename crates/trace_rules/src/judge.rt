@@ -2,7 +2,7 @@
 
 ghost use Rattle.std.specs.Prelude.{◌≡◌, ◌↔◌, IfOk, OnOk, None};
 ghost use Rattle.text_words.specs.Words.{lines_of};
-ghost use Rattle.trace_rules.specs.Judge.{counted, counted_if, fault_of};
+ghost use Rattle.trace_rules.specs.Judge.{counted_if, fault_of, rest_misfit};
 ghost use Rattle.trace_rules.specs.Judge.{is_exchange, is_loss_line, is_told, judged, late_count};
 ghost use Rattle.trace_rules.specs.Judge.{late_fault, learned, line_misfit, rests_after};
 ghost use Rattle.trace_rules.specs.Judge.{seen_after};
@@ -10,15 +10,20 @@ ghost use Rattle.trace_rules.specs.Judge.{start, tally_after, text_after, text_v
 ghost use Rattle.trace_rules.specs.Judge.{told_misfit};
 ghost use Rattle.trace_rules.specs.Judge.{EachLineFits, IsFirstFault, IsFitting};
 ghost use Rattle.trace_rules.specs.Judge.{handling_fault, noted};
+ghost use Rattle.trace_rules.specs.Agrees.{EachRestAnswers};
 ghost use Rattle.trace_rules.specs.Cpus.{learned_place, moved};
+ghost use Rattle.trace_rules.specs.Rests.{rest_fits};
+ghost use Rattle.trace_rules.specs.Told.{told_fits};
 
 use crate::Rule;
 use crate::cpus::{
-    cpu_fault, learn_cpu, learn_cpu_link, learn_group_link, learn_place, move_on, update_fault,
+    cpu_fault, learn_cpu, learn_cpu_link, learn_group_link, learn_place, learn_update, move_on,
+    update_fault,
 };
 use crate::exchanges::{exchange_fault, late_line, learn_exchange};
 use crate::rests::{at_rest, rest_fits};
 use crate::seen::{CpuSeen, Seen};
+use crate::told::{Answers, answers_if, counted, no_answers, told_fits};
 use crate::tree::{cpu_joining_fault, group_joining_fault, spot_fits};
 use crate::walks::may_rest;
 use std::alloc::Global;
@@ -39,6 +44,8 @@ pub struct Tally {
     pub rests: u64,
     /// Places where lines were lost.
     pub losses: u64,
+    /// Who answered for what idle CPUs had told, at each rest.
+    pub answers: Answers,
 }
 
 /// Where a trace leaves the rules.
@@ -138,7 +145,8 @@ fn learn(seen: &mut Seen, line: u64, cpu: CpuId, happening: &Happening) -> Resul
         }
         Happening::Exchanged(exchange) => learn_exchange(seen, line, cpu, exchange),
         Happening::CpuTold(event) => learn_cpu(seen, line, cpu, event),
-        Happening::Updated(_) | Happening::Handling(_) => move_on(seen, line, cpu),
+        Happening::Updated(update) => learn_update(seen, line, cpu, update),
+        Happening::Handling(_) => move_on(seen, line, cpu),
     }
 }
 
@@ -162,11 +170,21 @@ fn take_told(
         return Ok(Some(Misfit { line: late, rule }));
     }
     learn(seen, line, cpu, happening)?;
-    if rest_fits(seen) {
-        Ok(None)
-    } else {
+    Ok(rest_misfit(seen, line))
+}
+
+/// Where a line leaves the rules by what is known after it.
+fn rest_misfit(seen: &Seen, line: u64) -> Option<Misfit>
+    ensures { result ≡ rest_misfit line (rest_fits seen.now) (told_fits seen.now) }
+{
+    if !rest_fits(seen) {
         let rule = Rule::Rest;
-        Ok(Some(Misfit { line, rule }))
+        Some(Misfit { line, rule })
+    } else if !told_fits(seen) {
+        let rule = Rule::Told;
+        Some(Misfit { line, rule })
+    } else {
+        None
     }
 }
 
@@ -199,15 +217,11 @@ fn take_line(
             note_line(seen, line, *cpu)?;
             Ok(None)
         }
-        Line::Told(cpu, happening) => take_told(seen, line, *cpu, happening),
+        Line::Told(cpu, at, happening) => {
+            seen.pass(*at);
+            take_told(seen, line, *cpu, happening)
+        }
     }
-}
-
-/// One more, or the same at the end of the type.
-fn counted(n: u64) -> u64
-    ensures { result ≡ counted n }
-{
-    if n < u64::MAX { n + 1 } else { n }
 }
 
 fn counted_if(counts: bool, n: u64) -> u64
@@ -220,7 +234,7 @@ fn is_exchange(said: &Line) -> bool
     ensures { result ≡ is_exchange said.now }
 {
     match said {
-        Line::Told(_, happening) => match happening {
+        Line::Told(_, _, happening) => match happening {
             Happening::Exchanged(_) => true,
             _ => false,
         },
@@ -232,7 +246,7 @@ fn is_told(said: &Line) -> bool
     ensures { result ≡ is_told said.now }
 {
     match said {
-        Line::Told(_, _) => true,
+        Line::Told(_, _, _) => true,
         _ => false,
     }
 }
@@ -250,7 +264,7 @@ fn rests_after(said: &Line, seen: &Seen) -> bool
     ensures { result ≡ rests_after said.now seen.now }
 {
     match said {
-        Line::Told(_, _) => at_rest(seen),
+        Line::Told(_, _, _) => at_rest(seen),
         _ => false,
     }
 }
@@ -266,6 +280,7 @@ fn tally_after(tally: Tally, said: &Line, seen: &Seen) -> Tally
         exchanges: counted_if(is_exchange(said), tally.exchanges),
         rests: counted_if(rests_after(said, seen), tally.rests),
         losses: counted_if(is_loss_line(said), tally.losses),
+        answers: answers_if(rests_after(said, seen), tally.answers, seen),
     }
 }
 
@@ -307,6 +322,7 @@ fn judge_lines(alloc: Global, bytes: &[u8]) -> Result<Verdict, NoMemory>
             exchanges: 0,
             rests: 0,
             losses: 0,
+            answers: no_answers(),
         },
     };
     let mut rest = bytes;
@@ -329,6 +345,7 @@ pub fn check_trace(alloc: Global, bytes: &[u8]) -> Result<Verdict, NoMemory>
     ensures exact { IfOk result (λ v. v ≡ judged start (lines_of bytes.now)) }
     ensures fits { IfOk result (λ v. IsFitting v ↔ EachLineFits bytes.now) }
     ensures first { IfOk result (λ v. (IsFitting v → ⊥) → IsFirstFault bytes.now v) }
+    ensures answered { IfOk result (λ v. IsFitting v → EachRestAnswers bytes.now) }
 {
     let verdict = judge_lines(alloc, bytes)?;
     Ok(verdict)

@@ -6,15 +6,18 @@
 pub mod cpus;
 pub mod exchanges;
 pub mod judge;
+pub mod queues;
 pub mod rests;
 mod rules;
 pub mod seen;
+pub mod told;
 pub mod tree;
 pub mod walks;
 pub mod words;
 
 pub use judge::{Course, Misfit, Tally, Verdict, check_trace};
 pub use rules::Rule;
+pub use told::{Answer, Answers};
 
 #[cfg(test)]
 mod tests;

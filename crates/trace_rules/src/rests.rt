@@ -10,7 +10,7 @@ use crate::seen::{CpuSeen, GroupSeen, Seen, Word};
 use crate::walks::is_open;
 
 /// A group's word, where no exchange of it is late.
-fn known_word(group: &GroupSeen) -> Option<Word>
+pub fn known_word(group: &GroupSeen) -> Option<Word>
     ensures { result ≡ known_word group.now }
 {
     match group.late {

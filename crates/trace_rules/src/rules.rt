@@ -19,10 +19,14 @@ pub enum Rule {
     /// A CPU wakes where it sleeps and falls asleep where it is awake; only a sleeping CPU's timers
     /// are run by others.
     Cpu,
-    /// An event is stored for a sleeping child alone; it is the child's first, and no earlier than
-    /// the group's.
+    /// An event is stored for a sleeping child alone; it is the child's first, at a leaf what the CPU
+    /// tells, and no earlier than the group's.
     Event,
+    /// An idle CPU keeps the first event of a sleeping top to which its walk has come, or none.
+    Wakeup,
     /// While no walk is under way, a group's bit in its parent says whether it is active, and a
     /// CPU's bit in its leaf whether it is.
     Rest,
+    /// While no walk is under way, each idle CPU's told expiry that is to come is answered for.
+    Told,
 }

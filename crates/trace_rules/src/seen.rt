@@ -1,7 +1,7 @@
 //! What was seen of a machine so far. Each answer may be unknown.
 
-ghost use Rattle.std.specs.Prelude.{◌≡◌, ◌==◌, ◌<◌, [], length, position, find, IfSome, OnOk};
-ghost use Rattle.trace_rules.specs.Seen.{cpu_at, group_at, put_cpu, put_group};
+ghost use Rattle.std.specs.Prelude.{◌≡◌, ◌==◌, ◌<◌, [], length, position, find, IfSome, None, OnOk};
+ghost use Rattle.trace_rules.specs.Seen.{cpu_at, group_at, later, put_cpu, put_group, timed};
 ghost use Rattle.trace_rules.specs.Seen.{unknown_cpu, unknown_group};
 
 use std::alloc::Global;
@@ -52,6 +52,9 @@ pub struct GroupSeen {
     /// Its state, before the late exchange where there is one.
     pub word: Option<Word>,
     pub late: Option<Late>,
+    /// The expiry of its event in its parent (`groupevt`); `NO_EXPIRY` where there is none or it is
+    /// ignored.
+    pub event: Option<u64>,
 }
 
 /// Where a walk may go on.
@@ -82,6 +85,17 @@ pub enum Walk {
     Hung(Next),
 }
 
+/// Whose timers a CPU runs.
+#[derive(Clone, Copy)]
+pub enum Run {
+    /// The trace began, or lines were lost, since its last line.
+    Unknown,
+    /// None but its own.
+    Own,
+    /// Those of this CPU (`tmigr_handle_remote_cpu`).
+    Of(CpuId),
+}
+
 /// What was seen of a CPU.
 #[derive(Clone, Copy)]
 pub struct CpuSeen {
@@ -95,6 +109,18 @@ pub struct CpuSeen {
     pub walk: Walk,
     /// The number of its last line.
     pub last: u64,
+    /// Whose timers it runs.
+    pub run: Run,
+    /// The expiry of its event in its leaf (`cpuevt`); `NO_EXPIRY` where there is none or it is
+    /// ignored.
+    pub event: Option<u64>,
+    /// The first expiry that it told and that stands for it while it sleeps; `NO_EXPIRY` for none.
+    pub timer: Option<u64>,
+    /// The wakeup that it keeps for the hierarchy; `NO_EXPIRY` for none.
+    pub wakeup: Option<u64>,
+    /// The wakeup that its walk has found: the first event of a sleeping top to which it came, or
+    /// `NO_EXPIRY`.
+    pub first: Option<u64>,
 }
 
 /// A group of which nothing was seen.
@@ -109,6 +135,7 @@ pub fn unknown_group(pointer: u64) -> GroupSeen
         told: false,
         word: None,
         late: None,
+        event: None,
     }
 }
 
@@ -124,6 +151,11 @@ pub fn unknown_cpu(cpu: CpuId) -> CpuSeen
         active: None,
         walk: Walk::Unknown,
         last: 0,
+        run: Run::Unknown,
+        event: None,
+        timer: None,
+        wakeup: None,
+        first: None,
     }
 }
 
@@ -132,6 +164,7 @@ pub fn unknown_cpu(cpu: CpuId) -> CpuSeen
 pub struct Seen {
     groups: Vec<GroupSeen>,
     cpus: Vec<CpuSeen>,
+    clock: Option<u64>,
 }
 
 impl Model for Seen {
@@ -139,7 +172,17 @@ impl Model for Seen {
 
     ghost Value = { Sight };
 
-    ghost view = { λ s. record { groups = s.groups.items; cpus = s.cpus.items } };
+    ghost view = { λ s. record { groups = s.groups.items; cpus = s.cpus.items; clock = s.clock } };
+}
+
+/// The later of two times.
+fn later(now: Option<u64>, at: u64) -> u64
+    ensures { result ≡ later now at }
+{
+    match now {
+        Some(time) => time.max(at),
+        None => at,
+    }
 }
 
 fn find_group(groups: &[GroupSeen], pointer: u64) -> Option<GroupSeen>
@@ -191,11 +234,12 @@ fn put_cpu(cpus: &mut Vec<CpuSeen>, cpu: CpuSeen) -> Result<(), NoMemory>
 impl Seen {
     /// Nothing yet; takes no memory.
     pub fn new(alloc: Global) -> Seen
-        ensures { result ≡ record { groups = []; cpus = [] } }
+        ensures { result ≡ record { groups = []; cpus = []; clock = None } }
     {
         Seen {
             groups: Vec::new(alloc),
             cpus: Vec::new(alloc),
+            clock: None,
         }
     }
 
@@ -211,6 +255,23 @@ impl Seen {
         ensures { result.now ≡ self.now.cpus }
     {
         self.cpus.as_slice()
+    }
+
+    /// The latest time at the head of a line, in nanoseconds.
+    pub fn clock(&self) -> Option<u64>
+        ensures { result ≡ self.now.clock }
+    {
+        self.clock
+    }
+
+    /// Keeps the time at the head of a line.
+    #[tactic(auto, unfolding(crate::specs::Seen::timed))]
+    pub fn pass(&mut self, at: Option<u64>)
+        ensures { self.new ≡ timed self.old at }
+    {
+        if let Some(time) = at {
+            self.clock = Some(later(self.clock, time));
+        }
     }
 
     /// What was seen of a group.

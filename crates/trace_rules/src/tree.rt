@@ -88,13 +88,15 @@ pub fn bit_fits(known: Option<u8>, bit: u8) -> bool
     }
 }
 
-fn group_stands(group: &GroupSeen, parent: u64, bit: u8) -> bool
+/// Whether a group hangs below this parent, by this number.
+pub fn group_stands(group: &GroupSeen, parent: u64, bit: u8) -> bool
     ensures { result ≡ group_stands group.now parent bit }
 {
     same_pointer(group.parent, Some(parent)) && same_number(group.bit, Some(bit))
 }
 
-fn cpu_stands(cpu: &CpuSeen, leaf: u64, bit: u8) -> bool
+/// Whether a CPU hangs below this leaf, by this number.
+pub fn cpu_stands(cpu: &CpuSeen, leaf: u64, bit: u8) -> bool
     ensures { result ≡ cpu_stands cpu.now leaf bit }
 {
     same_pointer(cpu.leaf, Some(leaf)) && same_number(cpu.bit, Some(bit))

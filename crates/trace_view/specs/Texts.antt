@@ -7,8 +7,9 @@ use Rattle.trace_lines.specs.declared.faults.LineFault.TheVariants.{BadNumber, O
 use Rattle.trace_lines.specs.declared.faults.LineFault.TheVariants.{HiddenPointer}
 use Rattle.trace_rules.specs.declared.rules.Rule.{Rule}
 use Rattle.trace_rules.specs.declared.rules.Rule.TheVariants.{Group, Tree, Node, Walk, Exchange}
-use Rattle.trace_rules.specs.declared.rules.Rule.TheVariants.{Cpu, Event, Rest}
+use Rattle.trace_rules.specs.declared.rules.Rule.TheVariants.{Cpu, Event, Wakeup, Rest, Told}
 use Rattle.trace_rules.specs.declared.judge.Tally.{Tally}
+use Rattle.trace_rules.specs.declared.told.Answers.{Answers}
 use Rattle.trace_rules.specs.declared.judge.Misfit.{Misfit}
 use Rattle.trace_rules.specs.declared.judge.Verdict.{Verdict}
 use Rattle.trace_rules.specs.declared.judge.Verdict.TheVariants.{Fits, Broken, NoTrace}
@@ -39,6 +40,10 @@ rule_text Exchange =
 rule_text Cpu =
     codes "a CPU wakes where it sleeps, and only a sleeping one is run elsewhere"
 rule_text Event = codes "an event is the first of a sleeping child (tmigr_update_events)"
+rule_text Wakeup =
+    codes "an idle CPU wakes for the first event of a sleeping top (tmigr_next_groupevt_expires)"
+rule_text Told =
+    codes "each idle CPU's told timer is answered for (tmigr_update_events, tmigr_inactive_up)"
 rule_text Rest = codes "with no walk under way a child's bit says whether it is active"
 
 -- why a line is no line of a trace
@@ -61,11 +66,18 @@ tally_text t =
     ++ count_text (codes " exchanges ") t.exchanges ++ count_text (codes " rests ") t.rests
     ++ count_text (codes " losses ") t.losses
 
+-- who answered for what was told
+unfoldable pub answers_text : Answers → List ℕ
+answers_text a =
+    count_text (codes "\ntold: held ") a.held ++ count_text (codes " woken ") a.woken
+    ++ count_text (codes " itself ") a.itself ++ count_text (codes " open ") a.unsure
+    ++ count_text (codes " due ") a.due
+
 -- the text of a trace that fits
 unfoldable pub fits_text : Tally → ℕ → List ℕ
 fits_text t late =
-    tally_text t ++ count_text (codes "\nopen: late exchanges ") late
-    ++ codes "\nnot checked: what queues hold, wakeups, timers, times\n"
+    tally_text t ++ answers_text t.answers ++ count_text (codes "\nopen: late exchanges ") late
+    ++ codes "\nnot checked: remote runs, timers, times\n"
 
 -- .. of one that breaks a rule
 unfoldable pub broken_text : Misfit → List ℕ

@@ -2,7 +2,7 @@
 
 ghost use Rattle.std.specs.Prelude.{◌≡◌, ◌++◌, codes, IfOk, OnOk};
 ghost use Rattle.std.specs.Fmt.{decimal};
-ghost use Rattle.trace_view.specs.Texts.{broken_text, count_text, fault_text, fits_text};
+ghost use Rattle.trace_view.specs.Texts.{answers_text, broken_text, count_text, fault_text, fits_text};
 ghost use Rattle.trace_view.specs.Texts.{no_trace_text, read_fault_line, too_long_line};
 ghost use Rattle.trace_view.specs.Texts.{rule_text, tally_text, usage_line, verdict_text};
 
@@ -10,7 +10,7 @@ use std::alloc::Global;
 use text_words::{push_bytes, push_number};
 use tm_base::NoMemory;
 use trace_lines::LineFault;
-use trace_rules::{Misfit, Rule, Tally, Verdict};
+use trace_rules::{Answers, Misfit, Rule, Tally, Verdict};
 
 /// How the program is used.
 pub fn usage_text() -> &'static [u8]
@@ -47,6 +47,10 @@ fn rule_text(rule: Rule) -> &'static [u8]
               tmigr_inactive_up)",
         Rule::Cpu => b"a CPU wakes where it sleeps, and only a sleeping one is run elsewhere",
         Rule::Event => b"an event is the first of a sleeping child (tmigr_update_events)",
+        Rule::Wakeup => b"an idle CPU wakes for the first event of a sleeping top \
+              (tmigr_next_groupevt_expires)",
+        Rule::Told => b"each idle CPU's told timer is answered for (tmigr_update_events, \
+              tmigr_inactive_up)",
         Rule::Rest => b"with no walk under way a child's bit says whether it is active",
     }
 }
@@ -89,17 +93,28 @@ fn push_tally(text: &mut Vec<u8>, tally: Tally) -> Result<(), NoMemory>
     Ok(())
 }
 
+/// Who answered for what was told.
+#[tactic(auto, using(std::proofs::lemmas::List::append_assoc), unfolding(crate::specs::Texts::answers_text))]
+fn push_answers(text: &mut Vec<u8>, answers: Answers) -> Result<(), NoMemory>
+    ensures { OnOk result (text.new.items ≡ text.old.items ++ answers_text answers) }
+{
+    push_count(text, b"\ntold: held ", answers.held)?;
+    push_count(text, b" woken ", answers.woken)?;
+    push_count(text, b" itself ", answers.itself)?;
+    push_count(text, b" open ", answers.unsure)?;
+    push_count(text, b" due ", answers.due)?;
+    Ok(())
+}
+
 /// The text of a trace that fits.
 #[tactic(auto, using(std::proofs::lemmas::List::append_assoc), unfolding(crate::specs::Texts::fits_text))]
 fn push_fits(text: &mut Vec<u8>, tally: Tally, late: u64) -> Result<(), NoMemory>
     ensures { OnOk result (text.new.items ≡ text.old.items ++ fits_text tally late) }
 {
     push_tally(text, tally)?;
+    push_answers(text, tally.answers)?;
     push_count(text, b"\nopen: late exchanges ", late)?;
-    push_bytes(
-        text,
-        b"\nnot checked: what queues hold, wakeups, timers, times\n",
-    )?;
+    push_bytes(text, b"\nnot checked: remote runs, timers, times\n")?;
     Ok(())
 }
 

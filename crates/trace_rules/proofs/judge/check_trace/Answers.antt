@@ -1,4 +1,5 @@
 use Rattle.text_words.specs.Words.{lines_of}
+use Rattle.trace_rules.proofs.Answered.{answers_law}
 use Rattle.trace_rules.proofs.Verdicts.{first_law, fits_law}
 use Rattle.trace_rules.proofs.judge.check_trace.Goals as goal
 
@@ -9,3 +10,7 @@ returns-clause-fits c =
 pub returns-clause-first : goal.returns-clause-first
 returns-clause-first c =
     first_law (lines_of c.args.bytes.now) c.in_ok-verdict.verdict c.in_ok-verdict.ensures
+
+pub returns-clause-answered : goal.returns-clause-answered
+returns-clause-answered c =
+    answers_law (lines_of c.args.bytes.now) c.in_ok-verdict.verdict c.in_ok-verdict.ensures
