@@ -1,17 +1,17 @@
 -- a device's queue, as a CPU falls asleep, rises or is woken
-use Rattle.std.proofs.Common.{◌≡◌, ◌≢◌, ℕ, zero, suc, ◌+◌, ◌-◌, ◌<◌, ◌≤◌, min, Bool, true, false}
+use Rattle.std.proofs.Common.{◌≡◌, ◌≢◌, ℕ, zero, suc, ◌-◌, ◌<◌, ◌≤◌, min}
 use Rattle.std.proofs.Common.{List, [], ◌∷◌, ◌++◌, Option, Some, None, length, refl, sym, ap, ◌∙◌}
-use Rattle.std.proofs.Common.{subst, ◌⊎◌, inl, inr, arith, get_or, take, drop, drop-cons}
-use Rattle.std.specs.Prelude.{◌==◌, map, nat_le, slice_set, if◌then◌else◌}
+use Rattle.std.proofs.Common.{subst, inl, inr, arith, get_or, take, drop, drop-cons}
+use Rattle.std.specs.Prelude.{◌==◌, slice_set}
 use Rattle.std.proofs.lemmas.Bool.{cases_Bool, cases_lt, eqb-true, eqb-false}
 use Rattle.std.proofs.lemmas.List.{get_or-set_same, get_or-set_other, get_or_past, length-set}
 use Rattle.std.proofs.lemmas.List.{take-append-drop}
 use Rattle.std.proofs.lemmas.Option.{none-some, same_Some, slice_get-get_or}
 use Rattle.tm_base.specs.declared.names.TheConstants.{NEVER}
 use Rattle.deep_idle.specs.declared.order.Sleeper.{Sleeper}
-use Rattle.deep_idle.specs.Device.{DeviceLaw, asleep_still, is_due, least_wakeup, sooner}
-use Rattle.deep_idle.specs.Order.{After, AreDescending, AreDistinct, Each, IsIn, IsKept, IsQueueOf}
-use Rattle.deep_idle.specs.Order.{Lacks, NotAfter, NotBefore, Sleeps, first_wakeup, last_wakeup}
+use Rattle.deep_idle.specs.Device.{DeviceLaw, least_wakeup}
+use Rattle.deep_idle.specs.Order.{After, AreDescending, Each, IsIn, IsKept, IsQueueOf}
+use Rattle.deep_idle.specs.Order.{NotAfter, NotBefore, Sleeps, first_wakeup, last_wakeup}
 use Rattle.deep_idle.proofs.Queues.{descending_out, descending_put, distinct_out, distinct_put}
 use Rattle.deep_idle.proofs.Queues.{each_is, each_out, each_put, each_sleeps, lacks_all, last_least}
 use Rattle.deep_idle.proofs.Queues.{not_both, sleeps_here, sleeps_out, sleeps_put}

@@ -1,8 +1,8 @@
 -- queues of sleepers, as one comes or goes in the middle
-use Rattle.std.proofs.Common.{◌≡◌, ◌≢◌, ℕ, zero, suc, ◌+◌, ◌<◌, ◌≤◌, List, [], ◌∷◌, ◌++◌, length}
-use Rattle.std.proofs.Common.{refl, sym, ap, ◌∙◌, subst, ◌⊎◌, inl, inr, arith}
+use Rattle.std.proofs.Common.{◌≡◌, ℕ, ◌≤◌, List, [], ◌∷◌, ◌++◌}
+use Rattle.std.proofs.Common.{refl, sym, subst, ◌⊎◌, inl, inr, arith}
 use Rattle.deep_idle.specs.declared.order.Sleeper.{Sleeper}
-use Rattle.deep_idle.specs.Order.{After, AreDescending, AreDistinct, Each, Lacks, NotAfter}
+use Rattle.deep_idle.specs.Order.{AreDescending, AreDistinct, Each, Lacks, NotAfter}
 use Rattle.deep_idle.specs.Order.{NotBefore, Sleeps, last_wakeup}
 
 pub each_put : (P : Sleeper → Type 0) (front back : List Sleeper) (s : Sleeper)

@@ -1,10 +1,9 @@
 -- for crates above: after settling the sleepers are exactly the CPUs that are wanted
-use Rattle.std.proofs.Common.{◌≡◌, ◌≢◌, ℕ, zero, suc, ◌<◌, ◌≤◌, Bool, true, false, Option, Some, None}
+use Rattle.std.proofs.Common.{◌≡◌, ◌≢◌, ℕ, zero, suc, ◌<◌, ◌≤◌, true, false, Option, Some, None}
 use Rattle.std.proofs.Common.{length, refl, sym, ap, ◌∙◌, inl, inr, arith}
-use Rattle.std.specs.Prelude.{slice_set, if◌then◌else◌, ◌==◌}
 use Rattle.std.proofs.lemmas.Bool.{both_ways, cases_Bool, cases_eq, eqb-true}
 use Rattle.std.proofs.lemmas.List.{get_or-set_same, get_or-set_other, length-set}
-use Rattle.deep_idle.specs.Device.{AreSettled, DeviceState, asleep, is_same, risen, rose, settled}
+use Rattle.deep_idle.specs.Device.{AreSettled, DeviceState, asleep, is_same, risen, settled}
 use Rattle.deep_idle.specs.Device.{settled_one, sleeper_of, wanted}
 
 same_is : (one other : Option ℕ) → is_same one other ≡ true → one ≡ other

@@ -1,19 +1,18 @@
 -- waking the sleepers that are due, one a round
-use Rattle.std.proofs.Common.{◌≡◌, ◌≢◌, ℕ, zero, suc, ◌<◌, ◌≤◌, Bool, true, false, List, [], ◌∷◌}
+use Rattle.std.proofs.Common.{◌≡◌, ℕ, zero, suc, ◌<◌, ◌≤◌, Bool, true, false, List, [], ◌∷◌}
 use Rattle.std.proofs.Common.{◌++◌, Option, Some, None, length, refl, sym, ap, ◌∙◌, subst, ◌⊎◌, inl}
 use Rattle.std.proofs.Common.{inr, arith, get_or, rules}
 use Rattle.std.specs.Prelude.{◌==◌, ◌||◌, map, nat_le, slice_set, if◌then◌else◌}
 use Rattle.std.specs.FinSet.{contains, contains-empty, contains-insert, empty, insert}
 use Rattle.std.specs.Ordering.{nat_cmp}
 use Rattle.std.specs.Cmp.{nat_cmp_total, unsigned_tied}
-use Rattle.std.proofs.lemmas.Bool.{cases_Bool, eqb-true, eqb-false, eq-eqb, ne_eqb}
+use Rattle.std.proofs.lemmas.Bool.{cases_Bool, eqb-true, eqb-false}
 use Rattle.std.proofs.lemmas.List.{append-nil, get_or-set_same, get_or-set_other, length-set}
-use Rattle.std.proofs.lemmas.Option.{none-some}
 use Rattle.tm_base.specs.CpuSet.{Cpus}
 use Rattle.tm_base.specs.declared.limits.TheConstants.{CPU_SET_SIZE}
 use Rattle.deep_idle.specs.declared.order.Sleeper.{Sleeper}
 use Rattle.deep_idle.specs.Device.{asleep_still, is_due}
-use Rattle.deep_idle.specs.Order.{After, Each, IsQueueOf, Sleeps, first_wakeup}
+use Rattle.deep_idle.specs.Order.{After, IsQueueOf, first_wakeup}
 use Rattle.deep_idle.proofs.Kept.{first_bounds, rose_queue, sleeps_within}
 use Rattle.deep_idle.proofs.Queues.{each_is, each_sleeps, sleeps_here}
 
