@@ -172,8 +172,8 @@ module _ (timers cpus levels end : ℕ) (in_time : end < SCRIPT_TIME_LIMIT) wher
     no_successor = λ now c s low hands none was. was;
     handed_on = λ now c d s low hands is was. alike now s (woken s d) (woken_alike s d) was;
     controlling = λ now from d s low offline is was. (
-        alike now s (controlling s d) (controlling_alike s d) was,
-        controls now d s is was,
+      alike now s (controlling s d) (controlling_alike s d) was,
+      controls now d s is was,
     );
     moved = λ now from to n s m low is was. (moves_at now from to s m low is was.0, was.1);
     moved_none = λ now from to n s low none was. was.0;

@@ -1,5 +1,5 @@
 -- the lines of a report against the CPUs' journals: what both tell of timers
-use Rattle.std.specs.Prelude.{◌≡◌, ℕ, ◌<◌, List, [], ◌∷◌, ◌++◌, Bool, true, false, ◌==◌, filter}
+use Rattle.std.specs.Prelude.{◌≡◌, ℕ, List, [], ◌∷◌, ◌++◌, Bool, true, false, ◌==◌, filter}
 use Rattle.std.specs.Prelude.{flat_map, take}
 use Rattle.tm_base.specs.declared.names.Class.{Class}
 use Rattle.tm_script.specs.declared.syntax.Script.{Script}
@@ -13,7 +13,7 @@ use Rattle.cpu_bases.specs.declared.entry.Act.TheVariants as acts
 use Rattle.cpu_bases.specs.declared.entry.Entry.{Entry}
 use Rattle.play_rules.specs.Interrupts.{Replies}
 use Rattle.play_rules.specs.Moments.{last_state, turn_lines}
-use Rattle.play_rules.specs.State.{State, cpu_count}
+use Rattle.play_rules.specs.State.{State}
 use Rattle.play_rules.specs.Timers.{bases_at}
 use Rattle.play_rules.specs.Play.{play_start, play_turns}
 
@@ -89,7 +89,7 @@ abbrev pub is_of : (timer : ℕ) → Deed → Bool
 is_of timer told = timer_of told == timer
 
 -- these lines tell of each CPU's timers what its journal tells, of what passes a test: the same, as
--- often, and in the same order
+-- often, and in the same order. Of a CPU that isn't there they tell nothing
 abbrev pub TellSame : (Deed → Bool) → List Line → State → Type 0
 TellSame passes ls s = (c : ℕ)
     → filter passes (by_lines c ls) ≡ filter passes (by_journal (bases_at s c).journal)
