@@ -1,4 +1,5 @@
-ghost use Rattle.std.specs.Prelude.{◌≡◌};
+ghost use Rattle.std.specs.Prelude.{◌≡◌, ◌≤◌};
+ghost use Rattle.tm_base.specs.declared.limits.TheConstants.{MOST_NODE_CPUS};
 
 use super::*;
 use core_state::{Core, one_node_core};
@@ -30,19 +31,32 @@ fn arm(cpu: u16) -> Step {
     }
 }
 
+/// Makes steps, which has to answer as wanted. What a test knows of the core afterwards it reads.
+fn make(
+    rt: &impl Abort,
+    core: &mut Core<ListBase>,
+    steps: &[Step],
+    wanted: Result<(), StepsFault>,
+) {
+    assert_eq!(rt; run_steps(core, steps), wanted);
+}
+
+/// The core of one node, of which nothing is known but what a test reads.
+fn node_core(alloc: Global, cpus: u8, timers: u16) -> Result<Core<ListBase>, NoMemory>
+    requires some { 1 ≤ cpus }
+    requires few { cpus ≤ MOST_NODE_CPUS }
+{
+    one_node_core(alloc, cpus, timers)
+}
+
 fn check_group(rt: &impl Abort, core: &Core<ListBase>, g: u16, active: u8, migrator: Option<u8>) {
     assert!(rt; g < core.tree().group_count());
     assert_eq!(rt; core.active(GroupId(g)), active, "of group {g}");
     assert_eq!(rt; core.migrator(GroupId(g)), migrator, "of group {g}");
 }
 
-// CPU 9 idles; CPU 8 idles after it and climbs, up to its exchange at the top; CPU 9 wakes, which
-// makes that reading of the top stale; so CPU 8's exchange fails, and its next one finds its group
-// active. The row and what it leaves are those that are computed from the definitions.
-#[test]
-fn a_stale_exchange_fails(rt: HostRuntime) -> Result<(), Fail> {
-    let mut core = one_node_core(rt.alloc(), 10, 0)?;
-    let mut steps = Vec::new(rt.alloc());
+fn stale_steps(alloc: Global) -> Result<Vec<Step>, NoMemory> {
+    let mut steps = Vec::new(alloc);
     steps.push(Step::Idle { cpu: CpuId(9) })?;
     add_walks(&mut steps, 8, 9)?;
     steps.push(Step::Idle { cpu: CpuId(8) })?;
@@ -50,7 +64,17 @@ fn a_stale_exchange_fails(rt: HostRuntime) -> Result<(), Fail> {
     steps.push(Step::Wake { cpu: CpuId(9) })?;
     add_walks(&mut steps, 4, 9)?;
     add_walks(&mut steps, 3, 8)?;
-    assert_eq!(&rt; run_steps(&mut core, steps.as_slice()), Ok(()));
+    Ok(steps)
+}
+
+// CPU 9 idles; CPU 8 idles after it and climbs, up to its exchange at the top; CPU 9 wakes, which
+// makes that reading of the top stale; so CPU 8's exchange fails, and its next one finds its group
+// active. The row and what it leaves are those that are computed from the definitions.
+#[test]
+fn a_stale_exchange_fails(rt: HostRuntime) -> Result<(), Fail> {
+    let mut core = node_core(rt.alloc(), 10, 0)?;
+    let steps = stale_steps(rt.alloc())?;
+    make(&rt, &mut core, steps.as_slice(), Ok(()));
     check_group(&rt, &core, 1, 2, Some(1));
     check_group(&rt, &core, 2, 3, Some(0));
     assert!(&rt; 8 < core.tree().cpu_count());
@@ -63,20 +87,25 @@ fn a_stale_exchange_fails(rt: HostRuntime) -> Result<(), Fail> {
     Ok(())
 }
 
+fn lost_steps(alloc: Global) -> Result<Vec<Step>, NoMemory> {
+    let mut steps = Vec::new(alloc);
+    steps.push(Step::Idle { cpu: CpuId(8) })?;
+    add_walks(&mut steps, 2, 8)?;
+    steps.push(Step::Idle { cpu: CpuId(9) })?;
+    add_walks(&mut steps, 3, 9)?;
+    add_walks(&mut steps, 1, 8)?;
+    Ok(steps)
+}
+
 // Two CPUs of a leaf idle at once. CPU 8 has read the leaf's word and its own when CPU 9 makes its
 // exchange there; so the exchange of CPU 8 fails, and it stands at its own word again, still active
 // in its leaf. Two steps later it has made its exchange, and stands before the leaf's lock. The row
 // is worked by hand from the stages of a deactivation.
 #[test]
 fn a_stale_exchange_leaves_the_word_and_reads_again(rt: HostRuntime) -> Result<(), Fail> {
-    let mut core = one_node_core(rt.alloc(), 10, 0)?;
-    let mut steps = Vec::new(rt.alloc());
-    steps.push(Step::Idle { cpu: CpuId(8) })?;
-    add_walks(&mut steps, 2, 8)?;
-    steps.push(Step::Idle { cpu: CpuId(9) })?;
-    add_walks(&mut steps, 3, 9)?;
-    add_walks(&mut steps, 1, 8)?;
-    assert_eq!(&rt; run_steps(&mut core, steps.as_slice()), Ok(()));
+    let mut core = node_core(rt.alloc(), 10, 0)?;
+    let steps = lost_steps(rt.alloc())?;
+    make(&rt, &mut core, steps.as_slice(), Ok(()));
     check_group(&rt, &core, 1, 1, Some(0));
     assert!(&rt; 8 < core.tree().cpu_count());
     let reads_again = match core.walk(CpuId(8)) {
@@ -85,7 +114,7 @@ fn a_stale_exchange_leaves_the_word_and_reads_again(rt: HostRuntime) -> Result<(
     };
     assert_eq!(&rt; reads_again, true);
     let more = [Step::Walk { cpu: CpuId(8) }, Step::Walk { cpu: CpuId(8) }];
-    assert_eq!(&rt; run_steps(&mut core, more.as_slice()), Ok(()));
+    make(&rt, &mut core, more.as_slice(), Ok(()));
     check_group(&rt, &core, 1, 0, None);
     assert!(&rt; 8 < core.tree().cpu_count());
     let waits = match core.walk(CpuId(8)) {
@@ -99,34 +128,43 @@ fn a_stale_exchange_leaves_the_word_and_reads_again(rt: HostRuntime) -> Result<(
 // An active CPU isn't woken.
 #[test]
 fn a_step_that_is_not_enabled_is_named(rt: HostRuntime) -> Result<(), Fail> {
-    let mut core = one_node_core(rt.alloc(), 10, 0)?;
+    let mut core = node_core(rt.alloc(), 10, 0)?;
     let steps = [Step::Wake { cpu: CpuId(0) }];
-    assert_eq!(&rt;
-        run_steps(&mut core, steps.as_slice()),
-        Err(StepsFault::NotEnabled { index: 0 })
+    make(
+        &rt,
+        &mut core,
+        steps.as_slice(),
+        Err(StepsFault::NotEnabled { index: 0 }),
     );
     Ok(())
+}
+
+fn leaving_steps(alloc: Global) -> Result<Vec<Step>, NoMemory> {
+    let mut steps = Vec::new(alloc);
+    steps.push(Step::Offline { cpu: CpuId(0) })?;
+    add_walks(&mut steps, 8, 0)?;
+    Ok(steps)
 }
 
 // Of two placed CPUs the first goes offline, so the other one may not; once the first is online
 // again, the other may.
 #[test]
 fn the_last_placed_cpu_stays_online(rt: HostRuntime) -> Result<(), Fail> {
-    let mut core = one_node_core(rt.alloc(), 2, 0)?;
-    let mut leaving = Vec::new(rt.alloc());
-    leaving.push(Step::Offline { cpu: CpuId(0) })?;
-    add_walks(&mut leaving, 8, 0)?;
-    assert_eq!(&rt; run_steps(&mut core, leaving.as_slice()), Ok(()));
+    let mut core = node_core(rt.alloc(), 2, 0)?;
+    let leaving = leaving_steps(rt.alloc())?;
+    make(&rt, &mut core, leaving.as_slice(), Ok(()));
     let last = [Step::Offline { cpu: CpuId(1) }];
-    assert_eq!(&rt;
-        run_steps(&mut core, last.as_slice()),
-        Err(StepsFault::NotEnabled { index: 0 })
+    make(
+        &rt,
+        &mut core,
+        last.as_slice(),
+        Err(StepsFault::NotEnabled { index: 0 }),
     );
     let again = [
         Step::Online { cpu: CpuId(0) },
         Step::Offline { cpu: CpuId(1) },
     ];
-    assert_eq!(&rt; run_steps(&mut core, again.as_slice()), Ok(()));
+    make(&rt, &mut core, again.as_slice(), Ok(()));
     Ok(())
 }
 
@@ -135,7 +173,7 @@ fn the_last_placed_cpu_stays_online(rt: HostRuntime) -> Result<(), Fail> {
 #[test]
 fn an_idle_cpu_tells_its_timer(rt: HostRuntime) -> Result<(), Fail> {
     // One node of two CPUs, with one timer. At jiffy 10 CPU 1 arms it for 60, and goes idle.
-    let mut core = one_node_core(rt.alloc(), 2, 1)?;
+    let mut core = node_core(rt.alloc(), 2, 1)?;
     let mut steps = Vec::new(rt.alloc());
     steps.push(Step::Clock { now: 10 })?;
     steps.push(arm(1))?;
@@ -167,13 +205,13 @@ fn taken_apart(core: Core<ListBase>) -> Core<ListBase>
 
 /// CPU 9 goes idle, and has the lock of its leaf; CPU 0 has an armed timer.
 fn in_mid_walk(rt: &impl Abort, alloc: Global) -> Result<Core<ListBase>, NoMemory> {
-    let mut core = one_node_core(alloc, 10, 1)?;
+    let mut core = node_core(alloc, 10, 1)?;
     let mut steps = Vec::new(alloc);
     steps.push(Step::Clock { now: 10 })?;
     steps.push(arm(0))?;
     steps.push(Step::Idle { cpu: CpuId(9) })?;
     add_walks(&mut steps, 4, 9)?;
-    assert_eq!(rt; run_steps(&mut core, steps.as_slice()), Ok(()));
+    make(rt, &mut core, steps.as_slice(), Ok(()));
     Ok(core)
 }
 
@@ -195,8 +233,8 @@ fn a_core_taken_apart_in_mid_walk_goes_on(rt: HostRuntime) -> Result<(), Fail> {
     check_leaf(&rt, &again, Some(CpuId(9)));
     let mut more = Vec::new(rt.alloc());
     add_walks(&mut more, 4, 9)?;
-    assert_eq!(&rt; run_steps(&mut whole, more.as_slice()), Ok(()));
-    assert_eq!(&rt; run_steps(&mut again, more.as_slice()), Ok(()));
+    make(&rt, &mut whole, more.as_slice(), Ok(()));
+    make(&rt, &mut again, more.as_slice(), Ok(()));
     check_leaf(&rt, &whole, None);
     check_leaf(&rt, &again, None);
     assert!(&rt; 9 < again.tree().cpu_count());
@@ -204,12 +242,9 @@ fn a_core_taken_apart_in_mid_walk_goes_on(rt: HostRuntime) -> Result<(), Fail> {
     Ok(())
 }
 
-// CPU 1 goes idle with a global timer. When it is due, CPU 0 marks CPU 1 inside its interrupt, and
-// so may not leave it, until the walk that tells CPU 1's next event has taken the mark away.
-#[test]
-fn a_cpu_that_has_marked_another_stays_inside(rt: HostRuntime) -> Result<(), Fail> {
-    let mut core = one_node_core(rt.alloc(), 2, 1)?;
-    let mut steps = Vec::new(rt.alloc());
+// CPU 1 goes idle with a timer; when that is due CPU 0 marks it.
+fn marking_steps(alloc: Global) -> Result<Vec<Step>, NoMemory> {
+    let mut steps = Vec::new(alloc);
     steps.push(arm(1))?;
     steps.push(Step::Idle { cpu: CpuId(1) })?;
     add_walks(&mut steps, 8, 1)?;
@@ -219,21 +254,38 @@ fn a_cpu_that_has_marked_another_stays_inside(rt: HostRuntime) -> Result<(), Fai
         cpu: CpuId(1),
         by: CpuId(0),
     })?;
-    assert_eq!(&rt; run_steps(&mut core, steps.as_slice()), Ok(()));
-    let leave = [Step::Leave { cpu: CpuId(0) }];
-    assert_eq!(&rt;
-        run_steps(&mut core, leave.as_slice()),
-        Err(StepsFault::NotEnabled { index: 0 })
-    );
-    let mut carried = Vec::new(rt.alloc());
-    carried.push(Step::Hand {
+    Ok(steps)
+}
+
+// CPU 0 runs CPU 1's timer, and carries its next event upwards.
+fn carrying_steps(alloc: Global) -> Result<Vec<Step>, NoMemory> {
+    let mut steps = Vec::new(alloc);
+    steps.push(Step::Hand {
         cpu: CpuId(1),
         timer: TimerId(0),
         runner: CpuId(0),
     })?;
-    carried.push(Step::Carry { cpu: CpuId(1) })?;
-    add_walks(&mut carried, 5, 1)?;
-    assert_eq!(&rt; run_steps(&mut core, carried.as_slice()), Ok(()));
-    assert_eq!(&rt; run_steps(&mut core, leave.as_slice()), Ok(()));
+    steps.push(Step::Carry { cpu: CpuId(1) })?;
+    add_walks(&mut steps, 5, 1)?;
+    Ok(steps)
+}
+
+// CPU 1 goes idle with a global timer. When it is due, CPU 0 marks CPU 1 inside its interrupt, and
+// so may not leave it, until the walk that tells CPU 1's next event has taken the mark away.
+#[test]
+fn a_cpu_that_has_marked_another_stays_inside(rt: HostRuntime) -> Result<(), Fail> {
+    let mut core = node_core(rt.alloc(), 2, 1)?;
+    let steps = marking_steps(rt.alloc())?;
+    make(&rt, &mut core, steps.as_slice(), Ok(()));
+    let leave = [Step::Leave { cpu: CpuId(0) }];
+    make(
+        &rt,
+        &mut core,
+        leave.as_slice(),
+        Err(StepsFault::NotEnabled { index: 0 }),
+    );
+    let carried = carrying_steps(rt.alloc())?;
+    make(&rt, &mut core, carried.as_slice(), Ok(()));
+    make(&rt, &mut core, leave.as_slice(), Ok(()));
     Ok(())
 }
