@@ -87,7 +87,7 @@ module _ (law : CoreLaws) (o : World) (s : Whole) (h : IsShown o s) where
       let low = seq_low g in
       (group_state (group_of s.world g) (s.seq g), good_state g, omega (arith, low))
 
-  event_fits : (g k : ℕ) (e : Event) → events.event_at (group_of s.world g).events k ≡ Some e
+  pub event_fits : (g k : ℕ) (e : Event) → events.event_at (group_of s.world g).events k ≡ Some e
       → events.FitsWord e
   event_fits g k e at =
       let r = ((law.bounds s.world h.fits.lawful).group g).event k e at in

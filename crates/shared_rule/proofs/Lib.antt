@@ -19,4 +19,7 @@ pub mod Histories
 pub mod Seeing
 pub mod Looking
 pub mod Finishing
+pub mod Walking
 pub mod Locking
+pub mod Freeing
+pub mod Sights

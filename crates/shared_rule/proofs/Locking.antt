@@ -1,23 +1,23 @@
 -- for crates above: a walk's step that takes or gives back a group's lock
-use Rattle.std.proofs.Common.{◌≡◌, ◌↔◌, ℕ, zero, suc, ◌+◌, ◌<◌, eqb, eq-eqb, ne_eqb}
-use Rattle.std.proofs.Common.{cond, Bool, true, false, true≢false, List, [], ◌∷◌, length, Option}
+use Rattle.std.proofs.Common.{◌≡◌, ◌↔◌, ℕ, zero, suc, ◌+◌, ◌-◌, ◌<◌, ◌≤◌, eqb, eq-eqb, ne_eqb}
+use Rattle.std.proofs.Common.{true, false, true≢false, List, [], ◌∷◌, length, Option}
 use Rattle.std.proofs.Common.{Some, None, refl, sym, ap, ◌∙◌, subst, inl, inr, arith}
-use Rattle.std.specs.Prelude.{Contains, ◌&&◌, ◌||◌, nat_le, nat_lt, not, option_map, unwrap_or}
+use Rattle.std.specs.Prelude.{Contains, nat_le, unwrap_or}
 use Rattle.std.proofs.lemmas.Bool.{cases_eq}
 use Rattle.std.proofs.lemmas.List.{get_or-set_same}
 use Rattle.std.proofs.lemmas.Option.{same_Some}
 use prog.Atomic.{either}
 use Rattle.event_queue.specs.EventMap.{EventMap, event_at}
-use Rattle.tree_plan.specs.Shape.{Shape}
-use Rattle.tree_plan.specs.Paths.{group_at_of, level_of}
+use Rattle.tree_plan.specs.Paths.{group_at_of}
 use Rattle.walk_rules.specs.declared.walk.Walk.{Walk}
+use Rattle.walk_rules.specs.declared.walk.Stage.{Stage}
 use Rattle.walk_rules.specs.declared.walk.Stage.TheVariants as stages
 use Rattle.walk_rules.specs.Hierarchy.{side}
 use Rattle.walk_rules.specs.Scene.{Group, no_group}
 use Rattle.walk_rules.specs.Stages.{at_stage, first_sight, forget, with_lock}
 use Rattle.core_world.specs.declared.step.Step.TheVariants as steps
 use Rattle.core_world.specs.Enabled.{MayGoOn}
-use Rattle.core_world.specs.Steps.{here, walk_made, walked, with_walk}
+use Rattle.core_world.specs.Steps.{child_here, here, walk_made, walked, walks_at, with_walk}
 use Rattle.core_world.specs.World.{World, CpuRecord, cpu_of, group_of, moved, is_reading}
 use Rattle.core_world.proofs.Moves.{cpu_same, cpu_else}
 use Rattle.core_world.proofs.Quiet.{moved_group_field}
@@ -27,33 +27,20 @@ use Rattle.shared_rule.specs.declared.parts.BoxView.{BoxView}
 use Rattle.shared_rule.specs.declared.parts.PassView.{PassView}
 use Rattle.shared_rule.specs.CoreLaws.{CoreLaws}
 use Rattle.shared_rule.specs.Whole.{Whole, box_as, box_of, leaf_in, leaf_of, lock_at, quiet}
-use Rattle.shared_rule.specs.Shows.{IsShown, exchanges, is_on_path, owes, reevaluates}
-use Rattle.shared_rule.specs.Shows.{is_reeval}
+use Rattle.shared_rule.specs.Shows.{IsShown, is_reeval, owes, reevaluates}
 use Rattle.shared_rule.specs.Rule.{Each, Goes, Me, seat_of}
-use Rattle.shared_rule.specs.Plays.{bound_walk, lock_box, locked_walk, on_box}
-use Rattle.shared_rule.specs.Laws.{LockStays}
-use Rattle.shared_rule.proofs.Fits.{shown_walk}
+use Rattle.shared_rule.specs.Plays.{child_locked_walk, lock_box, locked_walk, on_box}
+use Rattle.shared_rule.specs.Laws.{LockChildStays, LockStays}
 use Rattle.shared_rule.proofs.Made.{made}
-use Rattle.shared_rule.proofs.Going.{allows}
+use Rattle.shared_rule.proofs.Owing.{owes_kept}
 use Rattle.shared_rule.proofs.Rising.{as_they_were, still}
+use Rattle.shared_rule.proofs.Walking.{WalksAt, at_walk, walk_is}
 
 leaf_in_same : (w : World) (g : ℕ) (x : Group) (c : ℕ) (y : CpuRecord) (d : ℕ) (m : Option ℕ)
     → ((n : ℕ) → (group_of (moved w g x c y false) n).events ≡ (group_of w n).events)
     → leaf_in (moved w g x c y false) d m ≡ leaf_in w d m
 leaf_in_same w g x c y d None ev = refl
 leaf_in_same w g x c y d (Some n) ev = ap (λ (z : EventMap). event_at z (side w.tree d 0)) (ev n)
-
--- 1 where an exchange is owed: by a kind that makes one, on the path, at a level that isn't past
-abbrev owed_with : (e q a b d : Bool) → ℕ
-owed_with e q a b d = cond (e && (q && not (a || (b && d)))) 1 0
-
--- a walk that stays at its level, on the same side of its exchange, owes what it owed
-pub owes_kept : (t : Shape) (h c : ℕ) (j k : Walk) → j.kind ≡ k.kind → j.level ≡ k.level
-    → nat_le 5 (place_of j.stage) ≡ nat_le 5 (place_of k.stage)
-    → owes t h c (Some j) ≡ owes t h c (Some k)
-owes_kept t h c j k kind level place =
-    λ i. owed_with (exchanges (kind i)) (is_on_path t h c (level_of t h))
-    (nat_lt (level_of t h) (level i)) (eqb (level i) (level_of t h)) (place i)
 
 module _ (law : CoreLaws) (o : World) (s : Whole) (h : IsShown o s) (c g : ℕ) (j k : Walk)
     (l : Option ℕ) (ps : List PassView) (f : ℕ → ℕ) (then : ℕ → Me → Type 0) where
@@ -89,7 +76,7 @@ module _ (law : CoreLaws) (o : World) (s : Whole) (h : IsShown o s) (c g : ℕ) 
       → Each (λ z. (z.cpu < length o.cpus) × (z ≡ s.pass z.cpu)) ps
       → (cpu_of s.world c).walk ≡ Some k → MayGoOn s.world c k k.stage
       → walked s.world c k k.stage ≡ v → j.kind ≡ k.kind → is_reading j.stage ≡ false
-      → ((m : ℕ) → owes o.tree m c (Some j) ≡ owes o.tree m c (Some k))
+      → ((m : ℕ) → owes o.tree m c (Some j) ≤ owes o.tree m c (Some k))
       → lock_word l ≡ f (lock_word (group_of s.world g).lock)
       → then (lock_word (group_of s.world g).lock)
       (seat_of (box_as o c y (leaf_of s.world c) (s.read c) (s.looked c) ∷ []) ps)
@@ -170,59 +157,71 @@ sight_past : (l : ℕ) → nat_le 5 (place_of (first_sight l)) ≡ true
 sight_past zero = refl
 sight_past (suc l) = refl
 
-lock_hit : (law : CoreLaws) (o : World) (s : Whole) (c g : ℕ) (k : Walk) (ps : List PassView)
-    → IsShown o s → c < length o.cpus → g < length o.groups
-    → Each (λ z. (z.cpu < length o.cpus) × (z ≡ s.pass z.cpu)) ps
-    → (cpu_of s.world c).walk ≡ Some k → k.stage ≡ stages.LockGroup
-    → group_at_of o.tree c k.level ≡ Some g → lock_word (group_of s.world g).lock ≡ 0
-    → Goes o s (box_of o s c) ps (lock_at g) (λ n. either (eqb n 0) (1 + c) n)
-    (λ n v. v ≡ on_box (lock_box (eqb n 0)) (seat_of (box_of o s c ∷ []) ps))
-lock_hit law o s c g k ps h hc hg known at stage path_o free =
-    let w = s.world in
-    let path : group_at_of w.tree c k.level ≡ Some g
-    = ap (λ z. group_at_of z c k.level) h.same.tree ∙ path_o in
-    let at_g : here w c k ≡ g = ap (λ m. unwrap_or m 0) path in
-    let j : Walk = at_stage k (first_sight k.level) in
-    relocked law o s h c g j k (Some c) ps _ _ hc hg known at
-    (subst (MayGoOn w c k) (sym stage)
-    (ap (λ m. (group_of w m).lock) at_g ∙ no_lock (group_of w g).lock free))
-    (ap (walked w c k) stage
-    ∙ (λ i. moved w (at_g i) (with_lock (group_of w (at_g i)) (Some c)) c
-    (with_walk (cpu_of w c) (Some j)) false))
-    refl (sight_reads k.level)
-    (λ m. owes_kept o.tree m c j k refl refl
-    (sight_past k.level ∙ ap (λ z. nat_le 5 (place_of z)) (sym stage)))
-    (sym (ap (λ b. either b (1 + c) (lock_word (group_of w g).lock)) (eq-eqb _ _ free)))
-    (subst (λ b. ◌≡◌ {A = Me}
-    (seat_of (record (box_of o s c) {
-      own = quiet (with_walk (cpu_of w c) (Some j));
-    } ∷ []) ps)
-    (on_box (lock_box b) (seat_of (box_of o s c ∷ []) ps))) (sym (eq-eqb _ _ free))
-    (λ i. seat_of (record (box_of o s c) {
-      own = record (cpu_of w c) {
-        walk = bound_walk (locked_walk (box_of o s c)) (option_map forget (sym at i));
-      };
-    } ∷ []) ps))
+-- a walk's try for a lock, by which it goes on to j where the lock is free
+module _ (law : CoreLaws) (o : World) (s : Whole) (c g : ℕ) (k j : Walk) (ps : List PassView)
+    (at : Stage) (level : ℕ) (next : BoxView → Walk → Option Walk) where
+  tries : WalksAt o s c ps k at level g
+      → ((group_of s.world g).lock ≡ None → MayGoOn s.world c k k.stage)
+      → walked s.world c k k.stage
+      ≡ walks_at s.world c g (with_lock (group_of s.world g) (Some c)) j
+      → j.kind ≡ k.kind → j.level ≡ k.level → is_reading j.stage ≡ false
+      → nat_le 5 (place_of j.stage) ≡ nat_le 5 (place_of k.stage)
+      → next (box_of o s c) (forget k) ≡ Some (forget j)
+      → Goes o s (box_of o s c) ps (lock_at g) (λ n. either (eqb n 0) (1 + c) n)
+      (λ n v. v ≡ on_box (lock_box next (eqb n 0)) (seat_of (box_of o s c ∷ []) ps))
+  tries q may is kind same_level reads place walk =
+      elim (cases_eq (lock_word (group_of s.world g).lock) 0) [
+        | inl e ↦
+            relocked law o s q.shown c g j k (Some c) ps _ _ q.cpu q.group q.known q.walk
+            (may (no_lock _ e)) is kind reads
+            (λ m. owes_kept o.tree m c j k kind same_level place)
+            (sym (ap (λ b. either b (1 + c) (lock_word (group_of s.world g).lock))
+            (eq-eqb _ _ e)))
+            (subst (λ b. ◌≡◌ {A = Me}
+            (seat_of (record (box_of o s c) {
+              own = quiet (with_walk (cpu_of s.world c) (Some j));
+            } ∷ []) ps)
+            (on_box (lock_box next b) (seat_of (box_of o s c ∷ []) ps))) (sym (eq-eqb _ _ e))
+            (λ i. seat_of (record (box_of o s c) {
+              own = walk_is o s c k j next q.walk walk i;
+            } ∷ []) ps))
+        | inr ne ↦
+            still o s c ps (lock_at g) _ _ q.shown q.known
+            (ap (λ z. either z (1 + c) (lock_word (group_of s.world g).lock)) (ne_eqb _ _ ne))
+            (subst (λ z. ◌≡◌ {A = Me} (seat_of (box_of o s c ∷ []) ps)
+            (on_box (lock_box next z) (seat_of (box_of o s c ∷ []) ps)))
+            (sym (ne_eqb _ _ ne)) refl)
+      ]
 
 pub locks : (law : CoreLaws) (o : World) → LockStays o
 locks law o slots id g b k ps may =
-    let f : ℕ → ℕ = λ n. either (eqb n 0) (1 + b.cpu) n in
-    allows law o slots id b ps (lock_at g) f
-    (λ n v. v ≡ on_box (lock_box (eqb n 0)) (seat_of (b ∷ []) ps)) may.group
-    (λ s h hc is known fits.
-    subst (λ (z : BoxView). Goes o s z ps (lock_at g) f
-    (λ n v. v ≡ on_box (lock_box (eqb n 0)) (seat_of (z ∷ []) ps))) (sym is)
-    (elim (cases_eq (lock_word (group_of s.world g).lock) 0) [
-      | inl e ↦
-          let j = shown_walk _ k (ap (λ (z : BoxView). z.own.walk) (sym is) ∙ may.walk) in
-          let lv : k.level ≡ j.0.level = ap (λ (z : Walk). z.level) (sym j.2) in
-          lock_hit law o s b.cpu g j.0 ps h hc may.group known j.1
-          (ap (λ (z : Walk). z.stage) j.2 ∙ may.stage)
-          (ap (λ n. group_at_of o.tree b.cpu n) (sym lv) ∙ may.path) e
-      | inr ne ↦
-          still o s b.cpu ps (lock_at g) _ _ h known
-          (ap (λ z. either z (1 + b.cpu) (lock_word (group_of s.world g).lock)) (ne_eqb _ _ ne))
-          (subst (λ z. ◌≡◌ {A = Me} (seat_of (box_of o s b.cpu ∷ []) ps)
-          (on_box (lock_box z) (seat_of (box_of o s b.cpu ∷ []) ps)))
-          (sym (ne_eqb _ _ ne)) refl)
-    ]))
+    at_walk law o slots id b k ps (lock_at g) (λ n. either (eqb n 0) (1 + b.cpu) n)
+    (λ z n v. v ≡ on_box (lock_box locked_walk (eqb n 0)) (seat_of (z ∷ []) ps))
+    stages.LockGroup (λ l. l) g may.group may
+    (λ s j q.
+    let w = s.world in
+    let at_g : here w b.cpu j ≡ g = ap (λ m. unwrap_or m 0) q.path in
+    tries law o s b.cpu g j (at_stage j (first_sight j.level)) ps stages.LockGroup j.level
+    locked_walk q
+    (λ free. subst (MayGoOn w b.cpu j) (sym q.stage) (ap (λ m. (group_of w m).lock) at_g ∙ free))
+    (ap (walked w b.cpu j) q.stage
+    ∙ (λ i. walks_at w b.cpu (at_g i) (with_lock (group_of w (at_g i)) (Some b.cpu))
+    (at_stage j (first_sight j.level))))
+    refl refl (sight_reads j.level)
+    (sight_past j.level ∙ ap (λ z. nat_le 5 (place_of z)) (sym q.stage)) refl)
+
+pub locks_child : (law : CoreLaws) (o : World) → LockChildStays o
+locks_child law o slots id g b k ps may =
+    at_walk law o slots id b k ps (lock_at g) (λ n. either (eqb n 0) (1 + b.cpu) n)
+    (λ z n v. v ≡ on_box (lock_box child_locked_walk (eqb n 0)) (seat_of (z ∷ []) ps))
+    stages.LockChild (λ l. l - 1) g may.group may
+    (λ s j q.
+    let w = s.world in
+    let at_g : child_here w b.cpu j ≡ g = ap (λ m. unwrap_or m 0) q.path in
+    tries law o s b.cpu g j (at_stage j stages.LockGroup) ps stages.LockChild (j.level - 1)
+    child_locked_walk q
+    (λ free. subst (MayGoOn w b.cpu j) (sym q.stage) (ap (λ m. (group_of w m).lock) at_g ∙ free))
+    (ap (walked w b.cpu j) q.stage
+    ∙ (λ i. walks_at w b.cpu (at_g i) (with_lock (group_of w (at_g i)) (Some b.cpu))
+    (at_stage j stages.LockGroup)))
+    refl refl refl (ap (λ z. nat_le 5 (place_of z)) (sym q.stage)) refl)

@@ -1,15 +1,17 @@
 -- for crates above: exchanges that walks have still to make
-use Rattle.std.proofs.Common.{◌≡◌, ℕ, suc, ◌+◌, ◌≤◌, eqb, eq-eqb, ne_eqb, cond, Bool, true, false}
-use Rattle.std.proofs.Common.{Option, Some, None, refl, sym, ap, ◌∙◌, subst, inl, inr, arith}
+use Rattle.std.proofs.Common.{◌≡◌, ℕ, zero, suc, ◌+◌, ◌≤◌, eqb, eq-eqb, ne_eqb, cond, Bool, true, false}
+use Rattle.std.proofs.Common.{true≢false, Option, Some, None, refl, sym, ap, ◌∙◌, subst, inl, inr}
+use Rattle.std.proofs.Common.{arith}
 use Rattle.std.specs.Prelude.{◌&&◌, ◌||◌, not, nat_lt, nat_le}
 use Rattle.std.specs.Option.{option_map_or}
-use Rattle.std.proofs.lemmas.Bool.{cases_eq, le-ltb}
+use Rattle.std.proofs.lemmas.Bool.{and_left, cases_eq, cases_lt, le-ltb, lt-ltb, or_from, or_left}
 use Rattle.tree_plan.specs.Shape.{Shape}
 use Rattle.tree_plan.specs.Paths.{group_at_of, level_of}
 use Rattle.walk_rules.specs.declared.walk.Walk.{Walk}
 use Rattle.walk_rules.specs.declared.walk.WalkKind.TheVariants as kinds
+use Rattle.walk_rules.specs.declared.walk.Stage.{Stage}
 use Rattle.walk_rules.specs.declared.walk.Stage.TheVariants as stages
-use Rattle.walk_rules.specs.Stages.{up_next, at_stage}
+use Rattle.walk_rules.specs.Stages.{at_stage, first_stage, freed_next, free_group_next, higher, up_next}
 use Rattle.core_facts.specs.Exchanges.{place_of}
 use Rattle.shared_rule.specs.Shows.{is_past, exchanges, is_on_path, owes, raised}
 
@@ -35,13 +37,14 @@ past_less e q false false = omega arith
 past_less e q false true = let z : ◌≡◌ {A = ℕ} (cond
     (e && (q && false)) 1 0) 0 = none_when e q in omega (arith, z)
 
+-- 1 where an exchange is owed: by a kind that makes one, on the path, at a level that isn't past
+abbrev owed_with : (e q a b d : Bool) → ℕ
+owed_with e q a b d = cond (e && (q && not (a || (b && d)))) 1 0
+
 -- a walk at Up of the group g, where it makes its exchange
 module _ (t : Shape) (g c : ℕ) (k : Walk) (seq : ℕ → ℕ) (is : k.stage ≡ stages.Up)
     (kind : k.kind ≡ kinds.Activate) (here : group_at_of t c k.level ≡ Some g)
     (level : level_of t g ≡ k.level) where
-  abbrev owed_with : (e q a b d : Bool) → ℕ
-  owed_with e q a b d = cond (e && (q && not (a || (b && d)))) 1 0
-
   self : (n : ℕ) → nat_lt n n ≡ false
   self n = le-ltb n n (omega arith)
 
@@ -90,3 +93,60 @@ module _ (t : Shape) (g c : ℕ) (k : Walk) (seq : ℕ → ℕ) (is : k.stage �
         let b = past top more h in
         omega (arith, a, b)
   ]
+
+-- a walk that stays at its level, on the same side of its exchange, owes what it owed
+pub owes_kept : (t : Shape) (h c : ℕ) (j k : Walk) → j.kind ≡ k.kind → j.level ≡ k.level
+    → nat_le 5 (place_of j.stage) ≡ nat_le 5 (place_of k.stage)
+    → owes t h c (Some j) ≤ owes t h c (Some k)
+owes_kept t h c j k kind level place =
+    let e : owes t h c (Some j) ≡ owes t h c (Some k)
+    = λ i. owed_with (exchanges (kind i)) (is_on_path t h c (level_of t h))
+    (nat_lt (level_of t h) (level i)) (eqb (level i) (level_of t h)) (place i) in
+    omega (arith, e)
+
+-- what is past stays past where no less is
+less_past : (e q a b : Bool) → (a ≡ true → b ≡ true)
+    → cond (e && (q && not b)) 1 0 ≤ cond (e && (q && not a)) 1 0
+less_past e q true b stays =
+    subst (λ z. cond (e && (q && not z)) 1 0 ≤ cond (e && (q && false)) 1 0) (sym (stays refl))
+    (omega arith)
+less_past e q false true stays =
+    let z : ◌≡◌ {A = ℕ} (cond (e && (q && false)) 1 0) 0 = none_when e q in omega (arith, z)
+less_past e q false false stays = omega arith
+
+-- one level higher a walk is past each level that it was past
+passes : (n : ℕ) (k : Walk) (stage : Stage) → is_past n k ≡ true
+    → is_past n (higher k stage) ≡ true
+passes n k stage is = elim (cases_lt n (suc k.level)) [
+  | inl low ↦ or_left (nat_lt n (suc k.level)) _ (lt-ltb n (suc k.level) low)
+  | inr high ↦
+      absurd
+      (true≢false
+      (sym is
+      ∙ or_from (nat_lt n k.level) (eqb k.level n && nat_le 5 (place_of k.stage))
+      (le-ltb n k.level (omega (arith, high)))
+      (and_left (eqb k.level n) _ (ne_eqb k.level n (λ z. omega (arith, high, z))))))
+]
+
+-- one level higher a walk owes no more
+pub owes_higher : (t : Shape) (h c : ℕ) (k : Walk) (stage : Stage)
+    → owes t h c (Some (higher k stage)) ≤ owes t h c (Some k)
+owes_higher t h c k stage =
+    less_past (exchanges k.kind) (is_on_path t h c (level_of t h)) (is_past (level_of t h) k)
+    (is_past (level_of t h) (higher k stage)) (passes (level_of t h) k stage)
+
+-- nor does a walk that has given back its last lock of a level, and ends or rises
+pub owes_freed : (t : Shape) (h c : ℕ) (k : Walk) (over : Bool)
+    → nat_le 5 (place_of k.stage) ≡ true
+    → owes t h c (Some (freed_next over k)) ≤ owes t h c (Some k)
+owes_freed t h c k true past =
+    owes_kept t h c (at_stage k stages.Finish) k refl refl (sym past)
+owes_freed t h c k false past = owes_higher t h c k (first_stage k.kind)
+
+-- nor one that has given back the lock of its group, at whatever level
+pub owes_group_freed : (t : Shape) (h c : ℕ) (k : Walk) (level : ℕ)
+    → nat_le 5 (place_of k.stage) ≡ true
+    → owes t h c (Some (free_group_next level k)) ≤ owes t h c (Some k)
+owes_group_freed t h c k zero past = owes_freed t h c k k.over past
+owes_group_freed t h c k (suc l) past =
+    owes_kept t h c (at_stage k stages.FreeChild) k refl refl (sym past)

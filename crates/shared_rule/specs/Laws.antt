@@ -1,11 +1,12 @@
 -- what the rule says, as laws for crates above
-use Rattle.std.specs.Prelude.{◌≡◌, ◌+◌, ℕ, suc, ◌^◌, ◌<◌, ◌==◌, true, List, [], ◌∷◌, length, None}
-use Rattle.std.specs.Prelude.{Some}
+use Rattle.std.specs.Prelude.{◌≡◌, ◌+◌, ◌-◌, ℕ, suc, ◌^◌, ◌<◌, ◌==◌, true, List, [], ◌∷◌, length}
+use Rattle.std.specs.Prelude.{None, Some}
 use mathlib.Core.Option.{none}
 use prog.Atomic.{either}
 use Rattle.atomic_table.specs.Table.{Allows, Final, Joins, Seen, Splits, step}
 use Rattle.tree_plan.specs.Paths.{group_at_of}
 use Rattle.walk_rules.specs.declared.walk.Walk.{Walk}
+use Rattle.walk_rules.specs.declared.walk.Stage.{Stage}
 use Rattle.walk_rules.specs.declared.walk.Stage.TheVariants as stages
 use Rattle.walk_rules.specs.Hierarchy.{side}
 use Rattle.core_world.specs.Covered.{IsSettled}
@@ -18,13 +19,14 @@ use Rattle.shared_rule.specs.declared.parts.BoxView.{BoxView}
 use Rattle.shared_rule.specs.declared.parts.PassView.{PassView}
 use Rattle.shared_rule.specs.declared.parts.Said.{Said}
 use Rattle.shared_rule.specs.declared.parts.View.{View}
-use Rattle.shared_rule.specs.Whole.{Spell, cpu_at, layout_of, lock_at, own_word, state_at}
+use Rattle.shared_rule.specs.Whole.{Spell, cpu_at, layout_of, lock_at, own_word, slot_at, state_at}
 use Rattle.shared_rule.specs.Rule.{seen}
 use Rattle.shared_rule.specs.Rule.{HasFirstBox, HasFirstPass, Holds, Me, Shows, first_box}
 use Rattle.shared_rule.specs.Rule.{first_pass, nothing, seat_of, together, without_box}
 use Rattle.shared_rule.specs.Rule.{without_pass}
 use Rattle.shared_rule.specs.Starts.{EndsAs, HasAll, first_view, first_whole}
-use Rattle.shared_rule.specs.Plays.{Locks, Looks, Rises, Sees, SeesState, Wakes, woken}
+use Rattle.shared_rule.specs.Plays.{FreesChild, FreesGroup, Locks, LocksChild, Looks, Rises, Scans}
+use Rattle.shared_rule.specs.Plays.{ScansTop, Sees, SeesChild, SeesGroup, SeesState, Wakes, woken}
 
 -- THE START: words that spell a settled core show it, together with the view that has all parts of
 -- it, however many walks count as begun
@@ -96,20 +98,76 @@ RiseStays o = (slots id g : ℕ) (b : BoxView) (k : Walk) (ps : List PassView) (
     Stays o slots id b ps (state_at g) (λ n. either (n == old) new n)
     (Rises (step slots (index_of (layout_of o) (state_at g)) old new none) (seat_of (b ∷ []) ps))
 
--- LOCK: what has to be known where a walk tries to take the lock of its group
-pub record MayTakeLock (o : World) (b : BoxView) (k : Walk) (g : ℕ) : Type 0 where
+-- WALKS: what has to be known where the walk of a box makes its next step, at this stage, on the
+-- group of its path at a level
+pub record IsWalkAt (o : World) (b : BoxView) (k : Walk) (at : Stage) (level g : ℕ) : Type 0 where
   pub group : g < length o.groups
   pub walk : b.own.walk ≡ Some k
-  pub stage : k.stage ≡ stages.LockGroup
-  pub path : group_at_of o.tree b.cpu k.level ≡ Some g
+  pub stage : k.stage ≡ at
+  pub path : group_at_of o.tree b.cpu level ≡ Some g
 
--- the try keeps the rule, and the seat is told that its walk has the lock and has gone on, or that
--- nothing has changed
+-- LOCK: the try of a walk for the lock of its child keeps the rule, and the seat is told that its
+-- walk has the lock and has gone on, or that nothing has changed
+abbrev pub LockChildStays : World → Type 0
+LockChildStays o = (slots id g : ℕ) (b : BoxView) (k : Walk) (ps : List PassView) →
+    IsWalkAt o b k stages.LockChild (k.level - 1) g →
+    Stays o slots id b ps (lock_at g) (λ n. either (n == 0) (1 + b.cpu) n)
+    (LocksChild (step slots (index_of (layout_of o) (lock_at g)) 0 (1 + b.cpu) none)
+    (seat_of (b ∷ []) ps))
+
+-- and so does its try for the lock of its group
 abbrev pub LockStays : World → Type 0
 LockStays o = (slots id g : ℕ) (b : BoxView) (k : Walk) (ps : List PassView) →
-    MayTakeLock o b k g →
+    IsWalkAt o b k stages.LockGroup k.level g →
     Stays o slots id b ps (lock_at g) (λ n. either (n == 0) (1 + b.cpu) n)
     (Locks (step slots (index_of (layout_of o) (lock_at g)) 0 (1 + b.cpu) none)
+    (seat_of (b ∷ []) ps))
+
+-- FREE: the store by which a walk gives back the lock of its group keeps the rule, and the seat is
+-- told that its walk has gone on
+abbrev pub FreeGroupStays : World → Type 0
+FreeGroupStays o = (slots id g : ℕ) (b : BoxView) (k : Walk) (ps : List PassView) →
+    IsWalkAt o b k stages.FreeGroup k.level g →
+    Stays o slots id b ps (lock_at g) (λ n. 0)
+    (λ n. FreesGroup (step slots (index_of (layout_of o) (lock_at g)) 0 0 none)
+    (seat_of (b ∷ []) ps) 0)
+
+-- and so does the store by which it gives back the lock of its child
+abbrev pub FreeChildStays : World → Type 0
+FreeChildStays o = (slots id g : ℕ) (b : BoxView) (k : Walk) (ps : List PassView) →
+    IsWalkAt o b k stages.FreeChild (k.level - 1) g →
+    Stays o slots id b ps (lock_at g) (λ n. 0)
+    (λ n. FreesChild (step slots (index_of (layout_of o) (lock_at g)) 0 0 none)
+    (seat_of (b ∷ []) ps) 0)
+
+-- SIGHT: a walk's load of the word of its child keeps the rule, and the seat is told what it found
+abbrev pub SeeChildStays : World → Type 0
+SeeChildStays o = (slots id g : ℕ) (b : BoxView) (k : Walk) (ps : List PassView) →
+    IsWalkAt o b k stages.SeeChild (k.level - 1) g →
+    Stays o slots id b ps (state_at g) (λ n. n)
+    (SeesChild (step slots (index_of (layout_of o) (state_at g)) 0 0 none) (seat_of (b ∷ []) ps))
+
+-- and so does its load of the word of its group
+abbrev pub SeeGroupStays : World → Type 0
+SeeGroupStays o = (slots id g : ℕ) (b : BoxView) (k : Walk) (ps : List PassView) →
+    IsWalkAt o b k stages.SeeGroup k.level g →
+    Stays o slots id b ps (state_at g) (λ n. n)
+    (SeesGroup (step slots (index_of (layout_of o) (state_at g)) 0 0 none) (seat_of (b ∷ []) ps))
+
+-- and its load of a slot of its child
+abbrev pub ScanStays : World → Type 0
+ScanStays o = (slots id g number : ℕ) (b : BoxView) (k : Walk) (ps : List PassView) → number < 8 →
+    IsWalkAt o b k (stages.Scan number) (k.level - 1) g →
+    Stays o slots id b ps (slot_at g number) (λ n. n)
+    (Scans (step slots (index_of (layout_of o) (slot_at g number)) 0 0 none)
+    (seat_of (b ∷ []) ps))
+
+-- and its load of a slot of the top
+abbrev pub ScanTopStays : World → Type 0
+ScanTopStays o = (slots id g number : ℕ) (b : BoxView) (k : Walk) (ps : List PassView) →
+    number < 8 → IsWalkAt o b k (stages.First number) k.level g →
+    Stays o slots id b ps (slot_at g number) (λ n. n)
+    (ScansTop (step slots (index_of (layout_of o) (slot_at g number)) 0 0 none)
     (seat_of (b ∷ []) ps))
 
 -- LOADS BY A PASS: a load of any word keeps the rule, and the pass remembers what it found

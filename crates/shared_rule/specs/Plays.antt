@@ -4,16 +4,19 @@ use Rattle.std.specs.Prelude.{true, false, List, [], ◌∷◌, ◌++◌, length
 use Rattle.std.specs.Option.{ForSome}
 use Rattle.tm_base.specs.declared.names.TheConstants.{NEVER}
 use Rattle.event_queue.specs.EventMap as events
+use Rattle.event_queue.specs.Word.{slot_of}
 use Rattle.cpu_bases.specs.CpuBases.{IsConsistent, events_of}
 use Rattle.cpu_bases.specs.Replay.{AddsReplay, IsPlayed}
 use Rattle.tree_plan.specs.Shape.{IsPlanned}
 use Rattle.tree_plan.specs.Paths.{group_at_of}
 use Rattle.walk_rules.specs.declared.walk.Walk.{Walk}
 use Rattle.walk_rules.specs.declared.walk.WalkKind.TheVariants as kinds
+use Rattle.walk_rules.specs.declared.walk.Stage.{Stage}
 use Rattle.walk_rules.specs.declared.walk.Stage.TheVariants as stages
 use Rattle.walk_rules.specs.Hierarchy.{HasGroup, at_top}
 use Rattle.walk_rules.specs.Standing.{FitsStage, FlagsAt, StandsAlone}
-use Rattle.walk_rules.specs.Stages.{at_stage, first_sight, up_next}
+use Rattle.walk_rules.specs.Stages.{at_stage, first_next, first_sight, free_group_next, freed_next}
+use Rattle.walk_rules.specs.Stages.{scan_next, see_child_next, see_group_next, up_next}
 use Rattle.core_world.specs.World.{World, CpuRecord, cpu_of, is_reading}
 use Rattle.core_world.specs.Steps.{begun_where}
 use Rattle.core_world.specs.Wakeups.{WalkTimes}
@@ -167,15 +170,102 @@ up_box false word b = b
 abbrev pub Rises : Step → Me → ℕ → Me → Type 0
 Rises t v found w = (w ≡ on_box (up_box (found == t.first) t.first) v) × Sound w
 
--- LOCK: the walk that has taken the lock of its group goes on to look
+-- LOCK: the walk that has taken the lock of its child goes on to its group's
+abbrev pub child_locked_walk : BoxView → Walk → Option Walk
+child_locked_walk b k = Some (at_stage k stages.LockGroup)
+
+-- the walk that has taken the lock of its group goes on to look
 abbrev pub locked_walk : BoxView → Walk → Option Walk
 locked_walk b k = Some (at_stage k (first_sight k.level))
 
--- the box where the lock was taken, or where another walk had it
-abbrev pub lock_box : Bool → BoxView → BoxView
-lock_box true b = by_walk locked_walk b
-lock_box false b = b
+-- the box where the lock was taken, and its walk goes on, or where another walk had it
+abbrev pub lock_box : (BoxView → Walk → Option Walk) → Bool → BoxView → BoxView
+lock_box next true b = by_walk next b
+lock_box next false b = b
 
--- the exchange that takes a lock was made, or nothing changed
+-- the exchange that takes the lock of a child was made, or nothing changed
+abbrev pub LocksChild : Step → Me → ℕ → Me → Type 0
+LocksChild t v found w =
+    (w ≡ on_box (lock_box child_locked_walk (found == t.first)) v) × Sound w
+
+-- the exchange that takes the lock of a group was made, or nothing changed
 abbrev pub Locks : Step → Me → ℕ → Me → Type 0
-Locks t v found w = (w ≡ on_box (lock_box (found == t.first)) v) × Sound w
+Locks t v found w = (w ≡ on_box (lock_box locked_walk (found == t.first)) v) × Sound w
+
+-- FREE: the walk that has given back the lock of its group gives back its child's, or at a leaf it
+-- ends or rises
+abbrev pub group_freed_walk : BoxView → Walk → Option Walk
+group_freed_walk b k = Some (free_group_next k.level k)
+
+-- the walk that has given back the lock of its child ends or rises
+abbrev pub child_freed_walk : BoxView → Walk → Option Walk
+child_freed_walk b k = Some (freed_next k.over k)
+
+-- the store that gives back the lock of a group
+abbrev pub FreesGroup : Step → Me → ℕ → Me → Type 0
+FreesGroup t v found w = (w ≡ on_box (by_walk group_freed_walk) v) × Sound w
+
+-- the store that gives back the lock of a child
+abbrev pub FreesChild : Step → Me → ℕ → Me → Type 0
+FreesChild t v found w = (w ≡ on_box (by_walk child_freed_walk) v) × Sound w
+
+-- SIGHT, under the locks: the walk that has found its child active, or not
+abbrev pub child_sight : (found : ℕ) → BoxView → Walk → Option Walk
+child_sight found b k = Some (see_child_next (shows_migrator found) k)
+
+-- the walk that has found its group active, or not
+abbrev pub group_sight : (found : ℕ) → BoxView → Walk → Option Walk
+group_sight found b k =
+    Some
+    (see_group_next (shows_migrator found) (at_top b.opening.tree b.cpu k.level) k)
+
+-- the number of the slot that a walk at this stage looks at, and 0 where it looks at none
+abbrev pub slot_number : Stage → ℕ
+slot_number stages.Own = 0
+slot_number stages.Up = 0
+slot_number (stages.Mark more) = 0
+slot_number stages.Read = 0
+slot_number stages.Child = 0
+slot_number stages.Swap = 0
+slot_number stages.LockChild = 0
+slot_number stages.LockGroup = 0
+slot_number stages.SeeChild = 0
+slot_number stages.SeeGroup = 0
+slot_number (stages.Scan k) = k
+slot_number stages.Store = 0
+slot_number (stages.First k) = k
+slot_number stages.FreeGroup = 0
+slot_number stages.FreeChild = 0
+slot_number stages.Finish = 0
+slot_number stages.Handing = 0
+
+-- the walk that has read a slot of its child
+abbrev pub scan_sight : (found : ℕ) → BoxView → Walk → Option Walk
+scan_sight found b k = Some (scan_next (slot_of found) (slot_number k.stage) k)
+
+-- the walk that has read a slot of the top
+abbrev pub top_sight : (found : ℕ) → BoxView → Walk → Option Walk
+top_sight found b k = Some (first_next (slot_of found) (slot_number k.stage) k)
+
+-- the box remembers what its walk looked at
+abbrev pub looking : (word found : ℕ) → BoxView → BoxView
+looking word found b =
+    record b { looked = b.looked ++ record { word = word; found = found } ∷ [] }
+
+-- the load of a child's word
+abbrev pub SeesChild : Step → Me → ℕ → Me → Type 0
+SeesChild t v found w = (w ≡ on_box (by_walk (child_sight found)) v) × Sound w
+
+-- the load of a group's word
+abbrev pub SeesGroup : Step → Me → ℕ → Me → Type 0
+SeesGroup t v found w =
+    (w ≡ on_box (λ b. looking t.word found (by_walk (group_sight found) b)) v) × Sound w
+
+-- the load of a slot of a child
+abbrev pub Scans : Step → Me → ℕ → Me → Type 0
+Scans t v found w = (w ≡ on_box (by_walk (scan_sight found)) v) × Sound w
+
+-- the load of a slot of the top
+abbrev pub ScansTop : Step → Me → ℕ → Me → Type 0
+ScansTop t v found w =
+    (w ≡ on_box (λ b. looking t.word found (by_walk (top_sight found) b)) v) × Sound w

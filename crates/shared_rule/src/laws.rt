@@ -2,9 +2,10 @@
 
 ghost use Rattle.shared_rule.specs.CoreLaws.{CoreLaws};
 ghost use Rattle.core_world.specs.World.{World};
-ghost use Rattle.shared_rule.specs.Laws.{Begins, Ends, LockStays, LookStays};
-ghost use Rattle.shared_rule.specs.Laws.{RiseStays, SeatsStay, WakeStays};
-ghost use Rattle.shared_rule.specs.Laws.{SeeStateStays, SeeStays};
+ghost use Rattle.shared_rule.specs.Laws.{Begins, Ends, FreeChildStays, FreeGroupStays};
+ghost use Rattle.shared_rule.specs.Laws.{LockChildStays, LockStays, LookStays, RiseStays};
+ghost use Rattle.shared_rule.specs.Laws.{ScanStays, ScanTopStays, SeatsStay, SeeChildStays};
+ghost use Rattle.shared_rule.specs.Laws.{SeeGroupStays, SeeStateStays, SeeStays, WakeStays};
 
 use core_facts::{
     law_bounds, law_frame, law_height, law_lock, law_mark, law_once_a_level, law_own_event,
@@ -84,9 +85,38 @@ pub fn law_see()
 }
 
 /// Does nothing: its contract says that the rule stays as a walk tries to take the lock of its
-/// group, whether or not another has it.
+/// group, whether or not another has it (`raw_spin_lock` in `tmigr_update_events`).
 pub fn law_lock_group()
     ensures { (o : World) → LockStays o }
+{
+    core_laws();
+}
+
+/// Does nothing: its contract says that the rule stays as a walk tries to take the lock of its
+/// child, whether or not another has it (`raw_spin_lock` in `tmigr_update_events`).
+pub fn law_lock_child()
+    ensures { (o : World) → LockChildStays o }
+{
+    core_laws();
+}
+
+/// Does nothing: its contract says that the rule stays as a walk gives back the lock of its group,
+/// and that of its child, and then rises or ends (`raw_spin_unlock` in `tmigr_update_events`).
+pub fn law_free()
+    ensures group { (o : World) → FreeGroupStays o }
+    ensures child { (o : World) → FreeChildStays o }
+{
+    core_laws();
+}
+
+/// Does nothing: its contract says that the rule stays as a walk looks, under its locks, at the word
+/// of its child and of its group, at a slot of the child and at a slot of the top
+/// (`tmigr_update_events`, `tmigr_next_groupevt`).
+pub fn law_sight()
+    ensures child { (o : World) → SeeChildStays o }
+    ensures group { (o : World) → SeeGroupStays o }
+    ensures scan { (o : World) → ScanStays o }
+    ensures top { (o : World) → ScanTopStays o }
 {
     core_laws();
 }

@@ -7,10 +7,11 @@ mod parts;
 mod table;
 
 pub use laws::{
-    core_laws, law_begins, law_ends, law_lock_group, law_rise, law_seats, law_see, law_wake,
+    core_laws, law_begins, law_ends, law_free, law_lock_child, law_lock_group, law_rise, law_seats,
+    law_see, law_sight, law_wake,
 };
 pub use parts::{BoxView, Deed, Did, Look, PassView, Receipt, Said, View};
 pub use table::{
-    BoxOff, Locks, Looks, Opening, PassOff, Rises, Seat, Sees, SeesState, Shown, Together, Wakes,
-    Words,
+    BoxOff, FreesChild, FreesGroup, Locks, LocksChild, Looks, Opening, PassOff, Rises, Scans,
+    ScansTop, Seat, Sees, SeesChild, SeesGroup, SeesState, Shown, Together, Wakes, Words,
 };

@@ -108,3 +108,52 @@ pub struct Locks;
 impl Play<Said, View> for Locks {
     ghost then = { plays.Locks };
 }
+
+/// A walk tries to take the lock of its child.
+pub struct LocksChild;
+
+impl Play<Said, View> for LocksChild {
+    ghost then = { plays.LocksChild };
+}
+
+/// A walk gives back the lock of its group.
+pub struct FreesGroup;
+
+impl Play<Said, View> for FreesGroup {
+    ghost then = { plays.FreesGroup };
+}
+
+/// A walk gives back the lock of its child.
+pub struct FreesChild;
+
+impl Play<Said, View> for FreesChild {
+    ghost then = { plays.FreesChild };
+}
+
+/// A walk loads the word of its child, under the locks.
+pub struct SeesChild;
+
+impl Play<Said, View> for SeesChild {
+    ghost then = { plays.SeesChild };
+}
+
+/// A walk loads the word of its group, under the locks.
+pub struct SeesGroup;
+
+impl Play<Said, View> for SeesGroup {
+    ghost then = { plays.SeesGroup };
+}
+
+/// A walk loads a slot of its child.
+pub struct Scans;
+
+impl Play<Said, View> for Scans {
+    ghost then = { plays.Scans };
+}
+
+/// A walk loads a slot of the top.
+pub struct ScansTop;
+
+impl Play<Said, View> for ScansTop {
+    ghost then = { plays.ScansTop };
+}
