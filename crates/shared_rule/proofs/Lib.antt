@@ -17,6 +17,8 @@ pub mod Entering
 pub mod Acted
 pub mod Histories
 pub mod Seeing
+pub mod Passing
+pub mod Renewing
 pub mod Looking
 pub mod Finishing
 pub mod Walking

@@ -9,7 +9,6 @@ use Rattle.atomic_table.specs.Table.{Allows, keeps}
 use Rattle.atomic_table.proofs.Lists.{at_set}
 use Rattle.core_world.specs.World.{World, cpu_of}
 use Rattle.shared_words.specs.declared.layout.SharedWord.{SharedWord}
-use Rattle.shared_words.specs.declared.layout.SharedWord.TheVariants.{State, Lock, Slot, Cpu, Timer}
 use Rattle.shared_words.specs.Exchanges.{HasRoom}
 use Rattle.shared_words.specs.Layout.{IsWordOf, index_of}
 use Rattle.shared_rule.specs.declared.parts.Deed.TheVariants as deeds
@@ -29,21 +28,8 @@ use Rattle.shared_rule.proofs.Moving.{pass_field, set_else, set_here}
 use Rattle.shared_rule.proofs.Fits.{good_word}
 use Rattle.shared_rule.proofs.Fronts.{get_snoc}
 use Rattle.shared_rule.proofs.Going.{other_boxes, other_passes, same_times, spells, stands_on}
-use Rattle.shared_rule.proofs.Noting.{noted_same}
+use Rattle.shared_rule.proofs.Passing.{repassed, with_pass, word_stays}
 use Rattle.shared_rule.proofs.Seeing.{saw_right}
-
--- the whole with another pass of c
-abbrev pub with_pass : Whole → (c : ℕ) → PassView → Whole
-with_pass s c q = record s { pass = set_at c q s.pass }
-
--- passes are no part of any word
-word_stays : (s : Whole) (c : ℕ) (q : PassView) (m : SharedWord)
-    → word_at (with_pass s c q) m ≡ word_at s m
-word_stays s c q (State g) = refl
-word_stays s c q (Lock g) = refl
-word_stays s c q (Slot g k) = refl
-word_stays s c q (Cpu d) = refl
-word_stays s c q (Timer t) = refl
 
 -- a pass that has done one thing more
 abbrev pub learned : Did → PassView → PassView
@@ -57,74 +43,29 @@ module _ (o : World) (s : Whole) (h : IsShown o s) (c : ℕ) (x : Did)
   abbrev next : Whole
   next = with_pass s c mine
 
-  but : {X : Type 0} (f : PassView → X) → f mine ≡ f (s.pass c) → (d : ℕ)
-      → f (next.pass d) ≡ f (s.pass d)
-  but f is d = pass_field f s.pass c mine is d
-
-  flags : (d : ℕ) → FlagsOf (cpu_of s.world d) (next.pass d)
-  flags d =
-      let was = h.flags d in
-      record {
-        idle = but (λ z. z.idle) refl d ∙ was.idle;
-        inside = but (λ z. z.inside) refl d ∙ was.inside;
-        wakeup = but (λ z. z.wakeup) refl d ∙ was.wakeup;
-        reeval = but (λ z. z.reeval) refl d ∙ was.reeval;
-      }
-
-  -- what each pass did is right, the new deed with the others
-  all_right : (d i : ℕ) (z : Did) → slice_get (next.pass d).did i ≡ Some z
-      → DidRight o s.world (next.pass d).receipts z
-  all_right d i z at =
-      subst (λ l. DidRight o s.world l z) (sym (but (λ y. y.receipts) refl d))
-      (elim (cases_eq d c) [
-        | inl is ↦
-            subst (λ m. DidRight o s.world (s.pass m).receipts z) (sym is)
-            (⊎_elim (λ old. h.seen c i z old)
-            (λ (t : (i ≡ length (s.pass c).did) × (x ≡ z)).
-            subst (DidRight o s.world (s.pass c).receipts) t.1 right)
-            (get_snoc (s.pass c).did x i z
-            (ap (λ (y : PassView). slice_get y.did i) (sym (set_here c mine s.pass))
-            ∙ subst (λ m. slice_get (next.pass m).did i ≡ Some z) is at)))
-        | inr ne ↦
-            h.seen d i z
-            (ap (λ (y : PassView). slice_get y.did i) (sym (set_else c mine s.pass d ne)) ∙ at)
-      ])
+  -- what the pass did is right, the new deed with the others
+  all_right : (i : ℕ) (z : Did) → slice_get mine.did i ≡ Some z
+      → DidRight o s.world (s.pass c).receipts z
+  all_right i z at =
+      ⊎_elim (λ old. h.seen c i z old)
+      (λ (t : (i ≡ length (s.pass c).did) × (x ≡ z)).
+      subst (DidRight o s.world (s.pass c).receipts) t.1 right)
+      (get_snoc (s.pass c).did x i z at)
 
   pub learns : IsShown o next
-  learns = record {
-    opening = h.opening;
-    fits = h.fits;
-    same = h.same;
-    clock = h.clock;
-    online = h.online;
-    staying = h.staying;
-    reads = λ d. let r = h.reads d in record { fresh = r.fresh; before = r.before; good = r.good };
-    bound = λ g.
-        let begun = sum_same (length o.cpus) (λ d. (s.pass d).walks) (λ d. (next.pass d).walks)
-        (λ d low. but (λ z. z.walks) refl d) in
-        omega (arith, begun, h.bound g);
-    few = λ d. subst (λ n. n < 2 ^ 32) (sym (but (λ z. z.walks) refl d)) (h.few d);
-    opened = λ d. but (λ z. z.opening) refl d ∙ h.opened d;
-    passes = λ d. but (λ z. z.cpu) refl d ∙ h.passes d;
-    flags = flags;
-    marked = λ d m.
-        subst (λ l. ((cpu_of s.world d).mark ≡ Some m) ↔ Contains l d)
-        (sym (but (λ z. z.marks) refl m)) (h.marked d m);
-    named = h.named;
-    queued = h.queued;
-    replayed = h.replayed;
-    journals = λ d.
-        let j = h.journals d in
-        (j.0, j.1 ∙ ap (λ l. l ++ j.0) (sym (but (λ z. z.journal) refl d)));
-    parted = λ d. let j = h.parted d in (j.0, but (λ z. z.journal) refl d ∙ j.1);
-    noted = (
-      h.noted.0,
-      noted_same o s.world s.world (λ d. refl) s.pass next.pass h.noted.0
-          (λ d. but (λ z. z.receipts) refl d) h.noted.1,
-    );
-    seen = all_right;
-    left = h.left;
-  }
+  learns =
+      repassed o s h c mine
+      (record {
+        opening = refl;
+        cpu = refl;
+        walks = refl;
+        receipts = refl;
+        idle = refl;
+        inside = refl;
+        reeval = refl;
+        wakeup = refl;
+        marks = refl;
+      }) (h.journals c) (h.parted c) all_right
 
 -- what a load by the seat of pass q makes of the whole
 pub record Learns (o : World) (s : Whole) (q : PassView) (m : SharedWord)

@@ -1,5 +1,6 @@
 -- for crates above: exchanges that walks have still to make
-use Rattle.std.proofs.Common.{◌≡◌, ℕ, zero, suc, ◌+◌, ◌≤◌, eqb, eq-eqb, ne_eqb, cond, Bool, true, false}
+use Rattle.std.proofs.Common.{◌≡◌, ℕ, zero, suc, ◌+◌, ◌≤◌, eqb, eq-eqb, ne_eqb, cond, Bool, true}
+use Rattle.std.proofs.Common.{false}
 use Rattle.std.proofs.Common.{true≢false, Option, Some, None, refl, sym, ap, ◌∙◌, subst, inl, inr}
 use Rattle.std.proofs.Common.{arith}
 use Rattle.std.specs.Prelude.{◌&&◌, ◌||◌, not, nat_lt, nat_le}
@@ -11,7 +12,8 @@ use Rattle.walk_rules.specs.declared.walk.Walk.{Walk}
 use Rattle.walk_rules.specs.declared.walk.WalkKind.TheVariants as kinds
 use Rattle.walk_rules.specs.declared.walk.Stage.{Stage}
 use Rattle.walk_rules.specs.declared.walk.Stage.TheVariants as stages
-use Rattle.walk_rules.specs.Stages.{at_stage, first_stage, freed_next, free_group_next, higher, up_next}
+use Rattle.walk_rules.specs.Stages.{at_stage, first_stage, free_group_next, freed_next, higher}
+use Rattle.walk_rules.specs.Stages.{up_next}
 use Rattle.core_facts.specs.Exchanges.{place_of}
 use Rattle.shared_rule.specs.Shows.{is_past, exchanges, is_on_path, owes, raised}
 

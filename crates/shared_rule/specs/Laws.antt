@@ -22,8 +22,8 @@ use Rattle.shared_rule.specs.declared.parts.View.{View}
 use Rattle.shared_rule.specs.Whole.{Spell, cpu_at, layout_of, lock_at, own_word, slot_at, state_at}
 use Rattle.shared_rule.specs.Rule.{seen}
 use Rattle.shared_rule.specs.Rule.{HasFirstBox, HasFirstPass, Holds, Me, Shows, first_box}
-use Rattle.shared_rule.specs.Rule.{first_pass, nothing, seat_of, together, without_box}
-use Rattle.shared_rule.specs.Rule.{without_pass}
+use Rattle.shared_rule.specs.Rule.{first_pass, nothing, renewed_pass, seat_of, together}
+use Rattle.shared_rule.specs.Rule.{without_box, without_pass}
 use Rattle.shared_rule.specs.Starts.{EndsAs, HasAll, first_view, first_whole}
 use Rattle.shared_rule.specs.Plays.{FreesChild, FreesGroup, Locks, LocksChild, Looks, Rises, Scans}
 use Rattle.shared_rule.specs.Plays.{ScansTop, Sees, SeesChild, SeesGroup, SeesState, Wakes, woken}
@@ -48,6 +48,9 @@ pub record SeatsStay (o : World) : Type 0 where
       Splits {S = Said} {V = View} (Holds o) id v (without_box v) (first_box v)
   pub pass_off : (id : ℕ) (v : View) → HasFirstPass v →
       Splits {S = Said} {V = View} (Holds o) id v (without_pass v) (first_pass v)
+  -- the first pass, with the journal of the first box, which may be longer than its own
+  pub renewed : (id : ℕ) (v : View) → HasFirstPass v →
+      Splits {S = Said} {V = View} (Holds o) id v (without_pass v) (renewed_pass v)
   pub joined : (id other : ℕ) (v w : View) →
       Joins {S = Said} {V = View} (Holds o) id v other w (together v w) nothing
 

@@ -145,6 +145,22 @@ without_box v = seen (tail_of v.boxes) v.passes
 abbrev pub first_pass : View → View
 first_pass v = seen [] (head_of v.passes)
 
+-- a pass with the journal of this box, where that is its CPU's
+abbrev pub with_journal : BoxView → PassView → PassView
+with_journal b p = record p {
+  journal = cond (eqb p.cpu b.cpu) b.own.bases.journal p.journal;
+}
+
+-- the first of these passes, with the journal of the first box where that is its CPU's
+abbrev pub renewed : List BoxView → List PassView → List PassView
+renewed [] ps = head_of ps
+renewed (b ∷ bs) [] = []
+renewed (b ∷ bs) (p ∷ ps) = with_journal b p ∷ []
+
+-- the first pass of a view, as it takes the journal of the first box with it
+abbrev pub renewed_pass : View → View
+renewed_pass v = seen [] (renewed v.boxes v.passes)
+
 -- a view without its first pass
 abbrev pub without_pass : View → View
 without_pass v = seen v.boxes (tail_of v.passes)

@@ -53,7 +53,7 @@ pub fn law_ends()
 }
 
 /// Does nothing: its contract says that the rule stays where a box or a pass goes off to a seat of
-/// its own, and where two seats are joined.
+/// its own, with its CPU's journal or as it was, and where two seats are joined.
 pub fn law_seats()
     ensures { (o : World) → SeatsStay o }
 {}
@@ -109,8 +109,8 @@ pub fn law_free()
     core_laws();
 }
 
-/// Does nothing: its contract says that the rule stays as a walk looks, under its locks, at the word
-/// of its child and of its group, at a slot of the child and at a slot of the top
+/// Does nothing: its contract says that the rule stays as a walk looks, under its locks, at the
+/// word of its child and of its group, at a slot of the child and at a slot of the top
 /// (`tmigr_update_events`, `tmigr_next_groupevt`).
 pub fn law_sight()
     ensures child { (o : World) → SeeChildStays o }

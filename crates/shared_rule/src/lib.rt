@@ -12,6 +12,6 @@ pub use laws::{
 };
 pub use parts::{BoxView, Deed, Did, Look, PassView, Receipt, Said, View};
 pub use table::{
-    BoxOff, FreesChild, FreesGroup, Locks, LocksChild, Looks, Opening, PassOff, Rises, Scans,
-    ScansTop, Seat, Sees, SeesChild, SeesGroup, SeesState, Shown, Together, Wakes, Words,
+    BoxOff, FreesChild, FreesGroup, Locks, LocksChild, Looks, Opening, PassOff, PassRenewed, Rises,
+    Scans, ScansTop, Seat, Sees, SeesChild, SeesGroup, SeesState, Shown, Together, Wakes, Words,
 };

@@ -56,6 +56,17 @@ impl Split<View> for PassOff {
     ghost right = { first_pass };
 }
 
+/// The first pass of a view goes off, with the journal of the first box where that is its CPU's.
+pub struct PassRenewed;
+
+impl Split<View> for PassRenewed {
+    ghost use Rattle.shared_rule.specs.Rule.{renewed_pass, without_pass};
+
+    ghost left = { without_pass };
+
+    ghost right = { renewed_pass };
+}
+
 /// Two seats' parts go to one.
 pub struct Together;
 
