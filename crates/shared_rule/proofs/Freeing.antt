@@ -81,7 +81,7 @@ frees_group law o slots id g b k ps may =
     at_walk law o slots id b k ps (lock_at g) (λ n. 0)
     (λ z n v. v ≡ on_box (by_walk group_freed_walk) (seat_of (z ∷ []) ps))
     stages.FreeGroup (λ l. l) g may.group may
-    (λ s j q.
+    (λ s j is same q.
     let w = s.world in
     let at_g : here w b.cpu j ≡ g = ap (λ m. unwrap_or m 0) q.path in
     let past : nat_le 5 (place_of j.stage) ≡ true = ap (λ z. nat_le 5 (place_of z)) q.stage in
@@ -98,7 +98,7 @@ frees_child law o slots id g b k ps may =
     at_walk law o slots id b k ps (lock_at g) (λ n. 0)
     (λ z n v. v ≡ on_box (by_walk child_freed_walk) (seat_of (z ∷ []) ps))
     stages.FreeChild (λ l. l - 1) g may.group may
-    (λ s j q.
+    (λ s j is same q.
     let w = s.world in
     let at_g : child_here w b.cpu j ≡ g = ap (λ m. unwrap_or m 0) q.path in
     let past : nat_le 5 (place_of j.stage) ≡ true = ap (λ z. nat_le 5 (place_of z)) q.stage in

@@ -25,3 +25,5 @@ pub mod Walking
 pub mod Locking
 pub mod Freeing
 pub mod Sights
+pub mod Reading
+pub mod Swapping

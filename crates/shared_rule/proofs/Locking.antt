@@ -7,40 +7,30 @@ use Rattle.std.proofs.lemmas.Bool.{cases_eq}
 use Rattle.std.proofs.lemmas.List.{get_or-set_same}
 use Rattle.std.proofs.lemmas.Option.{same_Some}
 use prog.Atomic.{either}
-use Rattle.event_queue.specs.EventMap.{EventMap, event_at}
-use Rattle.tree_plan.specs.Paths.{group_at_of}
 use Rattle.walk_rules.specs.declared.walk.Walk.{Walk}
 use Rattle.walk_rules.specs.declared.walk.Stage.{Stage}
 use Rattle.walk_rules.specs.declared.walk.Stage.TheVariants as stages
-use Rattle.walk_rules.specs.Hierarchy.{side}
 use Rattle.walk_rules.specs.Scene.{Group, no_group}
 use Rattle.walk_rules.specs.Stages.{at_stage, first_sight, forget, with_lock}
 use Rattle.core_world.specs.declared.step.Step.TheVariants as steps
 use Rattle.core_world.specs.Enabled.{MayGoOn}
 use Rattle.core_world.specs.Steps.{child_here, here, walk_made, walked, walks_at, with_walk}
 use Rattle.core_world.specs.World.{World, CpuRecord, cpu_of, group_of, moved, is_reading}
-use Rattle.core_world.proofs.Moves.{cpu_same, cpu_else}
-use Rattle.core_world.proofs.Quiet.{moved_group_field}
 use Rattle.core_facts.specs.Exchanges.{place_of}
 use Rattle.shared_words.specs.Words.{lock_word}
 use Rattle.shared_rule.specs.declared.parts.BoxView.{BoxView}
 use Rattle.shared_rule.specs.declared.parts.PassView.{PassView}
 use Rattle.shared_rule.specs.CoreLaws.{CoreLaws}
-use Rattle.shared_rule.specs.Whole.{Whole, box_as, box_of, leaf_in, leaf_of, lock_at, quiet}
+use Rattle.shared_rule.specs.Whole.{Whole, box_as, box_of, leaf_of, lock_at, quiet}
 use Rattle.shared_rule.specs.Shows.{IsShown, is_reeval, owes, reevaluates}
 use Rattle.shared_rule.specs.Rule.{Each, Goes, Me, seat_of}
 use Rattle.shared_rule.specs.Plays.{child_locked_walk, lock_box, locked_walk, on_box}
 use Rattle.shared_rule.specs.Laws.{LockChildStays, LockStays}
 use Rattle.shared_rule.proofs.Made.{made}
+use Rattle.shared_rule.proofs.Moving.{cpu_field, leaf_stays}
 use Rattle.shared_rule.proofs.Owing.{owes_kept}
 use Rattle.shared_rule.proofs.Rising.{as_they_were, still}
 use Rattle.shared_rule.proofs.Walking.{WalksAt, at_walk, walk_is}
-
-leaf_in_same : (w : World) (g : ℕ) (x : Group) (c : ℕ) (y : CpuRecord) (d : ℕ) (m : Option ℕ)
-    → ((n : ℕ) → (group_of (moved w g x c y false) n).events ≡ (group_of w n).events)
-    → leaf_in (moved w g x c y false) d m ≡ leaf_in w d m
-leaf_in_same w g x c y d None ev = refl
-leaf_in_same w g x c y d (Some n) ev = ap (λ (z : EventMap). event_at z (side w.tree d 0)) (ev n)
 
 module _ (law : CoreLaws) (o : World) (s : Whole) (h : IsShown o s) (c g : ℕ) (j k : Walk)
     (l : Option ℕ) (ps : List PassView) (f : ℕ → ℕ) (then : ℕ → Me → Type 0) where
@@ -55,21 +45,6 @@ module _ (law : CoreLaws) (o : World) (s : Whole) (h : IsShown o s) (c g : ℕ) 
 
   abbrev v : World
   v = moved s.world g x c y false
-
-  events_stay : (m : ℕ) → (group_of v m).events ≡ (group_of w m).events
-  events_stay m = moved_group_field w g x c y false (λ (z : Group). z.events) refl m
-
-  leaf_stays : (d : ℕ) → leaf_of v d ≡ leaf_of w d
-  leaf_stays d = leaf_in_same w g x c y d (group_at_of w.tree d 0) events_stay
-
-  mark_stays : c < length w.cpus → (d : ℕ) → (cpu_of v d).mark ≡ (cpu_of w d).mark
-  mark_stays hc d = elim (cases_eq d c) [
-    | inl z ↦
-        ap (λ n. (cpu_of v n).mark) z
-        ∙ (ap (λ (u : CpuRecord). u.mark) (cpu_same w g x c y false hc)
-        ∙ ap (λ n. (cpu_of w n).mark) (sym z))
-    | inr ne ↦ ap (λ (u : CpuRecord). u.mark) (cpu_else w g x c y false d ne)
-  ]
 
   -- the lock of g becomes l, and the walk of c goes on from k to j
   pub relocked : c < length o.cpus → g < length o.groups
@@ -124,14 +99,15 @@ module _ (law : CoreLaws) (o : World) (s : Whole) (h : IsShown o s) (c g : ℕ) 
             };
         flags_else = λ d ne. h.flags d;
         marked = λ d m.
-            subst (λ z. (z ≡ Some m) ↔ Contains (s.pass m).marks d) (sym (mark_stays hc' d))
+            subst (λ z. (z ≡ Some m) ↔ Contains (s.pass m).marks d)
+            (sym (cpu_field w g x c y false (λ z. z.mark) (λ z u. refl) hc' refl d))
             (h.marked d m);
         journal = λ d. refl;
         receipts = λ d. refl;
         did = h.seen;
         leaf = leaf_of w c;
-        leaf_is = sym (leaf_stays c);
-        leaves = λ d ne. leaf_stays d;
+        leaf_is = sym (leaf_stays w g x c y false refl c);
+        leaves = λ d ne. leaf_stays w g x c y false refl d;
         word =
             ap (λ (z : Group). lock_word z.lock) (get_or-set_same w.groups g x no_group hg') ∙ word;
         state = λ ne. refl;
@@ -198,7 +174,7 @@ locks law o slots id g b k ps may =
     at_walk law o slots id b k ps (lock_at g) (λ n. either (eqb n 0) (1 + b.cpu) n)
     (λ z n v. v ≡ on_box (lock_box locked_walk (eqb n 0)) (seat_of (z ∷ []) ps))
     stages.LockGroup (λ l. l) g may.group may
-    (λ s j q.
+    (λ s j is same q.
     let w = s.world in
     let at_g : here w b.cpu j ≡ g = ap (λ m. unwrap_or m 0) q.path in
     tries law o s b.cpu g j (at_stage j (first_sight j.level)) ps stages.LockGroup j.level
@@ -215,7 +191,7 @@ locks_child law o slots id g b k ps may =
     at_walk law o slots id b k ps (lock_at g) (λ n. either (eqb n 0) (1 + b.cpu) n)
     (λ z n v. v ≡ on_box (lock_box child_locked_walk (eqb n 0)) (seat_of (z ∷ []) ps))
     stages.LockChild (λ l. l - 1) g may.group may
-    (λ s j q.
+    (λ s j is same q.
     let w = s.world in
     let at_g : child_here w b.cpu j ≡ g = ap (λ m. unwrap_or m 0) q.path in
     tries law o s b.cpu g j (at_stage j stages.LockGroup) ps stages.LockChild (j.level - 1)

@@ -1,13 +1,12 @@
 -- for crates above: a load by the seat of a pass, told as a step of the whole
-use Rattle.std.proofs.Common.{◌≡◌, ◌≢◌, ◌↔◌, ⊎_elim, ℕ, ◌^◌, ◌<◌, [], ◌∷◌, ◌++◌}
-use Rattle.std.proofs.Common.{length, Some, refl, sym, ap, ◌∙◌, subst, inl, inr, arith}
-use Rattle.std.specs.Prelude.{Contains, slice_get, slice_index}
-use Rattle.std.proofs.lemmas.Bool.{cases_eq}
+use Rattle.std.proofs.Common.{◌≡◌, ◌≢◌, ⊎_elim, ℕ, [], ◌∷◌, ◌++◌}
+use Rattle.std.proofs.Common.{length, Some, refl, sym, ap, ◌∙◌, subst}
+use Rattle.std.specs.Prelude.{slice_get, slice_index}
 use mathlib.Core.Option.{some}
 use lib.ListN.{get_elem?}
 use Rattle.atomic_table.specs.Table.{Allows, keeps}
 use Rattle.atomic_table.proofs.Lists.{at_set}
-use Rattle.core_world.specs.World.{World, cpu_of}
+use Rattle.core_world.specs.World.{World}
 use Rattle.shared_words.specs.declared.layout.SharedWord.{SharedWord}
 use Rattle.shared_words.specs.Exchanges.{HasRoom}
 use Rattle.shared_words.specs.Layout.{IsWordOf, index_of}
@@ -18,13 +17,12 @@ use Rattle.shared_rule.specs.declared.parts.Said.{Said}
 use Rattle.shared_rule.specs.declared.parts.View.{View}
 use Rattle.shared_rule.specs.CoreLaws.{CoreLaws}
 use Rattle.shared_rule.specs.Whole.{Whole, layout_of, state_at, word_at}
-use Rattle.shared_rule.specs.Shows.{DidRight, FlagsOf, IsShown, set_at}
+use Rattle.shared_rule.specs.Shows.{DidRight, IsShown}
 use Rattle.shared_rule.specs.Rule.{Holds, IsViewOf, Me, boxes_in, box_cpu, pass_cpu, passes_in}
 use Rattle.shared_rule.specs.Rule.{seat_of, seen}
 use Rattle.shared_rule.specs.Plays.{on_pass, seen_pass}
 use Rattle.shared_rule.specs.Laws.{SeeStateStays, SeeStays}
-use Rattle.shared_rule.proofs.Sums.{sum_same}
-use Rattle.shared_rule.proofs.Moving.{pass_field, set_else, set_here}
+use Rattle.shared_rule.proofs.Moving.{set_else, set_here}
 use Rattle.shared_rule.proofs.Fits.{good_word}
 use Rattle.shared_rule.proofs.Fronts.{get_snoc}
 use Rattle.shared_rule.proofs.Going.{other_boxes, other_passes, same_times, spells, stands_on}

@@ -1,5 +1,6 @@
 -- for crates above: what a step of another CPU leaves of a CPU
-use Rattle.std.proofs.Common.{◌≡◌, ◌≢◌, ℕ, eq-eqb, ne_eqb, cond, Bool, true, false, Option, Some}
+use Rattle.std.proofs.Common.{◌≡◌, ◌≢◌, ℕ, ◌<◌, eq-eqb, ne_eqb, cond, Bool, true, false, length}
+use Rattle.std.proofs.Common.{Option, Some}
 use Rattle.std.proofs.Common.{None, refl, ap, sym, ◌∙◌, inl, inr}
 use Rattle.std.specs.Prelude.{option_map}
 use Rattle.tree_plan.specs.Shape.{Shape}
@@ -7,15 +8,15 @@ use Rattle.walk_rules.specs.declared.walk.Walk.{Walk}
 use Rattle.walk_rules.specs.Stages.{forget}
 use Rattle.core_world.specs.World.{CpuRecord, reads_at, stale_walk}
 use Rattle.std.proofs.lemmas.Bool.{cases_eq}
-use Rattle.event_queue.specs.EventMap.{event_at}
+use Rattle.event_queue.specs.EventMap.{EventMap, event_at}
 use Rattle.tree_plan.specs.Paths.{group_at_of}
 use Rattle.walk_rules.specs.Hierarchy.{side}
 use Rattle.walk_rules.specs.Scene.{Group}
-use Rattle.core_world.specs.World.{World, own}
-use Rattle.core_world.proofs.Quiet.{own_group}
+use Rattle.core_world.specs.World.{World, cpu_of, group_of, moved, own}
+use Rattle.core_world.proofs.Quiet.{moved_group_field, own_group}
 use Rattle.shared_rule.specs.declared.parts.PassView.{PassView}
 use Rattle.shared_rule.specs.Whole.{leaf_in, leaf_of}
-use Rattle.core_world.proofs.Moves.{beside}
+use Rattle.core_world.proofs.Moves.{beside, cpu_else, cpu_same}
 use Rattle.shared_rule.specs.Whole.{quiet}
 use Rattle.shared_rule.specs.Shows.{owes, set_at}
 
@@ -78,4 +79,28 @@ pass_field f pass c q e d = elim (cases_eq d c) [
   | inl is ↦ ap (λ m. f (set_at c q pass m)) is ∙ (ap f (set_here c q pass)
       ∙ (e ∙ ap (λ m. f (pass m)) (sym is)))
   | inr ne ↦ ap f (set_else c q pass d ne)
+]
+
+-- a step that leaves the slots of its group leaves each CPU its slot in its leaf
+pub leaf_stays : (w : World) (g : ℕ) (x : Group) (c : ℕ) (y : CpuRecord) (r : Bool)
+    → x.events ≡ (group_of w g).events → (d : ℕ) → leaf_of (moved w g x c y r) d ≡ leaf_of w d
+leaf_stays w g x c y r same d = by_leaf (group_at_of w.tree d 0)
+  where
+    by_leaf : (m : Option ℕ) → leaf_in (moved w g x c y r) d m ≡ leaf_in w d m
+    by_leaf None = refl
+    by_leaf (Some h) =
+        ap (λ (z : EventMap). event_at z (side w.tree d 0))
+        (moved_group_field w g x c y r (λ (z : Group). z.events) same h)
+
+-- a field that isn't of the walk stays with each CPU, where it does with the one that steps
+pub cpu_field : {X : Type 0} (w : World) (g : ℕ) (x : Group) (c : ℕ) (y : CpuRecord) (r : Bool)
+    (f : CpuRecord → X) → ((z : CpuRecord) (m : Option Walk) → f (record z { walk = m }) ≡ f z)
+    → c < length w.cpus → f y ≡ f (cpu_of w c) → (d : ℕ)
+    → f (cpu_of (moved w g x c y r) d) ≡ f (cpu_of w d)
+cpu_field w g x c y r f apart hc same d = elim (cases_eq d c) [
+  | inl is ↦
+      ap (λ n. f (cpu_of (moved w g x c y r) n)) is
+      ∙ (ap f (cpu_same w g x c y r hc) ∙ (same ∙ ap (λ n. f (cpu_of w n)) (sym is)))
+  | inr ne ↦
+      ap f (cpu_else w g x c y r d ne) ∙ field_else f apart w.tree r g d (cpu_of w d)
 ]

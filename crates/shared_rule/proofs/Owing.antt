@@ -43,58 +43,88 @@ past_less e q false true = let z : ◌≡◌ {A = ℕ} (cond
 abbrev owed_with : (e q a b d : Bool) → ℕ
 owed_with e q a b d = cond (e && (q && not (a || (b && d)))) 1 0
 
--- a walk at Up of the group g, where it makes its exchange
-module _ (t : Shape) (g c : ℕ) (k : Walk) (seq : ℕ → ℕ) (is : k.stage ≡ stages.Up)
-    (kind : k.kind ≡ kinds.Activate) (here : group_at_of t c k.level ≡ Some g)
-    (level : level_of t g ≡ k.level) where
+-- a walk that makes its exchange at the group g of its level
+module _ (t : Shape) (g c : ℕ) (k : Walk) (seq : ℕ → ℕ)
+    (still : nat_le 5 (place_of k.stage) ≡ false) (kind : exchanges k.kind ≡ true)
+    (here : group_at_of t c k.level ≡ Some g) (level : level_of t g ≡ k.level) where
   self : (n : ℕ) → nat_lt n n ≡ false
   self n = le-ltb n n (omega arith)
 
   before : (h : ℕ) → owes t h c (Some k) ≡ owed_with (exchanges k.kind)
       (is_on_path t h c (level_of t h)) (nat_lt (level_of t h) k.level)
       (eqb k.level (level_of t h)) false
-  before h = ap (λ s. owed_with (exchanges k.kind) (is_on_path t h c (level_of t h))
-      (nat_lt (level_of t h) k.level) (eqb k.level (level_of t h)) (nat_le 5 (place_of s))) is
+  before h = ap (owed_with (exchanges k.kind) (is_on_path t h c (level_of t h))
+      (nat_lt (level_of t h) k.level) (eqb k.level (level_of t h))) still
 
   one : owes t g c (Some k) ≡ 1
-  one = before g ∙ (λ i. owed_with (exchanges (kind i)) (is_on_path t g c (level i))
+  one = before g ∙ (λ i. owed_with (kind i) (is_on_path t g c (level i))
       (nat_lt (level i) k.level) (eqb k.level (level i)) false)
       ∙ (λ i. owed_with true (option_map_or (λ h. eqb h g) (here i) false) (self k.level i)
       (eqb k.level k.level) false)
       ∙ (λ i. owed_with true (eq-eqb g g refl i) false (eq-eqb k.level k.level refl i) false)
 
-  past : (top more : Bool) (h : ℕ) → owes t h c (up_next top more k) ≤ owes t h c (Some k)
-  past true more h = omega arith
-  past false more h =
-      let a = past_less (exchanges k.kind) (is_on_path t h c (level_of t h))
-      (nat_lt (level_of t h) k.level) (eqb k.level (level_of t h)) in
-      subst (λ z. owes t h c (Some (at_stage k (stages.Mark more))) ≤ z) (sym (before h)) a
-
-  none_left : (top more : Bool) → owes t g c (up_next top more k) ≡ 0
-  none_left true more = refl
-  none_left false more =
-      (λ i. owed_with (exchanges k.kind) (is_on_path t g c (level i)) (nat_lt (level i) k.level)
-      (eqb k.level (level i)) true)
-      ∙ (λ i. owed_with (exchanges k.kind) (is_on_path t g c k.level) (self k.level i)
-      (eq-eqb k.level k.level refl i) true)
-      ∙ none_when (exchanges k.kind) (is_on_path t g c k.level)
-
-  pub up_owes : (top more : Bool) (h : ℕ) → raised true g seq h + owes t h c
-      (up_next top more k) ≤ seq h + owes t h c (Some k)
-  up_owes top more h = elim (cases_eq h g) [
+  -- with a walk that owes nothing there afterwards, and elsewhere no more
+  raise_owes : (m : Option Walk) → owes t g c m ≡ 0
+      → ((h : ℕ) → owes t h c m ≤ owes t h c (Some k)) → (h : ℕ)
+      → raised true g seq h + owes t h c m ≤ seq h + owes t h c (Some k)
+  raise_owes m none less h = elim (cases_eq h g) [
     | inl e ↦
         let a : raised true g seq h ≡ suc (seq h) = ap (λ b. cond b (suc (seq h)) (seq h))
         (eq-eqb h g e) in
         let b : owes t h c (Some k) ≡ 1 = ap (λ n. owes t n c (Some k)) e ∙ one in
-        let d : owes t h c (up_next top more k) ≡ 0 = ap (λ n. owes t n c (up_next top more k)) e
-        ∙ none_left top more in
+        let d : owes t h c m ≡ 0 = ap (λ n. owes t n c m) e ∙ none in
         omega (arith, a, b, d)
     | inr ne ↦
         let a : raised true g seq h ≡ seq h = ap (λ b. cond b (suc (seq h)) (seq h))
         (ne_eqb h g ne) in
-        let b = past top more h in
+        let b = less h in
         omega (arith, a, b)
   ]
+
+  -- the walk ends
+  pub end_owes : (h : ℕ) → raised true g seq h + owes t h c None ≤ seq h + owes t h c (Some k)
+  end_owes = raise_owes None refl (λ h. omega arith)
+
+  -- the walk is past its exchange
+  module _ (j : Walk) (same_kind : j.kind ≡ k.kind) (same_level : j.level ≡ k.level)
+      (past : nat_le 5 (place_of j.stage) ≡ true) where
+    now : (h : ℕ) → owes t h c (Some j) ≡ owed_with (exchanges k.kind)
+        (is_on_path t h c (level_of t h)) (nat_lt (level_of t h) k.level)
+        (eqb k.level (level_of t h)) true
+    now h = λ i. owed_with (exchanges (same_kind i)) (is_on_path t h c (level_of t h))
+        (nat_lt (level_of t h) (same_level i)) (eqb (same_level i) (level_of t h)) (past i)
+
+    none_left : owes t g c (Some j) ≡ 0
+    none_left =
+        now g
+        ∙ ((λ i. owed_with (exchanges k.kind) (is_on_path t g c (level i))
+        (nat_lt (level i) k.level) (eqb k.level (level i)) true)
+        ∙ ((λ i. owed_with (exchanges k.kind) (is_on_path t g c k.level) (self k.level i)
+        (eq-eqb k.level k.level refl i) true)
+        ∙ none_when (exchanges k.kind) (is_on_path t g c k.level)))
+
+    less : (h : ℕ) → owes t h c (Some j) ≤ owes t h c (Some k)
+    less h =
+        let a = past_less (exchanges k.kind) (is_on_path t h c (level_of t h))
+        (nat_lt (level_of t h) k.level) (eqb k.level (level_of t h)) in
+        let b = before h in
+        let d = now h in
+        omega (arith, a, b, d)
+
+    pub past_owes : (h : ℕ)
+        → raised true g seq h + owes t h c (Some j) ≤ seq h + owes t h c (Some k)
+    past_owes = raise_owes (Some j) none_left less
+
+-- an activation at Up
+pub up_owes : (t : Shape) (g c : ℕ) (k : Walk) (seq : ℕ → ℕ) → k.stage ≡ stages.Up
+    → k.kind ≡ kinds.Activate → group_at_of t c k.level ≡ Some g → level_of t g ≡ k.level
+    → (top more : Bool) (h : ℕ)
+    → raised true g seq h + owes t h c (up_next top more k) ≤ seq h + owes t h c (Some k)
+up_owes t g c k seq is kind here level true more h =
+    end_owes t g c k seq (ap (λ z. nat_le 5 (place_of z)) is) (ap exchanges kind) here level h
+up_owes t g c k seq is kind here level false more h =
+    past_owes t g c k seq (ap (λ z. nat_le 5 (place_of z)) is) (ap exchanges kind) here level
+    (at_stage k (stages.Mark more)) refl refl refl h
 
 -- a walk that stays at its level, on the same side of its exchange, owes what it owed
 pub owes_kept : (t : Shape) (h c : ℕ) (j k : Walk) → j.kind ≡ k.kind → j.level ≡ k.level

@@ -1,5 +1,5 @@
 -- for crates above: the whole with another pass of a CPU
-use Rattle.std.proofs.Common.{◌≡◌, ◌↔◌, ℕ, ◌^◌, ◌<◌, ◌++◌, length, Some, refl, sym, ap, ◌∙◌, subst}
+use Rattle.std.proofs.Common.{◌≡◌, ◌↔◌, ℕ, ◌^◌, ◌<◌, length, Some, refl, sym, ◌∙◌, subst}
 use Rattle.std.proofs.Common.{inl, inr, arith}
 use Rattle.std.specs.Prelude.{Contains, slice_get}
 use Rattle.std.proofs.lemmas.Bool.{cases_eq}

@@ -80,7 +80,8 @@ module _ (law : CoreLaws) (o : World) (s : Whole) (c g : ℕ) (k j : Walk) (ps :
       told e false = λ i. seat_of (record (box_of o s c) { own = e i } ∷ []) ps
 
 -- whether the child is active, where the walk isn't at a leaf
-child_on_at : (w : World) (c level g : ℕ) → 0 < level → group_at_of w.tree c (level - 1) ≡ Some g
+pub child_on_at : (w : World) (c level g : ℕ) → 0 < level
+    → group_at_of w.tree c (level - 1) ≡ Some g
     → child_on w c level ≡ is_some (group_of w g).migrator
 child_on_at w c zero g high path = absurd (omega (arith, high))
 child_on_at w c (suc l) g high path =
@@ -144,7 +145,8 @@ top_reads false n = refl
 
 -- what the word of a group and that of a slot tell of the core
 module _ (law : CoreLaws) (o : World) (s : Whole) (h : IsShown o s) where
-  active_shown : (g : ℕ) → is_some (group_of s.world g).migrator ≡ shows_migrator (group_word s g)
+  pub active_shown : (g : ℕ)
+      → is_some (group_of s.world g).migrator ≡ shows_migrator (group_word s g)
   active_shown g =
       sym (migrator_shown (group_word s g) (group_state (group_of s.world g) (s.seq g))
       (good_state law o s h g))
@@ -172,7 +174,7 @@ sees_child law o slots id g b k ps may =
     at_walk law o slots id b k ps (state_at g) (λ n. n)
     (λ z n v. v ≡ on_box (by_walk (child_sight n)) (seat_of (z ∷ []) ps))
     stages.SeeChild (λ l. l - 1) g may.group may
-    (λ s j q.
+    (λ s j is same q.
     let w = s.world in
     let on = shows_migrator (group_word s g) in
     let is_on : child_on w b.cpu j.level ≡ on
@@ -191,7 +193,7 @@ sees_group law o slots id g b k ps may =
     ≡ on_box (λ y. looking (index_of (layout_of o) (state_at g)) n (by_walk (group_sight n) y))
     (seat_of (z ∷ []) ps))
     stages.SeeGroup (λ l. l) g may.group may
-    (λ s j q.
+    (λ s j is same q.
     let w = s.world in
     let on = shows_migrator (group_word s g) in
     let is_on : is_some (group_of w (here w b.cpu j)).migrator ≡ on
@@ -210,7 +212,7 @@ scans law o slots id g number b k ps low may =
     at_walk law o slots id b k ps (slot_at g number) (λ n. n)
     (λ z n v. v ≡ on_box (by_walk (scan_sight n)) (seat_of (z ∷ []) ps))
     (stages.Scan number) (λ l. l - 1) g (may.group, low) may
-    (λ s j q.
+    (λ s j is same q.
     let w = s.world in
     let e = slot_of (word_at s (slot_at g number)) in
     let at = slot_number j.stage in
@@ -232,7 +234,7 @@ scans_top law o slots id g number b k ps low may =
     ≡ on_box (λ y. looking (index_of (layout_of o) (slot_at g number)) n
     (by_walk (top_sight n) y)) (seat_of (z ∷ []) ps))
     (stages.First number) (λ l. l) g (may.group, low) may
-    (λ s j q.
+    (λ s j is same q.
     let w = s.world in
     let e = slot_of (word_at s (slot_at g number)) in
     let at = slot_number j.stage in

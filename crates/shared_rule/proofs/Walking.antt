@@ -55,7 +55,8 @@ pub at_walk : (law : CoreLaws) (o : World) (slots id : ℕ) (b : BoxView) (k : W
     (ps : List PassView) (p : SharedWord) (f : ℕ → ℕ) (then : BoxView → ℕ → Me → Type 0)
     (at : Stage) (below : ℕ → ℕ) (g : ℕ) → IsWordOf (layout_of o) p
     → IsWalkAt o b k at (below k.level) g
-    → ((s : Whole) (j : Walk) → WalksAt o s b.cpu ps j at (below j.level) g
+    → ((s : Whole) (j : Walk) → b ≡ box_of o s b.cpu → forget j ≡ k
+    → WalksAt o s b.cpu ps j at (below j.level) g
     → Goes o s (box_of o s b.cpu) ps p f (then (box_of o s b.cpu)))
     → Allows {S = Said} {V = View} (Holds o) slots id (seat_of (b ∷ []) ps)
     (index_of (layout_of o) p) f (λ n w. then b n w × Sound w)
@@ -64,7 +65,7 @@ at_walk law o slots id b k ps p f then at below g within may goes =
     (λ s h hc is known fits.
     subst (λ (z : BoxView). Goes o s z ps p f (then z)) (sym is)
     (let j = shown_walk _ k (ap (λ (z : BoxView). z.own.walk) (sym is) ∙ may.walk) in
-    goes s j.0
+    goes s j.0 is j.2
     (record {
       shown = h;
       cpu = hc;

@@ -13,7 +13,7 @@ use Rattle.core_world.specs.Covered.{IsSettled}
 use Rattle.core_world.specs.World.{World}
 use Rattle.core_state.specs.Kept.{WorldFits}
 use Rattle.shared_words.specs.declared.layout.SharedWord.{SharedWord}
-use Rattle.shared_words.specs.Exchanges.{IsJoinOf}
+use Rattle.shared_words.specs.Exchanges.{IsJoinOf, IsSwapOf}
 use Rattle.shared_words.specs.Layout.{IsWordOf, index_of}
 use Rattle.shared_rule.specs.declared.parts.BoxView.{BoxView}
 use Rattle.shared_rule.specs.declared.parts.PassView.{PassView}
@@ -25,8 +25,9 @@ use Rattle.shared_rule.specs.Rule.{HasFirstBox, HasFirstPass, Holds, Me, Shows, 
 use Rattle.shared_rule.specs.Rule.{first_pass, nothing, renewed_pass, seat_of, together}
 use Rattle.shared_rule.specs.Rule.{without_box, without_pass}
 use Rattle.shared_rule.specs.Starts.{EndsAs, HasAll, first_view, first_whole}
-use Rattle.shared_rule.specs.Plays.{FreesChild, FreesGroup, Locks, LocksChild, Looks, Rises, Scans}
-use Rattle.shared_rule.specs.Plays.{ScansTop, Sees, SeesChild, SeesGroup, SeesState, Wakes, woken}
+use Rattle.shared_rule.specs.Plays.{FreesChild, FreesGroup, Locks, LocksChild, Looks, ReadsChild}
+use Rattle.shared_rule.specs.Plays.{ReadsGroup, ReadsOwn, Rises, Scans, ScansTop, Sees, SeesChild}
+use Rattle.shared_rule.specs.Plays.{SeesGroup, SeesState, Swaps, Wakes, woken}
 
 -- THE START: words that spell a settled core show it, together with the view that has all parts of
 -- it, however many walks count as begun
@@ -171,6 +172,38 @@ ScanTopStays o = (slots id g number : ℕ) (b : BoxView) (k : Walk) (ps : List P
     number < 8 → IsWalkAt o b k (stages.First number) k.level g →
     Stays o slots id b ps (slot_at g number) (λ n. n)
     (ScansTop (step slots (index_of (layout_of o) (slot_at g number)) 0 0 none)
+    (seat_of (b ∷ []) ps))
+
+-- LEAVING: a walk's load of the word of its group, before its exchange, keeps the rule, and the
+-- seat is told what it found
+abbrev pub ReadGroupStays : World → Type 0
+ReadGroupStays o = (slots id g : ℕ) (b : BoxView) (k : Walk) (ps : List PassView) →
+    IsWalkAt o b k stages.Read k.level g →
+    Stays o slots id b ps (state_at g) (λ n. n)
+    (ReadsGroup (step slots (index_of (layout_of o) (state_at g)) 0 0 none) (seat_of (b ∷ []) ps))
+
+-- and so does its load of the word of its child, above a leaf
+abbrev pub ReadChildStays : World → Type 0
+ReadChildStays o = (slots id g : ℕ) (b : BoxView) (k : Walk) (ps : List PassView) → 0 < k.level →
+    IsWalkAt o b k stages.Child (k.level - 1) g →
+    Stays o slots id b ps (state_at g) (λ n. n)
+    (ReadsChild (step slots (index_of (layout_of o) (state_at g)) 0 0 none) (seat_of (b ∷ []) ps))
+
+-- and of the word of its CPU, at a leaf
+abbrev pub ReadOwnStays : World → Type 0
+ReadOwnStays o = (slots id g : ℕ) (b : BoxView) (k : Walk) (ps : List PassView) →
+    b.cpu < length o.cpus → k.level ≡ 0 → IsWalkAt o b k stages.Child k.level g →
+    Stays o slots id b ps (cpu_at b.cpu) (λ n. n)
+    (ReadsOwn (step slots (index_of (layout_of o) (cpu_at b.cpu)) 0 0 none) (seat_of (b ∷ []) ps))
+
+-- the exchange of the word that it read keeps the rule, whatever word it finds, and the seat is
+-- told that its walk has gone on, or has read the word anew
+abbrev pub SwapStays : World → Type 0
+SwapStays o = (slots id g new : ℕ) (b : BoxView) (k : Walk) (ps : List PassView) →
+    IsWalkAt o b k stages.Swap k.level g →
+    IsSwapOf b.read (side o.tree b.cpu k.level) k.child_on new →
+    Stays o slots id b ps (state_at g) (λ n. either (n == b.read) new n)
+    (Swaps (step slots (index_of (layout_of o) (state_at g)) b.read new none)
     (seat_of (b ∷ []) ps))
 
 -- LOADS BY A PASS: a load of any word keeps the rule, and the pass remembers what it found

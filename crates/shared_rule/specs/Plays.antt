@@ -15,8 +15,9 @@ use Rattle.walk_rules.specs.declared.walk.Stage.{Stage}
 use Rattle.walk_rules.specs.declared.walk.Stage.TheVariants as stages
 use Rattle.walk_rules.specs.Hierarchy.{HasGroup, at_top}
 use Rattle.walk_rules.specs.Standing.{FitsStage, FlagsAt, StandsAlone}
-use Rattle.walk_rules.specs.Stages.{at_stage, first_next, first_sight, free_group_next, freed_next}
-use Rattle.walk_rules.specs.Stages.{scan_next, see_child_next, see_group_next, up_next}
+use Rattle.walk_rules.specs.Stages.{at_stage, child_next, first_next, first_sight, forget}
+use Rattle.walk_rules.specs.Stages.{free_group_next, freed_next, read_next, scan_next}
+use Rattle.walk_rules.specs.Stages.{see_child_next, see_group_next, swap_next, up_next}
 use Rattle.core_world.specs.World.{World, CpuRecord, cpu_of, is_reading}
 use Rattle.core_world.specs.Steps.{begun_where}
 use Rattle.core_world.specs.Wakeups.{WalkTimes}
@@ -269,3 +270,45 @@ Scans t v found w = (w ≡ on_box (by_walk (scan_sight found)) v) × Sound w
 abbrev pub ScansTop : Step → Me → ℕ → Me → Type 0
 ScansTop t v found w =
     (w ≡ on_box (λ b. looking t.word found (by_walk (top_sight found) b)) v) × Sound w
+
+-- LEAVING: the walk that has read its group's word goes on to its child's; no box knows whether
+-- what it read is fresh
+abbrev pub read_walk : BoxView → Walk → Option Walk
+read_walk b k = Some (forget (read_next k))
+
+-- the box keeps the word that its walk read
+abbrev pub reading : (found : ℕ) → BoxView → BoxView
+reading found b = record b { read = found }
+
+-- the load of a group's word, before its exchange
+abbrev pub ReadsGroup : Step → Me → ℕ → Me → Type 0
+ReadsGroup t v found w = (w ≡ on_box (λ b. reading found (by_walk read_walk b)) v) × Sound w
+
+-- the walk that has found its child active, or not, makes its exchange next
+abbrev pub child_read_walk : (found : ℕ) → BoxView → Walk → Option Walk
+child_read_walk found b k = Some (child_next (shows_migrator found) k)
+
+-- at a leaf the child is the walk's CPU, which isn't active
+abbrev pub own_read_walk : BoxView → Walk → Option Walk
+own_read_walk b k = Some (child_next false k)
+
+-- the load of a child's word, before the exchange
+abbrev pub ReadsChild : Step → Me → ℕ → Me → Type 0
+ReadsChild t v found w = (w ≡ on_box (by_walk (child_read_walk found)) v) × Sound w
+
+-- the load of the word of the walk's CPU, at a leaf
+abbrev pub ReadsOwn : Step → Me → ℕ → Me → Type 0
+ReadsOwn t v found w = (w ≡ on_box (by_walk own_read_walk) v) × Sound w
+
+-- the walk that has made its exchange goes on to the locks
+abbrev pub swapped_walk : BoxView → Walk → Option Walk
+swapped_walk b k = Some (swap_next true k)
+
+-- the box where the exchange was made, or where it failed and has read the word anew
+abbrev pub swap_box : Bool → (found : ℕ) → BoxView → BoxView
+swap_box true found b = by_walk swapped_walk b
+swap_box false found b = reading found (by_walk read_walk b)
+
+-- the exchange by which a child leaves
+abbrev pub Swaps : Step → Me → ℕ → Me → Type 0
+Swaps t v found w = (w ≡ on_box (swap_box (found == t.first) found) v) × Sound w

@@ -3,7 +3,8 @@
 ghost use Rattle.shared_rule.specs.CoreLaws.{CoreLaws};
 ghost use Rattle.core_world.specs.World.{World};
 ghost use Rattle.shared_rule.specs.Laws.{Begins, Ends, FreeChildStays, FreeGroupStays};
-ghost use Rattle.shared_rule.specs.Laws.{LockChildStays, LockStays, LookStays, RiseStays};
+ghost use Rattle.shared_rule.specs.Laws.{LockChildStays, LockStays, LookStays, ReadChildStays};
+ghost use Rattle.shared_rule.specs.Laws.{ReadGroupStays, ReadOwnStays, RiseStays, SwapStays};
 ghost use Rattle.shared_rule.specs.Laws.{ScanStays, ScanTopStays, SeatsStay, SeeChildStays};
 ghost use Rattle.shared_rule.specs.Laws.{SeeGroupStays, SeeStateStays, SeeStays, WakeStays};
 
@@ -117,6 +118,18 @@ pub fn law_sight()
     ensures group { (o : World) → SeeGroupStays o }
     ensures scan { (o : World) → ScanStays o }
     ensures top { (o : World) → ScanTopStays o }
+{
+    core_laws();
+}
+
+/// Does nothing: its contract says that the rule stays as a walk that leaves reads the word of its
+/// group, then its child's or at a leaf its CPU's, and then exchanges the word that it read,
+/// whatever others did to it meanwhile (`tmigr_inactive_up`).
+pub fn law_leave()
+    ensures group { (o : World) → ReadGroupStays o }
+    ensures child { (o : World) → ReadChildStays o }
+    ensures own { (o : World) → ReadOwnStays o }
+    ensures swap { (o : World) → SwapStays o }
 {
     core_laws();
 }

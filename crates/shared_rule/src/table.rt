@@ -168,3 +168,31 @@ pub struct ScansTop;
 impl Play<Said, View> for ScansTop {
     ghost then = { plays.ScansTop };
 }
+
+/// A walk loads the word of its group, before its exchange.
+pub struct ReadsGroup;
+
+impl Play<Said, View> for ReadsGroup {
+    ghost then = { plays.ReadsGroup };
+}
+
+/// A walk loads the word of its child, before its exchange.
+pub struct ReadsChild;
+
+impl Play<Said, View> for ReadsChild {
+    ghost then = { plays.ReadsChild };
+}
+
+/// A walk at a leaf loads the word of its CPU, before its exchange.
+pub struct ReadsOwn;
+
+impl Play<Said, View> for ReadsOwn {
+    ghost then = { plays.ReadsOwn };
+}
+
+/// A walk exchanges the word of its group as a child leaves, unless it has changed.
+pub struct Swaps;
+
+impl Play<Said, View> for Swaps {
+    ghost then = { plays.Swaps };
+}
