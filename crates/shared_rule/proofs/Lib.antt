@@ -27,3 +27,6 @@ pub mod Freeing
 pub mod Sights
 pub mod Reading
 pub mod Swapping
+pub mod Slotting
+pub mod Marking
+pub mod Storing

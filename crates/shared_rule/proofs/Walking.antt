@@ -78,15 +78,22 @@ at_walk law o slots id b k ps p f then at below g within may goes =
           ∙ (ap (λ (z : Walk). group_at_of o.tree b.cpu (below z.level)) j.2 ∙ may.path);
     })))
 
--- the CPU as its box shows it after a step of its walk
-pub walk_is : (o : World) (s : Whole) (c : ℕ) (k j : Walk) (next : BoxView → Walk → Option Walk)
-    → (cpu_of s.world c).walk ≡ Some k → next (box_of o s c) (forget k) ≡ Some (forget j)
-    → quiet (with_walk (cpu_of s.world c) (Some j)) ≡ (by_walk next (box_of o s c)).own
-walk_is o s c k j next at e =
+-- the CPU as its box shows it after a step by which its walk goes on or ends
+pub walk_ends : (o : World) (s : Whole) (c : ℕ) (k : Walk) (m : Option Walk)
+    (next : BoxView → Walk → Option Walk) → (cpu_of s.world c).walk ≡ Some k
+    → next (box_of o s c) (forget k) ≡ option_map forget m
+    → quiet (with_walk (cpu_of s.world c) m) ≡ (by_walk next (box_of o s c)).own
+walk_ends o s c k m next at e =
     (λ i. record (cpu_of s.world c) { walk = sym e i })
     ∙ (λ i. record (cpu_of s.world c) {
       walk = bound_walk (next (box_of o s c)) (option_map forget (sym at i));
     })
+
+-- and by which it goes on
+pub walk_is : (o : World) (s : Whole) (c : ℕ) (k j : Walk) (next : BoxView → Walk → Option Walk)
+    → (cpu_of s.world c).walk ≡ Some k → next (box_of o s c) (forget k) ≡ Some (forget j)
+    → quiet (with_walk (cpu_of s.world c) (Some j)) ≡ (by_walk next (box_of o s c)).own
+walk_is o s c k j next at e = walk_ends o s c k (Some j) next at e
 
 -- what is not read is right
 pub no_reads : (t : Shape) (c : ℕ) (j : Walk) (n : ℕ) (word seq : ℕ → ℕ)

@@ -1,14 +1,16 @@
 -- what the rule says, as laws for crates above
 use Rattle.std.specs.Prelude.{◌≡◌, ◌+◌, ◌-◌, ℕ, suc, ◌^◌, ◌<◌, ◌==◌, true, List, [], ◌∷◌, length}
-use Rattle.std.specs.Prelude.{None, Some}
+use Rattle.std.specs.Prelude.{Bool, None, Some, bit_or}
 use mathlib.Core.Option.{none}
 use prog.Atomic.{either}
 use Rattle.atomic_table.specs.Table.{Allows, Final, Joins, Seen, Splits, step}
+use Rattle.event_queue.specs.Word.{slot_word}
 use Rattle.tree_plan.specs.Paths.{group_at_of}
 use Rattle.walk_rules.specs.declared.walk.Walk.{Walk}
 use Rattle.walk_rules.specs.declared.walk.Stage.{Stage}
 use Rattle.walk_rules.specs.declared.walk.Stage.TheVariants as stages
 use Rattle.walk_rules.specs.Hierarchy.{side}
+use Rattle.walk_rules.specs.Stages.{stored_event}
 use Rattle.core_world.specs.Covered.{IsSettled}
 use Rattle.core_world.specs.World.{World}
 use Rattle.core_state.specs.Kept.{WorldFits}
@@ -25,9 +27,10 @@ use Rattle.shared_rule.specs.Rule.{HasFirstBox, HasFirstPass, Holds, Me, Shows, 
 use Rattle.shared_rule.specs.Rule.{first_pass, nothing, renewed_pass, seat_of, together}
 use Rattle.shared_rule.specs.Rule.{without_box, without_pass}
 use Rattle.shared_rule.specs.Starts.{EndsAs, HasAll, first_view, first_whole}
-use Rattle.shared_rule.specs.Plays.{FreesChild, FreesGroup, Locks, LocksChild, Looks, ReadsChild}
-use Rattle.shared_rule.specs.Plays.{ReadsGroup, ReadsOwn, Rises, Scans, ScansTop, Sees, SeesChild}
-use Rattle.shared_rule.specs.Plays.{SeesGroup, SeesState, Swaps, Wakes, woken}
+use Rattle.shared_rule.specs.Plays.{FreesChild, FreesGroup, Locks, LocksChild, Looks, Marks}
+use Rattle.shared_rule.specs.Plays.{MarksOwn, ReadsChild, ReadsGroup, ReadsOwn, Rises, Scans}
+use Rattle.shared_rule.specs.Plays.{ScansTop, Sees, SeesChild, SeesGroup, SeesState, Stores, Swaps}
+use Rattle.shared_rule.specs.Plays.{Wakes, woken}
 
 -- THE START: words that spell a settled core show it, together with the view that has all parts of
 -- it, however many walks count as begun
@@ -205,6 +208,33 @@ SwapStays o = (slots id g new : ℕ) (b : BoxView) (k : Walk) (ps : List PassVie
     Stays o slots id b ps (state_at g) (λ n. either (n == b.read) new n)
     (Swaps (step slots (index_of (layout_of o) (state_at g)) b.read new none)
     (seat_of (b ∷ []) ps))
+
+-- MARK: an activation's marking of its CPU's slot in the leaf keeps the rule, and the seat is told
+-- that its walk has gone on
+abbrev pub MarkOwnStays : World → Type 0
+MarkOwnStays o = (slots id g : ℕ) (b : BoxView) (k : Walk) (ps : List PassView) →
+    side o.tree b.cpu 0 < 8 → IsWalkAt o b k stages.Own 0 g →
+    Stays o slots id b ps (slot_at g (side o.tree b.cpu 0)) (λ n. bit_or n (2 ^ 58))
+    (MarksOwn (step slots (index_of (layout_of o) (slot_at g (side o.tree b.cpu 0))) (2 ^ 58) 0
+    none) (seat_of (b ∷ []) ps))
+
+-- and so does its marking of its group's slot in the parent
+abbrev pub MarkStays : World → Type 0
+MarkStays o = (slots id g : ℕ) (more : Bool) (b : BoxView) (k : Walk) (ps : List PassView) →
+    side o.tree b.cpu (suc k.level) < 8 → IsWalkAt o b k (stages.Mark more) (suc k.level) g →
+    Stays o slots id b ps (slot_at g (side o.tree b.cpu (suc k.level))) (λ n. bit_or n (2 ^ 58))
+    (Marks (step slots (index_of (layout_of o) (slot_at g (side o.tree b.cpu (suc k.level))))
+    (2 ^ 58) 0 none) (seat_of (b ∷ []) ps))
+
+-- STORE: a walk's store of the event that it tells keeps the rule, and the seat is told that its
+-- walk has gone on
+abbrev pub StoreStays : World → Type 0
+StoreStays o = (slots id g new : ℕ) (b : BoxView) (k : Walk) (ps : List PassView) →
+    side o.tree b.cpu k.level < 8 → IsWalkAt o b k stages.Store k.level g →
+    new ≡ slot_word (stored_event k.level b.cpu k) →
+    Stays o slots id b ps (slot_at g (side o.tree b.cpu k.level)) (λ n. new)
+    (λ n. Stores (step slots (index_of (layout_of o) (slot_at g (side o.tree b.cpu k.level))) new 0
+    none) (seat_of (b ∷ []) ps) new)
 
 -- LOADS BY A PASS: a load of any word keeps the rule, and the pass remembers what it found
 abbrev pub SeeStays : World → Type 0

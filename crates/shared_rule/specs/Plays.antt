@@ -1,8 +1,10 @@
 -- what each step tells the seat that makes it
-use Rattle.std.specs.Prelude.{◌≡◌, ◌↔◌, ◌≢◌, ℕ, suc, not, ◌^◌, ◌<◌, ◌≤◌, ◌==◌, Contains, Bool}
-use Rattle.std.specs.Prelude.{true, false, List, [], ◌∷◌, ◌++◌, length, Option, Some, None, is_some}
+use Rattle.std.specs.Prelude.{◌≡◌, ◌↔◌, ◌≢◌, ℕ, zero, suc, not, ◌^◌, ◌<◌, ◌≤◌, ◌==◌, Contains}
+use Rattle.std.specs.Prelude.{Bool, option_map, true, false, List, [], ◌∷◌, ◌++◌, length, Option}
+use Rattle.std.specs.Prelude.{Some, None, is_some}
 use Rattle.std.specs.Option.{ForSome}
 use Rattle.tm_base.specs.declared.names.TheConstants.{NEVER}
+use Rattle.event_queue.specs.declared.event.Event.{Event}
 use Rattle.event_queue.specs.EventMap as events
 use Rattle.event_queue.specs.Word.{slot_of}
 use Rattle.cpu_bases.specs.CpuBases.{IsConsistent, events_of}
@@ -16,8 +18,9 @@ use Rattle.walk_rules.specs.declared.walk.Stage.TheVariants as stages
 use Rattle.walk_rules.specs.Hierarchy.{HasGroup, at_top}
 use Rattle.walk_rules.specs.Standing.{FitsStage, FlagsAt, StandsAlone}
 use Rattle.walk_rules.specs.Stages.{at_stage, child_next, first_next, first_sight, forget}
-use Rattle.walk_rules.specs.Stages.{free_group_next, freed_next, read_next, scan_next}
-use Rattle.walk_rules.specs.Stages.{see_child_next, see_group_next, swap_next, up_next}
+use Rattle.walk_rules.specs.Stages.{free_group_next, freed_next, leaf_event, mark_next, read_next}
+use Rattle.walk_rules.specs.Stages.{scan_next, see_child_next, see_group_next, store_next}
+use Rattle.walk_rules.specs.Stages.{swap_next, up_next}
 use Rattle.core_world.specs.World.{World, CpuRecord, cpu_of, is_reading}
 use Rattle.core_world.specs.Steps.{begun_where}
 use Rattle.core_world.specs.Wakeups.{WalkTimes}
@@ -312,3 +315,66 @@ swap_box false found b = reading found (by_walk read_walk b)
 -- the exchange by which a child leaves
 abbrev pub Swaps : Step → Me → ℕ → Me → Type 0
 Swaps t v found w = (w ≡ on_box (swap_box (found == t.first) found) v) × Sound w
+
+-- MARK: the walk that has marked its CPU's own slot joins its leaf
+abbrev pub own_marked_walk : BoxView → Walk → Option Walk
+own_marked_walk b k = Some (at_stage k stages.Up)
+
+-- its box, where the slot's event is ignored, if there is one
+abbrev pub own_marked_box : BoxView → BoxView
+own_marked_box b =
+    record (by_walk own_marked_walk b) { leaf = option_map events.as_ignored b.leaf }
+
+-- the marking of a CPU's own slot in its leaf
+abbrev pub MarksOwn : Step → Me → ℕ → Me → Type 0
+MarksOwn t v found w = (w ≡ on_box own_marked_box v) × Sound w
+
+-- whether a walk at this stage marks, and goes on then
+abbrev pub marks_more : Stage → Bool
+marks_more stages.Own = false
+marks_more stages.Up = false
+marks_more (stages.Mark more) = more
+marks_more stages.Read = false
+marks_more stages.Child = false
+marks_more stages.Swap = false
+marks_more stages.LockChild = false
+marks_more stages.LockGroup = false
+marks_more stages.SeeChild = false
+marks_more stages.SeeGroup = false
+marks_more (stages.Scan k) = false
+marks_more stages.Store = false
+marks_more (stages.First k) = false
+marks_more stages.FreeGroup = false
+marks_more stages.FreeChild = false
+marks_more stages.Finish = false
+marks_more stages.Handing = false
+
+-- the walk that has marked its group's slot in the parent goes on there, or ends
+abbrev pub marked_walk : BoxView → Walk → Option Walk
+marked_walk b k = mark_next (marks_more k.stage) k
+
+-- the marking of a group's slot in its parent
+abbrev pub Marks : Step → Me → ℕ → Me → Type 0
+Marks t v found w = (w ≡ on_box (by_walk marked_walk) v) × Sound w
+
+-- STORE: the CPU's slot in its leaf after a store at a level
+abbrev pub leaf_after : (level : ℕ) → (stored old : Option Event) → Option Event
+leaf_after zero stored old = stored
+leaf_after (suc l) stored old = old
+
+-- and after the store of a box's walk
+abbrev pub stored_leaf : BoxView → Option Walk → Option Event
+stored_leaf b None = b.leaf
+stored_leaf b (Some k) = leaf_after k.level (leaf_event b.cpu k.next) b.leaf
+
+-- the walk that has stored looks at the top or gives back its locks
+abbrev pub stored_walk : BoxView → Walk → Option Walk
+stored_walk b k = Some (store_next (at_top b.opening.tree b.cpu k.level) k)
+
+-- the box of a walk that has stored
+abbrev pub stored_box : BoxView → BoxView
+stored_box b = record (by_walk stored_walk b) { leaf = stored_leaf b b.own.walk }
+
+-- the store of an event
+abbrev pub Stores : Step → Me → ℕ → Me → Type 0
+Stores t v found w = (w ≡ on_box stored_box v) × Sound w

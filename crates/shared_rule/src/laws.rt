@@ -4,7 +4,8 @@ ghost use Rattle.shared_rule.specs.CoreLaws.{CoreLaws};
 ghost use Rattle.core_world.specs.World.{World};
 ghost use Rattle.shared_rule.specs.Laws.{Begins, Ends, FreeChildStays, FreeGroupStays};
 ghost use Rattle.shared_rule.specs.Laws.{LockChildStays, LockStays, LookStays, ReadChildStays};
-ghost use Rattle.shared_rule.specs.Laws.{ReadGroupStays, ReadOwnStays, RiseStays, SwapStays};
+ghost use Rattle.shared_rule.specs.Laws.{MarkOwnStays, MarkStays, ReadGroupStays, ReadOwnStays};
+ghost use Rattle.shared_rule.specs.Laws.{RiseStays, StoreStays, SwapStays};
 ghost use Rattle.shared_rule.specs.Laws.{ScanStays, ScanTopStays, SeatsStay, SeeChildStays};
 ghost use Rattle.shared_rule.specs.Laws.{SeeGroupStays, SeeStateStays, SeeStays, WakeStays};
 
@@ -130,6 +131,23 @@ pub fn law_leave()
     ensures child { (o : World) → ReadChildStays o }
     ensures own { (o : World) → ReadOwnStays o }
     ensures swap { (o : World) → SwapStays o }
+{
+    core_laws();
+}
+
+/// Does nothing: its contract says that the rule stays as an activation marks its CPU's slot in the
+/// leaf as ignored, and its group's in the parent (`tmigr_cpu_activate`, `tmigr_active_up`).
+pub fn law_ignore()
+    ensures own { (o : World) → MarkOwnStays o }
+    ensures group { (o : World) → MarkStays o }
+{
+    core_laws();
+}
+
+/// Does nothing: its contract says that the rule stays as a walk stores the event that it tells in
+/// its group (`timerqueue_add` and `timerqueue_del` in `tmigr_update_events`).
+pub fn law_store()
+    ensures { (o : World) → StoreStays o }
 {
     core_laws();
 }

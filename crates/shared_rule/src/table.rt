@@ -196,3 +196,24 @@ pub struct Swaps;
 impl Play<Said, View> for Swaps {
     ghost then = { plays.Swaps };
 }
+
+/// An activation marks its CPU's slot in the leaf as ignored.
+pub struct MarksOwn;
+
+impl Play<Said, View> for MarksOwn {
+    ghost then = { plays.MarksOwn };
+}
+
+/// An activation marks its group's slot in the parent as ignored.
+pub struct Marks;
+
+impl Play<Said, View> for Marks {
+    ghost then = { plays.Marks };
+}
+
+/// A walk stores the event that it tells.
+pub struct Stores;
+
+impl Play<Said, View> for Stores {
+    ghost then = { plays.Stores };
+}
