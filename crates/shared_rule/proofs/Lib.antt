@@ -30,3 +30,6 @@ pub mod Swapping
 pub mod Slotting
 pub mod Marking
 pub mod Storing
+pub mod Turning
+pub mod Resting
+pub mod Ticking

@@ -37,7 +37,7 @@ use Rattle.shared_rule.proofs.Rising.{as_they_were}
 use Rattle.shared_rule.proofs.Walking.{WalksAt}
 
 -- a walk that doesn't read is right in what it reads
-none_read : (t : Shape) (c : ℕ) (m : Option Walk) (n : ℕ) (word seq : ℕ → ℕ)
+pub none_read : (t : Shape) (c : ℕ) (m : Option Walk) (n : ℕ) (word seq : ℕ → ℕ)
     → ((z : Walk) → m ≡ Some z → is_reading z.stage ≡ false) → ReadsOf t c m n word seq
 none_read t c m n word seq reads = record {
   fresh = λ z i e rd there. absurd (true≢false (sym rd ∙ reads z e));

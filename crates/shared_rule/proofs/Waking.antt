@@ -57,7 +57,7 @@ module _ (pin next : ℕ) where
   no_reeval true = refl
   no_reeval false = refl
 
-abbrev is_offline : WalkKind → Bool
+abbrev pub is_offline : WalkKind → Bool
 is_offline kinds.Activate = false
 is_offline kinds.Deactivate = false
 is_offline kinds.Offline = true

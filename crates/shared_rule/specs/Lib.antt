@@ -5,3 +5,5 @@ pub mod Starts
 pub mod CoreLaws
 pub mod Plays
 pub mod Laws
+pub mod Turns
+pub mod TurnLaws

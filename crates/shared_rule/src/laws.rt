@@ -8,6 +8,8 @@ ghost use Rattle.shared_rule.specs.Laws.{MarkOwnStays, MarkStays, ReadGroupStays
 ghost use Rattle.shared_rule.specs.Laws.{RiseStays, StoreStays, SwapStays};
 ghost use Rattle.shared_rule.specs.Laws.{ScanStays, ScanTopStays, SeatsStay, SeeChildStays};
 ghost use Rattle.shared_rule.specs.Laws.{SeeGroupStays, SeeStateStays, SeeStays, WakeStays};
+ghost use Rattle.shared_rule.specs.TurnLaws.{EnterStays, IdleStays, LeaveStays, RetellStays};
+ghost use Rattle.shared_rule.specs.TurnLaws.{TickStays};
 
 use core_facts::{
     law_bounds, law_frame, law_height, law_lock, law_mark, law_once_a_level, law_own_event,
@@ -148,6 +150,26 @@ pub fn law_ignore()
 /// its group (`timerqueue_add` and `timerqueue_del` in `tmigr_update_events`).
 pub fn law_store()
     ensures { (o : World) → StoreStays o }
+{
+    core_laws();
+}
+
+/// Does nothing: its contract says that the rule stays as a CPU's interrupt begins and ends, as the
+/// CPU goes idle, and as it tells its first event anew, with its own pass brought
+/// (`run_timer_softirq`, `timer_base_try_to_set_idle`, `tmigr_cpu_new_timer`).
+pub fn law_turn()
+    ensures enter { (o : World) → EnterStays o }
+    ensures leave { (o : World) → LeaveStays o }
+    ensures idle { (o : World) → IdleStays o }
+    ensures retell { (o : World) → RetellStays o }
+{
+    core_laws();
+}
+
+/// Does nothing: its contract says that the rule stays as a base of a CPU counts as drained, and
+/// that the pass of who drained it has the receipt (`__run_timers`).
+pub fn law_tick()
+    ensures { (o : World) → TickStays o }
 {
     core_laws();
 }

@@ -1,6 +1,8 @@
 //! The table of a run: its rule, and how seats are cut and put together.
 
 ghost use Rattle.shared_rule.specs.Plays as plays;
+ghost use Rattle.shared_rule.specs.Turns as turns;
+ghost use Rattle.tm_base.specs.declared.names.Class.TheVariants as classes;
 
 use crate::parts::{Said, View};
 use atomic_table::{Join, Play, Split, Table, TableRule};
@@ -216,4 +218,53 @@ pub struct Stores;
 
 impl Play<Said, View> for Stores {
     ghost then = { plays.Stores };
+}
+
+/// A CPU stores its word, and its interrupt begins.
+pub struct Enters;
+
+impl Play<Said, View> for Enters {
+    ghost then = { turns.Enters };
+}
+
+/// A CPU stores its word, and its interrupt ends.
+pub struct Exits;
+
+impl Play<Said, View> for Exits {
+    ghost then = { turns.Exits };
+}
+
+/// A CPU stores its word and goes idle, and a walk begins.
+pub struct Idles;
+
+impl Play<Said, View> for Idles {
+    ghost then = { turns.Idles };
+}
+
+/// An idle CPU loads its word, and its re-evaluation begins.
+pub struct Retells;
+
+impl Play<Said, View> for Retells {
+    ghost then = { turns.Retells };
+}
+
+/// The base of pinned timers of a CPU counts as drained.
+pub struct TicksPinned;
+
+impl Play<Said, View> for TicksPinned {
+    ghost then = { turns.Ticks classes.Pinned };
+}
+
+/// The base of global timers of a CPU counts as drained.
+pub struct TicksGlobal;
+
+impl Play<Said, View> for TicksGlobal {
+    ghost then = { turns.Ticks classes.Global };
+}
+
+/// The base of deferrable timers of a CPU counts as drained.
+pub struct TicksDeferrable;
+
+impl Play<Said, View> for TicksDeferrable {
+    ghost then = { turns.Ticks classes.Deferrable };
 }

@@ -1,0 +1,102 @@
+-- what the rule says of the steps of a CPU's interrupt, idling and running of timers, as laws for
+-- crates above
+use Rattle.std.specs.Prelude.{◌≡◌, ◌⊎◌, ℕ, suc, ◌+◌, ◌^◌, ◌<◌, true, false, [], ◌∷◌, length}
+use Rattle.std.specs.Prelude.{None, Some}
+use mathlib.Core.Option.{none}
+use Rattle.atomic_table.specs.Table.{step}
+use Rattle.tm_base.specs.declared.names.Class.{Class}
+use Rattle.tm_base.specs.declared.names.Class.TheVariants.{Global}
+use Rattle.cpu_bases.specs.CpuBases.{base_of}
+use Rattle.wheel_core.specs.PlainBase.{next_out}
+use Rattle.core_world.specs.Enabled.{first_event}
+use Rattle.core_world.specs.World.{World, CpuRecord, is_active}
+use Rattle.shared_words.specs.Layout.{index_of}
+use Rattle.shared_rule.specs.declared.parts.BoxView.{BoxView}
+use Rattle.shared_rule.specs.declared.parts.PassView.{PassView}
+use Rattle.shared_rule.specs.Whole.{cpu_at, layout_of, own_word}
+use Rattle.shared_rule.specs.Rule.{seat_of}
+use Rattle.shared_rule.specs.Turns.{Enters, Exits, Idles, Retells, Ticks, entered, idled, outside}
+use Rattle.shared_rule.specs.Laws.{Stays}
+
+-- DRAINING: what has to be known where a base of a CPU counts as drained by the CPU of a pass:
+-- nothing more of it is due, and the pass's CPU runs its own timers inside its interrupt, or the
+-- global ones of a CPU that it has marked
+pub record MayStoreTick (o : World) (b : BoxView) (class : Class) (p : PassView) : Type 0 where
+  pub cpu : b.cpu < length o.cpus
+  pub free : b.own.walk ≡ None
+  pub none_due : next_out o.clock (base_of class b.own.bases) ≡ None
+  pub may_run : ((p.cpu ≡ b.cpu) × (b.own.inside ≡ true))
+      ⊎ ((class ≡ Global) × (b.own.mark ≡ Some p.cpu))
+
+-- the load of the CPU's word at which it does keeps the rule, and the seat is told that the entry
+-- is written and noted
+abbrev pub TickStays : World → Type 0
+TickStays o = (slots id : ℕ) (class : Class) (b : BoxView) (p : PassView) →
+    MayStoreTick o b class p →
+    Stays o slots id b (p ∷ []) (cpu_at b.cpu) (λ n. n)
+    (Ticks class (step slots (index_of (layout_of o) (cpu_at b.cpu)) 0 0 none)
+    (seat_of (b ∷ []) (p ∷ [])))
+
+-- A CPU WITH ITS OWN PASS: what has to be known where it makes a step of its own, besides what it
+-- is: it has no walk, is online, and has this word afterwards
+pub record IsOwnTurn (o : World) (b : BoxView) (p : PassView) (y : CpuRecord) (new : ℕ) : Type 0
+  where
+    pub cpu : b.cpu < length o.cpus
+    pub own : p.cpu ≡ b.cpu
+    pub free : b.own.walk ≡ None
+    pub online : b.own.online ≡ true
+    pub word : new ≡ own_word y
+
+-- ENTER: the store of a CPU's word by which its interrupt begins keeps the rule
+abbrev pub EnterStays : World → Type 0
+EnterStays o = (slots id : ℕ) (b : BoxView) (p : PassView) (new : ℕ) →
+    IsOwnTurn o b p (entered b.own) new → b.own.inside ≡ false →
+    Stays o slots id b (p ∷ []) (cpu_at b.cpu) (λ n. new)
+    (λ n. Enters (step slots (index_of (layout_of o) (cpu_at b.cpu)) new 0 none)
+    (seat_of (b ∷ []) (p ∷ [])) new)
+
+-- LEAVE: what has to be known where an interrupt ends: its CPU is awake and marks nobody
+pub record MayStoreLeave (b : BoxView) (p : PassView) : Type 0 where
+  pub inside : b.own.inside ≡ true
+  pub busy : b.own.idle ≡ false
+  pub marks_nobody : p.marks ≡ []
+
+-- the store of the CPU's word by which it does keeps the rule
+abbrev pub LeaveStays : World → Type 0
+LeaveStays o = (slots id : ℕ) (b : BoxView) (p : PassView) (new : ℕ) →
+    IsOwnTurn o b p (outside b.own) new → MayStoreLeave b p →
+    Stays o slots id b (p ∷ []) (cpu_at b.cpu) (λ n. new)
+    (λ n. Exits (step slots (index_of (layout_of o) (cpu_at b.cpu)) new 0 none)
+    (seat_of (b ∷ []) (p ∷ [])) new)
+
+-- IDLE: what has to be known where a CPU goes idle: it is active and outside its interrupt, its
+-- first event is more than a jiffy ahead, and one walk more may begin
+pub record MayStoreIdle (o : World) (b : BoxView) (p : PassView) : Type 0 where
+  pub active : is_active b.own ≡ true
+  pub outside : b.own.inside ≡ false
+  pub rests : o.clock + 1 < first_event b.own.bases
+  pub left : suc p.walks < 2 ^ 32
+
+-- the store of its word by which it does keeps the rule
+abbrev pub IdleStays : World → Type 0
+IdleStays o = (slots id : ℕ) (b : BoxView) (p : PassView) (new : ℕ) →
+    IsOwnTurn o b p (idled o b.cpu b.own) new → MayStoreIdle o b p →
+    Stays o slots id b (p ∷ []) (cpu_at b.cpu) (λ n. new)
+    (λ n. Idles (step slots (index_of (layout_of o) (cpu_at b.cpu)) new 0 none)
+    (seat_of (b ∷ []) (p ∷ [])) new)
+
+-- REEVAL: what has to be known where a re-evaluation begins: its CPU is idle, inside its interrupt,
+-- and marks nobody, and one walk more may begin
+pub record MayRetell (b : BoxView) (p : PassView) : Type 0 where
+  pub idle : b.own.idle ≡ true
+  pub inside : b.own.inside ≡ true
+  pub marks_nobody : p.marks ≡ []
+  pub left : suc p.walks < 2 ^ 32
+
+-- the load of the CPU's word at which it does keeps the rule
+abbrev pub RetellStays : World → Type 0
+RetellStays o = (slots id : ℕ) (b : BoxView) (p : PassView) →
+    IsOwnTurn o b p b.own (own_word b.own) → MayRetell b p →
+    Stays o slots id b (p ∷ []) (cpu_at b.cpu) (λ n. n)
+    (Retells (step slots (index_of (layout_of o) (cpu_at b.cpu)) 0 0 none)
+    (seat_of (b ∷ []) (p ∷ [])))

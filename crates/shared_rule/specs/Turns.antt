@@ -1,0 +1,125 @@
+-- what the steps of a CPU's interrupt, idling and running of timers tell the seat that makes them
+use Rattle.std.specs.Prelude.{◌≡◌, ℕ, suc, true, false, List, [], ◌∷◌, ◌++◌, length, Option, is_some}
+use Rattle.tm_base.specs.declared.names.Class.{Class}
+use Rattle.cpu_bases.specs.CpuBases.{events_of, handed_out, ticked_entry}
+use Rattle.tree_plan.specs.Paths.{group_at_of}
+use Rattle.walk_rules.specs.declared.walk.Walk.{Walk}
+use Rattle.walk_rules.specs.declared.walk.WalkKind.{WalkKind}
+use Rattle.walk_rules.specs.declared.walk.WalkKind.TheVariants as kinds
+use Rattle.walk_rules.specs.declared.walk.Stage.{Stage}
+use Rattle.walk_rules.specs.declared.walk.Stage.TheVariants as stages
+use Rattle.core_world.specs.Steps.{begun_where}
+use Rattle.core_world.specs.World.{World, CpuRecord}
+use Rattle.shared_rule.specs.declared.parts.BoxView.{BoxView}
+use Rattle.shared_rule.specs.declared.parts.PassView.{PassView}
+use Rattle.shared_rule.specs.Shows.{receipt_of}
+use Rattle.shared_rule.specs.Rule.{Me, Step}
+use Rattle.shared_rule.specs.Plays.{Sound, by_box, on_both}
+
+-- VIEWS AFTER A STEP: the box changes by what the first pass is
+abbrev pub pair_boxes : (BoxView → PassView → BoxView) → List BoxView → List PassView
+    → List BoxView
+pair_boxes f [] ps = []
+pair_boxes f (b ∷ bs) [] = b ∷ bs
+pair_boxes f (b ∷ bs) (p ∷ ps) = f b p ∷ bs
+
+-- box and pass change by what both are
+abbrev pub on_pair : (BoxView → PassView → BoxView) → (BoxView → PassView → PassView) → Me → Me
+on_pair f h v = (
+  record {
+    boxes = pair_boxes f v.0.boxes v.0.passes;
+    passes = by_box h v.0.boxes v.0.passes;
+  },
+  v.1,
+)
+
+-- DRAINING: a base counts as drained, by the CPU of a pass
+abbrev pub ticked_box : Class → BoxView → PassView → BoxView
+ticked_box class b p = record b {
+  own = record b.own {
+    bases = handed_out b.opening.clock class (record { 0 = p.cpu }) b.own.bases;
+  };
+}
+
+-- the pass has the receipt
+abbrev pub ticked_pass : Class → BoxView → PassView → PassView
+ticked_pass class b p = record p {
+  receipts =
+      p.receipts
+      ++ receipt_of b.cpu (length b.own.bases.journal)
+      (ticked_entry b.opening.clock class (record { 0 = p.cpu })) ∷ [];
+}
+
+-- a load of the CPU's word, at which the base of a class counts as drained
+abbrev pub Ticks : Class → Step → Me → ℕ → Me → Type 0
+Ticks class t v found w = (w ≡ on_pair (ticked_box class) (ticked_pass class) v) × Sound w
+
+-- ENTER: the CPU is inside its interrupt
+abbrev pub entered : CpuRecord → CpuRecord
+entered y = record y { inside = true }
+
+-- its box
+abbrev pub entered_box : BoxView → BoxView
+entered_box b = record b { own = entered b.own }
+
+-- its pass
+abbrev pub entered_pass : BoxView → PassView → PassView
+entered_pass b p = record p { inside = true }
+
+-- the store of a CPU's word by which its interrupt begins
+abbrev pub Enters : Step → Me → ℕ → Me → Type 0
+Enters t v found w = (w ≡ on_both entered_box entered_pass v) × Sound w
+
+-- LEAVE: the CPU is outside its interrupt
+abbrev pub outside : CpuRecord → CpuRecord
+outside y = record y { inside = false }
+
+-- its box
+abbrev pub outside_box : BoxView → BoxView
+outside_box b = record b { own = outside b.own }
+
+-- its pass
+abbrev pub outside_pass : BoxView → PassView → PassView
+outside_pass b p = record p { inside = false }
+
+-- the store of a CPU's word by which its interrupt ends
+abbrev pub Exits : Step → Me → ℕ → Me → Type 0
+Exits t v found w = (w ≡ on_both outside_box outside_pass v) × Sound w
+
+-- WALKS THAT BEGIN: one of a kind, which tells the CPU's first event
+abbrev pub begun : World → (c : ℕ) → CpuRecord → WalkKind → Stage → Option Walk
+begun o c y kind stage =
+    begun_where (is_some (group_at_of o.tree c 0)) kind stage (events_of y.bases).pin
+    (events_of y.bases).next
+
+-- IDLE: the CPU is idle, and its walk out of the active sets begins
+abbrev pub idled : World → (c : ℕ) → CpuRecord → CpuRecord
+idled o c y = record y { idle = true; walk = begun o c y kinds.Deactivate stages.Read }
+
+-- its box
+abbrev pub idled_box : BoxView → BoxView
+idled_box b = record b { own = idled b.opening b.cpu b.own; looked = [] }
+
+-- its pass, with which one walk more was begun
+abbrev pub idled_pass : BoxView → PassView → PassView
+idled_pass b p = record p { walks = suc p.walks; idle = true; reeval = false }
+
+-- the store of a CPU's word by which it goes idle
+abbrev pub Idles : Step → Me → ℕ → Me → Type 0
+Idles t v found w = (w ≡ on_both idled_box idled_pass v) × Sound w
+
+-- REEVAL: an idle CPU's walk begins that tells its first event anew
+abbrev pub retold : World → (c : ℕ) → CpuRecord → CpuRecord
+retold o c y = record y { walk = begun o c y kinds.Reeval stages.LockGroup }
+
+-- its box
+abbrev pub retold_box : BoxView → BoxView
+retold_box b = record b { own = retold b.opening b.cpu b.own; looked = [] }
+
+-- its pass, with which one walk more was begun
+abbrev pub retold_pass : BoxView → PassView → PassView
+retold_pass b p = record p { walks = suc p.walks; reeval = true }
+
+-- the load of a CPU's word at which its re-evaluation begins
+abbrev pub Retells : Step → Me → ℕ → Me → Type 0
+Retells t v found w = (w ≡ on_both retold_box retold_pass v) × Sound w
