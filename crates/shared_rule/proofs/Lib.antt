@@ -33,3 +33,5 @@ pub mod Storing
 pub mod Turning
 pub mod Resting
 pub mod Ticking
+pub mod Remarking
+pub mod Taking

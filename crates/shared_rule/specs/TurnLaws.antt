@@ -1,12 +1,15 @@
 -- what the rule says of the steps of a CPU's interrupt, idling and running of timers, as laws for
 -- crates above
-use Rattle.std.specs.Prelude.{◌≡◌, ◌⊎◌, ℕ, suc, ◌+◌, ◌^◌, ◌<◌, true, false, [], ◌∷◌, length}
+use Rattle.std.specs.Prelude.{◌≡◌, ◌⊎◌, ℕ, suc, ◌+◌, ◌^◌, ◌<◌, ◌≤◌, true, false, [], ◌∷◌, length}
 use Rattle.std.specs.Prelude.{None, Some}
 use mathlib.Core.Option.{none}
 use Rattle.atomic_table.specs.Table.{step}
 use Rattle.tm_base.specs.declared.names.Class.{Class}
 use Rattle.tm_base.specs.declared.names.Class.TheVariants.{Global}
+use Rattle.event_queue.specs.declared.event.Event.{Event}
+use Rattle.event_queue.specs.EventMap.{Counts}
 use Rattle.cpu_bases.specs.CpuBases.{base_of}
+use Rattle.tree_plan.specs.Paths.{group_at_of, is_placed_in}
 use Rattle.wheel_core.specs.PlainBase.{next_out}
 use Rattle.core_world.specs.Enabled.{first_event}
 use Rattle.core_world.specs.World.{World, CpuRecord, is_active}
@@ -15,7 +18,8 @@ use Rattle.shared_rule.specs.declared.parts.BoxView.{BoxView}
 use Rattle.shared_rule.specs.declared.parts.PassView.{PassView}
 use Rattle.shared_rule.specs.Whole.{cpu_at, layout_of, own_word}
 use Rattle.shared_rule.specs.Rule.{seat_of}
-use Rattle.shared_rule.specs.Turns.{Enters, Exits, Idles, Retells, Ticks, entered, idled, outside}
+use Rattle.shared_rule.specs.Turns.{Enters, Exits, Idles, Releases, Retells, Takes, Ticks, entered}
+use Rattle.shared_rule.specs.Turns.{idled, outside, released, taken}
 use Rattle.shared_rule.specs.Laws.{Stays}
 
 -- DRAINING: what has to be known where a base of a CPU counts as drained by the CPU of a pass:
@@ -100,3 +104,45 @@ RetellStays o = (slots id : ℕ) (b : BoxView) (p : PassView) →
     Stays o slots id b (p ∷ []) (cpu_at b.cpu) (λ n. n)
     (Retells (step slots (index_of (layout_of o) (cpu_at b.cpu)) 0 0 none)
     (seat_of (b ∷ []) (p ∷ [])))
+
+-- TAKE: what has to be known where the CPU of a pass marks a CPU: the one is placed, inside its
+-- interrupt and makes no re-evaluation; the other is idle, unmarked, and due by its slot in its leaf
+pub record MayStoreTake (o : World) (b : BoxView) (p : PassView) (leaf : ℕ) (e : Event) (new : ℕ)
+    : Type 0 where
+  pub cpu : b.cpu < length o.cpus
+  pub placed : is_placed_in o.tree p.cpu ≡ true
+  pub inside : p.inside ≡ true
+  pub goes_on : p.reeval ≡ false
+  pub free : b.own.walk ≡ None
+  pub online : b.own.online ≡ true
+  pub idle : b.own.idle ≡ true
+  pub unmarked : b.own.mark ≡ None
+  pub path : group_at_of o.tree b.cpu 0 ≡ Some leaf
+  pub there : b.leaf ≡ Some e
+  pub counts : Counts e
+  pub come : e.expiry ≤ o.clock
+  pub word : new ≡ own_word (taken p.cpu b.own)
+
+-- the store of the CPU's word by which it does keeps the rule
+abbrev pub TakeStays : World → Type 0
+TakeStays o = (slots id leaf : ℕ) (e : Event) (b : BoxView) (p : PassView) (new : ℕ) →
+    MayStoreTake o b p leaf e new →
+    Stays o slots id b (p ∷ []) (cpu_at b.cpu) (λ n. new)
+    (λ n. Takes (step slots (index_of (layout_of o) (cpu_at b.cpu)) new 0 none)
+    (seat_of (b ∷ []) (p ∷ [])) new)
+
+-- RELEASE: what has to be known where the CPU of a pass takes back its mark of a CPU, which is awake
+pub record MayStoreRelease (o : World) (b : BoxView) (p : PassView) (new : ℕ) : Type 0 where
+  pub cpu : b.cpu < length o.cpus
+  pub free : b.own.walk ≡ None
+  pub marked : b.own.mark ≡ Some p.cpu
+  pub awake : (b.own.online ≡ false) ⊎ (b.own.idle ≡ false)
+  pub word : new ≡ own_word (released b.own)
+
+-- the store of the CPU's word by which it does keeps the rule
+abbrev pub ReleaseStays : World → Type 0
+ReleaseStays o = (slots id : ℕ) (b : BoxView) (p : PassView) (new : ℕ) →
+    MayStoreRelease o b p new →
+    Stays o slots id b (p ∷ []) (cpu_at b.cpu) (λ n. new)
+    (λ n. Releases (step slots (index_of (layout_of o) (cpu_at b.cpu)) new 0 none)
+    (seat_of (b ∷ []) (p ∷ [])) new)

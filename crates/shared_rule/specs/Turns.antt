@@ -1,5 +1,6 @@
 -- what the steps of a CPU's interrupt, idling and running of timers tell the seat that makes them
-use Rattle.std.specs.Prelude.{◌≡◌, ℕ, suc, true, false, List, [], ◌∷◌, ◌++◌, length, Option, is_some}
+use Rattle.std.specs.Prelude.{◌≡◌, ℕ, suc, true, false, List, [], ◌∷◌, ◌++◌, length, Option}
+use Rattle.std.specs.Prelude.{◌==◌, None, Some, filter, is_some, not}
 use Rattle.tm_base.specs.declared.names.Class.{Class}
 use Rattle.cpu_bases.specs.CpuBases.{events_of, handed_out, ticked_entry}
 use Rattle.tree_plan.specs.Paths.{group_at_of}
@@ -12,6 +13,7 @@ use Rattle.core_world.specs.Steps.{begun_where}
 use Rattle.core_world.specs.World.{World, CpuRecord}
 use Rattle.shared_rule.specs.declared.parts.BoxView.{BoxView}
 use Rattle.shared_rule.specs.declared.parts.PassView.{PassView}
+use Rattle.shared_rule.specs.declared.parts.Deed.TheVariants as deeds
 use Rattle.shared_rule.specs.Shows.{receipt_of}
 use Rattle.shared_rule.specs.Rule.{Me, Step}
 use Rattle.shared_rule.specs.Plays.{Sound, by_box, on_both}
@@ -123,3 +125,45 @@ retold_pass b p = record p { walks = suc p.walks; reeval = true }
 -- the load of a CPU's word at which its re-evaluation begins
 abbrev pub Retells : Step → Me → ℕ → Me → Type 0
 Retells t v found w = (w ≡ on_both retold_box retold_pass v) × Sound w
+
+-- TAKE: the mark of a CPU is that of the CPU of a pass
+abbrev pub taken : (by : ℕ) → CpuRecord → CpuRecord
+taken by y = record y { mark = Some by }
+
+-- its box
+abbrev pub taken_box : BoxView → PassView → BoxView
+taken_box b p = record b { own = taken p.cpu b.own }
+
+-- the pass that has set it
+abbrev pub taken_pass : BoxView → PassView → PassView
+taken_pass b p = record p {
+  marks = p.marks ++ b.cpu ∷ [];
+  did = p.did ++ record { held = length p.receipts; deed = deeds.Took b.cpu } ∷ [];
+}
+
+-- the store of a CPU's word by which it is marked
+abbrev pub Takes : Step → Me → ℕ → Me → Type 0
+Takes t v found w = (w ≡ on_pair taken_box taken_pass v) × Sound w
+
+-- RELEASE: the mark of a CPU is gone
+abbrev pub released : CpuRecord → CpuRecord
+released y = record y { mark = None }
+
+-- its box
+abbrev pub released_box : BoxView → PassView → BoxView
+released_box b p = record b { own = released b.own }
+
+-- the marks of a pass without that of a CPU
+abbrev pub marks_without : (c : ℕ) → List ℕ → List ℕ
+marks_without c marks = filter (λ m. not (m == c)) marks
+
+-- the pass that had set it
+abbrev pub released_pass : BoxView → PassView → PassView
+released_pass b p = record p {
+  marks = marks_without b.cpu p.marks;
+  did = p.did ++ record { held = length p.receipts; deed = deeds.Released b.cpu } ∷ [];
+}
+
+-- the store of a CPU's word by which its mark is taken back
+abbrev pub Releases : Step → Me → ℕ → Me → Type 0
+Releases t v found w = (w ≡ on_pair released_box released_pass v) × Sound w

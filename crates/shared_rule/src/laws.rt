@@ -9,7 +9,7 @@ ghost use Rattle.shared_rule.specs.Laws.{RiseStays, StoreStays, SwapStays};
 ghost use Rattle.shared_rule.specs.Laws.{ScanStays, ScanTopStays, SeatsStay, SeeChildStays};
 ghost use Rattle.shared_rule.specs.Laws.{SeeGroupStays, SeeStateStays, SeeStays, WakeStays};
 ghost use Rattle.shared_rule.specs.TurnLaws.{EnterStays, IdleStays, LeaveStays, RetellStays};
-ghost use Rattle.shared_rule.specs.TurnLaws.{TickStays};
+ghost use Rattle.shared_rule.specs.TurnLaws.{ReleaseStays, TakeStays, TickStays};
 
 use core_facts::{
     law_bounds, law_frame, law_height, law_lock, law_mark, law_once_a_level, law_own_event,
@@ -170,6 +170,15 @@ pub fn law_turn()
 /// that the pass of who drained it has the receipt (`__run_timers`).
 pub fn law_tick()
     ensures { (o : World) → TickStays o }
+{
+    core_laws();
+}
+
+/// Does nothing: its contract says that the rule stays as a pass sets the mark of a CPU, whose
+/// timers it is to run, and takes it back (`tmigr_handle_remote_cpu`).
+pub fn law_take()
+    ensures take { (o : World) → TakeStays o }
+    ensures release { (o : World) → ReleaseStays o }
 {
     core_laws();
 }

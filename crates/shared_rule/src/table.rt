@@ -268,3 +268,17 @@ pub struct TicksDeferrable;
 impl Play<Said, View> for TicksDeferrable {
     ghost then = { turns.Ticks classes.Deferrable };
 }
+
+/// A pass sets the mark of a CPU in its word.
+pub struct Takes;
+
+impl Play<Said, View> for Takes {
+    ghost then = { turns.Takes };
+}
+
+/// A pass takes its mark of a CPU back.
+pub struct Releases;
+
+impl Play<Said, View> for Releases {
+    ghost then = { turns.Releases };
+}

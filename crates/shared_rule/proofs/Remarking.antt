@@ -1,0 +1,209 @@
+-- for crates above: a step that changes the mark of a CPU
+use Rattle.std.proofs.Common.{◌≡◌, ◌≢◌, ◌↔◌, ◌⊎◌, ⊎_elim, ℕ, zero, suc, ◌+◌, ◌^◌, ◌<◌, ◌≤◌, eqb}
+use Rattle.std.proofs.Common.{cond}
+use Rattle.std.proofs.Common.{Bool, true, false, true≢false, ne_eqb, eq-eqb, List, [], ◌∷◌, ◌++◌}
+use Rattle.std.proofs.Common.{length}
+use Rattle.std.proofs.Common.{Option, Some, None, refl, sym, ap, ◌∙◌, subst, inl, inr, arith}
+use Rattle.std.specs.Prelude.{Contains, not, slice_get}
+use Rattle.std.specs.List.{filter}
+use Rattle.std.proofs.lemmas.Bool.{cases_eq}
+use Rattle.std.proofs.lemmas.List.Elements.{All-contains, All-contains_itself, All-filter}
+use Rattle.std.proofs.lemmas.List.Elements.{Contains-append_left, Contains-append_right}
+use Rattle.std.proofs.lemmas.List.Elements.{Contains-push, Contains-push_cases, filter_passes}
+use Rattle.std.proofs.lemmas.Option.{none-some, same_Some}
+use Rattle.tree_plan.specs.Paths.{group_at_of, is_placed_in}
+use Rattle.core_world.specs.declared.step.Step.{Step}
+use Rattle.core_world.specs.declared.step.Step.TheVariants as steps
+use Rattle.core_world.specs.Enabled.{Enabled, IsReevaluating}
+use Rattle.core_world.specs.Steps.{stepped}
+use Rattle.core_world.specs.World.{World, CpuRecord, cpu_of, group_of, own}
+use Rattle.core_world.proofs.Moves.{cpu_same, cpu_else}
+use Rattle.core_facts.specs.Reach.{reach_of}
+use Rattle.shared_rule.specs.declared.parts.BoxView.{BoxView}
+use Rattle.shared_rule.specs.declared.parts.Deed.{Deed}
+use Rattle.shared_rule.specs.declared.parts.Deed.TheVariants as deeds
+use Rattle.shared_rule.specs.declared.parts.Did.{Did}
+use Rattle.shared_rule.specs.declared.parts.PassView.{PassView}
+use Rattle.shared_rule.specs.declared.parts.Receipt.{Receipt}
+use Rattle.shared_rule.specs.CoreLaws.{CoreLaws}
+use Rattle.shared_rule.specs.Whole.{Whole, box_as, box_of, cpu_at, leaf_in, leaf_of, own_word}
+use Rattle.shared_rule.specs.Shows.{DidRight, FlagsOf, IsShown, is_reeval, reevaluates, set_at}
+use Rattle.shared_rule.specs.Rule.{Goes, Me, pass_cpu, seat_of}
+use Rattle.shared_rule.specs.Turns.{marks_without, on_pair, released, released_box, released_pass}
+use Rattle.shared_rule.specs.Turns.{taken, taken_box, taken_pass}
+use Rattle.shared_rule.specs.TurnLaws.{ReleaseStays, TakeStays}
+use Rattle.shared_rule.proofs.Sums.{sum_same}
+use Rattle.shared_rule.proofs.Fronts.{get_snoc}
+use Rattle.shared_rule.proofs.Moving.{own_leaf, pass_field, set_else, set_here}
+use Rattle.shared_rule.proofs.Made.{IsPlain, made}
+use Rattle.shared_rule.proofs.Going.{allows}
+use Rattle.shared_rule.proofs.Passing.{IsAlike}
+use Rattle.shared_rule.proofs.Slotting.{none_read}
+use Rattle.shared_rule.proofs.Waking.{none_shown}
+
+-- what such a step has to show, by which the mark of c becomes m, and pass p becomes q
+pub record Remarked (o : World) (s : Whole) (c : ℕ) (m : Option ℕ) (p q : PassView) (f : ℕ → ℕ)
+    (then : ℕ → Me → Type 0) : Type 0 where
+  pub step : Step
+  pub enabled : Enabled s.world step
+  pub is : stepped s.world step ≡ own s.world c (record (cpu_of s.world c) { mark = m })
+  pub plain : IsPlain (reach_of step)
+  pub in_range : c < length o.cpus
+  pub brought : p ≡ s.pass p.cpu
+  pub free : (cpu_of s.world c).walk ≡ None
+  pub opening : q.opening ≡ p.opening
+  pub cpu : q.cpu ≡ p.cpu
+  pub walks : q.walks ≡ p.walks
+  pub receipts : q.receipts ≡ p.receipts
+  pub idle : q.idle ≡ p.idle
+  pub inside : q.inside ≡ p.inside
+  pub reeval : q.reeval ≡ p.reeval
+  pub wakeup : q.wakeup ≡ p.wakeup
+  pub journal : q.journal ≡ p.journal
+  pub deed : Did
+  pub did : q.did ≡ p.did ++ deed ∷ []
+  pub right : DidRight o s.world p.receipts deed
+  pub mine : (m ≡ Some p.cpu) ↔ Contains q.marks c
+  pub other : (b : ℕ) → b ≢ p.cpu → (m ≡ Some b) ↔ Contains (s.pass b).marks c
+  pub others : (d : ℕ) → d ≢ c → Contains q.marks d ↔ Contains p.marks d
+  pub word : own_word (record (cpu_of s.world c) { mark = m }) ≡ f (own_word (cpu_of s.world c))
+  pub told : then (own_word (cpu_of s.world c))
+      (seat_of
+      (box_as o c (record (cpu_of s.world c) { mark = m }) (leaf_of s.world c) (s.read c)
+      (s.looked c) ∷ []) (q ∷ []))
+
+module _ (law : CoreLaws) (o : World) (s : Whole) (h : IsShown o s) (c : ℕ) (m : Option ℕ)
+    (p q : PassView) (f : ℕ → ℕ) (then : ℕ → Me → Type 0) (t : Remarked o s c m p q f then) where
+  abbrev w : World
+  w = s.world
+
+  abbrev y : CpuRecord
+  y = record (cpu_of w c) { mark = m }
+
+  abbrev b : ℕ
+  b = p.cpu
+
+  abbrev pass : ℕ → PassView
+  pass = set_at b q s.pass
+
+  hw : c < length w.cpus
+  hw = omega (arith, t.in_range, h.same.cpus)
+
+  but : {X : Type 0} (g : PassView → X) → g q ≡ g p → (d : ℕ) → g (pass d) ≡ g (s.pass d)
+  but g is d = pass_field g s.pass b q (is ∙ ap g t.brought) d
+
+  flags : (d : ℕ) → FlagsOf (cpu_of w d) (pass d)
+  flags d =
+      let was = h.flags d in
+      record {
+        idle = but (λ z. z.idle) t.idle d ∙ was.idle;
+        inside = but (λ z. z.inside) t.inside d ∙ was.inside;
+        wakeup = but (λ z. z.wakeup) t.wakeup d ∙ was.wakeup;
+        reeval = but (λ z. z.reeval) t.reeval d ∙ was.reeval;
+      }
+
+  -- marks of CPUs and those of passes, where either is the one of the step
+  marked : (d i : ℕ) → ((cpu_of (own w c y) d).mark ≡ Some i) ↔ Contains (pass i).marks d
+  marked d i = elim (cases_eq d c) [
+    | inl is ↦
+        subst (λ n. ((cpu_of (own w c y) n).mark ≡ Some i) ↔ Contains (pass i).marks n) (sym is)
+        (subst (λ (z : CpuRecord). (z.mark ≡ Some i) ↔ Contains (pass i).marks c)
+        (sym (cpu_same w 0 (group_of w 0) c y false hw)) (of_own i))
+    | inr ne ↦
+        subst (λ (z : CpuRecord). (z.mark ≡ Some i) ↔ Contains (pass i).marks d)
+        (sym (cpu_else w 0 (group_of w 0) c y false d ne)) (of_other d ne i)
+  ]
+    where
+      of_own : (i : ℕ) → (m ≡ Some i) ↔ Contains (pass i).marks c
+      of_own i = elim (cases_eq i b) [
+        | inl is ↦
+            subst (λ n. (m ≡ Some n) ↔ Contains (pass n).marks c) (sym is)
+            (subst (λ (z : PassView). (m ≡ Some b) ↔ Contains z.marks c)
+            (sym (set_here b q s.pass)) t.mine)
+        | inr ne ↦
+            subst (λ (z : PassView). (m ≡ Some i) ↔ Contains z.marks c)
+            (sym (set_else b q s.pass i ne)) (t.other i ne)
+      ]
+
+      of_other : (d : ℕ) → d ≢ c → (i : ℕ)
+          → ((cpu_of w d).mark ≡ Some i) ↔ Contains (pass i).marks d
+      of_other d ne i = elim (cases_eq i b) [
+        | inl is ↦
+            subst (λ n. ((cpu_of w d).mark ≡ Some n) ↔ Contains (pass n).marks d) (sym is)
+            (subst (λ (z : PassView). ((cpu_of w d).mark ≡ Some b) ↔ Contains z.marks d)
+            (sym (set_here b q s.pass))
+            (let was = h.marked d b in
+            let same = t.others d ne in
+            let old = ap (λ (z : PassView). Contains z.marks d) t.brought in (
+              (λ x. same.1 (subst (λ (z : Type 0). z) (sym old) (was.0 x))),
+              (λ x. was.1 (subst (λ (z : Type 0). z) old (same.0 x))),
+            )))
+        | inr other ↦
+            subst (λ (z : PassView). ((cpu_of w d).mark ≡ Some i) ↔ Contains z.marks d)
+            (sym (set_else b q s.pass i other)) (h.marked d i)
+      ]
+
+  -- what each pass did is right, the new deed with the others
+  all_right : (d i : ℕ) (z : Did) → slice_get (pass d).did i ≡ Some z
+      → DidRight o w (s.pass d).receipts z
+  all_right d i z at = elim (cases_eq d b) [
+    | inl is ↦
+        subst (λ n. DidRight o w (s.pass n).receipts z) (sym is)
+        (⊎_elim
+        (λ old. h.seen b i z
+        (ap (λ (x : PassView). slice_get x.did i) (sym t.brought) ∙ old))
+        (λ (u : (i ≡ length p.did) × (t.deed ≡ z)).
+        subst (DidRight o w (s.pass b).receipts) u.1
+        (subst (λ (x : PassView). DidRight o w x.receipts t.deed) t.brought t.right))
+        (get_snoc p.did t.deed i z
+        (ap (λ l. slice_get l i) (sym t.did)
+        ∙ (ap (λ (x : PassView). slice_get x.did i) (sym (set_here b q s.pass))
+        ∙ subst (λ n. slice_get (pass n).did i ≡ Some z) is at))))
+    | inr ne ↦
+        h.seen d i z (ap (λ (x : PassView). slice_get x.did i) (sym (set_else b q s.pass d ne)) ∙ at)
+  ]
+
+  pub remarks : Goes o s (box_of o s c) (p ∷ []) (cpu_at c) f then
+  remarks =
+      made law o s h c 0 (group_of w 0) y false (s.read c) s.stray (s.looked c) pass (p ∷ [])
+      (q ∷ []) (cpu_at c) f then
+      (record {
+        step = t.step;
+        enabled = t.enabled;
+        is = t.is;
+        plain = t.plain;
+        in_range = t.in_range;
+        group = inr refl;
+        kept = λ z. (refl, refl);
+        staying = λ k at. absurd (none-some k (sym t.free ∙ at));
+        reads = none_read w.tree c y.walk (s.read c) _ _
+            (λ k at. absurd (none-some k (sym t.free ∙ at)));
+        owed = λ i.
+            let sum = sum_same (length o.cpus) (λ d. (s.pass d).walks) (λ d. (pass d).walks)
+            (λ d low. but (λ z. z.walks) t.walks d) in
+            omega (arith, sum);
+        few = λ d. subst (λ n. n < 2 ^ 32) (sym (but (λ z. z.walks) t.walks d)) (h.few d);
+        opened = λ d. but (λ z. z.opening) t.opening d ∙ h.opened d;
+        passes = λ d. but (λ z. z.cpu) t.cpu d ∙ h.passes d;
+        flags =
+            let was = flags c in
+            record { idle = was.idle; inside = was.inside; wakeup = was.wakeup; reeval = was.reeval };
+        flags_else = λ d ne. flags d;
+        marked = marked;
+        journal = but (λ z. z.journal) t.journal;
+        receipts = but (λ z. z.receipts) t.receipts;
+        did = all_right;
+        leaf = leaf_of w c;
+        leaf_is = sym (own_leaf w c c y);
+        leaves = λ d ne. own_leaf w c d y;
+        word = ap own_word (cpu_same w 0 (group_of w 0) c y false hw) ∙ t.word;
+        state = λ ne. refl;
+        lock = λ ne. refl;
+        slots = λ k low ne. refl;
+        strays = λ j k ne. refl;
+        cpu = λ ne. absurd (ne refl);
+        same = λ i. t.cpu i ∷ [];
+        brought = (sym (ap pass t.cpu ∙ set_here b q s.pass), tt);
+        others = λ d ne. set_else b q s.pass d (λ e. ne.0 (sym e));
+        told = t.told;
+      })
