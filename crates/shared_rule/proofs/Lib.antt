@@ -35,3 +35,5 @@ pub mod Resting
 pub mod Ticking
 pub mod Remarking
 pub mod Taking
+pub mod Ending
+pub mod Carrying

@@ -1,4 +1,4 @@
--- for crates above: a step that changes the mark of a CPU
+-- for crates above: a step of a CPU with any pass, that leaves groups and timers
 use Rattle.std.proofs.Common.{◌≡◌, ◌≢◌, ◌↔◌, ◌⊎◌, ⊎_elim, ℕ, zero, suc, ◌+◌, ◌^◌, ◌<◌, ◌≤◌, eqb}
 use Rattle.std.proofs.Common.{cond}
 use Rattle.std.proofs.Common.{Bool, true, false, true≢false, ne_eqb, eq-eqb, List, [], ◌∷◌, ◌++◌}
@@ -12,27 +12,31 @@ use Rattle.std.proofs.lemmas.List.Elements.{Contains-append_left, Contains-appen
 use Rattle.std.proofs.lemmas.List.Elements.{Contains-push, Contains-push_cases, filter_passes}
 use Rattle.std.proofs.lemmas.Option.{none-some, same_Some}
 use Rattle.tree_plan.specs.Paths.{group_at_of, is_placed_in}
+use Rattle.walk_rules.specs.declared.walk.Walk.{Walk}
+use Rattle.walk_rules.specs.declared.walk.WalkKind.TheVariants as kinds
 use Rattle.core_world.specs.declared.step.Step.{Step}
 use Rattle.core_world.specs.declared.step.Step.TheVariants as steps
 use Rattle.core_world.specs.Enabled.{Enabled, IsReevaluating}
 use Rattle.core_world.specs.Steps.{stepped}
-use Rattle.core_world.specs.World.{World, CpuRecord, cpu_of, group_of, own}
+use Rattle.core_world.specs.World.{World, CpuRecord, cpu_of, group_of, is_reading, own}
 use Rattle.core_world.proofs.Moves.{cpu_same, cpu_else}
 use Rattle.core_facts.specs.Reach.{reach_of}
 use Rattle.shared_rule.specs.declared.parts.BoxView.{BoxView}
 use Rattle.shared_rule.specs.declared.parts.Deed.{Deed}
 use Rattle.shared_rule.specs.declared.parts.Deed.TheVariants as deeds
 use Rattle.shared_rule.specs.declared.parts.Did.{Did}
+use Rattle.shared_rule.specs.declared.parts.Look.{Look}
 use Rattle.shared_rule.specs.declared.parts.PassView.{PassView}
 use Rattle.shared_rule.specs.declared.parts.Receipt.{Receipt}
 use Rattle.shared_rule.specs.CoreLaws.{CoreLaws}
 use Rattle.shared_rule.specs.Whole.{Whole, box_as, box_of, cpu_at, leaf_in, leaf_of, own_word}
-use Rattle.shared_rule.specs.Shows.{DidRight, FlagsOf, IsShown, is_reeval, reevaluates, set_at}
+use Rattle.shared_rule.specs.Shows.{DidRight, FlagsOf, IsShown, is_reeval, owes, reevaluates}
+use Rattle.shared_rule.specs.Shows.{set_at}
 use Rattle.shared_rule.specs.Rule.{Goes, Me, pass_cpu, seat_of}
 use Rattle.shared_rule.specs.Turns.{marks_without, on_pair, released, released_box, released_pass}
 use Rattle.shared_rule.specs.Turns.{taken, taken_box, taken_pass}
 use Rattle.shared_rule.specs.TurnLaws.{ReleaseStays, TakeStays}
-use Rattle.shared_rule.proofs.Sums.{sum_same}
+use Rattle.shared_rule.proofs.Sums.{sum_swap}
 use Rattle.shared_rule.proofs.Fronts.{get_snoc}
 use Rattle.shared_rule.proofs.Moving.{own_leaf, pass_field, set_else, set_here}
 use Rattle.shared_rule.proofs.Made.{IsPlain, made}
@@ -41,44 +45,47 @@ use Rattle.shared_rule.proofs.Passing.{IsAlike}
 use Rattle.shared_rule.proofs.Slotting.{none_read}
 use Rattle.shared_rule.proofs.Waking.{none_shown}
 
--- what such a step has to show, by which the mark of c becomes m, and pass p becomes q
-pub record Remarked (o : World) (s : Whole) (c : ℕ) (m : Option ℕ) (p q : PassView) (f : ℕ → ℕ)
-    (then : ℕ → Me → Type 0) : Type 0 where
+-- what such a step has to show, by which CPU c becomes y, and pass p becomes q
+pub record Remarked (o : World) (s : Whole) (c : ℕ) (y : CpuRecord) (p q : PassView)
+    (looked : List Look) (f : ℕ → ℕ) (then : ℕ → Me → Type 0) : Type 0 where
   pub step : Step
   pub enabled : Enabled s.world step
-  pub is : stepped s.world step ≡ own s.world c (record (cpu_of s.world c) { mark = m })
+  pub is : stepped s.world step ≡ own s.world c y
   pub plain : IsPlain (reach_of step)
   pub in_range : c < length o.cpus
   pub brought : p ≡ s.pass p.cpu
-  pub free : (cpu_of s.world c).walk ≡ None
+  pub runner : p.cpu < length o.cpus
+  -- the CPU's walk, and what else its pass says of it
+  pub staying : (k : Walk) → y.walk ≡ Some k → k.kind ≢ kinds.Offline
+  pub reads : (k : Walk) → y.walk ≡ Some k → is_reading k.stage ≡ false
+  pub still_idle : y.idle ≡ (cpu_of s.world c).idle
+  pub still_inside : y.inside ≡ (cpu_of s.world c).inside
+  pub still_wakes : y.wakeup ≡ (cpu_of s.world c).wakeup
+  pub still_reeval : reevaluates y.walk ≡ reevaluates (cpu_of s.world c).walk
+  pub owed : (m : ℕ) → owes o.tree m c y.walk + p.walks
+      ≤ owes o.tree m c (cpu_of s.world c).walk + q.walks
+  pub few : q.walks < 2 ^ 32
   pub opening : q.opening ≡ p.opening
   pub cpu : q.cpu ≡ p.cpu
-  pub walks : q.walks ≡ p.walks
   pub receipts : q.receipts ≡ p.receipts
   pub idle : q.idle ≡ p.idle
   pub inside : q.inside ≡ p.inside
   pub reeval : q.reeval ≡ p.reeval
   pub wakeup : q.wakeup ≡ p.wakeup
   pub journal : q.journal ≡ p.journal
-  pub deed : Did
-  pub did : q.did ≡ p.did ++ deed ∷ []
-  pub right : DidRight o s.world p.receipts deed
-  pub mine : (m ≡ Some p.cpu) ↔ Contains q.marks c
-  pub other : (b : ℕ) → b ≢ p.cpu → (m ≡ Some b) ↔ Contains (s.pass b).marks c
+  pub did : (i : ℕ) (z : Did) → slice_get q.did i ≡ Some z → DidRight o s.world p.receipts z
+  pub mine : (y.mark ≡ Some p.cpu) ↔ Contains q.marks c
+  pub other : (b : ℕ) → b ≢ p.cpu → (y.mark ≡ Some b) ↔ Contains (s.pass b).marks c
   pub others : (d : ℕ) → d ≢ c → Contains q.marks d ↔ Contains p.marks d
-  pub word : own_word (record (cpu_of s.world c) { mark = m }) ≡ f (own_word (cpu_of s.world c))
+  pub word : own_word y ≡ f (own_word (cpu_of s.world c))
   pub told : then (own_word (cpu_of s.world c))
-      (seat_of
-      (box_as o c (record (cpu_of s.world c) { mark = m }) (leaf_of s.world c) (s.read c)
-      (s.looked c) ∷ []) (q ∷ []))
+      (seat_of (box_as o c y (leaf_of s.world c) (s.read c) looked ∷ []) (q ∷ []))
 
-module _ (law : CoreLaws) (o : World) (s : Whole) (h : IsShown o s) (c : ℕ) (m : Option ℕ)
-    (p q : PassView) (f : ℕ → ℕ) (then : ℕ → Me → Type 0) (t : Remarked o s c m p q f then) where
+module _ (law : CoreLaws) (o : World) (s : Whole) (h : IsShown o s) (c : ℕ) (y : CpuRecord)
+    (p q : PassView) (looked : List Look) (f : ℕ → ℕ) (then : ℕ → Me → Type 0)
+    (t : Remarked o s c y p q looked f then) where
   abbrev w : World
   w = s.world
-
-  abbrev y : CpuRecord
-  y = record (cpu_of w c) { mark = m }
 
   abbrev b : ℕ
   b = p.cpu
@@ -114,14 +121,14 @@ module _ (law : CoreLaws) (o : World) (s : Whole) (h : IsShown o s) (c : ℕ) (m
         (sym (cpu_else w 0 (group_of w 0) c y false d ne)) (of_other d ne i)
   ]
     where
-      of_own : (i : ℕ) → (m ≡ Some i) ↔ Contains (pass i).marks c
+      of_own : (i : ℕ) → (y.mark ≡ Some i) ↔ Contains (pass i).marks c
       of_own i = elim (cases_eq i b) [
         | inl is ↦
-            subst (λ n. (m ≡ Some n) ↔ Contains (pass n).marks c) (sym is)
-            (subst (λ (z : PassView). (m ≡ Some b) ↔ Contains z.marks c)
+            subst (λ n. (y.mark ≡ Some n) ↔ Contains (pass n).marks c) (sym is)
+            (subst (λ (z : PassView). (y.mark ≡ Some b) ↔ Contains z.marks c)
             (sym (set_here b q s.pass)) t.mine)
         | inr ne ↦
-            subst (λ (z : PassView). (m ≡ Some i) ↔ Contains z.marks c)
+            subst (λ (z : PassView). (y.mark ≡ Some i) ↔ Contains z.marks c)
             (sym (set_else b q s.pass i ne)) (t.other i ne)
       ]
 
@@ -143,29 +150,24 @@ module _ (law : CoreLaws) (o : World) (s : Whole) (h : IsShown o s) (c : ℕ) (m
             (sym (set_else b q s.pass i other)) (h.marked d i)
       ]
 
-  -- what each pass did is right, the new deed with the others
+  -- what each pass did is right
   all_right : (d i : ℕ) (z : Did) → slice_get (pass d).did i ≡ Some z
       → DidRight o w (s.pass d).receipts z
   all_right d i z at = elim (cases_eq d b) [
     | inl is ↦
         subst (λ n. DidRight o w (s.pass n).receipts z) (sym is)
-        (⊎_elim
-        (λ old. h.seen b i z
-        (ap (λ (x : PassView). slice_get x.did i) (sym t.brought) ∙ old))
-        (λ (u : (i ≡ length p.did) × (t.deed ≡ z)).
-        subst (DidRight o w (s.pass b).receipts) u.1
-        (subst (λ (x : PassView). DidRight o w x.receipts t.deed) t.brought t.right))
-        (get_snoc p.did t.deed i z
-        (ap (λ l. slice_get l i) (sym t.did)
-        ∙ (ap (λ (x : PassView). slice_get x.did i) (sym (set_here b q s.pass))
-        ∙ subst (λ n. slice_get (pass n).did i ≡ Some z) is at))))
+        (subst (λ (x : PassView). DidRight o w x.receipts z) t.brought
+        (t.did i z
+        (ap (λ (x : PassView). slice_get x.did i) (sym (set_here b q s.pass))
+        ∙ subst (λ n. slice_get (pass n).did i ≡ Some z) is at)))
     | inr ne ↦
-        h.seen d i z (ap (λ (x : PassView). slice_get x.did i) (sym (set_else b q s.pass d ne)) ∙ at)
+        h.seen d i z
+        (ap (λ (x : PassView). slice_get x.did i) (sym (set_else b q s.pass d ne)) ∙ at)
   ]
 
   pub remarks : Goes o s (box_of o s c) (p ∷ []) (cpu_at c) f then
   remarks =
-      made law o s h c 0 (group_of w 0) y false (s.read c) s.stray (s.looked c) pass (p ∷ [])
+      made law o s h c 0 (group_of w 0) y false (s.read c) s.stray looked pass (p ∷ [])
       (q ∷ []) (cpu_at c) f then
       (record {
         step = t.step;
@@ -175,19 +177,34 @@ module _ (law : CoreLaws) (o : World) (s : Whole) (h : IsShown o s) (c : ℕ) (m
         in_range = t.in_range;
         group = inr refl;
         kept = λ z. (refl, refl);
-        staying = λ k at. absurd (none-some k (sym t.free ∙ at));
-        reads = none_read w.tree c y.walk (s.read c) _ _
-            (λ k at. absurd (none-some k (sym t.free ∙ at)));
+        staying = t.staying;
+        reads = none_read w.tree c y.walk (s.read c) _ _ t.reads;
         owed = λ i.
-            let sum = sum_same (length o.cpus) (λ d. (s.pass d).walks) (λ d. (pass d).walks)
-            (λ d low. but (λ z. z.walks) t.walks d) in
-            omega (arith, sum);
-        few = λ d. subst (λ n. n < 2 ^ 32) (sym (but (λ z. z.walks) t.walks d)) (h.few d);
+            let a = t.owed i in
+            let sum = sum_swap (length o.cpus) b (λ d. (s.pass d).walks) (λ d. (pass d).walks)
+            t.runner (λ d ne. ap (λ (x : PassView). x.walks) (set_else b q s.pass d ne)) in
+            let before : (s.pass b).walks ≡ p.walks
+            = ap (λ (x : PassView). x.walks) (sym t.brought) in
+            let now : (pass b).walks ≡ q.walks
+            = ap (λ (x : PassView). x.walks) (set_here b q s.pass) in
+            omega (arith, a, sum, before, now);
+        few = λ d. elim (cases_eq d b) [
+          | inl e ↦
+              subst (λ (x : PassView). x.walks < 2 ^ 32) (sym (ap pass e ∙ set_here b q s.pass))
+              t.few
+          | inr ne ↦
+              subst (λ (x : PassView). x.walks < 2 ^ 32) (sym (set_else b q s.pass d ne)) (h.few d)
+        ];
         opened = λ d. but (λ z. z.opening) t.opening d ∙ h.opened d;
         passes = λ d. but (λ z. z.cpu) t.cpu d ∙ h.passes d;
         flags =
             let was = flags c in
-            record { idle = was.idle; inside = was.inside; wakeup = was.wakeup; reeval = was.reeval };
+            record {
+              idle = was.idle ∙ sym t.still_idle;
+              inside = was.inside ∙ sym t.still_inside;
+              wakeup = was.wakeup ∙ sym t.still_wakes;
+              reeval = was.reeval ∙ sym t.still_reeval;
+            };
         flags_else = λ d ne. flags d;
         marked = marked;
         journal = but (λ z. z.journal) t.journal;

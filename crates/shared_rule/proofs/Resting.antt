@@ -32,7 +32,7 @@ module _ (kind : WalkKind) (stage : Stage) (pin next : ℕ) where
   abbrev begins : Bool → Option Walk
   begins b = begun_where b kind stage pin next
 
-  begun_kind : (b : Bool) (k : Walk) → begins b ≡ Some k → k.kind ≡ kind
+  pub begun_kind : (b : Bool) (k : Walk) → begins b ≡ Some k → k.kind ≡ kind
   begun_kind true k e = ap (λ (z : Walk). z.kind) (sym (same_Some _ _ e))
   begun_kind false k e = alone kind k e
     where
@@ -43,7 +43,7 @@ module _ (kind : WalkKind) (stage : Stage) (pin next : ℕ) where
       alone kinds.Reeval k e = ap (λ (z : Walk). z.kind) (sym (same_Some _ _ e))
       alone (kinds.Remote by) k e = ap (λ (z : Walk). z.kind) (sym (same_Some _ _ e))
 
-  begun_reads : is_reading stage ≡ false → (b : Bool) (k : Walk) → begins b ≡ Some k
+  pub begun_reads : is_reading stage ≡ false → (b : Bool) (k : Walk) → begins b ≡ Some k
       → is_reading k.stage ≡ false
   begun_reads not true k e = ap (λ (z : Walk). is_reading z.stage) (sym (same_Some _ _ e)) ∙ not
   begun_reads not false k e = alone kind k e
@@ -56,7 +56,7 @@ module _ (kind : WalkKind) (stage : Stage) (pin next : ℕ) where
       alone kinds.Reeval k e = ap (λ (z : Walk). is_reading z.stage) (sym (same_Some _ _ e))
       alone (kinds.Remote by) k e = ap (λ (z : Walk). is_reading z.stage) (sym (same_Some _ _ e))
 
-  forget_begun : (b : Bool) → option_map forget (begins b) ≡ begins b
+  pub forget_begun : (b : Bool) → option_map forget (begins b) ≡ begins b
   forget_begun true = refl
   forget_begun false = alone kind
     where

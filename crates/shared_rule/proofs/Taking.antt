@@ -42,10 +42,27 @@ use Rattle.shared_rule.proofs.Slotting.{none_read}
 use Rattle.shared_rule.proofs.Waking.{none_shown}
 use Rattle.shared_rule.proofs.Remarking.{remarks}
 
+-- what a pass did with one deed more
+pub more_did : (o w : World) (p : PassView) (deed : Did)
+    → ((i : ℕ) (z : Did) → slice_get p.did i ≡ Some z → DidRight o w p.receipts z)
+    → DidRight o w p.receipts deed → (i : ℕ) (z : Did)
+    → slice_get (p.did ++ deed ∷ []) i ≡ Some z → DidRight o w p.receipts z
+more_did o w p deed old right i z at =
+    ⊎_elim (λ was. old i z was)
+    (λ (u : (i ≡ length p.did) × (deed ≡ z)). subst (DidRight o w p.receipts) u.1 right)
+    (get_snoc p.did deed i z at)
+
+-- what a pass that is brought did is right
+pub old_did : (o : World) (s : Whole) (p : PassView) → IsShown o s → p ≡ s.pass p.cpu → (i : ℕ)
+    (z : Did) → slice_get p.did i ≡ Some z → DidRight o s.world p.receipts z
+old_did o s p h is i z at =
+    subst (λ (x : PassView). DidRight o s.world x.receipts z) (sym is)
+    (h.seen p.cpu i z (ap (λ (x : PassView). slice_get x.did i) (sym is) ∙ at))
+
 -- no such deed tells what was found
 module _ (o w : World) (receipts : List Receipt) (deed : Deed)
     (other : (word found : ℕ) → deed ≡ deeds.Saw word found → ⊥) where
-  unseen : DidRight o w receipts (record { held = length receipts; deed = deed })
+  pub unseen : DidRight o w receipts (record { held = length receipts; deed = deed })
   unseen = record {
     held = omega arith;
     named = λ found t p is low at. absurd (other _ _ is);
@@ -73,13 +90,13 @@ module _ (c : ℕ) (ms : List ℕ) where
   abbrev test : ℕ → Bool
   test m = not (eqb m c)
 
-  gone : Contains (marks_without c ms) c → ⊥
+  pub gone : Contains (marks_without c ms) c → ⊥
   gone x =
       let e : test c ≡ true
       = All-contains (λ m. test m ≡ true) (filter test ms) c (filter_passes test ms) x in
       true≢false (sym e ∙ ap not (eq-eqb c c refl))
 
-  stay : (d : ℕ) → d ≢ c → Contains (marks_without c ms) d ↔ Contains ms d
+  pub stay : (d : ℕ) → d ≢ c → Contains (marks_without c ms) d ↔ Contains ms d
   stay d ne = (
     (λ x. All-contains (Contains ms) (filter test ms) d
         (All-filter test (Contains ms) ms (All-contains_itself ms)) x),
@@ -103,7 +120,7 @@ takes law o slots id leaf e b p new may =
     ∙ may.free) in
     let path : group_at_of w.tree c 0 ≡ Some leaf
     = ap (λ z. group_at_of z c 0) h.same.tree ∙ may.path in
-    remarks law o s h c (Some p.cpu) p (taken_pass b p) (λ n. new)
+    remarks law o s h c (taken p.cpu y0) p (taken_pass b p) (s.looked c) (λ n. new)
     (λ n v. v ≡ on_pair taken_box taken_pass (seat_of (box_of o s c ∷ []) (p ∷ [])))
     (record {
       step = steps.Take (record { 0 = c }) (record { 0 = p.cpu });
@@ -134,19 +151,25 @@ takes law o slots id leaf e b p new may =
       plain = record { time = refl; queues = refl; journals = refl; online = refl };
       in_range = hc;
       brought = brought;
-      free = free;
+      runner = known.0.0;
+      staying = λ k at. absurd (none-some k (sym free ∙ at));
+      reads = λ k at. absurd (none-some k (sym free ∙ at));
+      still_idle = refl;
+      still_inside = refl;
+      still_wakes = refl;
+      still_reeval = refl;
+      owed = λ i. omega arith;
+      few = subst (λ (z : PassView). z.walks < 2 ^ 32) (sym known.0.1) (h.few p.cpu);
       opening = refl;
       cpu = refl;
-      walks = refl;
       receipts = refl;
       idle = refl;
       inside = refl;
       reeval = refl;
       wakeup = refl;
       journal = refl;
-      deed = record { held = length p.receipts; deed = deeds.Took c };
-      did = refl;
-      right = unseen o w p.receipts (deeds.Took c) (not_saw c);
+      did = more_did o w p (record { held = length p.receipts; deed = deeds.Took c })
+          (old_did o s p h known.0.1) (unseen o w p.receipts (deeds.Took c) (not_saw c));
       mine = ((λ x. Contains-push p.marks c), (λ x. refl));
       other = λ i ne. (
         (λ x. absurd (ne (sym (same_Some _ _ x)))),
@@ -177,7 +200,7 @@ releases law o slots id b p new may =
     = ap (λ (z : BoxView). z.own.mark) (sym is) ∙ may.marked in
     let free : y0.walk ≡ None = none_shown _ (ap (λ (z : BoxView). z.own.walk) (sym is)
     ∙ may.free) in
-    remarks law o s h c None p (released_pass b p) (λ n. new)
+    remarks law o s h c (released y0) p (released_pass b p) (s.looked c) (λ n. new)
     (λ n v. v ≡ on_pair released_box released_pass (seat_of (box_of o s c ∷ []) (p ∷ [])))
     (record {
       step = steps.Release (record { 0 = c });
@@ -192,19 +215,25 @@ releases law o slots id b p new may =
       plain = record { time = refl; queues = refl; journals = refl; online = refl };
       in_range = hc;
       brought = known.0.1;
-      free = free;
+      runner = known.0.0;
+      staying = λ k at. absurd (none-some k (sym free ∙ at));
+      reads = λ k at. absurd (none-some k (sym free ∙ at));
+      still_idle = refl;
+      still_inside = refl;
+      still_wakes = refl;
+      still_reeval = refl;
+      owed = λ i. omega arith;
+      few = subst (λ (z : PassView). z.walks < 2 ^ 32) (sym known.0.1) (h.few p.cpu);
       opening = refl;
       cpu = refl;
-      walks = refl;
       receipts = refl;
       idle = refl;
       inside = refl;
       reeval = refl;
       wakeup = refl;
       journal = refl;
-      deed = record { held = length p.receipts; deed = deeds.Released c };
-      did = refl;
-      right = unseen o w p.receipts (deeds.Released c) (not_saw c);
+      did = more_did o w p (record { held = length p.receipts; deed = deeds.Released c })
+          (old_did o s p h known.0.1) (unseen o w p.receipts (deeds.Released c) (not_saw c));
       mine = ((λ x. absurd (none-some p.cpu x)), (λ x. absurd (gone c p.marks x)));
       other = λ i ne. (
         (λ x. absurd (none-some i x)),

@@ -149,8 +149,8 @@ pub record OwnTurn (o : World) (s : Whole) (b : BoxView) (p : PassView) : Type 0
   pub flags : FlagsOf (cpu_of s.world b.cpu) p
 
 -- the seat of such a CPU may step, where each such whole goes on
-pub at_turn : (law : CoreLaws) (o : World) (slots id : ℕ) (b : BoxView) (p : PassView) (y : CpuRecord)
-    (new : ℕ) (f : ℕ → ℕ) (then : BoxView → ℕ → Me → Type 0) → IsOwnTurn o b p y new
+pub at_turn : (law : CoreLaws) (o : World) (slots id : ℕ) (b : BoxView) (p : PassView)
+    (y : CpuRecord) (new : ℕ) (f : ℕ → ℕ) (then : BoxView → ℕ → Me → Type 0) → IsOwnTurn o b p y new
     → ((s : Whole) → OwnTurn o s b p
     → Goes o s (box_of o s b.cpu) (p ∷ []) (cpu_at b.cpu) f (then (box_of o s b.cpu)))
     → Allows {S = Said} {V = View} (Holds o) slots id (seat_of (b ∷ []) (p ∷ []))

@@ -11,15 +11,21 @@ use Rattle.event_queue.specs.EventMap.{Counts}
 use Rattle.cpu_bases.specs.CpuBases.{base_of}
 use Rattle.tree_plan.specs.Paths.{group_at_of, is_placed_in}
 use Rattle.wheel_core.specs.PlainBase.{next_out}
+use Rattle.walk_rules.specs.declared.walk.Walk.{Walk}
+use Rattle.walk_rules.specs.declared.walk.WalkKind.{WalkKind}
+use Rattle.walk_rules.specs.declared.walk.WalkKind.TheVariants as kinds
+use Rattle.walk_rules.specs.declared.walk.Stage.TheVariants as stages
 use Rattle.core_world.specs.Enabled.{first_event}
+use Rattle.core_world.specs.Steps.{finished}
 use Rattle.core_world.specs.World.{World, CpuRecord, is_active}
 use Rattle.shared_words.specs.Layout.{index_of}
 use Rattle.shared_rule.specs.declared.parts.BoxView.{BoxView}
 use Rattle.shared_rule.specs.declared.parts.PassView.{PassView}
 use Rattle.shared_rule.specs.Whole.{cpu_at, layout_of, own_word}
 use Rattle.shared_rule.specs.Rule.{seat_of}
-use Rattle.shared_rule.specs.Turns.{Enters, Exits, Idles, Releases, Retells, Takes, Ticks, entered}
-use Rattle.shared_rule.specs.Turns.{idled, outside, released, taken}
+use Rattle.shared_rule.specs.Turns.{Carries, CarryEnds}
+use Rattle.shared_rule.specs.Turns.{Enters, Exits, Idles, Reevaluates, Releases, Rests, Retells}
+use Rattle.shared_rule.specs.Turns.{Takes, Ticks, entered, idled, outside, released, taken}
 use Rattle.shared_rule.specs.Laws.{Stays}
 
 -- DRAINING: what has to be known where a base of a CPU counts as drained by the CPU of a pass:
@@ -106,7 +112,8 @@ RetellStays o = (slots id : ℕ) (b : BoxView) (p : PassView) →
     (seat_of (b ∷ []) (p ∷ [])))
 
 -- TAKE: what has to be known where the CPU of a pass marks a CPU: the one is placed, inside its
--- interrupt and makes no re-evaluation; the other is idle, unmarked, and due by its slot in its leaf
+-- interrupt and makes no re-evaluation; the other is idle, unmarked, and due by its slot in its
+-- leaf
 pub record MayStoreTake (o : World) (b : BoxView) (p : PassView) (leaf : ℕ) (e : Event) (new : ℕ)
     : Type 0 where
   pub cpu : b.cpu < length o.cpus
@@ -131,7 +138,8 @@ TakeStays o = (slots id leaf : ℕ) (e : Event) (b : BoxView) (p : PassView) (ne
     (λ n. Takes (step slots (index_of (layout_of o) (cpu_at b.cpu)) new 0 none)
     (seat_of (b ∷ []) (p ∷ [])) new)
 
--- RELEASE: what has to be known where the CPU of a pass takes back its mark of a CPU, which is awake
+-- RELEASE: what has to be known where the CPU of a pass takes back its mark of a CPU, which is
+-- awake
 pub record MayStoreRelease (o : World) (b : BoxView) (p : PassView) (new : ℕ) : Type 0 where
   pub cpu : b.cpu < length o.cpus
   pub free : b.own.walk ≡ None
@@ -145,4 +153,65 @@ ReleaseStays o = (slots id : ℕ) (b : BoxView) (p : PassView) (new : ℕ) →
     MayStoreRelease o b p new →
     Stays o slots id b (p ∷ []) (cpu_at b.cpu) (λ n. new)
     (λ n. Releases (step slots (index_of (layout_of o) (cpu_at b.cpu)) new 0 none)
+    (seat_of (b ∷ []) (p ∷ [])) new)
+
+-- FINISH: what has to be known where a CPU stores its word as its walk of a kind ends, with its own
+-- pass
+pub record MayFinish (o : World) (b : BoxView) (p : PassView) (k : Walk) (sort : WalkKind)
+    (new : ℕ) : Type 0 where
+  pub cpu : b.cpu < length o.cpus
+  pub own : p.cpu ≡ b.cpu
+  pub walk : b.own.walk ≡ Some k
+  pub stage : k.stage ≡ stages.Finish
+  pub kind : k.kind ≡ sort
+  pub word : new ≡ own_word (finished b.own k sort)
+
+-- the store keeps the rule as a walk out of the active sets ends, and the seat is told what the CPU
+-- will be woken for
+abbrev pub RestStays : World → Type 0
+RestStays o = (slots id : ℕ) (b : BoxView) (k : Walk) (p : PassView) (new : ℕ) →
+    MayFinish o b p k kinds.Deactivate new →
+    Stays o slots id b (p ∷ []) (cpu_at b.cpu) (λ n. new)
+    (λ n. Rests (step slots (index_of (layout_of o) (cpu_at b.cpu)) new 0 none)
+    (seat_of (b ∷ []) (p ∷ [])) new)
+
+-- and as a re-evaluation ends
+abbrev pub ReevaluateStays : World → Type 0
+ReevaluateStays o = (slots id : ℕ) (b : BoxView) (k : Walk) (p : PassView) (new : ℕ) →
+    MayFinish o b p k kinds.Reeval new →
+    Stays o slots id b (p ∷ []) (cpu_at b.cpu) (λ n. new)
+    (λ n. Reevaluates (step slots (index_of (layout_of o) (cpu_at b.cpu)) new 0 none)
+    (seat_of (b ∷ []) (p ∷ [])) new)
+
+-- CARRY: what has to be known where the CPU of a pass begins to carry the next event of a CPU that
+-- it has marked: that is still idle, and one walk more may begin
+pub record MayCarryOn (o : World) (b : BoxView) (p : PassView) : Type 0 where
+  pub cpu : b.cpu < length o.cpus
+  pub free : b.own.walk ≡ None
+  pub marked : b.own.mark ≡ Some p.cpu
+  pub online : b.own.online ≡ true
+  pub idle : b.own.idle ≡ true
+  pub left : suc p.walks < 2 ^ 32
+
+-- the load of the CPU's word at which it does keeps the rule
+abbrev pub CarryStays : World → Type 0
+CarryStays o = (slots id : ℕ) (b : BoxView) (p : PassView) → MayCarryOn o b p →
+    Stays o slots id b (p ∷ []) (cpu_at b.cpu) (λ n. n)
+    (Carries (step slots (index_of (layout_of o) (cpu_at b.cpu)) 0 0 none)
+    (seat_of (b ∷ []) (p ∷ [])))
+
+-- what has to be known where the CPU of a pass stores the word of a CPU whose event it has carried
+pub record MayEndCarry (o : World) (b : BoxView) (p : PassView) (k : Walk) (new : ℕ) : Type 0 where
+  pub cpu : b.cpu < length o.cpus
+  pub walk : b.own.walk ≡ Some k
+  pub stage : k.stage ≡ stages.Finish
+  pub kind : k.kind ≡ kinds.Remote (record { 0 = p.cpu })
+  pub word : new ≡ own_word (finished b.own k (kinds.Remote (record { 0 = p.cpu })))
+
+-- the store keeps the rule, and the seat is told that the mark is gone, and what was carried
+abbrev pub CarryEndStays : World → Type 0
+CarryEndStays o = (slots id : ℕ) (b : BoxView) (k : Walk) (p : PassView) (new : ℕ) →
+    MayEndCarry o b p k new →
+    Stays o slots id b (p ∷ []) (cpu_at b.cpu) (λ n. new)
+    (λ n. CarryEnds (step slots (index_of (layout_of o) (cpu_at b.cpu)) new 0 none)
     (seat_of (b ∷ []) (p ∷ [])) new)

@@ -1,6 +1,6 @@
 -- what the steps of a CPU's interrupt, idling and running of timers tell the seat that makes them
 use Rattle.std.specs.Prelude.{◌≡◌, ℕ, suc, true, false, List, [], ◌∷◌, ◌++◌, length, Option}
-use Rattle.std.specs.Prelude.{◌==◌, None, Some, filter, is_some, not}
+use Rattle.std.specs.Prelude.{◌==◌, None, Some, filter, is_some, min, not}
 use Rattle.tm_base.specs.declared.names.Class.{Class}
 use Rattle.cpu_bases.specs.CpuBases.{events_of, handed_out, ticked_entry}
 use Rattle.tree_plan.specs.Paths.{group_at_of}
@@ -9,7 +9,7 @@ use Rattle.walk_rules.specs.declared.walk.WalkKind.{WalkKind}
 use Rattle.walk_rules.specs.declared.walk.WalkKind.TheVariants as kinds
 use Rattle.walk_rules.specs.declared.walk.Stage.{Stage}
 use Rattle.walk_rules.specs.declared.walk.Stage.TheVariants as stages
-use Rattle.core_world.specs.Steps.{begun_where}
+use Rattle.core_world.specs.Steps.{begun_where, finished}
 use Rattle.core_world.specs.World.{World, CpuRecord}
 use Rattle.shared_rule.specs.declared.parts.BoxView.{BoxView}
 use Rattle.shared_rule.specs.declared.parts.PassView.{PassView}
@@ -167,3 +167,80 @@ released_pass b p = record p {
 -- the store of a CPU's word by which its mark is taken back
 abbrev pub Releases : Step → Me → ℕ → Me → Type 0
 Releases t v found w = (w ≡ on_pair released_box released_pass v) × Sound w
+
+-- FINISH: the CPU after the end of a walk of this kind, where it has one
+abbrev pub finish_of : WalkKind → CpuRecord → Option Walk → CpuRecord
+finish_of kind y None = y
+finish_of kind y (Some k) = finished y k kind
+
+-- its box
+abbrev pub finished_box : WalkKind → BoxView → BoxView
+finished_box kind b = record b { own = finish_of kind b.own b.own.walk }
+
+-- the wakeup that the walk has found
+abbrev pub found_wakeup : (old : ℕ) → Option Walk → ℕ
+found_wakeup old None = old
+found_wakeup old (Some k) = min k.pin k.first
+
+-- the pass of a CPU that has gone idle
+abbrev pub rested_pass : BoxView → PassView → PassView
+rested_pass b p = record p { wakeup = found_wakeup p.wakeup b.own.walk }
+
+-- and of one whose re-evaluation has ended, and its interrupt with it
+abbrev pub reevaluated_pass : BoxView → PassView → PassView
+reevaluated_pass b p = record p {
+  wakeup = found_wakeup p.wakeup b.own.walk;
+  inside = false;
+  reeval = false;
+}
+
+-- the store of a CPU's word as its walk out of the active sets ends
+abbrev pub Rests : Step → Me → ℕ → Me → Type 0
+Rests t v found w = (w ≡ on_both (finished_box kinds.Deactivate) rested_pass v) × Sound w
+
+-- the store of a CPU's word as its re-evaluation ends
+abbrev pub Reevaluates : Step → Me → ℕ → Me → Type 0
+Reevaluates t v found w = (w ≡ on_both (finished_box kinds.Reeval) reevaluated_pass v) × Sound w
+
+-- CARRY: the walk of a marked CPU begins that carries its next event upwards, made by the CPU that
+-- set the mark
+abbrev pub carried : World → (c by : ℕ) → CpuRecord → CpuRecord
+carried o c by y =
+    record y { walk = begun o c y (kinds.Remote (record { 0 = by })) stages.LockGroup }
+
+-- its box
+abbrev pub carried_box : BoxView → PassView → BoxView
+carried_box b p = record b { own = carried b.opening b.cpu p.cpu b.own; looked = [] }
+
+-- the pass that makes it, with which one walk more was begun
+abbrev pub carried_pass : BoxView → PassView → PassView
+carried_pass b p = record p { walks = suc p.walks }
+
+-- the load of a marked CPU's word at which its walk begins
+abbrev pub Carries : Step → Me → ℕ → Me → Type 0
+Carries t v found w = (w ≡ on_pair carried_box carried_pass v) × Sound w
+
+-- what a walk, if there is one, has told
+abbrev pub found_next : Option Walk → ℕ
+found_next None = 0
+found_next (Some k) = k.next
+
+-- the box of a CPU whose walk of this kind has ended, and its mark with it
+abbrev pub carry_ended_box : BoxView → PassView → BoxView
+carry_ended_box b p = finished_box (kinds.Remote (record { 0 = p.cpu })) b
+
+-- the pass that had set the mark, and made the walk
+abbrev pub carry_ended_pass : BoxView → PassView → PassView
+carry_ended_pass b p = record p {
+  marks = marks_without b.cpu p.marks;
+  did =
+      p.did
+      ++ record {
+        held = length p.receipts;
+        deed = deeds.Carried b.cpu (found_next b.own.walk);
+      } ∷ [];
+}
+
+-- the store of a marked CPU's word as its walk ends
+abbrev pub CarryEnds : Step → Me → ℕ → Me → Type 0
+CarryEnds t v found w = (w ≡ on_pair carry_ended_box carry_ended_pass v) × Sound w

@@ -9,7 +9,8 @@ ghost use Rattle.shared_rule.specs.Laws.{RiseStays, StoreStays, SwapStays};
 ghost use Rattle.shared_rule.specs.Laws.{ScanStays, ScanTopStays, SeatsStay, SeeChildStays};
 ghost use Rattle.shared_rule.specs.Laws.{SeeGroupStays, SeeStateStays, SeeStays, WakeStays};
 ghost use Rattle.shared_rule.specs.TurnLaws.{EnterStays, IdleStays, LeaveStays, RetellStays};
-ghost use Rattle.shared_rule.specs.TurnLaws.{ReleaseStays, TakeStays, TickStays};
+ghost use Rattle.shared_rule.specs.TurnLaws.{ReevaluateStays, ReleaseStays, RestStays, TakeStays};
+ghost use Rattle.shared_rule.specs.TurnLaws.{CarryEndStays, CarryStays, TickStays};
 
 use core_facts::{
     law_bounds, law_frame, law_height, law_lock, law_mark, law_once_a_level, law_own_event,
@@ -179,6 +180,26 @@ pub fn law_tick()
 pub fn law_take()
     ensures take { (o : World) → TakeStays o }
     ensures release { (o : World) → ReleaseStays o }
+{
+    core_laws();
+}
+
+/// Does nothing: its contract says that the rule stays as a CPU stores its word at the end of its
+/// walk out of the active sets, and at the end of its re-evaluation (`tmigr_cpu_deactivate`,
+/// `tmigr_cpu_new_timer`).
+pub fn law_finish()
+    ensures rest { (o : World) → RestStays o }
+    ensures reevaluate { (o : World) → ReevaluateStays o }
+{
+    core_laws();
+}
+
+/// Does nothing: its contract says that the rule stays as a pass begins to carry the next event of
+/// a CPU that it has marked upwards, and as that walk ends and the mark is gone (the end of
+/// `tmigr_handle_remote_cpu`).
+pub fn law_carry()
+    ensures begin { (o : World) → CarryStays o }
+    ensures finish { (o : World) → CarryEndStays o }
 {
     core_laws();
 }

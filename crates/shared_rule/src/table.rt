@@ -282,3 +282,31 @@ pub struct Releases;
 impl Play<Said, View> for Releases {
     ghost then = { turns.Releases };
 }
+
+/// A CPU stores its word as its walk out of the active sets ends.
+pub struct Rests;
+
+impl Play<Said, View> for Rests {
+    ghost then = { turns.Rests };
+}
+
+/// A CPU stores its word as its re-evaluation ends.
+pub struct Reevaluates;
+
+impl Play<Said, View> for Reevaluates {
+    ghost then = { turns.Reevaluates };
+}
+
+/// A pass begins to carry the next event of a CPU that it has marked.
+pub struct Carries;
+
+impl Play<Said, View> for Carries {
+    ghost then = { turns.Carries };
+}
+
+/// A pass has carried the next event of a CPU, and its mark is gone.
+pub struct CarryEnds;
+
+impl Play<Said, View> for CarryEnds {
+    ghost then = { turns.CarryEnds };
+}
