@@ -1,6 +1,6 @@
 -- for crates above: a pass carries the next event of a CPU that it has marked upwards
-use Rattle.std.proofs.Common.{◌≡◌, ◌≢◌, ◌↔◌, ℕ, suc, ◌+◌, ◌^◌, ◌<◌, ◌≤◌, Bool, true, false, true≢false}
-use Rattle.std.proofs.Common.{[], ◌∷◌, ◌++◌, Option, Some, None, length, refl, sym, ap, ◌∙◌, subst}
+use Rattle.std.proofs.Common.{◌≡◌, ◌↔◌, ℕ, ◌^◌, ◌<◌, Bool, true, false, true≢false}
+use Rattle.std.proofs.Common.{[], ◌∷◌, Some, None, length, refl, sym, ap, ◌∙◌, subst}
 use Rattle.std.proofs.Common.{arith}
 use Rattle.std.specs.Prelude.{Contains, is_some, option_map, unwrap_or}
 use Rattle.std.proofs.lemmas.Option.{none-some, same_Some}
@@ -19,10 +19,10 @@ use Rattle.shared_rule.specs.declared.parts.BoxView.{BoxView}
 use Rattle.shared_rule.specs.declared.parts.Deed.TheVariants as deeds
 use Rattle.shared_rule.specs.declared.parts.PassView.{PassView}
 use Rattle.shared_rule.specs.CoreLaws.{CoreLaws}
-use Rattle.shared_rule.specs.Whole.{Whole, box_of, cpu_at, own_word, quiet}
-use Rattle.shared_rule.specs.Shows.{is_reeval, owes, reevaluates}
+use Rattle.shared_rule.specs.Whole.{box_of, cpu_at, own_word, quiet}
+use Rattle.shared_rule.specs.Shows.{is_reeval, reevaluates}
 use Rattle.shared_rule.specs.Rule.{Goes, seat_of}
-use Rattle.shared_rule.specs.Turns.{begun, carried, carried_box, carried_pass, carry_ended_box}
+use Rattle.shared_rule.specs.Turns.{carried, carried_box, carried_pass, carry_ended_box}
 use Rattle.shared_rule.specs.Turns.{carry_ended_pass, finish_of, found_next, on_pair}
 use Rattle.shared_rule.specs.TurnLaws.{CarryEndStays, CarryStays}
 use Rattle.shared_rule.proofs.Fits.{shown_walk}

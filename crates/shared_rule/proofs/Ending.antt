@@ -1,5 +1,5 @@
 -- for crates above: a walk of a CPU ends, and leaves the wakeup that it has found
-use Rattle.std.proofs.Common.{◌≡◌, ℕ, ◌+◌, ◌^◌, ◌<◌, ◌≤◌, true, false, [], ◌∷◌, Option, Some, None}
+use Rattle.std.proofs.Common.{◌≡◌, ℕ, ◌^◌, ◌<◌, [], ◌∷◌, Some}
 use Rattle.std.proofs.Common.{length, refl, sym, ap, ◌∙◌, subst, arith}
 use Rattle.std.specs.Prelude.{option_map}
 use Rattle.std.proofs.lemmas.Option.{none-some}
@@ -20,7 +20,7 @@ use Rattle.shared_rule.specs.declared.parts.Said.{Said}
 use Rattle.shared_rule.specs.declared.parts.View.{View}
 use Rattle.shared_rule.specs.CoreLaws.{CoreLaws}
 use Rattle.shared_rule.specs.Whole.{Whole, box_of, cpu_at, layout_of, own_word, quiet}
-use Rattle.shared_rule.specs.Shows.{FlagsOf, IsShown, is_reeval, owes, reevaluates}
+use Rattle.shared_rule.specs.Shows.{FlagsOf, IsShown, is_reeval, reevaluates}
 use Rattle.shared_rule.specs.Rule.{Goes, Holds, Me, seat_of}
 use Rattle.shared_rule.specs.Plays.{Sound, on_both}
 use Rattle.shared_rule.specs.Turns.{finish_of, finished_box, found_wakeup, reevaluated_pass}

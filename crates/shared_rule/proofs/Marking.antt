@@ -1,9 +1,9 @@
 -- for crates above: an activation marks the slot of its child
-use Rattle.std.proofs.Common.{◌≡◌, ◌≢◌, ℕ, zero, suc, ◌^◌, ◌<◌, ◌≤◌, cond, Bool, true, false}
-use Rattle.std.proofs.Common.{List, []}
-use Rattle.std.proofs.Common.{◌∷◌, length, Option, Some, None, bit_or, refl, sym, ap, ◌∙◌, subst}
+use Rattle.std.proofs.Common.{◌≡◌, ◌≢◌, ℕ, suc, ◌^◌, ◌<◌, ◌≤◌, Bool, true, false}
+use Rattle.std.proofs.Common.{[]}
+use Rattle.std.proofs.Common.{◌∷◌, length, Option, Some, bit_or, refl, sym, ap, ◌∙◌, subst}
 use Rattle.std.proofs.Common.{arith}
-use Rattle.std.specs.Prelude.{◌&&◌, nat_le, not, option_map, unwrap_or}
+use Rattle.std.specs.Prelude.{nat_le, option_map, unwrap_or}
 use Rattle.std.proofs.lemmas.Option.{none-some, same_Some}
 use Rattle.event_queue.specs.declared.event.Event.{Event}
 use Rattle.event_queue.specs.EventMap.{as_ignored, event_at, marked_slot}
@@ -15,24 +15,22 @@ use Rattle.walk_rules.specs.Hierarchy.{side}
 use Rattle.walk_rules.specs.Standing.{FitsStage}
 use Rattle.walk_rules.specs.Stages.{at_stage, forget, mark_next, with_event, with_mark}
 use Rattle.core_world.specs.Enabled.{MayGoOn}
-use Rattle.core_world.specs.Steps.{here, walked, walks_at, with_walk}
+use Rattle.core_world.specs.Steps.{walked, walks_at, with_walk}
 use Rattle.core_world.specs.World.{World, CpuRecord, cpu_of, group_of, is_reading, moved}
 use Rattle.core_facts.specs.Exchanges.{place_of}
 use Rattle.shared_words.specs.Words.{word_of_slot}
 use Rattle.shared_words.proofs.Back.{mark_slot}
-use Rattle.shared_rule.specs.declared.parts.BoxView.{BoxView}
-use Rattle.shared_rule.specs.declared.parts.PassView.{PassView}
 use Rattle.shared_rule.specs.CoreLaws.{CoreLaws}
 use Rattle.shared_rule.specs.Whole.{Whole, box_of, leaf_in, leaf_of, slot_at, word_at}
 use Rattle.shared_rule.specs.Shows.{IsShown, is_reeval, owes, reevaluates}
-use Rattle.shared_rule.specs.Rule.{Goes, Me, seat_of}
+use Rattle.shared_rule.specs.Rule.{Goes, seat_of}
 use Rattle.shared_rule.specs.Plays.{by_walk, marked_walk, marks_more, on_box, own_marked_box}
 use Rattle.shared_rule.specs.Plays.{own_marked_walk}
 use Rattle.shared_rule.specs.Laws.{MarkOwnStays, MarkStays}
 use Rattle.shared_rule.proofs.Fits.{event_fits}
 use Rattle.shared_rule.proofs.Owing.{owes_higher, owes_kept}
 use Rattle.shared_rule.proofs.Slotting.{leaf_else, leaf_now, no_leaf, sides_apart, slotted}
-use Rattle.shared_rule.proofs.Walking.{WalksAt, at_walk, walk_ends, walk_is}
+use Rattle.shared_rule.proofs.Walking.{at_walk, walk_ends, walk_is}
 
 -- a walk that has marked its group goes on or ends
 mark_kind : (more : Bool) (k z : Walk) → mark_next more k ≡ Some z → z.kind ≡ k.kind

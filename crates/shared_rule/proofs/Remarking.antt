@@ -1,49 +1,30 @@
 -- for crates above: a step of a CPU with any pass, that leaves groups and timers
-use Rattle.std.proofs.Common.{◌≡◌, ◌≢◌, ◌↔◌, ◌⊎◌, ⊎_elim, ℕ, zero, suc, ◌+◌, ◌^◌, ◌<◌, ◌≤◌, eqb}
-use Rattle.std.proofs.Common.{cond}
-use Rattle.std.proofs.Common.{Bool, true, false, true≢false, ne_eqb, eq-eqb, List, [], ◌∷◌, ◌++◌}
+use Rattle.std.proofs.Common.{◌≡◌, ◌≢◌, ◌↔◌, ℕ, ◌+◌, ◌^◌, ◌<◌, ◌≤◌}
+use Rattle.std.proofs.Common.{false, List, [], ◌∷◌}
 use Rattle.std.proofs.Common.{length}
-use Rattle.std.proofs.Common.{Option, Some, None, refl, sym, ap, ◌∙◌, subst, inl, inr, arith}
-use Rattle.std.specs.Prelude.{Contains, not, slice_get}
-use Rattle.std.specs.List.{filter}
+use Rattle.std.proofs.Common.{Some, refl, sym, ap, ◌∙◌, subst, inl, inr, arith}
+use Rattle.std.specs.Prelude.{Contains, slice_get}
 use Rattle.std.proofs.lemmas.Bool.{cases_eq}
-use Rattle.std.proofs.lemmas.List.Elements.{All-contains, All-contains_itself, All-filter}
-use Rattle.std.proofs.lemmas.List.Elements.{Contains-append_left, Contains-append_right}
-use Rattle.std.proofs.lemmas.List.Elements.{Contains-push, Contains-push_cases, filter_passes}
-use Rattle.std.proofs.lemmas.Option.{none-some, same_Some}
-use Rattle.tree_plan.specs.Paths.{group_at_of, is_placed_in}
 use Rattle.walk_rules.specs.declared.walk.Walk.{Walk}
 use Rattle.walk_rules.specs.declared.walk.WalkKind.TheVariants as kinds
 use Rattle.core_world.specs.declared.step.Step.{Step}
-use Rattle.core_world.specs.declared.step.Step.TheVariants as steps
-use Rattle.core_world.specs.Enabled.{Enabled, IsReevaluating}
+use Rattle.core_world.specs.Enabled.{Enabled}
 use Rattle.core_world.specs.Steps.{stepped}
 use Rattle.core_world.specs.World.{World, CpuRecord, cpu_of, group_of, is_reading, own}
 use Rattle.core_world.proofs.Moves.{cpu_same, cpu_else}
 use Rattle.core_facts.specs.Reach.{reach_of}
-use Rattle.shared_rule.specs.declared.parts.BoxView.{BoxView}
-use Rattle.shared_rule.specs.declared.parts.Deed.{Deed}
-use Rattle.shared_rule.specs.declared.parts.Deed.TheVariants as deeds
 use Rattle.shared_rule.specs.declared.parts.Did.{Did}
 use Rattle.shared_rule.specs.declared.parts.Look.{Look}
 use Rattle.shared_rule.specs.declared.parts.PassView.{PassView}
-use Rattle.shared_rule.specs.declared.parts.Receipt.{Receipt}
 use Rattle.shared_rule.specs.CoreLaws.{CoreLaws}
-use Rattle.shared_rule.specs.Whole.{Whole, box_as, box_of, cpu_at, leaf_in, leaf_of, own_word}
-use Rattle.shared_rule.specs.Shows.{DidRight, FlagsOf, IsShown, is_reeval, owes, reevaluates}
+use Rattle.shared_rule.specs.Whole.{Whole, box_as, box_of, cpu_at, leaf_of, own_word}
+use Rattle.shared_rule.specs.Shows.{DidRight, FlagsOf, IsShown, owes, reevaluates}
 use Rattle.shared_rule.specs.Shows.{set_at}
-use Rattle.shared_rule.specs.Rule.{Goes, Me, pass_cpu, seat_of}
-use Rattle.shared_rule.specs.Turns.{marks_without, on_pair, released, released_box, released_pass}
-use Rattle.shared_rule.specs.Turns.{taken, taken_box, taken_pass}
-use Rattle.shared_rule.specs.TurnLaws.{ReleaseStays, TakeStays}
+use Rattle.shared_rule.specs.Rule.{Goes, Me, seat_of}
 use Rattle.shared_rule.proofs.Sums.{sum_swap}
-use Rattle.shared_rule.proofs.Fronts.{get_snoc}
 use Rattle.shared_rule.proofs.Moving.{own_leaf, pass_field, set_else, set_here}
 use Rattle.shared_rule.proofs.Made.{IsPlain, made}
-use Rattle.shared_rule.proofs.Going.{allows}
-use Rattle.shared_rule.proofs.Passing.{IsAlike}
 use Rattle.shared_rule.proofs.Slotting.{none_read}
-use Rattle.shared_rule.proofs.Waking.{none_shown}
 
 -- what such a step has to show, by which CPU c becomes y, and pass p becomes q
 pub record Remarked (o : World) (s : Whole) (c : ℕ) (y : CpuRecord) (p q : PassView)

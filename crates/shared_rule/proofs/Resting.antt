@@ -1,6 +1,6 @@
 -- for crates above: a CPU goes idle, or tells its first event anew, and a walk begins
-use Rattle.std.proofs.Common.{◌≡◌, ℕ, suc, ◌+◌, ◌^◌, ◌<◌, ◌≤◌, Bool, true, false, true≢false, []}
-use Rattle.std.proofs.Common.{◌∷◌, Option, Some, None, refl, sym, ap, ◌∙◌, subst, arith}
+use Rattle.std.proofs.Common.{◌≡◌, ℕ, ◌+◌, ◌<◌, Bool, true, false, true≢false, []}
+use Rattle.std.proofs.Common.{◌∷◌, Option, Some, refl, sym, ap, ◌∙◌, subst, arith}
 use Rattle.std.specs.Prelude.{is_some, option_map}
 use Rattle.std.proofs.lemmas.Option.{none-some, same_Some}
 use Rattle.cpu_bases.specs.CpuBases.{events_of}
@@ -18,7 +18,7 @@ use Rattle.core_world.specs.World.{World, CpuRecord, cpu_of, is_active, is_readi
 use Rattle.shared_rule.specs.declared.parts.BoxView.{BoxView}
 use Rattle.shared_rule.specs.CoreLaws.{CoreLaws}
 use Rattle.shared_rule.specs.Whole.{box_of, own_word, quiet}
-use Rattle.shared_rule.specs.Shows.{owes, reevaluates}
+use Rattle.shared_rule.specs.Shows.{reevaluates}
 use Rattle.shared_rule.specs.Rule.{seat_of}
 use Rattle.shared_rule.specs.Plays.{on_both}
 use Rattle.shared_rule.specs.Turns.{idled, idled_box, idled_pass, retold, retold_box, retold_pass}

@@ -1,5 +1,5 @@
 -- for crates above: a walk that tells stores an event in its group
-use Rattle.std.proofs.Common.{◌≡◌, ◌≢◌, ℕ, zero, suc, ◌<◌, ◌≤◌, cond, Bool, true, false, List, []}
+use Rattle.std.proofs.Common.{◌≡◌, ◌≢◌, ℕ, zero, suc, ◌<◌, cond, Bool, true, false, []}
 use Rattle.std.proofs.Common.{◌∷◌, length, Option, Some, None, refl, sym, ap, ◌∙◌, subst}
 use Rattle.std.specs.Prelude.{◌&&◌, nat_le, not, option_map, unwrap_or}
 use Rattle.std.proofs.lemmas.Option.{same_Some}
@@ -16,18 +16,16 @@ use Rattle.core_world.specs.Steps.{here, walked, walks_at, with_walk}
 use Rattle.core_world.specs.World.{World, CpuRecord, cpu_of, group_of, is_reading, moved}
 use Rattle.core_facts.specs.Exchanges.{place_of}
 use Rattle.shared_words.specs.Words.{word_of_slot}
-use Rattle.shared_rule.specs.declared.parts.BoxView.{BoxView}
-use Rattle.shared_rule.specs.declared.parts.PassView.{PassView}
 use Rattle.shared_rule.specs.CoreLaws.{CoreLaws}
 use Rattle.shared_rule.specs.Whole.{Whole, box_of, leaf_of, slot_at}
 use Rattle.shared_rule.specs.Shows.{IsShown}
-use Rattle.shared_rule.specs.Rule.{Goes, Me, seat_of}
+use Rattle.shared_rule.specs.Rule.{Goes, seat_of}
 use Rattle.shared_rule.specs.Plays.{leaf_after, on_box, stored_box, stored_leaf, stored_walk}
 use Rattle.shared_rule.specs.Laws.{StoreStays}
 use Rattle.shared_rule.proofs.Marking.{leaves_above, leaves_at, own_at}
 use Rattle.shared_rule.proofs.Owing.{owes_kept}
 use Rattle.shared_rule.proofs.Slotting.{slotted}
-use Rattle.shared_rule.proofs.Walking.{WalksAt, at_walk, walk_is}
+use Rattle.shared_rule.proofs.Walking.{at_walk, walk_is}
 
 -- a walk that has stored
 store_reads : (b : Bool) → is_reading (cond b (stages.First 0) stages.FreeGroup) ≡ false

@@ -1,24 +1,18 @@
 -- for crates above: a pass sets and takes back the mark of a CPU
-use Rattle.std.proofs.Common.{◌≡◌, ◌≢◌, ◌↔◌, ◌⊎◌, ⊎_elim, ℕ, zero, suc, ◌+◌, ◌^◌, ◌<◌, ◌≤◌, eqb}
+use Rattle.std.proofs.Common.{◌≡◌, ◌≢◌, ◌↔◌, ⊎_elim, ℕ, zero, suc, ◌^◌, ◌<◌, ◌≤◌, eqb}
 use Rattle.std.proofs.Common.{cond}
 use Rattle.std.proofs.Common.{Bool, true, false, true≢false, ne_eqb, eq-eqb, List, [], ◌∷◌, ◌++◌}
 use Rattle.std.proofs.Common.{length}
-use Rattle.std.proofs.Common.{Option, Some, None, refl, sym, ap, ◌∙◌, subst, inl, inr, arith}
+use Rattle.std.proofs.Common.{Some, None, refl, sym, ap, ◌∙◌, subst, inl, inr, arith}
 use Rattle.std.specs.Prelude.{Contains, not, slice_get}
 use Rattle.std.specs.List.{filter}
-use Rattle.std.proofs.lemmas.Bool.{cases_eq}
 use Rattle.std.proofs.lemmas.List.Elements.{All-contains, All-contains_itself, All-filter}
 use Rattle.std.proofs.lemmas.List.Elements.{Contains-append_left, Contains-append_right}
 use Rattle.std.proofs.lemmas.List.Elements.{Contains-push, Contains-push_cases, filter_passes}
 use Rattle.std.proofs.lemmas.Option.{none-some, same_Some}
 use Rattle.tree_plan.specs.Paths.{group_at_of, is_placed_in}
-use Rattle.core_world.specs.declared.step.Step.{Step}
 use Rattle.core_world.specs.declared.step.Step.TheVariants as steps
-use Rattle.core_world.specs.Enabled.{Enabled, IsReevaluating}
-use Rattle.core_world.specs.Steps.{stepped}
-use Rattle.core_world.specs.World.{World, CpuRecord, cpu_of, group_of, own}
-use Rattle.core_world.proofs.Moves.{cpu_same, cpu_else}
-use Rattle.core_facts.specs.Reach.{reach_of}
+use Rattle.core_world.specs.World.{World, cpu_of}
 use Rattle.shared_rule.specs.declared.parts.BoxView.{BoxView}
 use Rattle.shared_rule.specs.declared.parts.Deed.{Deed}
 use Rattle.shared_rule.specs.declared.parts.Deed.TheVariants as deeds
@@ -26,19 +20,14 @@ use Rattle.shared_rule.specs.declared.parts.Did.{Did}
 use Rattle.shared_rule.specs.declared.parts.PassView.{PassView}
 use Rattle.shared_rule.specs.declared.parts.Receipt.{Receipt}
 use Rattle.shared_rule.specs.CoreLaws.{CoreLaws}
-use Rattle.shared_rule.specs.Whole.{Whole, box_as, box_of, cpu_at, leaf_in, leaf_of, own_word}
-use Rattle.shared_rule.specs.Shows.{DidRight, FlagsOf, IsShown, is_reeval, reevaluates, set_at}
-use Rattle.shared_rule.specs.Rule.{Goes, Me, pass_cpu, seat_of}
+use Rattle.shared_rule.specs.Whole.{Whole, box_of, cpu_at, leaf_in, own_word}
+use Rattle.shared_rule.specs.Shows.{DidRight, IsShown, is_reeval, reevaluates}
+use Rattle.shared_rule.specs.Rule.{Goes, seat_of}
 use Rattle.shared_rule.specs.Turns.{marks_without, on_pair, released, released_box, released_pass}
 use Rattle.shared_rule.specs.Turns.{taken, taken_box, taken_pass}
 use Rattle.shared_rule.specs.TurnLaws.{ReleaseStays, TakeStays}
-use Rattle.shared_rule.proofs.Sums.{sum_same}
 use Rattle.shared_rule.proofs.Fronts.{get_snoc}
-use Rattle.shared_rule.proofs.Moving.{own_leaf, pass_field, set_else, set_here}
-use Rattle.shared_rule.proofs.Made.{IsPlain, made}
 use Rattle.shared_rule.proofs.Going.{allows}
-use Rattle.shared_rule.proofs.Passing.{IsAlike}
-use Rattle.shared_rule.proofs.Slotting.{none_read}
 use Rattle.shared_rule.proofs.Waking.{none_shown}
 use Rattle.shared_rule.proofs.Remarking.{remarks}
 

@@ -1,6 +1,5 @@
 -- for crates above: a base of a CPU counts as drained
-use Rattle.std.proofs.Common.{◌≡◌, ◌⊎◌, ⊎_elim, ℕ, ◌+◌, ◌<◌, true, List, [], ◌∷◌, ◌++◌, length}
-use Rattle.std.proofs.Common.{Option}
+use Rattle.std.proofs.Common.{◌≡◌, ⊎_elim, ℕ, ◌<◌, true, [], ◌∷◌, length}
 use Rattle.std.proofs.Common.{Some, None, refl, sym, ap, ◌∙◌, subst, inl, inr, arith}
 use Rattle.std.proofs.lemmas.Bool.{cases_eq}
 use Rattle.tm_base.specs.declared.names.CpuId.{CpuId}
@@ -21,7 +20,7 @@ use Rattle.shared_rule.specs.declared.parts.PassView.{PassView}
 use Rattle.shared_rule.specs.CoreLaws.{CoreLaws}
 use Rattle.shared_rule.specs.Whole.{Whole, box_of, cpu_at, own_word, quiet}
 use Rattle.shared_rule.specs.Shows.{IsShown}
-use Rattle.shared_rule.specs.Rule.{Goes, Me, seat_of}
+use Rattle.shared_rule.specs.Rule.{Goes, seat_of}
 use Rattle.shared_rule.specs.Turns.{on_pair, ticked_box, ticked_pass}
 use Rattle.shared_rule.specs.TurnLaws.{TickStays}
 use Rattle.shared_rule.proofs.Acted.{acts}

@@ -1,6 +1,5 @@
 -- for crates above: a step of a CPU with its own pass, that leaves groups, timers and marks
-use Rattle.std.proofs.Common.{◌≡◌, ◌≢◌, ◌↔◌, ℕ, suc, ◌+◌, ◌^◌, ◌<◌, ◌≤◌, Bool, true, false}
-use Rattle.std.proofs.Common.{true≢false}
+use Rattle.std.proofs.Common.{◌≡◌, ◌≢◌, ◌↔◌, ℕ, ◌+◌, ◌^◌, ◌<◌, ◌≤◌, true, false}
 use Rattle.std.proofs.Common.{List, [], ◌∷◌, length, Option, Some, None, refl, sym, ap, ◌∙◌, subst}
 use Rattle.std.proofs.Common.{inl, inr, arith}
 use Rattle.std.specs.Prelude.{Contains, slice_get}
@@ -26,7 +25,7 @@ use Rattle.shared_rule.specs.declared.parts.View.{View}
 use Rattle.shared_rule.specs.CoreLaws.{CoreLaws}
 use Rattle.shared_rule.specs.Whole.{Whole, box_as, box_of, cpu_at, layout_of, leaf_of, own_word}
 use Rattle.shared_rule.specs.Shows.{FlagsOf, IsShown, owes, set_at}
-use Rattle.shared_rule.specs.Rule.{Goes, Holds, Me, pass_cpu, seat_of}
+use Rattle.shared_rule.specs.Rule.{Goes, Holds, Me, seat_of}
 use Rattle.shared_rule.specs.Plays.{Sound, on_both}
 use Rattle.shared_rule.specs.Turns.{entered, entered_box, entered_pass, outside, outside_box}
 use Rattle.shared_rule.specs.Turns.{outside_pass}
