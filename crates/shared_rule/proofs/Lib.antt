@@ -37,3 +37,4 @@ pub mod Remarking
 pub mod Taking
 pub mod Ending
 pub mod Carrying
+pub mod Noticing

@@ -133,7 +133,8 @@ allows_load o slots id q m then within may t h homes at fits =
     )
 
 -- the deed of a load by pass q is right, and what a load finds is told
-looked : (law : CoreLaws) (o : World) (s : Whole) (h : IsShown o s) (q : PassView) (m : SharedWord)
+pub looked : (law : CoreLaws) (o : World) (s : Whole) (h : IsShown o s) (q : PassView)
+    (m : SharedWord)
     → IsWordOf (layout_of o) m → q ≡ s.pass q.cpu
     → DidRight o s.world (s.pass q.cpu).receipts (record {
       held = length q.receipts;

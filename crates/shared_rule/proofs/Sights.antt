@@ -151,7 +151,7 @@ module _ (law : CoreLaws) (o : World) (s : Whole) (h : IsShown o s) where
       sym (migrator_shown (group_word s g) (group_state (group_of s.world g) (s.seq g))
       (good_state law o s h g))
 
-  slot_shown : (g number : ℕ)
+  pub slot_shown : (g number : ℕ)
       → event_at (group_of s.world g).events number ≡ slot_of (word_at s (slot_at g number))
   slot_shown g number =
       sym (slot_back (s.stray g number) (event_at (group_of s.world g).events number)

@@ -15,17 +15,19 @@ use Rattle.walk_rules.specs.declared.walk.Walk.{Walk}
 use Rattle.walk_rules.specs.declared.walk.WalkKind.{WalkKind}
 use Rattle.walk_rules.specs.declared.walk.WalkKind.TheVariants as kinds
 use Rattle.walk_rules.specs.declared.walk.Stage.TheVariants as stages
+use Rattle.walk_rules.specs.Hierarchy.{side}
 use Rattle.core_world.specs.Enabled.{first_event}
 use Rattle.core_world.specs.Steps.{finished}
 use Rattle.core_world.specs.World.{World, CpuRecord, is_active}
 use Rattle.shared_words.specs.Layout.{index_of}
 use Rattle.shared_rule.specs.declared.parts.BoxView.{BoxView}
 use Rattle.shared_rule.specs.declared.parts.PassView.{PassView}
-use Rattle.shared_rule.specs.Whole.{cpu_at, layout_of, own_word}
+use Rattle.shared_rule.specs.Whole.{cpu_at, layout_of, own_word, slot_at}
 use Rattle.shared_rule.specs.Rule.{seat_of}
 use Rattle.shared_rule.specs.Turns.{Carries, CarryEnds}
 use Rattle.shared_rule.specs.Turns.{Enters, Exits, Idles, Reevaluates, Releases, Rests, Retells}
 use Rattle.shared_rule.specs.Turns.{Takes, Ticks, entered, idled, outside, released, taken}
+use Rattle.shared_rule.specs.Turns.{SeesCpu, SeesLeaf}
 use Rattle.shared_rule.specs.Laws.{Stays}
 
 -- DRAINING: what has to be known where a base of a CPU counts as drained by the CPU of a pass:
@@ -215,3 +217,19 @@ CarryEndStays o = (slots id : ℕ) (b : BoxView) (k : Walk) (p : PassView) (new 
     Stays o slots id b (p ∷ []) (cpu_at b.cpu) (λ n. new)
     (λ n. CarryEnds (step slots (index_of (layout_of o) (cpu_at b.cpu)) new 0 none)
     (seat_of (b ∷ []) (p ∷ [])) new)
+
+-- LOOKS AT A CPU: a load of its word, with its box and a pass, keeps the rule; the pass remembers
+-- what it found, and that is what the box says
+abbrev pub SeeCpuStays : World → Type 0
+SeeCpuStays o = (slots id : ℕ) (b : BoxView) (p : PassView) → b.cpu < length o.cpus →
+    Stays o slots id b (p ∷ []) (cpu_at b.cpu) (λ n. n)
+    (SeesCpu (step slots (index_of (layout_of o) (cpu_at b.cpu)) 0 0 none)
+    (seat_of (b ∷ []) (p ∷ [])))
+
+-- and so does a load of its slot in its leaf
+abbrev pub SeeLeafStays : World → Type 0
+SeeLeafStays o = (slots id g : ℕ) (b : BoxView) (p : PassView) → g < length o.groups →
+    side o.tree b.cpu 0 < 8 → group_at_of o.tree b.cpu 0 ≡ Some g →
+    Stays o slots id b (p ∷ []) (slot_at g (side o.tree b.cpu 0)) (λ n. n)
+    (SeesLeaf (step slots (index_of (layout_of o) (slot_at g (side o.tree b.cpu 0))) 0 0 none)
+    (seat_of (b ∷ []) (p ∷ [])))

@@ -3,6 +3,7 @@ use Rattle.std.specs.Prelude.{◌≡◌, ℕ, suc, true, false, List, [], ◌∷
 use Rattle.std.specs.Prelude.{◌==◌, None, Some, filter, is_some, min, not}
 use Rattle.tm_base.specs.declared.names.Class.{Class}
 use Rattle.cpu_bases.specs.CpuBases.{events_of, handed_out, ticked_entry}
+use Rattle.event_queue.specs.Word.{slot_of}
 use Rattle.tree_plan.specs.Paths.{group_at_of}
 use Rattle.walk_rules.specs.declared.walk.Walk.{Walk}
 use Rattle.walk_rules.specs.declared.walk.WalkKind.{WalkKind}
@@ -14,9 +15,10 @@ use Rattle.core_world.specs.World.{World, CpuRecord}
 use Rattle.shared_rule.specs.declared.parts.BoxView.{BoxView}
 use Rattle.shared_rule.specs.declared.parts.PassView.{PassView}
 use Rattle.shared_rule.specs.declared.parts.Deed.TheVariants as deeds
+use Rattle.shared_rule.specs.Whole.{own_word}
 use Rattle.shared_rule.specs.Shows.{receipt_of}
 use Rattle.shared_rule.specs.Rule.{Me, Step}
-use Rattle.shared_rule.specs.Plays.{Sound, by_box, on_both}
+use Rattle.shared_rule.specs.Plays.{Sound, by_box, on_both, on_pass, seen_pass}
 
 -- VIEWS AFTER A STEP: the box changes by what the first pass is
 abbrev pub pair_boxes : (BoxView → PassView → BoxView) → List BoxView → List PassView
@@ -244,3 +246,23 @@ carry_ended_pass b p = record p {
 -- the store of a marked CPU's word as its walk ends
 abbrev pub CarryEnds : Step → Me → ℕ → Me → Type 0
 CarryEnds t v found w = (w ≡ on_pair carry_ended_box carry_ended_pass v) × Sound w
+
+-- LOOKS AT A CPU, with a pass that remembers them: what was found is the word of the box's CPU
+abbrev pub IsOwnWord : List BoxView → (found : ℕ) → Type 0
+IsOwnWord [] found = ⊥
+IsOwnWord (b ∷ bs) found = found ≡ own_word b.own
+
+-- what was found is the word of the slot of the box's CPU in its leaf
+abbrev pub IsOwnLeaf : List BoxView → (found : ℕ) → Type 0
+IsOwnLeaf [] found = ⊥
+IsOwnLeaf (b ∷ bs) found = slot_of found ≡ b.leaf
+
+-- a load of a CPU's word, with its box and a pass
+abbrev pub SeesCpu : Step → Me → ℕ → Me → Type 0
+SeesCpu t v found w =
+    ((w ≡ on_pass (seen_pass t.word found) v) × IsOwnWord v.0.boxes found) × Sound w
+
+-- a load of a CPU's slot in its leaf, with its box and a pass
+abbrev pub SeesLeaf : Step → Me → ℕ → Me → Type 0
+SeesLeaf t v found w =
+    ((w ≡ on_pass (seen_pass t.word found) v) × IsOwnLeaf v.0.boxes found) × Sound w

@@ -10,7 +10,8 @@ ghost use Rattle.shared_rule.specs.Laws.{ScanStays, ScanTopStays, SeatsStay, See
 ghost use Rattle.shared_rule.specs.Laws.{SeeGroupStays, SeeStateStays, SeeStays, WakeStays};
 ghost use Rattle.shared_rule.specs.TurnLaws.{EnterStays, IdleStays, LeaveStays, RetellStays};
 ghost use Rattle.shared_rule.specs.TurnLaws.{ReevaluateStays, ReleaseStays, RestStays, TakeStays};
-ghost use Rattle.shared_rule.specs.TurnLaws.{CarryEndStays, CarryStays, TickStays};
+ghost use Rattle.shared_rule.specs.TurnLaws.{CarryEndStays, CarryStays, SeeCpuStays, SeeLeafStays};
+ghost use Rattle.shared_rule.specs.TurnLaws.{TickStays};
 
 use core_facts::{
     law_bounds, law_frame, law_height, law_lock, law_mark, law_once_a_level, law_own_event,
@@ -200,6 +201,16 @@ pub fn law_finish()
 pub fn law_carry()
     ensures begin { (o : World) → CarryStays o }
     ensures finish { (o : World) → CarryEndStays o }
+{
+    core_laws();
+}
+
+/// Does nothing: its contract says that the rule stays as a pass looks at the word of a CPU and at
+/// its slot in its leaf, with the CPU's box, and that it finds what the box says
+/// (`tmigr_handle_remote_cpu`).
+pub fn law_notice()
+    ensures cpu { (o : World) → SeeCpuStays o }
+    ensures leaf { (o : World) → SeeLeafStays o }
 {
     core_laws();
 }

@@ -310,3 +310,17 @@ pub struct CarryEnds;
 impl Play<Said, View> for CarryEnds {
     ghost then = { turns.CarryEnds };
 }
+
+/// A CPU's word is loaded, with its box and a pass.
+pub struct SeesCpu;
+
+impl Play<Said, View> for SeesCpu {
+    ghost then = { turns.SeesCpu };
+}
+
+/// A CPU's slot in its leaf is loaded, with its box and a pass.
+pub struct SeesLeaf;
+
+impl Play<Said, View> for SeesLeaf {
+    ghost then = { turns.SeesLeaf };
+}
