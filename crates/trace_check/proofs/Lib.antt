@@ -12,3 +12,4 @@ pub mod LeadLaws
 pub mod ToldLaws
 pub mod CarryLaws
 pub mod WakeLaws
+mod CauseLaws

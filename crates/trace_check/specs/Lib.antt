@@ -9,3 +9,5 @@ pub mod Answers
 pub mod Told
 pub mod Leading
 pub mod Playing
+pub mod Causes
+pub mod CauseParts

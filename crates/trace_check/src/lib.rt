@@ -29,6 +29,11 @@
 mod answers;
 mod asking;
 mod carrying;
+mod cause_flags;
+mod cause_looks;
+mod cause_steps;
+mod cause_timers;
+mod causes;
 mod checking;
 mod fields;
 mod leading;
@@ -46,6 +51,8 @@ mod words;
 
 pub use answers::ReadTrace;
 pub use asking::why;
+pub use cause_steps::cause;
+pub use causes::{Cause, CpuFact};
 pub use checking::check;
 pub use lists::TraceLines;
 pub use printing::print_trace;
