@@ -1,6 +1,9 @@
 use super::*;
+use core_state::one_node_core;
+use core_world::Step;
 use std::alloc::Global;
 use std::test::Fail;
+use tm_base::CpuId;
 use tm_report::Report;
 use tm_script::{Kind, ScriptFault};
 
@@ -179,5 +182,21 @@ fn a_run_with_a_stale_exchange_is_one(rt: HostRuntime) -> Result<(), Fail> {
     let (verdict, report) = checked(rt.alloc(), text.as_slice())?;
     assert_eq!(&rt; verdict, Some(Verdict::Yes { steps: 27 }));
     assert!(&rt; report.text() == b"yes 27\n".as_slice());
+    Ok(())
+}
+
+// By hand from the conditions of the steps: at the start every CPU is active, with no walk and
+// outside an interrupt, and there are CPUs 0 and 1.
+#[test]
+fn what_forbids_a_step_is_named(rt: HostRuntime) -> Result<(), Fail> {
+    let core = one_node_core(rt.alloc(), 2, 1)?;
+    let cpu = CpuId(0);
+    let wake = cause(&core, &Step::Wake { cpu });
+    assert!(&rt; matches!(wake, Some(Cause::Cpu(CpuId(0), CpuFact::NotIdle))));
+    let missing = cause(&core, &Step::Enter { cpu: CpuId(2) });
+    assert!(&rt; matches!(missing, Some(Cause::Cpu(CpuId(2), CpuFact::Missing))));
+    let own = cause(&core, &Step::HandOn { cpu, to: cpu });
+    assert!(&rt; own.is_some());
+    assert!(&rt; cause(&core, &Step::Idle { cpu }).is_none());
     Ok(())
 }
