@@ -1,4 +1,4 @@
--- items and armings that say the same, in order
+-- for crates above: items and armings that say the same, in order
 use Rattle.std.proofs.Common.{◌≡◌, ℕ, ◌<◌, List, [], ◌∷◌, ◌++◌, Option, Some, None, refl, ap, subst}
 use Rattle.std.proofs.Common.{sym, ◌∙◌, inl, inr}
 use Rattle.std.specs.Prelude.{◌==◌, map, option_map}
