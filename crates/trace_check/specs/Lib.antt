@@ -11,3 +11,4 @@ pub mod Leading
 pub mod Playing
 pub mod Causes
 pub mod CauseParts
+pub mod CauseTexts

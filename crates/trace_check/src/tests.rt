@@ -3,7 +3,7 @@ use core_state::one_node_core;
 use core_world::Step;
 use std::alloc::Global;
 use std::test::Fail;
-use tm_base::CpuId;
+use tm_base::{Class, CpuId, TimerId};
 use tm_report::Report;
 use tm_script::{Kind, ScriptFault};
 
@@ -118,6 +118,46 @@ fn a_line_at_fault_is_refused_by_its_first_kind(rt: HostRuntime) -> Result<(), F
     Ok(())
 }
 
+// Forms of lines at line 6, each with the least change that is at fault; by hand, from the table of
+// lines: first the number of words and CLASS, then spellings of numbers, then their ranges.
+#[test]
+fn each_form_of_line_is_refused_by_its_first_kind(rt: HostRuntime) -> Result<(), Fail> {
+    let cases = [
+        (b"clock 010\n".as_slice(), Kind::BadNumber),
+        (b"enter 2\n".as_slice(), Kind::OutOfRange),
+        (b"leave\n".as_slice(), Kind::BadLine),
+        (
+            b"arm 1 0 global 1099511627776 0 0 0\n".as_slice(),
+            Kind::OutOfRange,
+        ),
+        (
+            b"arm 1 0 global 60 0 4294967296 0\n".as_slice(),
+            Kind::OutOfRange,
+        ),
+        (b"cancel 1 0 2 0\n".as_slice(), Kind::OutOfRange),
+        (b"hand 1 1 0\n".as_slice(), Kind::OutOfRange),
+        (b"ticked 1 soft 0\n".as_slice(), Kind::BadLine),
+        (b"move 1 0 +0\n".as_slice(), Kind::BadNumber),
+        (b"idle  1\n".as_slice(), Kind::BadLine),
+        (b"wake x\n".as_slice(), Kind::BadNumber),
+        (b"offline 2\n".as_slice(), Kind::OutOfRange),
+        (b"online 1 \n".as_slice(), Kind::BadLine),
+        (b"reeval -1\n".as_slice(), Kind::BadNumber),
+        (b"take 1 2\n".as_slice(), Kind::OutOfRange),
+        (b"carry\n".as_slice(), Kind::BadLine),
+        (b"release 65536\n".as_slice(), Kind::OutOfRange),
+        (b"handon 1\n".as_slice(), Kind::BadLine),
+        (b"why 1 1\n".as_slice(), Kind::OutOfRange),
+        (b"end 0\n".as_slice(), Kind::BadLine),
+    ];
+    for (lines, kind) in cases {
+        let text = with_lines(rt.alloc(), lines)?;
+        let want = Some(ScriptFault { line: 6, kind });
+        assert_eq!(rt; refusal(rt.alloc(), &text), want);
+    }
+    Ok(())
+}
+
 /// The line of a step, so many times.
 fn add_lines(text: &mut Vec<u8>, times: u8, line: &[u8]) -> Result<(), Fail> {
     for _time in 0..times {
@@ -198,5 +238,53 @@ fn what_forbids_a_step_is_named(rt: HostRuntime) -> Result<(), Fail> {
     let own = cause(&core, &Step::HandOn { cpu, to: cpu });
     assert!(&rt; own.is_some());
     assert!(&rt; cause(&core, &Step::Idle { cpu }).is_none());
+    Ok(())
+}
+
+// Sentences by hand, from what each cause says; groups as LEVEL:PLACE.
+#[test]
+fn a_cause_is_told_in_a_sentence(rt: HostRuntime) -> Result<(), Fail> {
+    let cpu = CpuId(3);
+    let by = CpuId(8);
+    let timer = TimerId(5);
+    let cases = [
+        (
+            Cause::Cpu(cpu, CpuFact::HasWalk),
+            b"CPU 3 has a walk".as_slice(),
+        ),
+        (
+            Cause::Cpu(cpu, CpuFact::Unmarked),
+            b"CPU 3 is marked by nobody".as_slice(),
+        ),
+        (
+            Cause::LockTaken {
+                cpu,
+                level: 0,
+                place: 1,
+                by,
+            },
+            b"CPU 3 waits for the lock of 0:1, taken by CPU 8".as_slice(),
+        ),
+        (
+            Cause::NotNext {
+                timer,
+                cpu,
+                first: 7,
+            },
+            b"timer 7 goes out before timer 5 on CPU 3".as_slice(),
+        ),
+        (
+            Cause::NoRunner {
+                cpu,
+                class: Class::Pinned,
+                runner: by,
+            },
+            b"CPU 8 may not run timers of CPU 3, of class pinned".as_slice(),
+        ),
+    ];
+    for (cause, sentence) in cases {
+        let text = text_of(rt.alloc(), &cause)?;
+        assert!(rt; text.as_slice() == sentence);
+    }
     Ok(())
 }
