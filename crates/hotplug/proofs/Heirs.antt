@@ -1,15 +1,17 @@
 -- the CPU that gets the timers of a dead one, and how far they have moved
 use Rattle.std.proofs.Common.{◌≡◌, ◌≢◌, ℕ, suc, ◌+◌, ◌<◌, Bool, true, false, Option, Some, None}
 use Rattle.std.proofs.Common.{length, refl, sym, ap, ◌∙◌, subst, arith, inl, inr}
-use Rattle.std.specs.Prelude.{◌&&◌, ◌==◌, if◌then◌else◌, option_map}
-use Rattle.std.proofs.lemmas.Bool.{and_from, both_ways, cases_eq, cond-false, cond-true, eq-eqb}
-use Rattle.std.proofs.lemmas.Bool.{eqb-true, ne_eqb}
+use Rattle.std.specs.Prelude.{◌&&◌, ◌==◌, ◌++◌, List, [], if◌then◌else◌, map, not, option_map}
+use Rattle.std.proofs.lemmas.List.{append-nil}
+use Rattle.std.proofs.lemmas.Bool.{and_from, and_parts, both_ways, cases_eq, cond-false, cond-true}
+use Rattle.std.proofs.lemmas.Bool.{eq-eqb, eqb-true, ne_eqb}
 use Rattle.std.proofs.lemmas.Option.{none-some, same_Some}
 use Rattle.tm_base.specs.declared.names.Class.{Class}
 use Rattle.tm_base.specs.declared.names.CpuId.{CpuId}
 use Rattle.tm_base.specs.declared.names.TimerId.{TimerId}
 use Rattle.wheel_core.specs.declared.item.Item.{Item}
 use Rattle.wheel_core.specs.PlainBase.{NoneBehind}
+use Rattle.cpu_bases.specs.ByClass.{of_class}
 use Rattle.cpu_bases.specs.CpuBases.{base_of}
 use Rattle.tree_plan.specs.Paths.{is_placed_in}
 use Rattle.play_laws.proofs.Answered.Ranges.{found_some}
@@ -24,12 +26,15 @@ use Rattle.step_play.proofs.Queues.Sights.{count_seen}
 use Rattle.step_play.proofs.Hotplug.{IsHead, head_is, read}
 use Rattle.step_play.proofs.Takes.{there}
 use Rattle.core_machine.specs.Draining.Turns.{timer_of}
+use Rattle.hotplug.specs.Afterwards.{AllWith, NothingMoved, PartMoved, SomeMoved, StillQueued}
+use Rattle.hotplug.specs.Afterwards.{asked, items_of, timers_of}
 use Rattle.hotplug.specs.Frames.{Activated, MayActivate, MayMoveAll}
 use Rattle.hotplug.specs.Settled.{AllWhole, MovedSome, MovedTimes, SomeOnline, heir_of, moved_off}
 use Rattle.hotplug.specs.Settled.{moved_times, moved_to}
 use Rattle.cpu_bases.proofs.Counts.{count_in}
 use Rattle.play_rules.proofs.FirstMoves.{either_none, none_queued}
 use Rattle.hotplug.proofs.Moving.{count_seen_in, some_queued}
+use Rattle.hotplug.proofs.Over.{none_of}
 use Rattle.hotplug.proofs.Settling.{settled_lone}
 
 -- HOW FAR
@@ -44,6 +49,30 @@ moved_more start w v from to so_far made fewer = record {
   left = (let left = so_far.left in omega (arith, left, fewer));
   is = made ∙ ap (λ u. after_move (step_rules.moved u from to) u) so_far.is;
 }
+
+-- WHERE THEY ARE, once none is left
+nothing_left : (w : World) (dead : ℕ) → dead < length w.cpus → step_rules.queued_on w dead ≡ 0 →
+    (k : Class) → items_of w dead k ≡ []
+nothing_left w dead low none k =
+    none_of k (cpu_of w dead).bases (sym (count_seen_in w dead low) ∙ none)
+
+all_with : (w : World) (dead to : ℕ) (u : World) → SomeMoved w dead to u → MayMoveAll u dead to →
+    step_rules.queued_on u dead ≡ 0 → AllWith w dead to u
+all_with w dead to u (gone, x) may none =
+    let empty = nothing_left u dead may.low none in
+    record {
+      tree = x.tree;
+      clock = x.clock;
+      online = x.online;
+      none_left = empty;
+      come = λ k.
+          x.come k
+          ∙ ap (λ (xs : List Item). timers_of w to k ++ map asked xs)
+          (sym (x.left k ∙ (ap (λ xs. of_class k gone ++ xs) (empty k)
+          ∙ append-nil (of_class k gone))));
+      active = may.active;
+      others = x.others;
+    }
 
 -- WHO GETS THEM
 abbrev as_cpu : ℕ → CpuId
@@ -153,6 +182,46 @@ module _ (w : World) (dead : ℕ) (low : dead < length w.cpus) where
             ∙ (ap (λ (y : CpuRecord). count_in y.bases) (active.others dead apart)
             ∙ sym (count_seen_in w dead low))
 
+        online_still : (d : ℕ) → (cpu_of v d).online ≡ (cpu_of w d).online
+        online_still d = elim (cases_eq d to.0) [
+          | inl same ↦
+              subst (λ n. (cpu_of v n).online ≡ (cpu_of w n).online) (sym same)
+              ((and_parts (cpu_of v to.0).online (not (cpu_of v to.0).idle) active.active).0
+              ∙ sym heads.online)
+          | inr ne ↦ ap (λ (y : CpuRecord). y.online) (active.others d ne)
+        ]
+
+        -- the moves, as they are from before the heir was made active
+        pub heir_over : (u : World) → SomeMoved v dead to.0 u → SomeMoved w dead to.0 u
+        heir_over u (gone, x) = (
+          gone,
+          record {
+            tree = x.tree ∙ active.tree;
+            clock = x.clock ∙ active.clock;
+            online = λ d. x.online d ∙ online_still d;
+            left = λ k.
+                ap (λ (y : CpuRecord). (base_of k y.bases).items) (sym (active.others dead apart))
+                ∙ x.left k;
+            come = λ k.
+                x.come k
+                ∙ ap (λ b. map asked (base_of k b).items ++ map asked (of_class k gone)) active.bases;
+            others = λ d ne other. x.others d ne other ∙ active.others d other;
+          },
+        )
+
+        pub heir_part : (u : World) → SomeMoved v dead to.0 u → StillQueued u dead →
+            PartMoved w dead u
+        heir_part u over left = record {
+          to = to;
+          heir = sym heir;
+          moved = heir_over u over;
+          some_left = left;
+        }
+
+        pub heir_all : (u : World) → SomeMoved v dead to.0 u → MayMoveAll u dead to.0 →
+            step_rules.queued_on u dead ≡ 0 → AllWith w dead to.0 u
+        heir_all u over may none = all_with w dead to.0 u (heir_over u over) may none
+
         module _ (u : World) (so_far : MovedTimes v dead to.0 u) where
           pub heir_some : MovedSome w dead u
           heir_some = record {
@@ -186,3 +255,7 @@ module _ (w : World) (dead : ℕ) (low : dead < length w.cpus) where
 
   pub none_dead : None ≡ heir_of w dead → SomeOnline w → many ≡ 0
   none_dead none some = none_by (many == 0) refl none some
+
+  pub none_moves : None ≡ heir_of w dead → SomeOnline w → NothingMoved w dead w
+  none_moves none some =
+      record { empty = nothing_left w dead low (none_dead none some); same = refl }

@@ -2,7 +2,7 @@
 use Rattle.std.proofs.Common.{◌≡◌, ◌≢◌, ◌⊎◌, ℕ, ◌<◌, Bool, true, false, Option, Some, None}
 use Rattle.std.proofs.Common.{length, refl, sym, ap, ◌∙◌, subst, arith, inl, inr}
 use Rattle.std.specs.Prelude.{◌&&◌, if◌then◌else◌, is_none, not}
-use Rattle.std.proofs.lemmas.Bool.{both_ways, cases_eq, cond-false, cond-true}
+use Rattle.std.proofs.lemmas.Bool.{and_parts, both_ways, cases_eq, cond-false, cond-true}
 use Rattle.std.proofs.lemmas.Option.{none-some}
 use Rattle.tm_base.specs.declared.names.CpuId.{CpuId}
 use Rattle.tm_base.specs.declared.names.TheConstants.{NEVER}
@@ -16,17 +16,21 @@ use Rattle.core_world.specs.Covered.{IsSettled}
 use Rattle.core_world.specs.Enabled.{MayComeOnline, MayGoOffline, MayHandOn}
 use Rattle.core_world.specs.Lawful.{IsLawful}
 use Rattle.core_world.specs.Steps.{begins, begins_with, stepped, with_walk}
-use Rattle.core_world.specs.World.{CpuRecord, World, cpu_of}
+use Rattle.core_world.specs.World.{CpuRecord, World, cpu_of, is_active}
 use Rattle.step_play.specs.Rules.Alone.{goes_on}
 use Rattle.step_play.specs.Rules.StepRules.{come_by_steps, gone_by_steps, handed_on_by_steps}
 use Rattle.step_play.specs.Rules.StepRules.{is_waiting}
 use Rattle.step_play.proofs.Hotplug.{runs}
-use Rattle.step_play.proofs.Worlds.{own_is, put_all}
+use Rattle.step_play.proofs.Worlds.{own_is, put_all, put_else, put_field}
 use Rattle.step_play.proofs.Activation.Calm.{handing}
-use Rattle.hotplug.specs.Frames.{Activated, Framed, MayActivate, Waits}
+use Rattle.hotplug.specs.Afterwards.{HasCome, HasLeft}
+use Rattle.hotplug.specs.Frames.{Activated, Framed, HandedOn, MayActivate, Waits}
 use Rattle.hotplug.specs.Settled.{AllWhole, IsWhole, gone_whole, heir_at, offline_fault}
 use Rattle.hotplug.proofs.Frames.{begun_framed}
 use Rattle.hotplug.proofs.Settling.{online_free, settled_lone}
+
+abbrev as_cpu : ℕ → CpuId
+as_cpu d = record { 0 = d }
 
 -- who waits has a walk that stands at Handing
 pub record Stands (m : Option Walk) : Type 0 where
@@ -126,6 +130,39 @@ module _ (w : World) (c to : ℕ) (waits : Waits w c to) where
     pub handed_settled : IsSettled last
     handed_settled = record { free = λ d. (each d).0; outside = λ d. (each d).1 }
 
+    -- what a walk leaves of a CPU stays in the last step
+    kept : {X : Type 0} (f : CpuRecord → X) → f (with_walk (cpu_of v c) None) ≡ f (cpu_of v c) →
+        (d : ℕ) → f (cpu_of last d) ≡ f (cpu_of v d)
+    kept f same d =
+        ap (λ u. f (cpu_of u d)) (own_is v c (with_walk (cpu_of v c) None))
+        ∙ put_field v c (with_walk (cpu_of v c) None) within f same d
+
+    to_online_still : (cpu_of v to).online ≡ (cpu_of w to).online
+    to_online_still =
+        (and_parts (cpu_of v to).online (not (cpu_of v to).idle) active.active).0
+        ∙ sym waits.online
+
+    -- what making the other CPU active leaves of all
+    made : {X : Type 0} (f : CpuRecord → X) → f (cpu_of v to) ≡ f (cpu_of w to) → (d : ℕ) →
+        f (cpu_of v d) ≡ f (cpu_of w d)
+    made f same d = elim (cases_eq d to) [
+      | inl is ↦ subst (λ n. f (cpu_of v n) ≡ f (cpu_of w n)) (sym is) same
+      | inr ne ↦ ap f (active.others d ne)
+    ]
+
+    pub handed_leaves : HandedOn w c to last
+    handed_leaves = record {
+      tree = active.tree;
+      clock = active.clock;
+      online = λ d. kept (λ y. y.online) refl d ∙ made (λ y. y.online) to_online_still d;
+      bases = λ d. kept (λ y. y.bases) refl d ∙ made (λ y. y.bases) active.bases d;
+      others = λ d ne other.
+          ap (λ u. cpu_of u d) (own_is v c (with_walk (cpu_of v c) None))
+          ∙ (put_else v c (with_walk (cpu_of v c) None) within d ne
+          ∙ active.others d other);
+      active = kept is_active refl to ∙ active.active;
+    }
+
 -- LEAVING
 -- what is no refusal
 record Allowed (on idles placed to_on : Bool) : Type 0 where
@@ -191,6 +228,40 @@ module _ (w : World) (c to : ℕ) (low : c < length w.cpus) (to_low : to < lengt
 
     others : (d : ℕ) → d ≢ c → (cpu_of v d).walk ≡ None
     others d ne = ap (λ (y : CpuRecord). y.walk) (f.others d ne) ∙ settled.free d
+
+    -- the timers of all are as they were
+    bases_still : (d : ℕ) → (cpu_of v d).bases ≡ (cpu_of w d).bases
+    bases_still d = elim (cases_eq d c) [
+      | inl same ↦ subst (λ n. (cpu_of v n).bases ≡ (cpu_of w n).bases) (sym same) f.itself.bases
+      | inr ne ↦ ap (λ (y : CpuRecord). y.bases) (f.others d ne)
+    ]
+
+    pub leaves_alone : (heir : CpuId) → HasLeft w c heir None v
+    leaves_alone heir = record {
+      tree = f.tree;
+      clock = f.clock;
+      offline = f.itself.online;
+      bases = bases_still;
+      online = λ d ne. ap (λ (y : CpuRecord). y.online) (f.others d ne);
+      others = λ d ne other. f.others d ne;
+      duty = tt;
+      active = tt;
+    }
+
+    pub leaves_to : (heir : CpuId) → heir.0 ≡ to → (u : World) → HandedOn v c to u →
+        HasLeft w c heir (Some heir) u
+    leaves_to heir is_heir u handed = record {
+      tree = handed.tree ∙ f.tree;
+      clock = handed.clock ∙ f.clock;
+      offline = handed.online c ∙ f.itself.online;
+      bases = λ d. handed.bases d ∙ bases_still d;
+      online = λ d ne. handed.online d ∙ ap (λ (y : CpuRecord). y.online) (f.others d ne);
+      others = λ d ne other.
+          handed.others d ne (λ same. other (ap (λ n. Some (as_cpu n)) (is_heir ∙ sym same)))
+          ∙ f.others d ne;
+      duty = refl;
+      active = ap (λ n. is_active (cpu_of u n)) is_heir ∙ handed.active;
+    }
 
     -- it has left
     module _ (calm : is_waiting v c ≡ false) (ends : goes_on (cpu_of v c).walk ≡ false) where
@@ -278,6 +349,19 @@ module _ (w : World) (c : ℕ) (low : c < length w.cpus) (settled : IsSettled w)
           (subst IsWhole (sym framed.itself.bases) (all c))
       | inr ne ↦ subst (λ (y : CpuRecord). IsWhole y.bases) (sym (framed.others d ne)) (all d)
     ]
+
+    pub come_back : HasCome w c v
+    come_back = record {
+      tree = framed.tree;
+      clock = framed.clock;
+      active = runs v c framed.itself.online framed.itself.idle;
+      bases = λ d. elim (cases_eq d c) [
+        | inl same ↦
+            subst (λ n. (cpu_of v n).bases ≡ (cpu_of w n).bases) (sym same) framed.itself.bases
+        | inr ne ↦ ap (λ (y : CpuRecord). y.bases) (framed.others d ne)
+      ];
+      others = framed.others;
+    }
 
     pub come_settled : IsSettled v
     come_settled = record {

@@ -6,3 +6,4 @@ pub mod Moving
 pub mod Heirs
 pub mod Bases
 pub mod Runs
+pub mod Over

@@ -1,7 +1,7 @@
 -- timers of a dead CPU move in a settled core
 use Rattle.std.proofs.Common.{◌≡◌, ◌≢◌, ℕ, ◌+◌, ◌<◌, true, List, [], ◌∷◌}
 use Rattle.std.proofs.Common.{Some, length, refl, sym, ap, ◌∙◌, subst, arith}
-use Rattle.std.specs.Prelude.{is_some, not, option_map}
+use Rattle.std.specs.Prelude.{◌++◌, is_some, map, not, option_map}
 use Rattle.std.proofs.lemmas.Bool.{and_parts, both_ways}
 use Rattle.std.proofs.lemmas.Option.{none-some}
 use Rattle.tm_base.specs.declared.names.Class.{Class}
@@ -11,6 +11,7 @@ use Rattle.wheel_core.specs.declared.item.Item.{Item}
 use Rattle.wheel_core.specs.PlainBase.{IsPlaced, NoneBehind}
 use Rattle.wheel_core.proofs.Ids.{item_holds}
 use Rattle.cpu_bases.specs.declared.entry.Act.TheVariants as acts
+use Rattle.cpu_bases.specs.ByClass.{of_class}
 use Rattle.cpu_bases.specs.CpuBases.{CpuBases, base_of}
 use Rattle.cpu_bases.specs.CpuBases.{oldest_in}
 use Rattle.cpu_bases.proofs.Keeping.{oldest_found}
@@ -31,8 +32,10 @@ use Rattle.step_play.proofs.Moves.{first_alike}
 use Rattle.step_play.proofs.Worlds.{put, put_all, put_count, put_else, put_field, put_same}
 use Rattle.core_machine.specs.Draining.Turns.{timer_of}
 use Rattle.core_machine.proofs.Draining.FirstMoves.{Found, found_first}
+use Rattle.hotplug.specs.Afterwards.{SomeMoved, StillQueued, asked}
 use Rattle.hotplug.specs.Frames.{MayMoveAll}
 use Rattle.hotplug.specs.Settled.{AllWhole}
+use Rattle.hotplug.proofs.Over.{gives_one, one_item, takes_one}
 
 -- HOW MANY are queued
 pub count_seen_in : (w : World) (c : ℕ) → c < length w.cpus →
@@ -178,15 +181,49 @@ module _ (w : World) (from to : ℕ) (lawful : IsLawful w) (may : MayMoveAll w f
     whole = whole;
   }
 
-  pub moves_fewer : step_rules.queued_on v from + 1 ≡ step_rules.queued_on w from
-  moves_fewer =
-      let there : (cpu_of v from).bases ≡ (giver w from to class).bases =
+  from_is : (cpu_of v from).bases ≡ (giver w from to class).bases
+  from_is =
       ap (λ (u : World). (cpu_of u from).bases) v_is
       ∙ (ap (λ (y : CpuRecord). y.bases)
       (put_else mid to (taker w to class item) mid_low from (λ same. apart (sym same)))
-      ∙ ap (λ (y : CpuRecord). y.bases) (put_same w from (giver w from to class) may.low)) in
+      ∙ ap (λ (y : CpuRecord). y.bases) (put_same w from (giver w from to class) may.low))
+
+  to_is : (cpu_of v to).bases ≡ (taker w to class item).bases
+  to_is =
+      ap (λ (u : World). (cpu_of u to).bases) v_is
+      ∙ ap (λ (y : CpuRecord). y.bases) (put_same mid to (taker w to class item) mid_low)
+
+  oldest : oldest_in (base_of class (cpu_of w from).bases).items ≡ Some item
+  oldest = first_is (cpu_of w from).bases f.found f.first
+
+  -- a timer is there, and it alone moves
+  pub moves_left : StillQueued w from
+  moves_left = record { class = class; item = item; first = oldest }
+
+  pub moves_over : SomeMoved w from to v
+  moves_over = (
+    one_item class item,
+    record {
+      tree = tree;
+      clock = ap (λ (u : World). u.clock) v_is;
+      online = field (λ y. y.online) (λ y b. refl);
+      left = λ k.
+          gives_one w.clock class k (record { 0 = to }) (cpu_of w from).bases item oldest
+          ∙ ap (λ b. of_class k (one_item class item) ++ (base_of k b).items) (sym from_is);
+      come = λ k.
+          ap (λ b. map asked (base_of k b).items) to_is
+          ∙ takes_one w.clock class k (record { 0 = to }) (cpu_of w to).bases item;
+      others = λ d ne other.
+          ap (λ (u : World). cpu_of u d) v_is
+          ∙ (put_else mid to (taker w to class item) mid_low d other
+          ∙ put_else w from (giver w from to class) may.low d ne);
+    },
+  )
+
+  pub moves_fewer : step_rules.queued_on v from + 1 ≡ step_rules.queued_on w from
+  moves_fewer =
       let fewer = fewer_out w.clock class (record { 0 = to }) (cpu_of w from).bases item
       (first_is (cpu_of w from).bases f.found f.first) in
       let new = count_seen_in v from moves_on.low in
       let old = count_seen_in w from may.low in
-      ap (λ n. n + 1) (new ∙ ap count_in there) ∙ (fewer ∙ sym old)
+      ap (λ n. n + 1) (new ∙ ap count_in from_is) ∙ (fewer ∙ sym old)

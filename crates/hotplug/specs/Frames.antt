@@ -41,6 +41,16 @@ pub record Activated (w : World) (d : ℕ) (v : World) : Type 0 where
   pub active : is_active (cpu_of v d) ≡ true
   pub free : (cpu_of v d).walk ≡ None
 
+-- what CPU c leaves that handed on to CPU d: d is active, and no timer, flag or CPU besides has
+-- changed
+pub record HandedOn (w : World) (c d : ℕ) (v : World) : Type 0 where
+  pub tree : v.tree ≡ w.tree
+  pub clock : v.clock ≡ w.clock
+  pub online : (e : ℕ) → (cpu_of v e).online ≡ (cpu_of w e).online
+  pub bases : (e : ℕ) → (cpu_of v e).bases ≡ (cpu_of w e).bases
+  pub others : (e : ℕ) → e ≢ c → e ≢ d → cpu_of v e ≡ cpu_of w e
+  pub active : is_active (cpu_of v d) ≡ true
+
 -- CPU c waits to hand on to CPU `to`, and no other CPU has a walk
 pub record Waits (w : World) (c to : ℕ) : Type 0 where
   pub low : c < length w.cpus

@@ -1,2 +1,3 @@
+pub mod Afterwards
 pub mod Frames
 pub mod Settled

@@ -5,6 +5,7 @@ ghost use Rattle.core_world.specs.Covered.{IsSettled};
 ghost use Rattle.core_world.specs.World.{cpu_of};
 ghost use Rattle.play_rules.specs.Machines.{after_move};
 ghost use Rattle.step_play.specs.Rules.StepRules.{step_rules};
+ghost use Rattle.hotplug.specs.Afterwards.{AllMoved, PartMoved, SomeMoved, StillQueued};
 ghost use Rattle.hotplug.specs.Frames.{MayMoveAll};
 ghost use Rattle.step_play.specs.Rules.Lone.{Reaches};
 ghost use Rattle.hotplug.specs.Settled.{AllWhole, MovedSome, SomeOnline, heir_of, moved_off};
@@ -32,6 +33,8 @@ fn move_next<B: TimerBase>(core: &mut Core<B>, from: CpuId, to: CpuId) -> Result
         step_rules.queued_on core.new from.0 ≡ 0) }
     ensures same { IfOk result (λ more. more ≡ false → core.new ≡ core.old) }
     ensures err { OnErr result (core.new ≡ core.old) }
+    ensures over { SomeMoved core.old from.0 to.0 core.new }
+    ensures left { OnErr result (StillQueued core.new from.0) }
     ensures run { Reaches core.old core.new }
 {
     law_step();
@@ -49,6 +52,8 @@ fn move_all<B: TimerBase>(core: &mut Core<B>, from: CpuId, to: CpuId) -> Result<
     requires { MayMoveAll core.old from.0 to.0 }
     ensures moved { MovedTimes core.old from.0 to.0 core.new }
     ensures none_left { OnOk result (step_rules.queued_on core.new from.0 ≡ 0) }
+    ensures over { SomeMoved core.old from.0 to.0 core.new }
+    ensures left { OnErr result (StillQueued core.new from.0) }
     ensures may { MayMoveAll core.new from.0 to.0 }
     ensures run { Reaches core.old core.new }
 {
@@ -83,6 +88,8 @@ pub fn move_dead<B: TimerBase>(core: &mut Core<B>, dead: CpuId) -> Result<Option
     ensures moved { OnOk result (core.new ≡ moved_off core.old dead.0) }
     ensures none_left { OnOk result (step_rules.queued_on core.new dead.0 ≡ 0) }
     ensures err { OnErr result (MovedSome core.old dead.0 core.new) }
+    ensures all { IfOk result (λ heir. AllMoved core.old dead.0 heir core.new) }
+    ensures part { OnErr result (PartMoved core.old dead.0 core.new) }
     ensures settled { IsSettled core.new }
     ensures whole { AllWhole core.new }
     ensures run { Reaches core.old core.new }

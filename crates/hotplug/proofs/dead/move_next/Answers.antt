@@ -1,9 +1,11 @@
 use Rattle.std.proofs.Common.{◌+◌, ap, subst, sym, ◌∙◌}
 use Rattle.step_play.specs.Rules.StepRules.{step_rules}
 use Rattle.core_world.specs.World.{World}
+use Rattle.hotplug.specs.Afterwards.{SomeMoved, StillQueued}
 use Rattle.hotplug.specs.Frames.{MayMoveAll}
 use Rattle.hotplug.proofs.Heirs.{empty_is}
-use Rattle.hotplug.proofs.Moving.{moves_enabled, moves_fewer, moves_on}
+use Rattle.hotplug.proofs.Moving.{moves_enabled, moves_fewer, moves_left, moves_on, moves_over}
+use Rattle.hotplug.proofs.Over.{at_err, over_none}
 use Rattle.core_world.specs.declared.step.Step.TheVariants as steps
 use Rattle.hotplug.proofs.Runs.{by_step}
 use Rattle.hotplug.proofs.dead.move_next.Goals as goal
@@ -37,3 +39,27 @@ returns-clause-run g c =
     (moves_enabled c.args.core.now c.args.from.0 c.args.to.0 c.tree.ensures.lawful c.requires
     c.in-Some.timer c.in-Some.ensures)
     c.in_ok-move_timer.ensures.ok
+
+pub returns-in_default-clause-over : goal.returns-in_default-clause-over
+returns-in_default-clause-over g c =
+    over_none c.args.core.now c.args.from.0 c.args.to.0
+
+pub returns-in_err-move_timer-clause-over : goal.returns-in_err-move_timer-clause-over
+returns-in_err-move_timer-clause-over g c =
+    subst (λ (w : World). SomeMoved c.args.core.now c.args.from.0 c.args.to.0 w)
+    (sym c.in_err-move_timer.ensures.err)
+    (over_none c.args.core.now c.args.from.0 c.args.to.0)
+
+pub returns-in_err-move_timer-clause-left : goal.returns-in_err-move_timer-clause-left
+returns-in_err-move_timer-clause-left g c =
+    at_err c.from_residual.result
+    (subst (λ (w : World). StillQueued w c.args.from.0) (sym c.in_err-move_timer.ensures.err)
+    (moves_left c.args.core.now c.args.from.0 c.args.to.0 c.tree.ensures.lawful c.requires
+    c.in-Some.timer c.in-Some.ensures))
+
+pub returns-clause-over : goal.returns-clause-over
+returns-clause-over g c =
+    subst (λ (w : World). SomeMoved c.args.core.now c.args.from.0 c.args.to.0 w)
+    (sym c.in_ok-move_timer.ensures.ok)
+    (moves_over c.args.core.now c.args.from.0 c.args.to.0 c.tree.ensures.lawful c.requires
+    c.in-Some.timer c.in-Some.ensures)

@@ -1,4 +1,5 @@
-use Rattle.std.proofs.Common.{sym, ◌∙◌}
+use Rattle.std.proofs.Common.{refl, sym, ◌∙◌}
+use Rattle.hotplug.proofs.Leaving.{leaves_alone, leaves_to}
 use Rattle.hotplug.proofs.Leaving.{leaves_bases, leaves_low, leaves_settled, leaves_waits}
 use Rattle.step_play.proofs.Reached.{by_walk, onwards}
 use Rattle.hotplug.proofs.offline.leave.Goals as goal
@@ -42,3 +43,17 @@ returns-then-hands_on-clause-run g c =
     onwards c.args.core.now c.go_offline.new.core c.hand_on.new.core
     (by_walk _ c.args.cpu.0 c.args.core.now c.go_offline.new.core c.go_offline.ensures.run)
     c.hand_on.ensures.run
+
+pub returns-then-hands_on-clause-left : goal.returns-then-hands_on-clause-left
+returns-then-hands_on-clause-left g c =
+    leaves_to c.args.core.now c.args.cpu.0 c.args.to.0 c.requires.cpu c.requires.to
+    c.requires.another c.requires.placed c.requires.settled c.requires.allowed
+    c.go_offline.new.core c.go_offline.ensures.walked
+    c.args.to refl c.hand_on.new.core c.hand_on.ensures.leaves
+
+pub returns-clause-left : goal.returns-clause-left
+returns-clause-left g c =
+    leaves_alone c.args.core.now c.args.cpu.0 c.args.to.0 c.requires.cpu c.requires.to
+    c.requires.another c.requires.placed c.requires.settled c.requires.allowed
+    c.go_offline.new.core c.go_offline.ensures.walked
+    c.args.to
