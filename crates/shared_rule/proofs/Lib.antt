@@ -38,3 +38,4 @@ pub mod Taking
 pub mod Ending
 pub mod Carrying
 pub mod Noticing
+pub mod Queues
