@@ -39,3 +39,5 @@ pub mod Ending
 pub mod Carrying
 pub mod Noticing
 pub mod Queues
+pub mod Outgoing
+pub mod Cancelling

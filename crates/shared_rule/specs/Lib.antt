@@ -7,3 +7,5 @@ pub mod Plays
 pub mod Laws
 pub mod Turns
 pub mod TurnLaws
+pub mod Timers
+pub mod TimerLaws

@@ -12,6 +12,7 @@ ghost use Rattle.shared_rule.specs.TurnLaws.{EnterStays, IdleStays, LeaveStays, 
 ghost use Rattle.shared_rule.specs.TurnLaws.{ReevaluateStays, ReleaseStays, RestStays, TakeStays};
 ghost use Rattle.shared_rule.specs.TurnLaws.{CarryEndStays, CarryStays, SeeCpuStays, SeeLeafStays};
 ghost use Rattle.shared_rule.specs.TurnLaws.{TickStays};
+ghost use Rattle.shared_rule.specs.TimerLaws.{CancelStays};
 
 use core_facts::{
     law_bounds, law_frame, law_height, law_lock, law_mark, law_once_a_level, law_own_event,
@@ -211,6 +212,15 @@ pub fn law_carry()
 pub fn law_notice()
     ensures cpu { (o : World) → SeeCpuStays o }
     ensures leaf { (o : World) → SeeLeafStays o }
+{
+    core_laws();
+}
+
+/// Does nothing: its contract says that the rule stays as a timer is cancelled, that the pass by
+/// whose CPU it was has the receipt, and that the exchange of the timer's word finds where the
+/// timer was queued (`__timer_delete`).
+pub fn law_cancel()
+    ensures { (o : World) → CancelStays o }
 {
     core_laws();
 }

@@ -2,6 +2,7 @@
 
 ghost use Rattle.shared_rule.specs.Plays as plays;
 ghost use Rattle.shared_rule.specs.Turns as turns;
+ghost use Rattle.shared_rule.specs.Timers as timers;
 ghost use Rattle.tm_base.specs.declared.names.Class.TheVariants as classes;
 
 use crate::parts::{Said, View};
@@ -323,4 +324,11 @@ pub struct SeesLeaf;
 
 impl Play<Said, View> for SeesLeaf {
     ghost then = { turns.SeesLeaf };
+}
+
+/// A timer is cancelled, by the CPU of a pass.
+pub struct Cancels;
+
+impl Play<Said, View> for Cancels {
+    ghost then = { timers.Cancels };
 }
