@@ -41,3 +41,5 @@ pub mod Noticing
 pub mod Queues
 pub mod Outgoing
 pub mod Cancelling
+pub mod Handing
+pub mod Arming

@@ -15,7 +15,7 @@ use Rattle.shared_rule.specs.CoreLaws.{CoreLaws}
 use Rattle.shared_rule.specs.Whole.{Whole, box_of, cpu_at, layout_of, leaf_in, slot_at}
 use Rattle.shared_rule.specs.Whole.{word_at}
 use Rattle.shared_rule.specs.Shows.{IsShown}
-use Rattle.shared_rule.specs.Rule.{Goes, seat_of}
+use Rattle.shared_rule.specs.Rule.{Goes, Me, seat_of}
 use Rattle.shared_rule.specs.Plays.{on_pass, seen_pass}
 use Rattle.shared_rule.specs.Turns.{IsOwnLeaf, IsOwnWord}
 use Rattle.shared_rule.specs.TurnLaws.{SeeCpuStays, SeeLeafStays}
@@ -25,10 +25,10 @@ use Rattle.shared_rule.proofs.Moving.{set_else, set_here}
 use Rattle.shared_rule.proofs.Passing.{with_pass, word_stays}
 use Rattle.shared_rule.proofs.Sights.{slot_shown}
 
--- the load of a word m of which the seat is told a fact
+-- a step that leaves the word m as it was, which the pass p remembers, and of which the seat is told
 module _ (law : CoreLaws) (o : World) (s : Whole) (h : IsShown o s) (c : ℕ) (p : PassView)
-    (m : SharedWord) (within : IsWordOf (layout_of o) m) (is : p ≡ s.pass p.cpu)
-    (Fact : ℕ → Type 0) (fact : Fact (word_at s m)) where
+    (m : SharedWord) (within : IsWordOf (layout_of o) m) (is : p ≡ s.pass p.cpu) (f : ℕ → ℕ)
+    (stays : f (word_at s m) ≡ word_at s m) (then : ℕ → Me → Type 0) where
   abbrev did : Did
   did = record {
     held = length p.receipts;
@@ -38,23 +38,23 @@ module _ (law : CoreLaws) (o : World) (s : Whole) (h : IsShown o s) (c : ℕ) (p
   abbrev mine : PassView
   mine = learned did (s.pass p.cpu)
 
-  notices : Goes o s (box_of o s c) (p ∷ []) m (λ n. n)
-      (λ n v. (v
-      ≡ on_pass (seen_pass (index_of (layout_of o) m) n) (seat_of (box_of o s c ∷ []) (p ∷ [])))
-      × Fact n)
-  notices = record {
+  pub notices : then (word_at s m)
+      (on_pass (seen_pass (index_of (layout_of o) m) (word_at s m))
+      (seat_of (box_of o s c ∷ []) (p ∷ [])))
+      → Goes o s (box_of o s c) (p ∷ []) m f then
+  notices told = record {
     next = with_pass s p.cpu mine;
     box = box_of o s c;
     passes = learned did p ∷ [];
     shown = learns o s h p.cpu did (looked law o s h p m within is);
-    word = word_stays s p.cpu mine m;
+    word = word_stays s p.cpu mine m ∙ sym stays;
     words = λ z low ne. word_stays s p.cpu mine z;
     own = refl;
     boxes = λ d ne. refl;
     same = refl;
     brought = (ap (learned did) is ∙ sym (set_here p.cpu mine s.pass), tt);
     others = λ d ne. set_else p.cpu mine s.pass d (λ e. ne.0 (sym e));
-    told = (refl, fact);
+    told = told;
   }
 
 pub sees_cpu : (law : CoreLaws) (o : World) → SeeCpuStays o
@@ -68,8 +68,11 @@ sees_cpu law o slots id b p low =
     (λ n v. (v
     ≡ on_pass (seen_pass (index_of (layout_of o) (cpu_at b.cpu)) n) (seat_of (z ∷ []) (p ∷ [])))
     × IsOwnWord (z ∷ []) n)) (sym is)
-    (notices law o s h b.cpu p (cpu_at b.cpu) low known.0.1
-    (IsOwnWord (box_of o s b.cpu ∷ [])) refl))
+    (notices law o s h b.cpu p (cpu_at b.cpu) low known.0.1 (λ n. n) refl
+    (λ n v. (v
+    ≡ on_pass (seen_pass (index_of (layout_of o) (cpu_at b.cpu)) n)
+    (seat_of (box_of o s b.cpu ∷ []) (p ∷ [])))
+    × IsOwnWord (box_of o s b.cpu ∷ []) n) (refl, refl)))
 
 pub sees_leaf : (law : CoreLaws) (o : World) → SeeLeafStays o
 sees_leaf law o slots id g b p in_range low path =
@@ -88,7 +91,13 @@ sees_leaf law o slots id g b p in_range low path =
     let path_w : group_at_of w.tree b.cpu 0 ≡ Some g
     = ap (λ z. group_at_of z b.cpu 0) h.same.tree ∙ path in
     notices law o s h b.cpu p (slot_at g (side o.tree b.cpu 0)) (in_range, low) known.0.1
-    (IsOwnLeaf (box_of o s b.cpu ∷ []))
-    (sym (slot_shown law o s h g (side o.tree b.cpu 0))
-    ∙ ((λ i. event_at (group_of w g).events (side (sym h.same.tree i) b.cpu 0))
-    ∙ sym (ap (leaf_in w b.cpu) path_w)))))
+    (λ n. n) refl
+    (λ n v. (v
+    ≡ on_pass (seen_pass (index_of (layout_of o) (slot_at g (side o.tree b.cpu 0))) n)
+    (seat_of (box_of o s b.cpu ∷ []) (p ∷ [])))
+    × IsOwnLeaf (box_of o s b.cpu ∷ []) n) (
+      refl,
+      sym (slot_shown law o s h g (side o.tree b.cpu 0))
+          ∙ ((λ i. event_at (group_of w g).events (side (sym h.same.tree i) b.cpu 0))
+          ∙ sym (ap (leaf_in w b.cpu) path_w)),
+    )))

@@ -52,11 +52,11 @@ found_then (deeds.Took cpu) = 0
 found_then (deeds.Carried cpu next) = 0
 found_then (deeds.Released cpu) = 0
 
-no_spot : (m : Option Spot) → spot_word m ≡ 0 → m ≡ None
+pub no_spot : (m : Option Spot) → spot_word m ≡ 0 → m ≡ None
 no_spot None e = refl
 no_spot (Some p) e = absurd (omega (arith, e))
 
-or_class : (m : Option Class) → (m ≡ None) ⊎ ((class : Class) × (m ≡ Some class))
+pub or_class : (m : Option Class) → (m ≡ None) ⊎ ((class : Class) × (m ≡ Some class))
 or_class None = inl refl
 or_class (Some class) = inr (class, refl)
 

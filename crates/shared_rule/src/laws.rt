@@ -12,7 +12,7 @@ ghost use Rattle.shared_rule.specs.TurnLaws.{EnterStays, IdleStays, LeaveStays, 
 ghost use Rattle.shared_rule.specs.TurnLaws.{ReevaluateStays, ReleaseStays, RestStays, TakeStays};
 ghost use Rattle.shared_rule.specs.TurnLaws.{CarryEndStays, CarryStays, SeeCpuStays, SeeLeafStays};
 ghost use Rattle.shared_rule.specs.TurnLaws.{TickStays};
-ghost use Rattle.shared_rule.specs.TimerLaws.{CancelStays};
+ghost use Rattle.shared_rule.specs.TimerLaws.{ArmStays, CancelStays, HandStays};
 
 use core_facts::{
     law_bounds, law_frame, law_height, law_lock, law_mark, law_once_a_level, law_own_event,
@@ -221,6 +221,24 @@ pub fn law_notice()
 /// timer was queued (`__timer_delete`).
 pub fn law_cancel()
     ensures { (o : World) → CancelStays o }
+{
+    core_laws();
+}
+
+/// Does nothing: its contract says that the rule stays as the next due timer of a class goes out of
+/// a CPU's bases, to be run by that CPU itself or by one that has marked it, and that the pass of
+/// who runs it has the receipt (`expire_timers`).
+pub fn law_hand()
+    ensures { (o : World) → HandStays o }
+{
+    core_laws();
+}
+
+/// Does nothing: its contract says that the rule stays as a CPU tries to arm a timer with its own
+/// pass, which has the receipt where the timer was queued nowhere, and otherwise remembers where it
+/// was queued (`__mod_timer`).
+pub fn law_arm()
+    ensures { (o : World) → ArmStays o }
 {
     core_laws();
 }

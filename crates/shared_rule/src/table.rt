@@ -332,3 +332,17 @@ pub struct Cancels;
 impl Play<Said, View> for Cancels {
     ghost then = { timers.Cancels };
 }
+
+/// A timer that is due goes out, to be run by the CPU of a pass.
+pub struct Hands;
+
+impl Play<Said, View> for Hands {
+    ghost then = { timers.Hands };
+}
+
+/// A timer is armed, unless it is queued.
+pub struct Arms;
+
+impl Play<Said, View> for Arms {
+    ghost then = { timers.Arms };
+}
