@@ -1,6 +1,6 @@
 -- for crates above: a timer is armed, unless it is queued
-use Rattle.std.proofs.Common.{◌≡◌, ◌≢◌, ◌⊎◌, ⊎_elim, ℕ, ◌-◌, ◌<◌, eqb, eq-eqb, ne_eqb}
-use Rattle.std.proofs.Common.{[], ◌∷◌, length, true, false, true≢false, Option, Some, None, refl}
+use Rattle.std.proofs.Common.{◌≡◌, ◌≢◌, ◌⊎◌, ⊎_elim, ℕ, ◌<◌, eqb, eq-eqb, ne_eqb}
+use Rattle.std.proofs.Common.{[], ◌∷◌, length, true≢false, Option, Some, None, refl}
 use Rattle.std.proofs.Common.{sym, ap, ◌∙◌, subst, inl, inr, arith}
 use Rattle.std.proofs.lemmas.Bool.{cases_eq}
 use Rattle.std.proofs.lemmas.Option.{none-some, same_Some}

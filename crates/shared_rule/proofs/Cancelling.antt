@@ -1,11 +1,8 @@
 -- for crates above: a timer is cancelled
-use Rattle.std.proofs.Common.{◌≡◌, ℕ, ◌<◌, [], ◌∷◌, length, Option, Some, None, refl, sym, ap}
+use Rattle.std.proofs.Common.{◌≡◌, ℕ, ◌<◌, [], ◌∷◌, length, Some, None, refl, sym, ap}
 use Rattle.std.proofs.Common.{◌∙◌, subst, arith}
-use Rattle.std.specs.Prelude.{option_map}
-use Rattle.std.proofs.lemmas.Option.{none-some, same_Some}
 use Rattle.tm_base.specs.declared.names.Class.{Class}
 use Rattle.tm_base.specs.declared.names.CpuId.{CpuId}
-use Rattle.wheel_core.specs.declared.item.Item.{Item}
 use Rattle.cpu_bases.specs.declared.entry.Act.TheVariants as deeds
 use Rattle.cpu_bases.specs.declared.entry.Entry.{Entry}
 use Rattle.cpu_bases.specs.CpuBases.{CpuBases, after_cancel, base_of, cancelled, changed, class_in}
@@ -26,16 +23,8 @@ use Rattle.shared_rule.specs.Turns.{on_pair}
 use Rattle.shared_rule.specs.TimerLaws.{CancelStays, queued_word, unqueued}
 use Rattle.shared_rule.proofs.Going.{allows}
 use Rattle.shared_rule.proofs.Outgoing.{outgoes}
-use Rattle.shared_rule.proofs.Queues.{cancelled_else}
+use Rattle.shared_rule.proofs.Queues.{cancelled_else, found_there}
 use Rattle.shared_rule.proofs.Waking.{none_shown}
-
--- a timer that is queued in a class is found there
-found_there : (m : Option (Class × Item)) (class : Class)
-    → option_map (λ (found : Class × Item). found.0) m ≡ Some class
-    → (item : Item) × (m ≡ Some (class, item))
-found_there None class is = absurd (none-some class is)
-found_there (Some (k, item)) class is =
-    (item, λ i. Some (same_Some k class is i, item))
 
 cancel_goes : (law : CoreLaws) (o : World) (s : Whole) (c timer line : ℕ) (class : Class)
     (p : PassView) → IsShown o s → c < length o.cpus → p.cpu < length o.cpus → p ≡ s.pass p.cpu

@@ -21,7 +21,9 @@ use Rattle.core_facts.specs.Walkers.{WalkerIs}
 use Rattle.shared_words.specs.Exchanges.{HasRoom}
 use Rattle.shared_rule.specs.declared.parts.BoxView.{BoxView}
 use Rattle.shared_rule.specs.declared.parts.PassView.{PassView}
+use Rattle.core_facts.specs.Ranges.{ItemInRange}
 use Rattle.shared_rule.specs.CoreLaws.{CoreLaws}
+use Rattle.shared_rule.proofs.Queues.{queued_all}
 use Rattle.shared_rule.specs.Whole.{Whole, box_of, quiet, group_word, group_state, leaf_in}
 use Rattle.shared_rule.specs.Shows.{IsShown, reevaluates}
 use Rattle.shared_rule.specs.Rule.{Each, seat_of}
@@ -151,6 +153,10 @@ module _ (law : CoreLaws) (o : World) (s : Whole) (h : IsShown o s) where
         wakeup = range.wakeup;
         mark = λ b e. subst (λ n. b < n) h.same.cpus (range.mark b e);
         consistent = h.fits.lawful.timers.consistent c;
+        timers = λ t class at.
+            let q = queued_all (ItemInRange s.world) t class (cpu_of s.world c).bases at
+            (range.timers class) in
+            omega (arith, q.1, q.2.timer, h.same.timers);
         played = h.fits.played c;
         replayed = h.replayed c;
         leaf = leaf_fits c (group_at_of s.world.tree c 0);

@@ -1,6 +1,6 @@
 -- for crates above: a timer goes out to be run
-use Rattle.std.proofs.Common.{◌≡◌, ⊎_elim, ℕ, ◌-◌, ◌<◌, [], ◌∷◌, length, true, Some, None, refl, sym, ap}
-use Rattle.std.proofs.Common.{◌∙◌, subst, inl, inr, arith}
+use Rattle.std.proofs.Common.{◌≡◌, ⊎_elim, ℕ, ◌-◌, ◌<◌, [], ◌∷◌, length, true, Some, None, refl}
+use Rattle.std.proofs.Common.{sym, ap, ◌∙◌, subst, inl, inr, arith}
 use Rattle.tm_base.specs.declared.names.Class.{Class}
 use Rattle.tm_base.specs.declared.names.Class.TheVariants.{Global}
 use Rattle.tm_base.specs.declared.names.CpuId.{CpuId}
@@ -46,7 +46,8 @@ hand_goes law o s c class item p h hc runner is free due may =
     let y0 = cpu_of w c in
     let by : CpuId = record { 0 = p.cpu } in
     let e : Entry = entry_of deeds.Handed 0 o.clock class item by in
-    let bases : CpuBases = changed class (after_out (base_of class y0.bases) (Some item)) e y0.bases in
+    let bases : CpuBases
+    = changed class (after_out (base_of class y0.bases) (Some item)) e y0.bases in
     let consistent = h.fits.lawful.timers.consistent c in
     let in_time : o.clock < TIME_LIMIT - 1 = omega (arith, h.opening.in_time) in
     let was = handed_was o.clock class by y0.bases item due consistent in

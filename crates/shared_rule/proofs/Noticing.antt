@@ -25,7 +25,7 @@ use Rattle.shared_rule.proofs.Moving.{set_else, set_here}
 use Rattle.shared_rule.proofs.Passing.{with_pass, word_stays}
 use Rattle.shared_rule.proofs.Sights.{slot_shown}
 
--- a step that leaves the word m as it was, which the pass p remembers, and of which the seat is told
+-- a step that leaves the word m as it was, which the pass p remembers
 module _ (law : CoreLaws) (o : World) (s : Whole) (h : IsShown o s) (c : ℕ) (p : PassView)
     (m : SharedWord) (within : IsWordOf (layout_of o) m) (is : p ≡ s.pass p.cpu) (f : ℕ → ℕ)
     (stays : f (word_at s m) ≡ word_at s m) (then : ℕ → Me → Type 0) where

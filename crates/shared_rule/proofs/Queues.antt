@@ -2,6 +2,8 @@
 use Rattle.std.proofs.Common.{◌≡◌, ◌≢◌, ℕ, ◌-◌, ◌<◌, false, List, [], ◌∷◌, Option, Some, None}
 use Rattle.std.proofs.Common.{refl, sym, ap, ◌∙◌, subst, inl, inr, ne_eqb}
 use Rattle.std.specs.Prelude.{◌==◌, option_map}
+use Rattle.std.specs.List.{All}
+use Rattle.std.proofs.lemmas.Option.{none-some, same_Some}
 use Rattle.std.proofs.lemmas.Bool.{cases_Bool, cond-false, eqb-true}
 use Rattle.tm_base.specs.declared.names.Class.{Class}
 use Rattle.tm_base.specs.declared.names.Class.TheVariants.{Pinned, Global, Deferrable}
@@ -22,7 +24,7 @@ use Rattle.cpu_bases.proofs.Classes.{each_with, of_class-with}
 use Rattle.cpu_bases.proofs.Consistent.{base_none}
 use Rattle.cpu_bases.proofs.Keeping.{arming_keeps, found_at, handing_out_keeps}
 use Rattle.cpu_bases.proofs.Keeping.{nowhere}
-use Rattle.cpu_bases.proofs.Keyed.{none_dropped, push_other, push_own}
+use Rattle.cpu_bases.proofs.Keyed.{found_all, none_dropped, push_other, push_own}
 use Rattle.cpu_bases.proofs.Legal.{distinct_from, ended_is, queued_push}
 use Rattle.cpu_bases.proofs.Queued.{queued_once}
 
@@ -65,6 +67,26 @@ removed_else : (t : ℕ) (class : Class) (item : Item) (e : Entry) (cpu : CpuBas
 removed_else t class item e cpu ne =
     changed_else t class (removed item.id (base_of class cpu)) e cpu
     (without_other t item.id (base_of class cpu).items (ne_eqb item.id t (λ z. ne (sym z))))
+
+-- a timer that is queued in a class is found there
+pub found_there : (m : Option (Class × Item)) (class : Class)
+    → option_map (λ (found : Class × Item). found.0) m ≡ Some class
+    → (item : Item) × (m ≡ Some (class, item))
+found_there None class is = absurd (none-some class is)
+found_there (Some (k, item)) class is =
+    (item, λ i. Some (same_Some k class is i, item))
+
+-- what holds of all items of its base holds of its own
+pub queued_all : (P : Item → Type 0) (t : ℕ) (class : Class) (cpu : CpuBases)
+    → class_in t cpu ≡ Some class → All P (base_of class cpu).items
+    → (item : Item) × (item.id ≡ t) × P item
+queued_all P t class cpu is all =
+    let found = found_there (found_in t cpu) class is in
+    let at = found_at t class found.0 cpu found.1 in (
+      found.0,
+      at.same,
+      found_all (λ (i : Item). i.id) P t (base_of class cpu).items found.0 all at.found,
+    )
 
 -- ARMING
 pub armed_else : (now : ℕ) (class : Class) (timer expires job arg line : ℕ) (by : CpuId)

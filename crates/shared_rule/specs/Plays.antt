@@ -4,10 +4,11 @@ use Rattle.std.specs.Prelude.{Bool, option_map, true, false, List, [], ◌∷◌
 use Rattle.std.specs.Prelude.{Some, None, is_some}
 use Rattle.std.specs.Option.{ForSome}
 use Rattle.tm_base.specs.declared.names.TheConstants.{NEVER}
+use Rattle.tm_base.specs.declared.names.Class.{Class}
 use Rattle.event_queue.specs.declared.event.Event.{Event}
 use Rattle.event_queue.specs.EventMap as events
 use Rattle.event_queue.specs.Word.{slot_of}
-use Rattle.cpu_bases.specs.CpuBases.{IsConsistent, events_of}
+use Rattle.cpu_bases.specs.CpuBases.{IsConsistent, class_in, events_of}
 use Rattle.cpu_bases.specs.Replay.{AddsReplay, IsPlayed}
 use Rattle.tree_plan.specs.Shape.{IsPlanned}
 use Rattle.tree_plan.specs.Paths.{group_at_of}
@@ -62,6 +63,8 @@ pub record PartFits (b : BoxView) : Type 0 where
   pub wakeup : b.own.wakeup < 2 ^ 48
   pub mark : (c : ℕ) → b.own.mark ≡ Some c → c < length b.opening.cpus
   pub consistent : IsConsistent b.own.bases
+  pub timers : (t : ℕ) (class : Class) → class_in t b.own.bases ≡ Some class
+      → t < b.opening.timers
   pub played : IsPlayed b.own.bases
   pub replayed : AddsReplay (cpu_of b.opening b.cpu).bases b.own.bases
   pub leaf : ForSome b.leaf events.FitsWord

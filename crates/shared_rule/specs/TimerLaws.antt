@@ -65,8 +65,8 @@ HandStays o = (slots id : ℕ) (class : Class) (item : Item) (b : BoxView) (p : 
     (Hands (step slots (index_of (layout_of o) (timer_at item.id)) (queued_word b.cpu class) 0
     (some (saids.Hand class))) (seat_of (b ∷ []) (p ∷ [])))
 
--- ARM: what has to be known where a CPU, with its own pass, tries to arm a timer: it has no walk, is
--- online, and active or inside its interrupt; the expiry isn't past, and nothing is behind the
+-- ARM: what has to be known where a CPU, with its own pass, tries to arm a timer: it has no walk,
+-- is online, and active or inside its interrupt; the expiry isn't past, and nothing is behind the
 -- clock of the base
 pub record MayExchangeArm (o : World) (b : BoxView) (class : Class) (timer : TimerId)
     (expires : ℕ) (p : PassView) : Type 0 where
@@ -80,8 +80,8 @@ pub record MayExchangeArm (o : World) (b : BoxView) (class : Class) (timer : Tim
   pub in_time : expires < 2 ^ 47
   pub none_behind : NoneBehind (base_of class b.own.bases)
 
--- the try keeps the rule, whatever word it finds, and the seat is told that the timer is queued, and
--- the entry written and noted, or that the pass remembers where the timer was queued
+-- the try keeps the rule, whatever word it finds, and the seat is told that the timer is queued,
+-- and the entry written and noted, or that the pass remembers where the timer was queued
 abbrev pub ArmStays : World → Type 0
 ArmStays o = (slots id expires job arg line : ℕ) (class : Class) (timer : TimerId) (b : BoxView)
     (p : PassView) → MayExchangeArm o b class timer expires p →

@@ -57,8 +57,8 @@ CancelTells (announced.some (saids.Hand class)) v w = ⊥
 abbrev pub Cancels : Step → Me → ℕ → Me → Type 0
 Cancels t v found w = (CancelTells t.said v w × (found ≡ t.first)) × Sound w
 
--- RUNNING: the CPU of a pass may run timers of a class of a box's CPU: its own inside its interrupt,
--- and the global ones of a CPU that it has marked
+-- RUNNING: the CPU of a pass may run timers of a class of a box's CPU: its own inside its
+-- interrupt, and the global ones of a CPU that it has marked
 abbrev pub MayRunOf : BoxView → Class → PassView → Type 0
 MayRunOf b class p =
     ((p.cpu ≡ b.cpu) × (b.own.inside ≡ true))
