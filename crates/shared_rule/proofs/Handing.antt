@@ -1,8 +1,7 @@
 -- for crates above: a timer goes out to be run
-use Rattle.std.proofs.Common.{◌≡◌, ⊎_elim, ℕ, ◌-◌, ◌<◌, [], ◌∷◌, length, true, Some, None, refl}
-use Rattle.std.proofs.Common.{sym, ap, ◌∙◌, subst, inl, inr, arith}
+use Rattle.std.proofs.Common.{◌≡◌, ℕ, ◌-◌, ◌<◌, [], ◌∷◌, length, Some, None, refl}
+use Rattle.std.proofs.Common.{sym, ap, ◌∙◌, subst, arith}
 use Rattle.tm_base.specs.declared.names.Class.{Class}
-use Rattle.tm_base.specs.declared.names.Class.TheVariants.{Global}
 use Rattle.tm_base.specs.declared.names.CpuId.{CpuId}
 use Rattle.tm_base.specs.declared.names.TheConstants.{TIME_LIMIT}
 use Rattle.wheel_core.specs.declared.item.Item.{Item}
@@ -21,7 +20,7 @@ use Rattle.shared_rule.specs.Whole.{Whole, box_of, quiet, timer_at}
 use Rattle.shared_rule.specs.Shows.{IsShown}
 use Rattle.shared_rule.specs.Rule.{Goes, Me, seat_of}
 use Rattle.shared_rule.specs.Timers.{hand_noted, handed_box, handed_pass}
-use Rattle.shared_rule.specs.Turns.{on_pair}
+use Rattle.shared_rule.specs.Turns.{MayRunOf, on_pair}
 use Rattle.shared_rule.specs.TimerLaws.{HandStays, queued_word, unqueued}
 use Rattle.shared_rule.proofs.Going.{allows}
 use Rattle.shared_rule.proofs.Outgoing.{outgoes}
@@ -99,8 +98,4 @@ hands law o slots id class item b p may =
     (hand_goes law o s b.cpu class item p h hc known.0.0 known.0.1
     (none_shown _ (ap (λ (z : BoxView). z.own.walk) (sym is) ∙ may.free))
     (ap (λ (z : BoxView). next_out o.clock (base_of class z.own.bases)) (sym is) ∙ may.due)
-    (⊎_elim
-    (λ (z : (p.cpu ≡ b.cpu) × (b.own.inside ≡ true)).
-    inl (z.0, ap (λ (x : BoxView). x.own.inside) (sym is) ∙ z.1))
-    (λ (z : (class ≡ Global) × (b.own.mark ≡ Some p.cpu)).
-    inr (z.0, ap (λ (x : BoxView). x.own.mark) (sym is) ∙ z.1)) may.may_run)))
+    (subst (λ (z : BoxView). MayRunOf z class p) is may.may_run)))

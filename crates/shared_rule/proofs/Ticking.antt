@@ -1,10 +1,9 @@
 -- for crates above: a base of a CPU counts as drained
-use Rattle.std.proofs.Common.{◌≡◌, ⊎_elim, ℕ, ◌<◌, true, [], ◌∷◌, length}
-use Rattle.std.proofs.Common.{Some, None, refl, sym, ap, ◌∙◌, subst, inl, inr, arith}
+use Rattle.std.proofs.Common.{◌≡◌, ℕ, ◌<◌, [], ◌∷◌, length}
+use Rattle.std.proofs.Common.{None, refl, sym, ap, ◌∙◌, subst, inl, inr, arith}
 use Rattle.std.proofs.lemmas.Bool.{cases_eq}
 use Rattle.tm_base.specs.declared.names.CpuId.{CpuId}
 use Rattle.tm_base.specs.declared.names.Class.{Class}
-use Rattle.tm_base.specs.declared.names.Class.TheVariants.{Global}
 use Rattle.cpu_bases.specs.declared.entry.Act.TheVariants as deeds
 use Rattle.cpu_bases.specs.declared.entry.Entry.{Entry}
 use Rattle.cpu_bases.specs.CpuBases.{CpuBases, after_hand_out, base_of, class_in, handed_out}
@@ -21,7 +20,7 @@ use Rattle.shared_rule.specs.CoreLaws.{CoreLaws}
 use Rattle.shared_rule.specs.Whole.{Whole, box_of, cpu_at, own_word, quiet}
 use Rattle.shared_rule.specs.Shows.{IsShown}
 use Rattle.shared_rule.specs.Rule.{Goes, seat_of}
-use Rattle.shared_rule.specs.Turns.{on_pair, ticked_box, ticked_pass}
+use Rattle.shared_rule.specs.Turns.{MayRunOf, on_pair, ticked_box, ticked_pass}
 use Rattle.shared_rule.specs.TurnLaws.{TickStays}
 use Rattle.shared_rule.proofs.Acted.{acts}
 use Rattle.shared_rule.proofs.Going.{allows}
@@ -96,8 +95,4 @@ ticks law o slots id class b p may =
     (tick_goes law o s b.cpu class p h hc known.0.0 known.0.1
     (none_shown _ (ap (λ (z : BoxView). z.own.walk) (sym is) ∙ may.free))
     (ap (λ (z : BoxView). next_out o.clock (base_of class z.own.bases)) (sym is) ∙ may.none_due)
-    (⊎_elim
-    (λ (z : (p.cpu ≡ b.cpu) × (b.own.inside ≡ true)).
-    inl (z.0, ap (λ (x : BoxView). x.own.inside) (sym is) ∙ z.1))
-    (λ (z : (class ≡ Global) × (b.own.mark ≡ Some p.cpu)).
-    inr (z.0, ap (λ (x : BoxView). x.own.mark) (sym is) ∙ z.1)) may.may_run)))
+    (subst (λ (z : BoxView). MayRunOf z class p) is may.may_run)))

@@ -17,7 +17,8 @@ use Rattle.shared_rule.specs.declared.parts.PassView.{PassView}
 use Rattle.shared_rule.specs.declared.parts.Said.TheVariants as saids
 use Rattle.shared_rule.specs.Whole.{layout_of, spot_at, timer_at}
 use Rattle.shared_rule.specs.Rule.{seat_of}
-use Rattle.shared_rule.specs.Timers.{Arms, Cancels, Hands, MayRunOf}
+use Rattle.shared_rule.specs.Timers.{Arms, Cancels, Hands}
+use Rattle.shared_rule.specs.Turns.{MayRunOf}
 use Rattle.shared_rule.specs.Laws.{Stays}
 
 -- the word of a timer that is queued in the base of a class on a CPU

@@ -1,9 +1,8 @@
 -- what the steps that queue a timer and take one out tell the seat that makes them
-use Rattle.std.specs.Prelude.{◌≡◌, ◌⊎◌, ℕ, Bool, true, false, [], ◌∷◌, ◌++◌, ◌==◌, length}
+use Rattle.std.specs.Prelude.{◌≡◌, ℕ, Bool, true, false, [], ◌∷◌, ◌++◌, ◌==◌, length}
 use Rattle.std.specs.Prelude.{Option, Some, None}
 use mathlib.Core.Option as announced
 use Rattle.tm_base.specs.declared.names.Class.{Class}
-use Rattle.tm_base.specs.declared.names.Class.TheVariants.{Global}
 use Rattle.wheel_core.specs.declared.item.Item.{Item}
 use Rattle.wheel_core.specs.PlainBase.{next_out}
 use Rattle.cpu_bases.specs.declared.entry.Act.TheVariants as acts
@@ -56,13 +55,6 @@ CancelTells (announced.some (saids.Hand class)) v w = ⊥
 -- the exchange of the word of a timer by which it is cancelled, which finds where it was queued
 abbrev pub Cancels : Step → Me → ℕ → Me → Type 0
 Cancels t v found w = (CancelTells t.said v w × (found ≡ t.first)) × Sound w
-
--- RUNNING: the CPU of a pass may run timers of a class of a box's CPU: its own inside its
--- interrupt, and the global ones of a CPU that it has marked
-abbrev pub MayRunOf : BoxView → Class → PassView → Type 0
-MayRunOf b class p =
-    ((p.cpu ≡ b.cpu) × (b.own.inside ≡ true))
-    ⊎ ((class ≡ Global) × (b.own.mark ≡ Some p.cpu))
 
 -- HAND: the next due timer of a class goes out of the bases of a box, by the CPU of a pass
 abbrev pub handed_box : Class → BoxView → PassView → BoxView

@@ -5,7 +5,6 @@ use Rattle.std.specs.Prelude.{None, Some}
 use mathlib.Core.Option.{none}
 use Rattle.atomic_table.specs.Table.{step}
 use Rattle.tm_base.specs.declared.names.Class.{Class}
-use Rattle.tm_base.specs.declared.names.Class.TheVariants.{Global}
 use Rattle.event_queue.specs.declared.event.Event.{Event}
 use Rattle.event_queue.specs.EventMap.{Counts}
 use Rattle.cpu_bases.specs.CpuBases.{base_of}
@@ -24,7 +23,7 @@ use Rattle.shared_rule.specs.declared.parts.BoxView.{BoxView}
 use Rattle.shared_rule.specs.declared.parts.PassView.{PassView}
 use Rattle.shared_rule.specs.Whole.{cpu_at, layout_of, own_word, slot_at}
 use Rattle.shared_rule.specs.Rule.{seat_of}
-use Rattle.shared_rule.specs.Turns.{Carries, CarryEnds}
+use Rattle.shared_rule.specs.Turns.{Carries, CarryEnds, MayRunOf}
 use Rattle.shared_rule.specs.Turns.{Enters, Exits, Idles, Reevaluates, Releases, Rests, Retells}
 use Rattle.shared_rule.specs.Turns.{Takes, Ticks, entered, idled, outside, released, taken}
 use Rattle.shared_rule.specs.Turns.{SeesCpu, SeesLeaf}
@@ -37,8 +36,7 @@ pub record MayStoreTick (o : World) (b : BoxView) (class : Class) (p : PassView)
   pub cpu : b.cpu < length o.cpus
   pub free : b.own.walk ≡ None
   pub none_due : next_out o.clock (base_of class b.own.bases) ≡ None
-  pub may_run : ((p.cpu ≡ b.cpu) × (b.own.inside ≡ true))
-      ⊎ ((class ≡ Global) × (b.own.mark ≡ Some p.cpu))
+  pub may_run : MayRunOf b class p
 
 -- the load of the CPU's word at which it does keeps the rule, and the seat is told that the entry
 -- is written and noted

@@ -1,7 +1,8 @@
 -- what the steps of a CPU's interrupt, idling and running of timers tell the seat that makes them
-use Rattle.std.specs.Prelude.{◌≡◌, ℕ, suc, true, false, List, [], ◌∷◌, ◌++◌, length, Option}
+use Rattle.std.specs.Prelude.{◌≡◌, ◌⊎◌, ℕ, suc, true, false, List, [], ◌∷◌, ◌++◌, length, Option}
 use Rattle.std.specs.Prelude.{◌==◌, None, Some, filter, is_some, min, not}
 use Rattle.tm_base.specs.declared.names.Class.{Class}
+use Rattle.tm_base.specs.declared.names.Class.TheVariants.{Global}
 use Rattle.cpu_bases.specs.CpuBases.{events_of, handed_out, ticked_entry}
 use Rattle.event_queue.specs.Word.{slot_of}
 use Rattle.tree_plan.specs.Paths.{group_at_of}
@@ -36,6 +37,13 @@ on_pair f h v = (
   },
   v.1,
 )
+
+-- RUNNING: the CPU of a pass may run timers of a class of a box's CPU: its own inside its
+-- interrupt, and the global ones of a CPU that it has marked
+abbrev pub MayRunOf : BoxView → Class → PassView → Type 0
+MayRunOf b class p =
+    ((p.cpu ≡ b.cpu) × (b.own.inside ≡ true))
+    ⊎ ((class ≡ Global) × (b.own.mark ≡ Some p.cpu))
 
 -- DRAINING: a base counts as drained, by the CPU of a pass
 abbrev pub ticked_box : Class → BoxView → PassView → BoxView
