@@ -33,7 +33,7 @@ use Rattle.shared_rule.proofs.Going.{allows}
 use Rattle.shared_rule.proofs.Moving.{set_else, set_here}
 use Rattle.shared_rule.proofs.Noticing.{notices}
 use Rattle.shared_rule.proofs.Queues.{armed_else, armed_here}
-use Rattle.shared_rule.proofs.Seeing.{no_spot, or_class}
+use Rattle.shared_rule.proofs.Seeing.{names_cpu, no_spot, or_class}
 use Rattle.shared_rule.proofs.Waking.{none_shown}
 
 -- an arming of a timer by the CPU of a pass, as it is asked for
@@ -80,7 +80,8 @@ module _ (law : CoreLaws) (o : World) (class : Class) (timer : TimerId)
         (subst (λ z. ArmTells (some (saids.Arm timer class expires job arg line)) z word
         (spot_word (s.spot timer.0)) (seat_of (box_of o s c ∷ []) (p ∷ []))
         (on_pass (seen_pass word (spot_word (s.spot timer.0)))
-        (seat_of (box_of o s c ∷ []) (p ∷ [])))) (sym (ne_eqb _ _ there)) refl)
+        (seat_of (box_of o s c ∷ []) (p ∷ [])))) (sym (ne_eqb _ _ there))
+        (refl, names_cpu law o s h timer.0 p is))
 
     -- the try finds that it is queued nowhere
     module _ (free_word : spot_word (s.spot timer.0) ≡ 0) where

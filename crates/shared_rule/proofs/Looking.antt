@@ -16,18 +16,18 @@ use Rattle.shared_rule.specs.declared.parts.PassView.{PassView}
 use Rattle.shared_rule.specs.declared.parts.Said.{Said}
 use Rattle.shared_rule.specs.declared.parts.View.{View}
 use Rattle.shared_rule.specs.CoreLaws.{CoreLaws}
-use Rattle.shared_rule.specs.Whole.{Whole, layout_of, state_at, word_at}
+use Rattle.shared_rule.specs.Whole.{Whole, layout_of, state_at, timer_at, word_at}
 use Rattle.shared_rule.specs.Shows.{DidRight, IsShown}
 use Rattle.shared_rule.specs.Rule.{Holds, IsViewOf, Me, boxes_in, box_cpu, pass_cpu, passes_in}
 use Rattle.shared_rule.specs.Rule.{seat_of, seen}
-use Rattle.shared_rule.specs.Plays.{on_pass, seen_pass}
-use Rattle.shared_rule.specs.Laws.{SeeStateStays, SeeStays}
+use Rattle.shared_rule.specs.Plays.{NamesCpu, on_pass, seen_pass}
+use Rattle.shared_rule.specs.Laws.{SeeStateStays, SeeStays, SeeTimerStays}
 use Rattle.shared_rule.proofs.Moving.{set_else, set_here}
 use Rattle.shared_rule.proofs.Fits.{good_word}
 use Rattle.shared_rule.proofs.Fronts.{get_snoc}
 use Rattle.shared_rule.proofs.Going.{other_boxes, other_passes, same_times, spells, stands_on}
 use Rattle.shared_rule.proofs.Passing.{repassed, with_pass, word_stays}
-use Rattle.shared_rule.proofs.Seeing.{saw_right}
+use Rattle.shared_rule.proofs.Seeing.{names_cpu, saw_right}
 
 -- a pass that has done one thing more
 abbrev pub learned : Did → PassView → PassView
@@ -173,4 +173,19 @@ sees_state law o slots id g q low =
       };
       right = looked law o s h q m low known;
       told = (refl, good_word law o s h g);
+    })
+
+pub sees_timer : (law : CoreLaws) (o : World) → SeeTimerStays o
+sees_timer law o slots id timer q low =
+    let m = timer_at timer.0 in
+    allows_load o slots id q m
+    (λ n v. (v ≡ on_pass (seen_pass (index_of (layout_of o) m) n) (seat_of [] (q ∷ [])))
+    × NamesCpu (q ∷ []) n) low
+    (λ s h known. record {
+      did = record {
+        held = length q.receipts;
+        deed = deeds.Saw (index_of (layout_of o) m) (word_at s m);
+      };
+      right = looked law o s h q m low known;
+      told = (refl, names_cpu law o s h timer.0 q known);
     })

@@ -1,6 +1,6 @@
 -- for crates above: what a pass that loads a word has seen is right
 use Rattle.std.proofs.Common.{◌≡◌, ◌⊎◌, ⊎_elim, ℕ, ◌<◌, ◌≤◌, List, [], ◌∷◌, length}
-use Rattle.std.proofs.Common.{Option, Some, None, refl, sym, ap, ◌∙◌, inl, inr, arith}
+use Rattle.std.proofs.Common.{Option, Some, None, refl, sym, ap, ◌∙◌, inl, inr, arith, subst}
 use Rattle.std.specs.Prelude.{is_some, option_map, slice_get, take}
 use Rattle.std.specs.Option.{ForSome}
 use Rattle.std.proofs.lemmas.Option.{none-some}
@@ -23,7 +23,9 @@ use Rattle.shared_words.proofs.Apart.{same_word}
 use Rattle.shared_words.proofs.Back.{spot_back}
 use Rattle.shared_rule.specs.declared.parts.Deed.{Deed}
 use Rattle.shared_rule.specs.declared.parts.Deed.TheVariants as deeds
+use Rattle.shared_rule.specs.declared.parts.PassView.{PassView}
 use Rattle.shared_rule.specs.declared.parts.Receipt.{Receipt}
+use Rattle.shared_rule.specs.Plays.{NamesCpu}
 use Rattle.shared_rule.specs.CoreLaws.{CoreLaws}
 use Rattle.shared_rule.specs.Whole.{Whole, layout_of, spot_at, timer_at, word_at}
 use Rattle.shared_rule.specs.Shows.{DidRight, HasNewEnd, IsShown, WasQueued, is_queued_by}
@@ -98,6 +100,14 @@ module _ (law : CoreLaws) (o : World) (s : Whole) (h : IsShown o s) where
 
   spot_fits : (t : ℕ) → ForSome (s.spot t) FitsSpot
   spot_fits t p at = omega (arith, (h.queued t p at).0, many law o s h)
+
+  -- the word of a timer names a CPU of the run, or none
+  pub names_cpu : (t : ℕ) (p : PassView) → p ≡ s.pass p.cpu
+      → NamesCpu (p ∷ []) (spot_word (s.spot t))
+  names_cpu t p is = λ z at.
+      subst (λ (x : World). z.cpu.0 < length x.cpus)
+      (sym (ap (λ (x : PassView). x.opening) is ∙ h.opened p.cpu))
+      (h.queued t z (sym (spot_back (s.spot t) (spot_fits t)) ∙ at)).0
 
   -- what is queued nowhere was queued nowhere at the opening, or has an end since
   ended_or_never : (t : ℕ) → s.spot t ≡ None

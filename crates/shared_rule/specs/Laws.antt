@@ -5,6 +5,7 @@ use mathlib.Core.Option.{none}
 use prog.Atomic.{either}
 use Rattle.atomic_table.specs.Table.{Allows, Final, Joins, Seen, Splits, step}
 use Rattle.event_queue.specs.Word.{slot_word}
+use Rattle.tm_base.specs.declared.names.TimerId.{TimerId}
 use Rattle.tree_plan.specs.Paths.{group_at_of}
 use Rattle.walk_rules.specs.declared.walk.Walk.{Walk}
 use Rattle.walk_rules.specs.declared.walk.Stage.{Stage}
@@ -22,6 +23,7 @@ use Rattle.shared_rule.specs.declared.parts.PassView.{PassView}
 use Rattle.shared_rule.specs.declared.parts.Said.{Said}
 use Rattle.shared_rule.specs.declared.parts.View.{View}
 use Rattle.shared_rule.specs.Whole.{Spell, cpu_at, layout_of, lock_at, own_word, slot_at, state_at}
+use Rattle.shared_rule.specs.Whole.{timer_at}
 use Rattle.shared_rule.specs.Rule.{seen}
 use Rattle.shared_rule.specs.Rule.{HasFirstBox, HasFirstPass, Holds, Me, Shows, first_box}
 use Rattle.shared_rule.specs.Rule.{first_pass, nothing, renewed_pass, seat_of, together}
@@ -29,7 +31,7 @@ use Rattle.shared_rule.specs.Rule.{without_box, without_pass}
 use Rattle.shared_rule.specs.Starts.{EndsAs, HasAll, first_view, first_whole}
 use Rattle.shared_rule.specs.Plays.{FreesChild, FreesGroup, Locks, LocksChild, Looks, Marks}
 use Rattle.shared_rule.specs.Plays.{MarksOwn, ReadsChild, ReadsGroup, ReadsOwn, Rises, Scans}
-use Rattle.shared_rule.specs.Plays.{ScansTop, Sees, SeesChild, SeesGroup, SeesState, Stores, Swaps}
+use Rattle.shared_rule.specs.Plays.{ScansTop, Sees, SeesChild, SeesGroup, SeesState, SeesTimer, Stores, Swaps}
 use Rattle.shared_rule.specs.Plays.{Wakes, woken}
 
 -- THE START: words that spell a settled core show it, together with the view that has all parts of
@@ -249,3 +251,11 @@ SeeStateStays o = (slots id g : ℕ) (q : PassView) → g < length o.groups →
     Allows {S = Said} {V = View} (Holds o) slots id (seat_of [] (q ∷ []))
     (index_of (layout_of o) (state_at g)) (λ n. n)
     (SeesState (step slots (index_of (layout_of o) (state_at g)) 0 0 none) (seat_of [] (q ∷ [])))
+
+-- and a load of a timer's word a CPU of the run, or none
+abbrev pub SeeTimerStays : World → Type 0
+SeeTimerStays o = (slots id : ℕ) (timer : TimerId) (q : PassView) → timer.0 < o.timers →
+    Allows {S = Said} {V = View} (Holds o) slots id (seat_of [] (q ∷ []))
+    (index_of (layout_of o) (timer_at timer.0)) (λ n. n)
+    (SeesTimer (step slots (index_of (layout_of o) (timer_at timer.0)) 0 0 none)
+    (seat_of [] (q ∷ [])))

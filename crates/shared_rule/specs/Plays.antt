@@ -29,7 +29,9 @@ use Rattle.core_facts.specs.Ranges.{WalkInRange}
 use Rattle.core_facts.specs.Told.{SaysOf}
 use Rattle.core_facts.specs.Walkers.{WalkerIs}
 use Rattle.core_state.specs.Kept.{WorldFits}
+use Rattle.shared_words.specs.declared.spot.Spot.{Spot}
 use Rattle.shared_words.specs.Exchanges.{HasRoom, shows_migrator}
+use Rattle.shared_words.specs.Words.{spot_of}
 use Rattle.shared_rule.specs.declared.parts.BoxView.{BoxView}
 use Rattle.shared_rule.specs.declared.parts.PassView.{PassView}
 use Rattle.shared_rule.specs.declared.parts.Deed.TheVariants as deeds
@@ -135,6 +137,16 @@ Sees t v found w = w ≡ on_pass (seen_pass t.word found) v
 -- a load of a group's word by a pass, which is the word of a state
 abbrev pub SeesState : Step → Me → ℕ → Me → Type 0
 SeesState t v found w = (w ≡ on_pass (seen_pass t.word found) v) × HasRoom found
+
+-- the word of a timer names a CPU of the run, as the first of these passes knows it, or none
+abbrev pub NamesCpu : List PassView → (found : ℕ) → Type 0
+NamesCpu [] found = ⊥
+NamesCpu (p ∷ ps) found =
+    (at : Spot) → spot_of found ≡ Some at → at.cpu.0 < length p.opening.cpus
+
+-- a load of a timer's word by a pass, which names a CPU of the run, or none
+abbrev pub SeesTimer : Step → Me → ℕ → Me → Type 0
+SeesTimer t v found w = (w ≡ on_pass (seen_pass t.word found) v) × NamesCpu v.0.passes found
 
 -- WAKE: the CPU wakes, and an activation begins
 abbrev pub woken : World → (c : ℕ) → CpuRecord → CpuRecord

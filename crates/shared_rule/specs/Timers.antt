@@ -15,7 +15,7 @@ use Rattle.shared_rule.specs.declared.parts.Said.{Said}
 use Rattle.shared_rule.specs.declared.parts.Said.TheVariants as saids
 use Rattle.shared_rule.specs.Shows.{receipt_of}
 use Rattle.shared_rule.specs.Rule.{Me, Step}
-use Rattle.shared_rule.specs.Plays.{Sound, on_pass, seen_pass}
+use Rattle.shared_rule.specs.Plays.{NamesCpu, Sound, on_pass, seen_pass}
 use Rattle.shared_rule.specs.Turns.{on_pair}
 
 -- VIEWS AFTER A STEP: the box has other bases
@@ -108,7 +108,7 @@ ArmTells (announced.some (saids.Arm timer class expires job arg line)) true word
     ≡ on_pair (armed_box class timer.0 expires job arg line)
     (armed_pass class timer.0 expires job arg line) v
 ArmTells (announced.some (saids.Arm timer class expires job arg line)) false word found v w =
-    w ≡ on_pass (seen_pass word found) v
+    (w ≡ on_pass (seen_pass word found) v) × NamesCpu v.0.passes found
 ArmTells (announced.some (saids.Cancel timer line)) hit word found v w = ⊥
 ArmTells (announced.some (saids.Hand class)) hit word found v w = ⊥
 

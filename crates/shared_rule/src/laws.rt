@@ -7,7 +7,8 @@ ghost use Rattle.shared_rule.specs.Laws.{LockChildStays, LockStays, LookStays, R
 ghost use Rattle.shared_rule.specs.Laws.{MarkOwnStays, MarkStays, ReadGroupStays, ReadOwnStays};
 ghost use Rattle.shared_rule.specs.Laws.{RiseStays, StoreStays, SwapStays};
 ghost use Rattle.shared_rule.specs.Laws.{ScanStays, ScanTopStays, SeatsStay, SeeChildStays};
-ghost use Rattle.shared_rule.specs.Laws.{SeeGroupStays, SeeStateStays, SeeStays, WakeStays};
+ghost use Rattle.shared_rule.specs.Laws.{SeeGroupStays, SeeStateStays, SeeStays, SeeTimerStays};
+ghost use Rattle.shared_rule.specs.Laws.{WakeStays};
 ghost use Rattle.shared_rule.specs.TurnLaws.{EnterStays, IdleStays, LeaveStays, RetellStays};
 ghost use Rattle.shared_rule.specs.TurnLaws.{ReevaluateStays, ReleaseStays, RestStays, TakeStays};
 ghost use Rattle.shared_rule.specs.TurnLaws.{CarryEndStays, CarryStays, SeeCpuStays, SeeLeafStays};
@@ -87,6 +88,7 @@ pub fn law_rise()
 pub fn law_see()
     ensures word { (o : World) → SeeStays o }
     ensures state { (o : World) → SeeStateStays o }
+    ensures timer { (o : World) → SeeTimerStays o }
 {
     core_laws();
 }

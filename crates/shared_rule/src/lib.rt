@@ -16,6 +16,6 @@ pub use table::{
     Arms, BoxOff, Cancels, Carries, CarryEnds, Enters, Exits, FreesChild, FreesGroup, Hands, Idles,
     Locks, LocksChild, Looks, Marks, MarksOwn, Opening, PassOff, PassRenewed, ReadsChild,
     ReadsGroup, ReadsOwn, Reevaluates, Releases, Rests, Retells, Rises, Scans, ScansTop, Seat,
-    Sees, SeesChild, SeesCpu, SeesGroup, SeesLeaf, SeesState, Shown, Stores, Swaps, Takes,
-    TicksDeferrable, TicksGlobal, TicksPinned, Together, Wakes, Words,
+    Sees, SeesChild, SeesCpu, SeesGroup, SeesLeaf, SeesState, SeesTimer, Shown, Stores, Swaps,
+    Takes, TicksDeferrable, TicksGlobal, TicksPinned, Together, Wakes, Words,
 };

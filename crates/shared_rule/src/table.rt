@@ -116,6 +116,13 @@ impl Play<Said, View> for SeesState {
     ghost then = { plays.SeesState };
 }
 
+/// A pass loads the word of a timer.
+pub struct SeesTimer;
+
+impl Play<Said, View> for SeesTimer {
+    ghost then = { plays.SeesTimer };
+}
+
 /// A walk tries to take the lock of its group.
 pub struct Locks;
 
