@@ -31,7 +31,8 @@ use Rattle.shared_rule.specs.Rule.{without_box, without_pass}
 use Rattle.shared_rule.specs.Starts.{EndsAs, HasAll, first_view, first_whole}
 use Rattle.shared_rule.specs.Plays.{FreesChild, FreesGroup, Locks, LocksChild, Looks, Marks}
 use Rattle.shared_rule.specs.Plays.{MarksOwn, ReadsChild, ReadsGroup, ReadsOwn, Rises, Scans}
-use Rattle.shared_rule.specs.Plays.{ScansTop, Sees, SeesChild, SeesGroup, SeesState, SeesTimer, Stores, Swaps}
+use Rattle.shared_rule.specs.Plays.{ScansTop, Sees, SeesChild, SeesGroup, SeesState}
+use Rattle.shared_rule.specs.Plays.{SeesTimer, Stores, Swaps}
 use Rattle.shared_rule.specs.Plays.{Wakes, woken}
 
 -- THE START: words that spell a settled core show it, together with the view that has all parts of
