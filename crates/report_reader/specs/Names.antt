@@ -1,0 +1,55 @@
+-- the names of lines: their first words
+use Rattle.std.specs.Prelude.{ℕ, List, [], ◌∷◌, codes, Option, find}
+use Rattle.std.specs.Str.{bytes_eq}
+use Rattle.report_reader.specs.declared.names.Name.{Name}
+use Rattle.report_reader.specs.declared.names.Name.TheVariants.{Arm, Run, Cancel, NotQueued, Idle}
+use Rattle.report_reader.specs.declared.names.Name.TheVariants.{Stay, Wake, Offline, Handed}
+use Rattle.report_reader.specs.declared.names.Name.TheVariants.{Online, Control, Moved, Cover}
+use Rattle.report_reader.specs.declared.names.Name.TheVariants.{Refused, Left, End, Why, Yes, No}
+use Rattle.report_reader.specs.declared.names.Name.TheVariants.{Device}
+
+-- the first of some words
+abbrev pub first_of : List (List ℕ) → List ℕ
+first_of [] = []
+first_of (w ∷ ws) = w
+
+-- the first word of a line of this name
+abbrev pub word_of : Name → List ℕ
+word_of Arm = codes "arm"
+word_of Run = codes "run"
+word_of Cancel = codes "cancel"
+word_of NotQueued = codes "none"
+word_of Idle = codes "idle"
+word_of Stay = codes "stay"
+word_of Wake = codes "wake"
+word_of Offline = codes "offline"
+word_of Handed = codes "handed"
+word_of Online = codes "online"
+word_of Control = codes "control"
+word_of Moved = codes "moved"
+word_of Cover = codes "cover"
+word_of Refused = codes "refused"
+word_of Left = codes "left"
+word_of End = codes "end"
+word_of Why = codes "why"
+word_of Yes = codes "yes"
+word_of No = codes "no"
+word_of Device = codes "device"
+
+-- the names of lines on CPUs that go idle, wake and go offline, and of what is left
+abbrev pub state_names : List Name
+state_names =
+    Idle ∷ Stay ∷ Wake ∷ Offline ∷ Handed ∷ Online ∷ Control ∷ Moved ∷ Left ∷ End ∷ []
+
+-- all names
+abbrev pub all_names : List Name
+all_names =
+    Arm ∷ Run ∷ Cancel ∷ NotQueued ∷ Cover ∷ Refused ∷ Why ∷ Yes ∷ No ∷ Device ∷ state_names
+
+-- the name among these that is spelled so
+abbrev pub name_among : List Name → List ℕ → Option Name
+name_among names word = find (λ name. bytes_eq word (word_of name)) names
+
+-- the name that is spelled so
+unfoldable pub name_of : List ℕ → Option Name
+name_of word = name_among all_names word
