@@ -1,5 +1,5 @@
--- The one line whose text these words can be, right or not: a word that is missing is empty, a
--- number that is too large is the largest. No public clause speaks of this.
+-- the one line whose text some words can be, right or not: a word that is missing is empty, a
+-- number that is too large is the largest; no public clause speaks of this
 use Rattle.std.specs.Prelude.{ℕ, zero, suc, ◌+◌, ◌-◌, ◌*◌, ◌^◌, List, [], ◌∷◌, codes, Option, Some}
 use Rattle.std.specs.Prelude.{None, if◌then◌else◌, min, Bool, true, false}
 use Rattle.std.specs.Str.{bytes_eq}
@@ -66,13 +66,15 @@ number_from n (c ∷ cs) = number_from (with_digit n c) cs
 unfoldable pub number_of : List ℕ → ℕ
 number_of word = number_from 0 word
 
--- a number of 32 bits, of 16 and of 8
+-- a number of 32 bits
 unfoldable pub count_of : List ℕ → ℕ
 count_of word = min (number_of word) (2 ^ 32 - 1)
 
+-- a number of 16 bits
 unfoldable pub short_of : List ℕ → ℕ
 short_of word = min (number_of word) (2 ^ 16 - 1)
 
+-- a number of 8 bits
 unfoldable pub byte_of : List ℕ → ℕ
 byte_of word = min (number_of word) (2 ^ 8 - 1)
 
@@ -95,10 +97,11 @@ class_of word =
     else if bytes_eq word (codes "global") then Global
     else Deferrable
 
--- the level and the place of a group
+-- the level of a group
 unfoldable pub level_of : List ℕ → ℕ
 level_of word = byte_of (first_of (split 58 word))
 
+-- the place of a group at its level
 unfoldable pub place_of : List ℕ → ℕ
 place_of word = short_of (first_of (later_of (split 58 word)))
 

@@ -30,8 +30,8 @@ IsNoLine text = (line : Line) → Fits line → words_text line ≢ text
 unfoldable pub is_named : List ℕ → Bool
 is_named text = is_some (name_of (first_of (words_of text)))
 
--- What is wrong with a text before which each is that of a line, where these parts stand behind its
--- line feed; none do where it has no line feed.
+-- What is wrong with a part of the bytes, where these parts stand behind the line feed that ends
+-- it. Behind a part that no line feed ends stands none.
 abbrev pub IsCause : Kind → List ℕ → List (List ℕ) → Type 0
 IsCause NoLineFeed text behind = (behind ≡ []) × (text ≢ [])
 IsCause UnknownName text behind = (behind ≢ []) × IsNoLine text × (is_named text ≡ false)

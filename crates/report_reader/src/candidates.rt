@@ -1,7 +1,7 @@
 //! The one line whose text some words can be.
 
 ghost use Rattle.std.specs.Prelude.{◌≡◌};
-ghost use Rattle.report_reader.specs.Candidates.{line_of, reply_of, cover_of, reason_of, refusal_of};
+ghost use Rattle.report_reader.specs.Candidates.{line_of, reply_of, cover_of, reason_of};
 ghost use Rattle.report_reader.specs.declared.names.Name.TheVariants as names;
 
 use crate::names::Name;
