@@ -1,0 +1,4 @@
+pub mod Runs
+pub mod Receipts
+pub mod Parts
+pub mod Passes

@@ -1,0 +1,15 @@
+//! What a thread of a run holds: the run's words and tree, the part of a CPU that lies behind its
+//! lock, and its own pass; and how a pass is brought into a part and parted from it.
+#![tactic(auto)]
+
+mod box_part;
+mod meeting;
+mod pass;
+mod receipts;
+mod run;
+
+pub use box_part::{BoxPart, Guest};
+pub use meeting::Meets;
+pub use pass::Pass;
+pub use receipts::Receipts;
+pub use run::{Run, RunName};
