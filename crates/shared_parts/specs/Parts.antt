@@ -9,8 +9,9 @@ use Rattle.core_state.specs.Status.{record_of}
 use Rattle.shared_rule.specs.declared.parts.BoxView.{BoxView}
 use Rattle.shared_rule.specs.declared.parts.PassView.{PassView}
 use Rattle.shared_rule.specs.declared.parts.Look.{Look}
-use Rattle.shared_rule.specs.Rule.{Each, Me, Step, seat_of}
+use Rattle.shared_rule.specs.Rule.{Each, Me, Step, renewed, seat_of}
 use Rattle.shared_rule.specs.Plays.{Agree, PartFits, Sound}
+use Rattle.shared_parts.specs.Passes.{HeldPass, passes_of, seated_of}
 use Rattle.shared_parts.specs.declared.box_part.Guest.{Guest}
 
 -- a part: what it knows of its CPU, the passes that are brought, and for how much more there is
@@ -67,3 +68,24 @@ guest_room (Some guest) = guest.receipts.capacity
 -- a load of a word that changes nothing, and tells that the parts of the seat fit and agree
 abbrev pub Meets : Step → Me → ℕ → Me → Type 0
 Meets t v found w = (w ≡ v) × Sound w
+
+-- BRING: a part with a pass that is brought into it
+abbrev pub with_guest : HeldPart → HeldPass → HeldPart
+with_guest part pass =
+    record part { brought = passes_of pass.seated; receipts_room = pass.room }
+
+-- and back: a part from which the pass has gone
+abbrev pub without_guest : HeldPart → HeldPart
+without_guest part = record part { brought = []; receipts_room = 0 }
+
+-- the pass that has gone from a part, with the journal of the part's CPU where that is its own
+abbrev pub pass_parted : (table : TableId) → (cpu : ℕ) → HeldPart → HeldPass
+pass_parted table cpu part = record {
+  cpu = cpu;
+  room = part.receipts_room;
+  seated = seated_of table (renewed (part.box ∷ []) part.brought);
+}
+
+-- a pass of this CPU is brought
+abbrev pub HasGuest : (cpu : ℕ) → HeldPart → Type 0
+HasGuest cpu part = (p : PassView) × (part.brought ≡ p ∷ []) × (p.cpu ≡ cpu)

@@ -1,5 +1,5 @@
 -- a pass as its holder sees it
-use Rattle.std.specs.Prelude.{◌≡◌, ◌<◌, ◌^◌, ℕ, suc, List, [], ◌∷◌, Option, Some, None}
+use Rattle.std.specs.Prelude.{◌≡◌, ℕ, List, [], ◌∷◌, Option, Some, None, option_map}
 use Rattle.atomic_table.specs.Seated.{TableId}
 use Rattle.shared_rule.specs.declared.parts.PassView.{PassView}
 use Rattle.shared_rule.specs.declared.parts.Receipt.{Receipt}
@@ -63,3 +63,18 @@ walks_of (Some s) = s.pass.walks
 abbrev pub receipts_of : Option Seated → List Receipt
 receipts_of None = []
 receipts_of (Some s) = s.pass.receipts
+
+-- the pass parts of a seat
+abbrev pub passes_of : Option Seated → List PassView
+passes_of None = []
+passes_of (Some s) = s.pass ∷ []
+
+-- a pass whose seat and bytes are in a part
+abbrev pub away : HeldPass → HeldPass
+away held = record held { room = 0; seated = None }
+
+-- a pass after a change of what it knows
+abbrev pub with_pass : (PassView → PassView) → HeldPass → HeldPass
+with_pass f held = record held {
+  seated = option_map (λ (s : Seated). record s { pass = f s.pass }) held.seated;
+}

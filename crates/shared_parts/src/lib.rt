@@ -3,12 +3,15 @@
 #![tactic(auto)]
 
 mod box_part;
+mod bringing;
 mod meeting;
 mod pass;
 mod receipts;
 mod run;
+mod seeing;
 
 pub use box_part::{BoxPart, Guest};
+pub use bringing::{bring, part_off};
 pub use meeting::Meets;
 pub use pass::Pass;
 pub use receipts::Receipts;

@@ -1,8 +1,17 @@
 //! A thread's pass.
 
+ghost use Rattle.std.specs.Prelude.{◌≡◌, ◌≢◌, [], ◌∷◌, None};
+ghost use Rattle.shared_rule.specs.declared.parts.PassView.{PassView};
+ghost use Rattle.shared_rule.specs.Rule.{seat_of};
+ghost use Rattle.shared_parts.specs.Passes.{IsPassIn, IsSeatOf, away, receipts_of, seated_of};
+ghost use Rattle.shared_parts.specs.Passes.{walks_of};
+ghost use Rattle.shared_parts.specs.Parts.{IsGuest};
+
+use crate::box_part::Guest;
 use crate::receipts::Receipts;
 use shared_rule::Seat;
 use std::marker::Model;
+use std::mem;
 use tm_base::CpuId;
 
 /// One CPU's seat for its thread, with the entries that it wrote and the number of walks begun with
@@ -35,4 +44,99 @@ impl Model for Pass {
     ghost invariant = { λ p.
         PassHolds (option_map (λ s. (s.table_id, s.me)) p.seat) p.cpu.0 p.walks
         p.receipts.receipts };
+}
+
+impl Pass {
+    /// The pass of a CPU with its bytes and its seat.
+    pub fn new(cpu: CpuId, walks: u32, receipts: Receipts, seat: Seat) -> Pass
+        requires { (p : PassView) × IsSeatOf seat.me p cpu.0 walks receipts.receipts }
+        ensures { result ≡ record {
+          cpu = cpu.0;
+          room = receipts.capacity;
+          seated = seated_of seat.table_id seat.me.0.passes;
+        } }
+    {
+        Pass {
+            cpu,
+            walks,
+            receipts,
+            seat: Some(seat),
+        }
+    }
+
+    /// The CPU.
+    pub fn cpu(&self) -> CpuId
+        ensures { result.0 ≡ self.now.cpu }
+    {
+        self.cpu
+    }
+
+    /// The number of walks begun with it, those among them with which it began; 0 while it is
+    /// brought into a part.
+    pub fn walks(&self) -> u32
+        ensures { result ≡ walks_of self.now.seated }
+    {
+        self.walks
+    }
+
+    /// Receipts for the entries that it wrote, in order; none while it is brought into a part.
+    pub fn receipts(&self) -> &Receipts
+        ensures receipts { result.now.receipts ≡ receipts_of self.now.seated }
+        ensures room { result.now.capacity ≡ self.now.room }
+    {
+        &self.receipts
+    }
+
+    /// Its seat, which knows the pass alone.
+    pub fn into_seat(self) -> Seat
+        requires { self.seated ≢ None }
+        ensures { (p : PassView) × IsPassIn result.table_id self p
+            × (result.me ≡ seat_of [] (p ∷ [])) }
+    {
+        let Pass {
+            cpu: _,
+            walks: _,
+            receipts: _,
+            seat,
+        } = self;
+        match seat {
+            Some(seat) => seat,
+            None => unreachable!(),
+        }
+    }
+
+    /// Takes seat and bytes out.
+    pub(crate) fn take(&mut self) -> (Guest, Seat)
+        requires { self.old.seated ≢ None }
+        ensures away { self.new ≡ away self.old }
+        ensures seat { (p : PassView) × IsPassIn result.1.table_id self.old p
+            × (result.1.me ≡ seat_of [] (p ∷ [])) × IsGuest result.0 p }
+        ensures room { result.0.receipts.capacity ≡ self.old.room }
+        ensures cpu { result.0.cpu.0 ≡ self.old.cpu }
+    {
+        let guest = Guest {
+            cpu: self.cpu,
+            walks: mem::replace(&mut self.walks, 0),
+            receipts: self.receipts.take(),
+        };
+        match self.seat.take() {
+            Some(seat) => (guest, seat),
+            None => unreachable!(),
+        }
+    }
+
+    /// Puts seat and bytes back.
+    pub(crate) fn put(&mut self, guest: Guest, seat: Seat)
+        requires part { (p : PassView) × (seat.me ≡ seat_of [] (p ∷ [])) × IsGuest guest p }
+        requires cpu { guest.cpu.0 ≡ self.old.cpu }
+        ensures { self.new ≡ record {
+          cpu = self.old.cpu;
+          room = guest.receipts.capacity;
+          seated = seated_of seat.table_id seat.me.0.passes;
+        } }
+    {
+        self.walks = guest.walks;
+        self.receipts = guest.receipts;
+        self.seat = Some(seat);
+    }
 }

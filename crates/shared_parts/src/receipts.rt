@@ -7,6 +7,7 @@ ghost use Rattle.std.specs.Option.{option_copied};
 use shared_rule::Receipt;
 use std::alloc::Global;
 use std::marker::Model;
+use std::mem;
 use tm_base::NoMemory;
 
 /// A list of receipts that only grows.
@@ -87,5 +88,14 @@ impl Receipts {
         self.receipts.reserve(n)?;
         self.capacity = self.capacity.max(self.receipts.len() + n);
         Ok(())
+    }
+
+    /// Takes all receipts, with their memory, and leaves none.
+    pub(crate) fn take(&mut self) -> Receipts
+        ensures taken { result ≡ self.old }
+        ensures left { self.new ≡ record { receipts = []; capacity = 0 } }
+    {
+        let alloc = *self.receipts.allocator();
+        mem::replace(self, Receipts::new(alloc))
     }
 }

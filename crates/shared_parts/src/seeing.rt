@@ -1,0 +1,50 @@
+//! A pass loads a word.
+
+ghost use Rattle.std.specs.Prelude.{◌≡◌, ◌<◌, length};
+ghost use Rattle.shared_words.specs.Exchanges.{HasRoom};
+ghost use Rattle.shared_words.specs.Layout.{IsWordOf, index_of};
+ghost use Rattle.shared_rule.specs.Plays.{seen_pass};
+ghost use Rattle.shared_rule.specs.Whole.{layout_of, state_at};
+ghost use Rattle.shared_parts.specs.Passes.{IsOfRun, with_pass};
+
+use crate::pass::Pass;
+use crate::run::{Run, RunName};
+use shared_rule::{Sees, SeesState, law_see};
+use shared_words::SharedWord;
+use tm_base::GroupId;
+use wheel_core::TimerBase;
+
+impl Pass {
+    /// Loads a word. What it found, and how many receipts the pass had then, is remembered.
+    pub fn see<N: RunName, B: TimerBase>(&mut self, run: &Run<N, B>, word: SharedWord) -> u64
+        requires run { IsOfRun N.table self.old }
+        requires word { IsWordOf (layout_of N.opening) word }
+        ensures { self.new
+            ≡ with_pass (seen_pass (index_of (layout_of N.opening) word) result) self.old }
+    {
+        law_see();
+        let place = run.layout.index(word);
+        match self.seat.as_mut() {
+            Some(seat) => run.words.shared.load::<Sees>(seat, place),
+            None => unreachable!(),
+        }
+    }
+
+    /// Loads the word of a group's state; it is the word of one. What it found is remembered as
+    /// in `see`.
+    pub fn see_state<N: RunName, B: TimerBase>(&mut self, run: &Run<N, B>, group: GroupId) -> u64
+        requires run { IsOfRun N.table self.old }
+        requires group { group.0 < length N.opening.groups }
+        ensures remembered { self.new
+            ≡ with_pass (seen_pass (index_of (layout_of N.opening) (state_at group.0)) result)
+            self.old }
+        ensures state { HasRoom result }
+    {
+        law_see();
+        let place = run.layout.index(SharedWord::State(group));
+        match self.seat.as_mut() {
+            Some(seat) => run.words.shared.load::<SeesState>(seat, place),
+            None => unreachable!(),
+        }
+    }
+}
