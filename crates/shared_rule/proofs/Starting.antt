@@ -1,4 +1,4 @@
--- the rule at the start
+-- the rule at the start; and where a timer is queued (for crates above)
 use Rattle.std.proofs.Common.{◌≡◌, ◌≢◌, ◌⊎◌, ⊎_elim, ℕ, zero, suc, ◌^◌, ◌<◌, ◌≤◌, cond, eqb}
 use Rattle.std.proofs.Common.{eq-eqb, ne_eqb, List, [], ◌∷◌, length, Option, Some, None}
 use Rattle.std.proofs.Common.{refl, sym, ap, ◌∙◌, subst, inl, inr, arith, append-nil}
