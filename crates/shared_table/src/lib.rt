@@ -2,3 +2,6 @@
 #![tactic(auto)]
 
 mod first_words;
+mod ready;
+
+pub use ready::{MOST_MADE, Ready};
