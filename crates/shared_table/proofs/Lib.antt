@@ -1,2 +1,4 @@
+pub mod Leaves
+pub mod Rows
 pub mod Spelling
 pub mod Spots

@@ -34,10 +34,7 @@ pub(crate) fn layout<B: TimerBase>(core: &Core<B>) -> Layout
 }
 
 /// The words of a core at rest, in the order of its layout.
-pub(crate) fn first_words<B: TimerBase>(
-    alloc: Global,
-    core: &Core<B>,
-) -> Result<Vec<u64>, NoMemory>
+pub(crate) fn first_words<B: TimerBase>(alloc: Global, core: &Core<B>) -> Result<Vec<u64>, NoMemory>
     requires { IsSettled core.now }
     ensures { IfOk result (λ words. (made : ℕ) →
         Spell (layout_of core.now) words.items (first_whole core.now made)) }
@@ -148,11 +145,7 @@ fn push_slot<B: TimerBase>(
 }
 
 /// Adds the words of all CPUs.
-fn push_cpus<B: TimerBase>(
-    words: &mut Vec<u64>,
-    core: &Core<B>,
-    cpus: u16,
-) -> Result<(), NoMemory>
+fn push_cpus<B: TimerBase>(words: &mut Vec<u64>, core: &Core<B>, cpus: u16) -> Result<(), NoMemory>
     requires rest { IsSettled core.now }
     requires count { cpus ≡ length core.now.cpus }
     requires before { SpelledTo core.now (index_of (layout_of core.now) (cpu_at 0))
@@ -167,11 +160,7 @@ fn push_cpus<B: TimerBase>(
 }
 
 /// Adds the word of a CPU, which nobody has marked.
-fn push_cpu<B: TimerBase>(
-    words: &mut Vec<u64>,
-    core: &Core<B>,
-    cpu: CpuId,
-) -> Result<(), NoMemory>
+fn push_cpu<B: TimerBase>(words: &mut Vec<u64>, core: &Core<B>, cpu: CpuId) -> Result<(), NoMemory>
     requires rest { IsSettled core.now }
     requires low { cpu.0 < length core.now.cpus }
     requires before { SpelledTo core.now (index_of (layout_of core.now) (cpu_at cpu.0))

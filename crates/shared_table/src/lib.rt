@@ -1,7 +1,13 @@
 //! The table of a run: how it is made of a core at rest, and how threads get at what it guards.
 #![tactic(auto)]
 
+mod cpu_box;
+mod cutting;
 mod first_words;
+mod leaf;
 mod ready;
+mod shared;
 
+pub use cpu_box::CpuBox;
 pub use ready::{MOST_MADE, Ready};
+pub use shared::Shared;

@@ -56,11 +56,7 @@ impl<B: TimerBase> Ready<B> {
     /// Makes the table of a core at rest, whose words and whose first seat show it, and keeps the
     /// core beside it. Each pass counts as having begun `made` walks. Want of memory gives the core
     /// back.
-    pub fn prepare(
-        alloc: Global,
-        core: Core<B>,
-        made: u32,
-    ) -> Result<Ready<B>, (Core<B>, NoMemory)>
+    pub fn prepare(alloc: Global, core: Core<B>, made: u32) -> Result<Ready<B>, (Core<B>, NoMemory)>
         requires settled { IsSettled core }
         requires whole { (c : ℕ) → HasNoneBehind (cpu_of core c).bases }
         requires few { made ≤ MOST_MADE }

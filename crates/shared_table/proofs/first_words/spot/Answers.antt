@@ -6,7 +6,7 @@ use Rattle.shared_table.proofs.first_words.spot.Goals as goal
 pub returns-in_err-cpu : goal.returns-in_err-cpu
 returns-in_err-cpu g c =
     let gone = spot_nowhere c.args.core.now c.kept.ensures.fits c.args.timer.0
-        c.in_err-cpu.ensures.nowhere in
+    c.in_err-cpu.ensures.nowhere in
     search rules
 
 pub returns : goal.returns
