@@ -18,15 +18,15 @@ pub record IsFree (p : HeldPart) : Type 0 where
   pub alone : p.brought ≡ []
   pub whole : HasNoneBehind p.box.own.bases
 
--- the box part of a CPU as a run begins
+-- the box part of a CPU as a run begins (no public clause cites it)
 abbrev pub first_box_of : World → ℕ → BoxView
 first_box_of o c = box_of o (first_whole o 0) c
 
--- so many box parts from a CPU on
+-- so many box parts from a CPU on (no public clause cites it)
 abbrev pub boxes_from : World → (c count : ℕ) → List BoxView
 boxes_from o c count = map (first_box_of o) (range_with_len c count)
 
--- so many pass parts from a CPU on
+-- so many pass parts from a CPU on (no public clause cites it)
 abbrev pub passes_from : World → (made c count : ℕ) → List PassView
 passes_from o made c count = map (first_pass_of o made) (range_with_len c count)
 
@@ -43,7 +43,7 @@ abbrev pub begun_passes : TableId → World → (made : ℕ) → List HeldPass
 begun_passes table o made = map (begun_pass table o made) (range_with_len 0 (length o.cpus))
 
 -- what is kept of the core for the end: its clock, and room for its groups, for where its timers
--- are, for its CPUs and for what it counts of them
+-- are, for its CPUs and for what it counts of them (no public clause cites it)
 pub record RoomsFit (o : World) (clock groups holders : ℕ) (cpus : List CpuRecord)
     (capacity marks : ℕ) : Type 0 where
   pub clock_is : clock ≡ o.clock
@@ -52,7 +52,8 @@ pub record RoomsFit (o : World) (clock groups holders : ℕ) (cpus : List CpuRec
   pub cpus_fit : IsRoomFor o cpus capacity
   pub marks_are : marks ≡ length o.cpus
 
--- BOXES SO FAR: those of the CPUs below c are made, and the seat has the parts of the others
+-- BOXES SO FAR: those of the CPUs below c are made, and the seat has the parts of the others (no
+-- public clause cites it)
 pub record BoxesSoFar (o : World) (table : TableId) (c : ℕ) (seat : TableId) (me : Me)
     (passes : List PassView) (rest : List CpuRecord) (left made capacity : ℕ) : Type 0 where
   pub seated : seat ≡ table
@@ -62,7 +63,8 @@ pub record BoxesSoFar (o : World) (table : TableId) (c : ℕ) (seat : TableId) (
   pub made_are : made ≡ c
   pub room : length o.cpus ≤ capacity
 
--- PASSES SO FAR: those of the CPUs below c are made, and the seat has the parts of the others
+-- PASSES SO FAR: those of the CPUs below c are made, and the seat has the parts of the others (no
+-- public clause cites it)
 pub record PassesSoFar (o : World) (table : TableId) (made c : ℕ) (seat : TableId) (me : Me)
     (passes : List HeldPass) (count capacity : ℕ) : Type 0 where
   pub seated : seat ≡ table

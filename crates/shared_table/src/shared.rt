@@ -48,9 +48,9 @@ pub struct Shared<N: RunName, B: TimerBase> {
 }
 
 impl<N: RunName, B: TimerBase> Shared<N, B> {
-    /// Begins a run over a table that is ready: a box for each CPU behind its lock, and a pass for
-    /// each CPU in order, outside an interrupt and without a receipt. Want of memory gives back what
-    /// was ready.
+    /// Begins a run over a table that is ready: a box for each CPU behind its lock, and a pass
+    /// for each CPU in order, outside an interrupt and without a receipt. Want of memory gives
+    /// back what was ready.
     pub fn begin(
         alloc: Global,
         ready: Ready<B>,
