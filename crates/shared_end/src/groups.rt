@@ -19,10 +19,10 @@ use tm_base::GroupId;
 const CHILDREN: u8 = 8;
 
 /// Writes into each group what the words say of it; what it was isn't read.
-pub fn read_groups(words: &LastWords, groups: &mut [CoreGroup])
-    requires count { length groups.old ≡ words.now.layout.groups }
+pub(crate) fn read_groups(words: &LastWords, groups: &mut Vec<CoreGroup>)
+    requires count { length groups.old.items ≡ words.now.layout.groups }
     requires rest { (w : World) × SpellsAtRest words.now w }
-    ensures { (w : World) → SpellsAtRest words.now w → groups.new ≡ w.groups }
+    ensures { (w : World) → SpellsAtRest words.now w → groups.new.items ≡ w.groups }
 {
     for group in 0..words.layout().groups {
         groups[usize::from(group)] = read_group(words, GroupId(group));

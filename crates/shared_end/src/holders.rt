@@ -14,11 +14,11 @@ use shared_words::{SharedWord, law_ways_back, unpack_spot};
 use tm_base::{CpuId, TimerId};
 
 /// Writes for each timer the CPU on which it is queued, if it is; what stood there isn't read.
-pub fn read_holders(words: &LastWords, holders: &mut [Option<CpuId>])
-    requires count { length holders.old ≡ words.now.layout.timers }
+pub(crate) fn read_holders(words: &LastWords, holders: &mut Vec<Option<CpuId>>)
+    requires count { length holders.old.items ≡ words.now.layout.timers }
     requires rest { (w : World) × SpellsAtRest words.now w }
-    ensures count { length holders.new ≡ length holders.old }
-    ensures held { (w : World) → SpellsAtRest words.now w → IsHeld w holders.new }
+    ensures count { length holders.new.items ≡ length holders.old.items }
+    ensures held { (w : World) → SpellsAtRest words.now w → IsHeld w holders.new.items }
 {
     core_laws();
     law_ways_back();

@@ -9,19 +9,19 @@ use Rattle.shared_end.proofs.groups.read_groups.Goals as goal
 pub loop-group-preserved : goal.loop-group-preserved
 loop-group-preserved c =
     let n = c.loop-group.group in
-    let low : n < length c.loop-group.groups = search rules in
+    let low : n < length c.loop-group.groups.items = search rules in
     record {
-      count = length-set c.loop-group.groups c.from.result c.read_group.result
+      count = length-set c.loop-group.groups.items c.from.result c.read_group.result
           ∙ c.loop-group.invariant.count;
       each = λ w r. subst
           (λ i. (k : ℕ) → k < n + 1
-          → slice_index_or (slice_set c.loop-group.groups i c.read_group.result) k no_group
+          → slice_index_or (slice_set c.loop-group.groups.items i c.read_group.result) k no_group
           ≡ group_of w k) (sym c.from.ensures)
-          (one_more no_group c.loop-group.groups n (group_of w) c.read_group.result low
+          (one_more no_group c.loop-group.groups.items n (group_of w) c.read_group.result low
           (c.read_group.ensures w r) (c.loop-group.invariant.each w r));
     }
 
 pub returns : goal.returns
 returns c = λ w r.
-    all_groups c.args.words.now w r c.loop-group.groups c.loop-group.invariant.count
+    all_groups c.args.words.now w r c.loop-group.groups.items c.loop-group.invariant.count
     (λ g low. c.loop-group.invariant.each w r g (search rules))

@@ -8,7 +8,7 @@ use Rattle.shared_end.proofs.groups.read_groups.Given as goal
 abbrev pub invariant-loop-group : goal.invariant-loop-group
 invariant-loop-group l =
     record {
-      count : length l.groups ≡ l.words.layout.groups;
+      count : length l.groups.items ≡ l.words.layout.groups;
       each : (w : World) → SpellsAtRest l.words w → (g : ℕ) → g < l.group
-          → slice_index_or l.groups g no_group ≡ group_of w g;
+          → slice_index_or l.groups.items g no_group ≡ group_of w g;
     }

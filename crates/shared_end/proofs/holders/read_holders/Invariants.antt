@@ -9,7 +9,7 @@ use Rattle.shared_end.proofs.holders.read_holders.Given as goal
 abbrev pub invariant-loop-timer : goal.invariant-loop-timer
 invariant-loop-timer l =
     record {
-      count : length l.holders ≡ l.words.layout.timers;
+      count : length l.holders.items ≡ l.words.layout.timers;
       each : (t : ℕ) → t < l.timer
-          → noted l.holders t ≡ option_map cpu_of_spot (spot_of (word_in l.words (timer_at t)));
+          → noted l.holders.items t ≡ option_map cpu_of_spot (spot_of (word_in l.words (timer_at t)));
     }
