@@ -1,5 +1,5 @@
 -- the slot of a CPU in its leaf
-use Rattle.std.proofs.Common.{◌≡◌, ℕ, List, Option, Some, None, sym, ap, ◌∙◌, refl}
+use Rattle.std.proofs.Common.{◌≡◌, ℕ, List, Some, sym, ap, ◌∙◌, refl}
 use Rattle.std.specs.Prelude.{slice_index_or}
 use Rattle.tm_base.specs.Children.{of_cpu}
 use Rattle.event_queue.specs.EventMap.{event_at}
@@ -7,7 +7,7 @@ use Rattle.tree_plan.specs.Shape.{Shape}
 use Rattle.tree_plan.specs.Paths.{bit_of, child_towards, group_at_of}
 use Rattle.walk_rules.specs.Hierarchy.{side}
 use Rattle.walk_rules.specs.Scene.{Group, no_group}
-use Rattle.core_world.specs.World.{World, group_of}
+use Rattle.core_world.specs.World.{World}
 use Rattle.shared_rule.specs.Whole.{leaf_in, leaf_of}
 
 cpu_side : (t : Shape) (c : ℕ) → side t c 0 ≡ bit_of t (of_cpu c)

@@ -1,5 +1,5 @@
 -- words that are written one after another
-use Rattle.std.proofs.Common.{◌≡◌, ◌≢◌, ℕ, ◌+◌, ◌<◌, List, [], ◌∷◌, ◌++◌, length, refl, sym, ap}
+use Rattle.std.proofs.Common.{◌≡◌, ℕ, ◌+◌, ◌<◌, List, [], ◌∷◌, ◌++◌, length, refl, sym, ap}
 use Rattle.std.proofs.Common.{◌∙◌, subst, inl, inr, arith, length-append}
 use Rattle.std.specs.Prelude.{slice_index}
 use Rattle.std.proofs.lemmas.Bool.{cases_eq}
@@ -9,7 +9,7 @@ use Rattle.core_world.specs.World.{World}
 use Rattle.shared_words.specs.declared.layout.SharedWord.{SharedWord}
 use Rattle.shared_words.specs.declared.layout.SharedWord.TheVariants.{State, Lock, Slot, Cpu, Timer}
 use Rattle.shared_words.specs.Laws.{WordsApart}
-use Rattle.shared_words.specs.Layout.{IsWordOf, count_of, index_of}
+use Rattle.shared_words.specs.Layout.{IsWordOf, index_of}
 use Rattle.shared_rule.specs.Starts.{first_whole}
 use Rattle.shared_rule.specs.Whole.{Spell, layout_of, timer_at, word_at}
 use Rattle.shared_table.specs.Spelled.{SpelledTo, first_word}

@@ -1,5 +1,5 @@
 -- where a timer is queued, by the CPU that is noted for it
-use Rattle.std.proofs.Common.{◌≡◌, ℕ, Bool, true, false, true≢false, Option, Some, None, length, refl}
+use Rattle.std.proofs.Common.{◌≡◌, ℕ, false, true≢false, Option, Some, None, length, refl}
 use Rattle.std.proofs.Common.{sym, ap, ◌∙◌}
 use Rattle.std.specs.Prelude.{is_some}
 use Rattle.core_world.specs.World.{World, cpu_of}

@@ -1,4 +1,3 @@
-use Rattle.std.proofs.Common.{◌≡◌, ◌+◌}
 use Rattle.shared_words.specs.Layout.{index_of}
 use Rattle.shared_rule.specs.Whole.{slot_at, layout_of}
 use Rattle.shared_table.specs.Spelled.{SpelledTo}

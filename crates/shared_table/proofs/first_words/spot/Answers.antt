@@ -1,4 +1,4 @@
-use Rattle.std.proofs.Common.{rules, sym, ◌∙◌}
+use Rattle.std.proofs.Common.{rules, sym}
 use Rattle.shared_rule.proofs.Starting.{spot_found}
 use Rattle.shared_table.proofs.Spots.{spot_nowhere}
 use Rattle.shared_table.proofs.first_words.spot.Goals as goal

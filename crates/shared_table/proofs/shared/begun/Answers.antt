@@ -1,4 +1,4 @@
-use Rattle.std.proofs.Common.{rules, ◌≡◌, [], length, ap, sym, ◌∙◌, arith}
+use Rattle.std.proofs.Common.{◌≡◌, [], length, ap, sym, ◌∙◌, arith}
 use Rattle.core_world.specs.World.{World}
 use Rattle.core_state.specs.Kept.{world_of}
 use Rattle.shared_rule.specs.Rule.{Me, seat_of}

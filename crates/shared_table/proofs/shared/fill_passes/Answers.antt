@@ -1,4 +1,4 @@
-use Rattle.std.proofs.Common.{rules, ◌≡◌, ◌+◌, ◌-◌, ◌<◌, ◌++◌, ◌∷◌, [], length, suc, ap, sym, ◌∙◌, arith, map}
+use Rattle.std.proofs.Common.{rules, ◌≡◌, ◌+◌, ◌-◌, ◌++◌, ◌∷◌, [], length, suc, ap, sym, ◌∙◌, arith, map}
 use Rattle.std.specs.List.{range_with_len}
 use Rattle.core_world.specs.World.{World}
 use Rattle.shared_words.specs.declared.layout.Layout.{Layout}
