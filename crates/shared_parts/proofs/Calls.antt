@@ -1,5 +1,5 @@
 -- for crates above: what a call of a run's table asks, where the rule's law says it of the opening
-use Rattle.std.proofs.Common.{◌≡◌, ℕ, ◌<◌, arith, sym, ap, subst}
+use Rattle.std.proofs.Common.{◌≡◌, ℕ, List, [], ◌∷◌, ◌<◌, arith, sym, ap, ◌∙◌, subst}
 use Rattle.atomic_table.specs.Seated.{TableId}
 use Rattle.atomic_table.specs.Table.{Allows}
 use Rattle.tree_plan.specs.Shape.{Shape}
@@ -8,10 +8,13 @@ use Rattle.shared_words.specs.declared.layout.Layout.{Layout}
 use Rattle.shared_words.specs.declared.layout.SharedWord.{SharedWord}
 use Rattle.shared_words.specs.Layout.{IsWordOf, count_of, index_of}
 use Rattle.shared_words.proofs.Apart.{index_below}
+use Rattle.shared_rule.specs.declared.parts.BoxView.{BoxView}
+use Rattle.shared_rule.specs.declared.parts.PassView.{PassView}
 use Rattle.shared_rule.specs.declared.parts.Said.{Said}
 use Rattle.shared_rule.specs.declared.parts.View.{View}
 use Rattle.shared_rule.specs.Whole.{layout_of}
-use Rattle.shared_rule.specs.Rule.{Holds, Me}
+use Rattle.shared_rule.specs.Rule.{Holds, Me, seat_of}
+use Rattle.shared_rule.specs.Laws.{Stays}
 use Rattle.shared_parts.specs.Runs.{RunFits}
 
 module _ (name : TableId) (o : World) (table : TableId) (key : World) (tree : Shape)
@@ -39,3 +42,19 @@ pub allowed : (o key : World) (slots id : ℕ) (me m : Me) (i j : ℕ) (f : ℕ 
 allowed o key slots id me m i j f then ek em ei h =
     subst (λ (z : World × (Me × ℕ)). Allows {S = Said} {V = View} (Holds z.0) slots id z.1.0 z.1.1 f
     (then z.1.1 z.1.0)) {x = (o, (m, j))} (λ t. (sym ek t, (sym em t, sym ei t))) h
+
+-- what a step of a part's seat asks of the table, where the rule has a law for it
+pub asks : (name : TableId) (o : World) (table : TableId) (key : World) (tree : Shape)
+    (layout : Layout) → RunFits name o table key tree layout → (mine : TableId) (id i : ℕ) (me : Me)
+    (b : BoxView) (ps : List PassView) (p : SharedWord) (f : ℕ → ℕ)
+    (then : ℕ → Me → ℕ → Me → Type 0) → mine ≡ name → me ≡ seat_of (b ∷ []) ps
+    → i ≡ index_of layout p → IsWordOf (layout_of o) p
+    → Stays o table.slots id b ps p f (then (index_of (layout_of o) p) (seat_of (b ∷ []) ps))
+    → (mine ≡ table) × (i < table.words)
+    × Allows {S = Said} {V = View} (Holds key) table.slots id me i f (then i me)
+asks name o table key tree layout fits mine id i me b ps p f then named is at within law = (
+  named ∙ sym fits.named,
+  subst (λ n. n < table.words) (sym at) (below name o table key tree layout fits p within),
+  allowed o key table.slots id me (seat_of (b ∷ []) ps) i (index_of (layout_of o) p) f then
+      fits.opened is (at ∙ place name o table key tree layout fits p) law,
+)

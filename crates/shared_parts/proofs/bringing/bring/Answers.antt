@@ -46,7 +46,7 @@ invariant_of-part g c =
     let b = box_held o part.cpu.0 part.status part.bases.plain part.leaf part.read looked in
     let there = c.take-guest.ensures.seat in
     let none = ap (λ z. z.brought) c.part.view_is ∙ c.requires.alone in
-    let is = joined part.seat.me c.take-guest.result.1.me c.join_seat.new.seat.me b there.0
+    let is : c.join_seat.new.seat.me ≡ seat_of (b ∷ []) (there.0 ∷ []) = joined part.seat.me c.take-guest.result.1.me c.join_seat.new.seat.me b there.0
     c.part.invariant.seat none there.2 c.join_seat.ensures.2 in
     holds g.N.RunName.table c.meet.new.seat.table_id o part.cpu.0 part.status part.bases.plain
     part.leaf part.read looked c.meet.new.seat.me (Some c.take-guest.result.0) (there.0 ∷ [])
