@@ -1,9 +1,11 @@
 use core_machine::Player;
-use job_table::{Job, JobTable, OneShot};
+use job_table::{Job, JobCall, JobReply, JobTable, OneShot};
 use std::alloc::{AllocError, Global};
+use std::sync::Arc;
+use std::sync::atomic::{AtomicU64, Ordering};
 use std::test::Fail;
 use tm_base::NoMemory;
-use tm_driver::{deep, having_interrupt, play_moment, start_core};
+use tm_driver::{deep, having_interrupt, play, play_moment, start_core};
 use tm_report::Report;
 use tm_script::read_script;
 
@@ -77,5 +79,52 @@ fn hand_outs(alloc: Global, text: &[u8]) -> Result<Option<(u32, u32, bool)>, NoM
 fn a_moment_is_played_by_itself(rt: HostRuntime) -> Result<(), Fail> {
     let text = b"arm 0 0 0 global 51\nrun 51 0 0 0 51 done\n";
     assert_eq!(rt; hand_outs(rt.alloc(), text)?, Some((0, 1, true)));
+    Ok(())
+}
+
+// A job that writes down its calls: for each the timer's number and one, as a digit.
+#[derive(Drop)]
+struct Noting {
+    calls: Arc<AtomicU64, Global>,
+}
+
+impl Job for Noting {
+    ghost reply = { λ _ call. JobReply.Done };
+
+    fn run(&self, call: &JobCall) -> JobReply {
+        let noted = self.calls.load(Ordering::SeqCst);
+        let digit = u64::from(call.timer.0).wrapping_add(1);
+        self.calls.store(noted.wrapping_mul(10).wrapping_add(digit), Ordering::SeqCst);
+        JobReply::Done
+    }
+}
+
+// Three timers of that job: timer 1 is due at jiffy 21, and timers 0 and 2 at 51, by the wheel's
+// rule for delays of 20 and 50; in one interrupt pinned timers run before global ones.
+const THREE_TIMERS: &[u8] = b"tmig 1\nnodes 1\ncpus 1\ntimers 3\nat 0\n\
+    arm 0 0 global 50 0 0\narm 0 1 global 20 0 0\narm 0 2 pinned 50 0 0\nend 100\n";
+
+// What the job wrote down while that script was played to its end.
+fn calls_noted(alloc: Global) -> Result<Option<u64>, AllocError> {
+    let calls = Arc::new(alloc, AtomicU64::new(0))?;
+    let job = Noting {
+        calls: Arc::try_clone(&calls)?,
+    };
+    let mut jobs: Vec<Box<dyn Job + Send + Sync>> = Vec::new(alloc);
+    jobs.push(Box::new(alloc, job)?)?;
+    let table = JobTable::new(jobs);
+    let mut report = Report::new(alloc);
+    let Ok(script) = read_script(alloc, THREE_TIMERS) else {
+        return Ok(None);
+    };
+    if play(alloc, &script, &table, &mut report).is_err() {
+        return Ok(None);
+    }
+    Ok(Some(calls.load(Ordering::SeqCst)))
+}
+
+#[test]
+fn a_job_is_called_once_for_each_hand_out_in_their_order(rt: HostRuntime) -> Result<(), Fail> {
+    assert_eq!(rt; calls_noted(rt.alloc())?, Some(231));
     Ok(())
 }
