@@ -2,11 +2,13 @@
 use Rattle.std.proofs.Common.{◌≡◌, ◌≢◌, ℕ, zero, suc, ◌-◌, ◌<◌, Bool, true, false, true≢false}
 use Rattle.std.proofs.Common.{Option, Some, None, refl, sym, ap, ◌∙◌, subst, arith}
 use Rattle.std.proofs.lemmas.Option.{none-some}
+use Rattle.std.specs.Prelude.{unwrap_or}
+use Rattle.tree_plan.specs.Shape.{Shape}
 use Rattle.tree_plan.specs.Paths.{group_at_of}
 use Rattle.walk_rules.specs.declared.walk.Walk.{Walk}
 use Rattle.walk_rules.specs.declared.walk.Stage.{Stage}
 use Rattle.walk_rules.specs.declared.walk.Stage.TheVariants as stages
-use Rattle.walk_rules.specs.Hierarchy.{HasGroup, IsHierarchy}
+use Rattle.walk_rules.specs.Hierarchy.{HasGroup, IsHierarchy, group_on}
 use Rattle.walk_rules.specs.Standing.{FitsStage}
 use Rattle.core_world.specs.World.{World}
 use Rattle.core_state.specs.Kept.{HasLevel}
@@ -70,3 +72,11 @@ stands_over o b k at tree fits is other high =
     by_level (suc l) high has =
         let same : l ≡ suc l - 1 = omega arith in
         subst (HasLevel o.tree b.cpu) same (tree.lower b.cpu l has.0 has.1)
+
+-- the group of a path
+pub on_path : (t : Shape) (c l g : ℕ) → group_at_of t c l ≡ Some g → group_on t c l ≡ g
+on_path t c l g is = ap (λ (m : Option ℕ). unwrap_or m 0) is
+
+-- a path with a level has a group there
+pub path_to : (t : Shape) (c l : ℕ) → HasLevel t c l → group_at_of t c l ≡ Some (group_on t c l)
+path_to t c l has = has.1 ∙ ap Some (sym (on_path t c l has.0 has.1))

@@ -3,10 +3,12 @@
 ghost use Rattle.std.specs.Prelude.{◌≡◌, ◌-◌, ◌<◌, Some, length};
 ghost use Rattle.tm_base.specs.Children.{of_cpu};
 ghost use Rattle.tree_plan.specs.Paths.{bit_of, cpu_count_of, group_at_of};
-ghost use Rattle.walk_rules.specs.Hierarchy.{at_top, side};
+ghost use Rattle.walk_rules.specs.Hierarchy.{at_top, group_on, side};
 ghost use Rattle.core_state.specs.Kept.{HasLevel};
+ghost use Rattle.shared_walks.specs.Steps.{slot_place, state_place};
 
 use shared_parts::{Run, RunName};
+use shared_words::SharedWord;
 use tm_base::{CpuId, GroupId};
 use tree_plan::{Tree, law_edges, law_paths};
 use wheel_core::TimerBase;
@@ -24,6 +26,33 @@ pub(crate) fn group_on<N: RunName, B: TimerBase>(run: &Run<N, B>, cpu: CpuId, le
         Some(group) => group,
         None => unreachable!(),
     }
+}
+
+/// Where the word of the group of a CPU's path at a level stands, where it has such a group.
+pub(crate) fn state_place<N: RunName, B: TimerBase>(run: &Run<N, B>, cpu: CpuId, level: u8) -> usize
+    requires cpu { cpu.0 < length N.opening.cpus }
+    requires there { HasLevel N.opening.tree cpu.0 level }
+    ensures place { result ≡ state_place N.opening cpu.0 level }
+    ensures group { group_on N.opening.tree cpu.0 level < length N.opening.groups }
+{
+    let group = group_on(run, cpu, level);
+    run.layout.index(SharedWord::State(group))
+}
+
+/// Where a slot of the group of a CPU's path at a level stands, where it has such a group.
+pub(crate) fn slot_place<N: RunName, B: TimerBase>(
+    run: &Run<N, B>,
+    cpu: CpuId,
+    level: u8,
+    k: u8,
+) -> usize
+    requires cpu { cpu.0 < length N.opening.cpus }
+    requires there { HasLevel N.opening.tree cpu.0 level }
+    ensures place { result ≡ slot_place N.opening cpu.0 level k }
+    ensures group { group_on N.opening.tree cpu.0 level < length N.opening.groups }
+{
+    let group = group_on(run, cpu, level);
+    run.layout.index(SharedWord::Slot(group, k))
 }
 
 /// The group one level below on a CPU's path, where it has one.

@@ -3,14 +3,14 @@
 ghost use Rattle.std.specs.Prelude.{◌≡◌, ℕ};
 ghost use Rattle.walk_rules.specs.declared.walk.Stage.TheVariants as stages;
 ghost use Rattle.shared_rule.specs.Plays.{by_walk, child_sight, scan_sight};
-ghost use Rattle.shared_walks.specs.Steps.{WalkStands, on_part};
+ghost use Rattle.shared_walks.specs.Steps.{WalkStands, group_seen, on_part, top_seen};
 
-use crate::path::group_below;
-use crate::stages::{scan_next, see_child_next};
+use crate::path::{at_top, group_below, slot_place, state_place};
+use crate::stages::{first_next, scan_next, see_child_next, see_group_next};
 use core_state::CpuStatus;
 use event_queue::unpack_event;
 use shared_parts::{BoxPart, Run, RunName};
-use shared_rule::{Scans, SeesChild, law_sight};
+use shared_rule::{Scans, ScansTop, SeesChild, SeesGroup, law_sight};
 use shared_words::{SharedWord, has_migrator};
 use walk_rules::{Walk, law_hierarchy};
 use wheel_core::TimerBase;
@@ -35,6 +35,25 @@ pub fn see_child_step<N: RunName, B: TimerBase>(
     };
 }
 
+/// The walk loads its group's word: whether the group is active. The part remembers the load.
+pub fn see_group_step<N: RunName, B: TimerBase>(
+    run: &Run<N, B>,
+    part: &mut BoxPart<N, B>,
+    walk: Walk,
+)
+    requires { WalkStands part.old walk stages.SeeGroup }
+    ensures { (found : ℕ) × (part.new ≡ on_part (group_seen N.opening walk found) part.old) }
+{
+    law_sight();
+    let top = at_top(run, part.cpu, walk.level);
+    let place = state_place(run, part.cpu, walk.level);
+    let found = run.words.shared.load::<SeesGroup>(&mut part.seat, place);
+    part.status = CpuStatus {
+        walk: Some(see_group_next(has_migrator(found), top, walk)),
+        ..part.status
+    };
+}
+
 /// The walk loads a slot of its child, for its first event.
 pub fn scan_step<N: RunName, B: TimerBase>(
     run: &Run<N, B>,
@@ -52,6 +71,25 @@ pub fn scan_step<N: RunName, B: TimerBase>(
     let found = run.words.shared.load::<Scans>(&mut part.seat, place);
     part.status = CpuStatus {
         walk: Some(scan_next(unpack_event(found), k, walk)),
+        ..part.status
+    };
+}
+
+/// The walk loads a slot of the top, for when its CPU has to be woken. The part remembers the load.
+pub fn first_step<N: RunName, B: TimerBase>(
+    run: &Run<N, B>,
+    part: &mut BoxPart<N, B>,
+    walk: Walk,
+    k: u8,
+)
+    requires { WalkStands part.old walk (stages.First k) }
+    ensures { (found : ℕ) × (part.new ≡ on_part (top_seen N.opening walk k found) part.old) }
+{
+    law_sight();
+    let place = slot_place(run, part.cpu, walk.level, k);
+    let found = run.words.shared.load::<ScansTop>(&mut part.seat, place);
+    part.status = CpuStatus {
+        walk: Some(first_next(unpack_event(found), k, walk)),
         ..part.status
     };
 }

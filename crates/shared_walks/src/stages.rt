@@ -2,11 +2,11 @@
 
 ghost use Rattle.std.specs.Prelude.{◌≡◌, ◌<◌, Some, option_map, true};
 ghost use Rattle.event_queue.specs.EventMap.{as_ignored};
-ghost use Rattle.walk_rules.specs.Stages.{at_stage, best_event, child_next};
-ghost use Rattle.walk_rules.specs.Stages.{first_lock, first_sight};
+ghost use Rattle.walk_rules.specs.Stages.{after_sight, at_stage, best_event, child_next};
+ghost use Rattle.walk_rules.specs.Stages.{first_lock, first_next, first_of, first_sight};
 ghost use Rattle.walk_rules.specs.Stages.{first_stage, forget, free_group_next, freed_next};
 ghost use Rattle.walk_rules.specs.Stages.{higher, is_remote, leaf_event, mark_next, read_next};
-ghost use Rattle.walk_rules.specs.Stages.{scan_next, see_child_next};
+ghost use Rattle.walk_rules.specs.Stages.{scan_next, see_child_next, see_group_next};
 ghost use Rattle.walk_rules.specs.Stages.{sooner_event, store_next, stored_event, swap_next};
 ghost use Rattle.walk_rules.specs.Stages.{up_next};
 ghost use Rattle.shared_rule.specs.Plays.{leaf_after};
@@ -144,6 +144,29 @@ pub(crate) fn see_child_next(child_on: bool, walk: Walk) -> Walk
     }
 }
 
+/// What comes after the group's word at a level.
+fn after_sight(level: u8) -> Stage
+    ensures { result ≡ after_sight level }
+{
+    if level == 0 {
+        Stage::Store
+    } else {
+        Stage::Scan { k: 0 }
+    }
+}
+
+/// The group's word was read under its lock.
+pub(crate) fn see_group_next(on: bool, top: bool, walk: Walk) -> Walk
+    ensures { result ≡ see_group_next on top walk }
+{
+    Walk {
+        on,
+        over: on || top,
+        stage: after_sight(walk.level),
+        ..walk
+    }
+}
+
 /// The sooner of the first event so far and one more, which counts where it is there and isn't
 /// ignored.
 fn sooner_event(best: Option<Event>, one_more: Option<Event>) -> Option<Event>
@@ -244,6 +267,32 @@ pub(crate) fn store_next(top: bool, walk: Walk) -> Walk
         Stage::FreeGroup
     };
     at_stage(walk, stage)
+}
+
+/// The sooner of a time and an event, in jiffies.
+fn first_of(first: Jiffy, event: Option<Event>) -> Jiffy
+    ensures { result ≡ first_of first event }
+{
+    match event {
+        Some(event) if !event.ignored && event.expiry < first => event.expiry,
+        _ => first,
+    }
+}
+
+/// An event of the top was read.
+pub(crate) fn first_next(event: Option<Event>, k: u8, walk: Walk) -> Walk
+    requires { k < 8 }
+    ensures { result ≡ first_next event k walk }
+{
+    Walk {
+        first: first_of(walk.first, event),
+        stage: if k == SLOTS - 1 {
+            Stage::FreeGroup
+        } else {
+            Stage::First { k: k + 1 }
+        },
+        ..walk
+    }
 }
 
 /// Where a level begins.

@@ -1,0 +1,53 @@
+use Rattle.std.proofs.Common.{◌≡◌, Some, refl, ap, sym, ◌∙◌, arith}
+use mathlib.Core.Option.{none}
+use Rattle.atomic_table.specs.Table.{step}
+use Rattle.walk_rules.specs.declared.walk.Walk.{Walk}
+use Rattle.walk_rules.specs.declared.walk.Stage.TheVariants as stages
+use Rattle.walk_rules.specs.Hierarchy.{group_on}
+use Rattle.core_world.specs.World.{World}
+use Rattle.shared_rule.specs.Plays as plays
+use Rattle.shared_rule.specs.Whole.{state_at}
+use Rattle.shared_parts.specs.Parts.{box_held, looked_of}
+use Rattle.shared_parts.proofs.Calls.{asks, place}
+use Rattle.shared_walks.proofs.Standing.{path_to, stands}
+use Rattle.shared_walks.proofs.sight.see_group_step.Goals as goal
+
+pub state_place-place-requires-clause-there : goal.state_place-place-requires-clause-there
+state_place-place-requires-clause-there g c =
+    let part = c.part.inside in
+    let o : World = g.N.RunName.opening in
+    let b = box_held o part.cpu.0 part.status part.bases.plain part.leaf part.read
+    (looked_of part.seat.me.0.boxes) in
+    let k : Walk = c.args.walk in
+    let at : b.own.walk ≡ Some k = ap (λ z. z.box.own.walk) c.part.view_is ∙ c.requires.walk in
+    stands o b k stages.SeeGroup (c.part.invariant.fits.walk k at) c.requires.stage refl
+
+pub load-found-requires : goal.load-found-requires
+load-found-requires g c =
+    let run = c.args.run.now in
+    let table = run.words.shared.table_id in
+    let part = c.part.inside in
+    let o : World = g.N.RunName.opening in
+    let b = box_held o part.cpu.0 part.status part.bases.plain part.leaf part.read
+    (looked_of part.seat.me.0.boxes) in
+    let k : Walk = c.args.walk in
+    let at : b.own.walk ≡ Some k = ap (λ z. z.box.own.walk) c.part.view_is ∙ c.requires.walk in
+    let ps = part.seat.me.0.passes in
+    let group = group_on o.tree b.cpu k.level in
+    let path = path_to o.tree b.cpu k.level
+    (stands o b k stages.SeeGroup (c.part.invariant.fits.walk k at) c.requires.stage refl) in
+    let low = c.state_place-place.ensures.group in
+    asks g.N.RunName.table o table run.words.shared.key.core run.tree run.layout run.fits
+    part.seat.table_id part.seat.id c.state_place-place.result part.seat.me b ps (state_at group)
+    (λ n. n) (λ i v n w. plays.SeesGroup (step table.slots i 0 0 none) v n w)
+    (c.part.invariant.named) (c.part.invariant.seat)
+    (c.state_place-place.ensures.place ∙ sym (place g.N.RunName.table o table run.words.shared.key.core run.tree run.layout run.fits (state_at group)))
+    low
+    (c.law_sight.ensures.group o table.slots part.seat.id group b k ps (record { group = low; walk = at; stage = c.requires.stage; path = path }))
+
+pub at_top-top-requires-clause-level : goal.at_top-top-requires-clause-level
+at_top-top-requires-clause-level g c =
+    let at = ap (λ z. z.box.own.walk) c.part.view_is ∙ c.requires.walk in
+    let fits = c.part.invariant.fits.walk c.args.walk at in
+    let low = fits.low in
+    omega (arith, low)
