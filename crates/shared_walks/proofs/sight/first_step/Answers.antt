@@ -9,6 +9,7 @@ use Rattle.shared_rule.specs.Plays as plays
 use Rattle.shared_rule.specs.Whole.{slot_at}
 use Rattle.shared_parts.specs.Parts.{box_held, looked_of}
 use Rattle.shared_parts.proofs.Calls.{asks, place}
+use Rattle.shared_walks.specs.Steps.{slot_place}
 use Rattle.shared_walks.proofs.Standing.{fits_at, path_to, stands}
 use Rattle.shared_walks.proofs.sight.first_step.Goals as goal
 
@@ -38,11 +39,14 @@ load-found-requires g c =
     (stands o b k (stages.First c.args.k) (c.part.invariant.fits.walk k at) c.requires.stage refl) in
     let low = c.slot_place-place.ensures.group in
     let eight : c.args.k < 8 = (fits_at o b k (stages.First c.args.k) (c.part.invariant.fits.walk k at) c.requires.stage refl).2 in
+    let same = place g.N.RunName.table o table run.words.shared.key.core run.tree run.layout
+    run.fits (slot_at group c.args.k) in
+    let there = ◌∙◌ {b = slot_place o b.cpu k.level c.args.k} c.slot_place-place.ensures.place (sym same) in
     asks g.N.RunName.table o table run.words.shared.key.core run.tree run.layout run.fits
     part.seat.table_id part.seat.id c.slot_place-place.result part.seat.me b ps (slot_at group c.args.k)
     (λ n. n) (λ i v n w. plays.ScansTop (step table.slots i 0 0 none) v n w)
     (c.part.invariant.named) (c.part.invariant.seat)
-    (c.slot_place-place.ensures.place ∙ sym (place g.N.RunName.table o table run.words.shared.key.core run.tree run.layout run.fits (slot_at group c.args.k)))
+    there
     (low, eight)
     (c.law_sight.ensures.top o table.slots part.seat.id group c.args.k b k ps eight (record { group = low; walk = at; stage = c.requires.stage; path = path }))
 

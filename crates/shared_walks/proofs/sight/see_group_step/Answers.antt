@@ -9,6 +9,7 @@ use Rattle.shared_rule.specs.Plays as plays
 use Rattle.shared_rule.specs.Whole.{state_at}
 use Rattle.shared_parts.specs.Parts.{box_held, looked_of}
 use Rattle.shared_parts.proofs.Calls.{asks, place}
+use Rattle.shared_walks.specs.Steps.{state_place}
 use Rattle.shared_walks.proofs.Standing.{path_to, stands}
 use Rattle.shared_walks.proofs.sight.see_group_step.Goals as goal
 
@@ -37,11 +38,14 @@ load-found-requires g c =
     let path = path_to o.tree b.cpu k.level
     (stands o b k stages.SeeGroup (c.part.invariant.fits.walk k at) c.requires.stage refl) in
     let low = c.state_place-place.ensures.group in
+    let same = place g.N.RunName.table o table run.words.shared.key.core run.tree run.layout
+    run.fits (state_at group) in
+    let there = ◌∙◌ {b = state_place o b.cpu k.level} c.state_place-place.ensures.place (sym same) in
     asks g.N.RunName.table o table run.words.shared.key.core run.tree run.layout run.fits
     part.seat.table_id part.seat.id c.state_place-place.result part.seat.me b ps (state_at group)
     (λ n. n) (λ i v n w. plays.SeesGroup (step table.slots i 0 0 none) v n w)
     (c.part.invariant.named) (c.part.invariant.seat)
-    (c.state_place-place.ensures.place ∙ sym (place g.N.RunName.table o table run.words.shared.key.core run.tree run.layout run.fits (state_at group)))
+    there
     low
     (c.law_sight.ensures.group o table.slots part.seat.id group b k ps (record { group = low; walk = at; stage = c.requires.stage; path = path }))
 
