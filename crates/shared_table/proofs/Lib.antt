@@ -2,3 +2,4 @@ pub mod Leaves
 pub mod Rows
 pub mod Spelling
 pub mod Spots
+pub mod Together

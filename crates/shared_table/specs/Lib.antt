@@ -1,3 +1,4 @@
 pub mod Begun
+pub mod Joined
 pub mod Readied
 pub mod Spelled

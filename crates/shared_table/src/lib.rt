@@ -4,10 +4,12 @@
 mod cpu_box;
 mod cutting;
 mod first_words;
+mod joining;
 mod leaf;
 mod ready;
 mod shared;
 
 pub use cpu_box::CpuBox;
+pub use joining::join_passes;
 pub use ready::{MOST_MADE, Ready};
 pub use shared::Shared;
