@@ -1,3 +1,5 @@
+ghost use Rattle.job_table.specs.Standard.{one_shot_reply};
+
 use core_machine::Player;
 use job_table::{Job, JobCall, JobReply, JobTable, OneShot};
 use std::alloc::{AllocError, Global};
@@ -89,7 +91,7 @@ struct Noting {
 }
 
 impl Job for Noting {
-    ghost reply = { λ _ call. JobReply.Done };
+    ghost reply = { λ _ call. one_shot_reply call };
 
     fn run(&self, call: &JobCall) -> JobReply {
         let noted = self.calls.load(Ordering::SeqCst);
