@@ -1,10 +1,13 @@
-//! The seats of all passes come into one as a run ends.
+//! The seats of all passes, and of all boxes, become one again as a run ends.
 
-ghost use Rattle.std.specs.Prelude.{◌≡◌, []};
+ghost use Rattle.std.specs.Prelude.{◌≡◌, [], ◌∷◌, ◌++◌, ◌+◌, ◌≤◌, length, vec_capacity};
 ghost use Rattle.shared_rule.specs.Rule.{Each, seen, together};
 ghost use Rattle.shared_parts.specs.Passes.{IsOfRun, passes_of};
-ghost use Rattle.shared_table.specs.Joined.{with_passes};
+ghost use Rattle.shared_table.specs.Begun.{IsFree};
+ghost use Rattle.shared_table.specs.Joined.{owns_of, with_boxes, with_passes};
 
+use crate::cpu_box::CpuBox;
+use core_state::CoreCpu;
 use shared_parts::{Pass, Run, RunName};
 use shared_rule::{Seat, Together, law_seats};
 use wheel_core::TimerBase;
@@ -41,5 +44,44 @@ pub fn join_passes<N: RunName, B: TimerBase>(run: &Run<N, B>, seat: &mut Seat, p
 {
     for pass in passes {
         take_pass(run, seat, pass);
+    }
+}
+
+/// A seat takes in that of a box, whose CPU is answered.
+fn take_box<N: RunName, B: TimerBase>(
+    run: &Run<N, B>,
+    seat: &mut Seat,
+    cpu_box: CpuBox<N, B>,
+) -> CoreCpu<B>
+    requires { seat.old.table_id ≡ N.table }
+    ensures table { seat.new.table_id ≡ N.table }
+    ensures joined { seat.new.me
+        ≡ (together seat.old.me.0 (seen (cpu_box.box ∷ []) []), seat.old.me.1) }
+    ensures own { result ≡ cpu_box.box.own }
+    ensures free { IsFree cpu_box }
+{
+    let (status, bases, other) = cpu_box.part.into_parts();
+    take_in(run, seat, other);
+    CoreCpu::from_parts(status, bases)
+}
+
+/// A seat takes in those of all boxes, in the order in which they are given; their CPUs are written
+/// behind one another, for which there is room.
+pub fn join_boxes<N: RunName, B: TimerBase>(
+    run: &Run<N, B>,
+    seat: &mut Seat,
+    boxes: Vec<CpuBox<N, B>>,
+    cpus: &mut Vec<CoreCpu<B>>,
+)
+    requires table { seat.old.table_id ≡ N.table }
+    requires room { length cpus.old.items + length boxes.items ≤ vec_capacity cpus.old }
+    ensures table { seat.new.table_id ≡ N.table }
+    ensures joined { seat.new.me ≡ with_boxes seat.old.me boxes.items }
+    ensures cpus { cpus.new.items ≡ cpus.old.items ++ owns_of boxes.items }
+    ensures free { Each IsFree boxes.items }
+{
+    for cpu_box in boxes {
+        let own = take_box(run, seat, cpu_box);
+        cpus.push(own).unwrap();
     }
 }

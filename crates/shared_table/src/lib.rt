@@ -10,6 +10,6 @@ mod ready;
 mod shared;
 
 pub use cpu_box::CpuBox;
-pub use joining::join_passes;
+pub use joining::{join_boxes, join_passes};
 pub use ready::{MOST_MADE, Ready};
 pub use shared::Shared;
