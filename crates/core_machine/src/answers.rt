@@ -7,6 +7,3 @@ mod cover;
 
 pub use choice::{answerer_of, cover_of};
 pub use cover::Cover;
-
-#[cfg(test)]
-mod tests;

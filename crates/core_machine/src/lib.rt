@@ -10,6 +10,3 @@ pub mod turns;
 pub mod walks;
 
 pub use player::Player;
-
-#[cfg(test)]
-mod tests;

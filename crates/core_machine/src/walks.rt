@@ -7,6 +7,3 @@ mod walking;
 pub use alone::{goes_on, is_alone};
 pub use finishing::finish_walk;
 pub use walking::{carry, come_online, go_offline, idle, make, reevaluate, wake};
-
-#[cfg(test)]
-mod tests;

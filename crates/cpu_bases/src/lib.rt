@@ -14,6 +14,3 @@ pub use calls::{BasesAnswer, BasesCall, make_calls};
 pub use entry::{Act, Entry, NextEvents};
 pub use journal::Journal;
 pub use laws::{law_bases, law_calls, law_journals};
-
-#[cfg(test)]
-mod tests;

@@ -21,6 +21,3 @@ pub use standing::{End, Placed, Standing};
 pub use stories::Stories;
 pub use work_script::{WorkMoment, WorkMoments, WorkOp, WorkOps, WorkScript, read_works};
 pub use works::Works;
-
-#[cfg(test)]
-mod tests;

@@ -11,6 +11,3 @@ pub use dead::move_dead;
 pub use offline::go_offline;
 pub use online::go_online;
 pub use whole::is_whole;
-
-#[cfg(test)]
-mod tests;

@@ -1,5 +1,6 @@
 -- a pass as its holder sees it
-use Rattle.std.specs.Prelude.{◌≡◌, ℕ, List, [], ◌∷◌, Option, Some, None, option_map}
+use Rattle.std.specs.Prelude.{◌≡◌, ◌+◌, ℕ, List, [], ◌∷◌, Option, Some, None, length, max}
+use Rattle.std.specs.Prelude.{option_map}
 use Rattle.atomic_table.specs.Seated.{TableId}
 use Rattle.shared_rule.specs.declared.parts.PassView.{PassView}
 use Rattle.shared_rule.specs.declared.parts.Receipt.{Receipt}
@@ -72,6 +73,11 @@ passes_of (Some s) = s.pass ∷ []
 -- a pass whose seat and bytes are in a part
 abbrev pub away : HeldPass → HeldPass
 away held = record held { room = 0; seated = None }
+
+-- a pass with memory for so many more receipts
+abbrev pub with_receipts_room : (more : ℕ) → HeldPass → HeldPass
+with_receipts_room more held =
+    record held { room = max held.room (length (receipts_of held.seated) + more) }
 
 -- a pass after a change of what it knows
 abbrev pub with_pass : (PassView → PassView) → HeldPass → HeldPass

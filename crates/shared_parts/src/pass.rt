@@ -1,10 +1,11 @@
 //! A thread's pass.
 
-ghost use Rattle.std.specs.Prelude.{◌≡◌, ◌≢◌, [], ◌∷◌, None};
+ghost use Rattle.std.specs.Prelude.{◌≡◌, ◌≢◌, ◌+◌, ◌≤◌, [], ◌∷◌, None, length, IsOk, OnErr, OnOk};
+ghost use Rattle.atomic_table.specs.Seated.{TableId};
 ghost use Rattle.shared_rule.specs.declared.parts.PassView.{PassView};
 ghost use Rattle.shared_rule.specs.Rule.{seat_of};
 ghost use Rattle.shared_parts.specs.Passes.{IsPassIn, IsSeatOf, away, receipts_of, seated_of};
-ghost use Rattle.shared_parts.specs.Passes.{walks_of};
+ghost use Rattle.shared_parts.specs.Passes.{walks_of, with_receipts_room};
 ghost use Rattle.shared_parts.specs.Parts.{IsGuest};
 
 use crate::box_part::Guest;
@@ -12,7 +13,7 @@ use crate::receipts::Receipts;
 use shared_rule::Seat;
 use std::marker::Model;
 use std::mem;
-use tm_base::CpuId;
+use tm_base::{CpuId, NoMemory};
 
 /// One CPU's seat for its thread, with the entries that it wrote and the number of walks begun with
 /// it. While it is brought into a part it has no seat, and its bytes are there.
@@ -85,6 +86,25 @@ impl Pass {
         ensures room { result.now.capacity ≡ self.now.room }
     {
         &self.receipts
+    }
+
+    /// Takes memory for `n` more receipts, where there is less. Want of memory leaves the pass as
+    /// it was.
+    pub fn reserve(&mut self, n: usize) -> Result<(), NoMemory>
+        ensures enough { length (receipts_of self.old.seated) + n ≤ self.old.room
+            → IsOk result }
+        ensures ok { OnOk result (self.new ≡ with_receipts_room n self.old) }
+        ensures err { OnErr result (self.new ≡ self.old) }
+    {
+        self.receipts.reserve(n)
+    }
+
+    /// Does nothing: its contract says that a pass and its seat are of one CPU.
+    pub fn law(&self)
+        ensures { (table : TableId) (p : PassView) → IsPassIn table self.now p
+            → p.cpu ≡ self.now.cpu }
+    {
+        let _ = &self.cpu;
     }
 
     /// Its seat, which knows the pass alone.

@@ -1,17 +1,18 @@
 //! A pass loads a word.
 
-ghost use Rattle.std.specs.Prelude.{◌≡◌, ◌<◌, length};
+ghost use Rattle.std.specs.Prelude.{◌≡◌, ◌<◌, ◌∷◌, [], length};
 ghost use Rattle.shared_words.specs.Exchanges.{HasRoom};
 ghost use Rattle.shared_words.specs.Layout.{IsWordOf, index_of};
-ghost use Rattle.shared_rule.specs.Plays.{seen_pass};
-ghost use Rattle.shared_rule.specs.Whole.{layout_of, state_at};
-ghost use Rattle.shared_parts.specs.Passes.{IsOfRun, with_pass};
+ghost use Rattle.shared_rule.specs.declared.parts.PassView.{PassView};
+ghost use Rattle.shared_rule.specs.Plays.{NamesCpu, seen_pass};
+ghost use Rattle.shared_rule.specs.Whole.{layout_of, state_at, timer_at};
+ghost use Rattle.shared_parts.specs.Passes.{IsOfRun, IsPassIn, with_pass};
 
 use crate::pass::Pass;
 use crate::run::{Run, RunName};
-use shared_rule::{Sees, SeesState, law_see};
+use shared_rule::{Sees, SeesState, SeesTimer, law_see};
 use shared_words::SharedWord;
-use tm_base::GroupId;
+use tm_base::{GroupId, TimerId};
 use wheel_core::TimerBase;
 
 impl Pass {
@@ -44,6 +45,25 @@ impl Pass {
         let place = run.layout.index(SharedWord::State(group));
         match self.seat.as_mut() {
             Some(seat) => run.words.shared.load::<SeesState>(seat, place),
+            None => unreachable!(),
+        }
+    }
+
+    /// Loads the word of a timer; it names a CPU of the run, or none. What it found is remembered
+    /// as in `see`.
+    pub fn see_timer<N: RunName, B: TimerBase>(&mut self, run: &Run<N, B>, timer: TimerId) -> u64
+        requires run { IsOfRun N.table self.old }
+        requires timer { timer.0 < N.opening.timers }
+        ensures remembered { self.new
+            ≡ with_pass (seen_pass (index_of (layout_of N.opening) (timer_at timer.0)) result)
+            self.old }
+        ensures named { (p : PassView) → IsPassIn N.table self.old p
+            → NamesCpu (p ∷ []) result }
+    {
+        law_see();
+        let place = run.layout.index(SharedWord::Timer(timer));
+        match self.seat.as_mut() {
+            Some(seat) => run.words.shared.load::<SeesTimer>(seat, place),
             None => unreachable!(),
         }
     }

@@ -1,4 +1,9 @@
+pub mod Behind
+pub mod Counting
+pub mod Ending
 pub mod Leaves
+pub mod Ordered
+pub mod Passes
 pub mod Rows
 pub mod Spelling
 pub mod Spots

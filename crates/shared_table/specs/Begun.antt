@@ -42,6 +42,18 @@ begun_pass table o made c = record {
 abbrev pub begun_passes : TableId → World → (made : ℕ) → List HeldPass
 begun_passes table o made = map (begun_pass table o made) (range_with_len 0 (length o.cpus))
 
+-- there is memory for so many boxes, and none of them is there yet (no public clause cites it)
+pub record IsBoxRoom (n count capacity : ℕ) : Type 0 where
+  pub none : count ≡ 0
+  pub enough : n ≤ capacity
+
+-- the seat that is kept for the end is the run's and has no part, and the run's table has no slot
+-- (no public clause cites it)
+pub record IsSpareSeat (name seat : TableId) (me : Me) : Type 0 where
+  pub seated : seat ≡ name
+  pub knows : me ≡ seat_of [] []
+  pub slots : name.slots ≡ 0
+
 -- what is kept of the core for the end: its clock, and room for its groups, for where its timers
 -- are, for its CPUs and for what it counts of them (no public clause cites it)
 pub record RoomsFit (o : World) (clock groups holders : ℕ) (cpus : List CpuRecord)

@@ -1,13 +1,14 @@
 -- what the passes and boxes of a run have together
 use Rattle.std.specs.Prelude.{◌≡◌, ℕ, ◌+◌, ◌≤◌, List, [], ◌∷◌, ◌++◌, length, map}
 use Rattle.atomic_table.specs.Seated.{TableId}
-use Rattle.core_world.specs.World.{CpuRecord}
+use Rattle.core_world.specs.World.{CpuRecord, World}
 use Rattle.shared_rule.specs.declared.parts.BoxView.{BoxView}
 use Rattle.shared_rule.specs.declared.parts.PassView.{PassView}
 use Rattle.shared_rule.specs.Rule.{Each, Me, seen, together}
 use Rattle.shared_parts.specs.Parts.{HeldPart}
 use Rattle.shared_parts.specs.Passes.{HeldPass, IsOfRun, passes_of}
 use Rattle.shared_table.specs.Begun.{IsFree}
+use Rattle.shared_table.specs.Ended.{BeganWith}
 
 -- the parts of these passes, in order
 abbrev pub parts_of : List HeldPass → List PassView
@@ -47,10 +48,11 @@ pub record PassesLeft (table seat : TableId) (me first : Me) (rest all : List He
     pub joined : with_passes me rest ≡ with_passes first all
 
 -- BOXES SO FAR: the same of boxes, and of the CPUs that are written (no public clause cites it)
-pub record BoxesLeft (table seat : TableId) (me first : Me) (rest all : List HeldPart)
+pub record BoxesLeft (o : World) (table seat : TableId) (me first : Me) (rest all : List HeldPart)
     (cpus before : List CpuRecord) (capacity : ℕ) : Type 0 where
   pub seated : seat ≡ table
   pub room : length cpus + length rest ≤ capacity
   pub joined : with_boxes me rest ≡ with_boxes first all
   pub written : cpus ++ owns_of rest ≡ before ++ owns_of all
   pub free : Each IsFree rest → Each IsFree all
+  pub began : Each (BeganWith o) rest → Each (BeganWith o) all

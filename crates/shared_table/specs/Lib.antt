@@ -1,4 +1,5 @@
 pub mod Begun
+pub mod Ended
 pub mod Joined
 pub mod Readied
 pub mod Spelled

@@ -28,12 +28,13 @@ pub record MayBegin (o : World) (made : ℕ) : Type 0 where
   pub whole : (c : ℕ) → HasNoneBehind (cpu_of o c).bases
   pub few : made ≤ MOST_MADE
 
--- the table has a word for each place of the core, which it was told, and the one seat knows all
--- of it
+-- the table has a word for each place of the core, which it was told, and no slot, and the one seat
+-- knows all of it
 pub record IsTableOf (o : World) (made : ℕ) (table : TableId) (key : World) (seat : TableId)
     (me : Me) : Type 0 where
   pub opened : key ≡ o
   pub count : table.words ≡ count_of (layout_of o)
+  pub slots : table.slots ≡ 0
   pub seated : seat ≡ table
   pub knows : me ≡ (first_view o made, [])
 

@@ -4,11 +4,12 @@ ghost use Rattle.std.specs.Prelude.{◌≡◌, [], ◌∷◌, ◌++◌, ◌+◌,
 ghost use Rattle.shared_rule.specs.Rule.{Each, seen, together};
 ghost use Rattle.shared_parts.specs.Passes.{IsOfRun, passes_of};
 ghost use Rattle.shared_table.specs.Begun.{IsFree};
+ghost use Rattle.shared_table.specs.Ended.{BeganWith};
 ghost use Rattle.shared_table.specs.Joined.{owns_of, with_boxes, with_passes};
 
 use crate::cpu_box::CpuBox;
 use core_state::CoreCpu;
-use shared_parts::{Pass, Run, RunName};
+use shared_parts::{BoxPart, Pass, Run, RunName};
 use shared_rule::{Seat, Together, law_seats};
 use wheel_core::TimerBase;
 
@@ -47,6 +48,13 @@ pub fn join_passes<N: RunName, B: TimerBase>(run: &Run<N, B>, seat: &mut Seat, p
     }
 }
 
+/// Does nothing: its contract says with which core the run of a part began.
+fn law_began<N: RunName, B: TimerBase>(part: &BoxPart<N, B>)
+    ensures { BeganWith N.opening part.now }
+{
+    let _ = &part.cpu;
+}
+
 /// A seat takes in that of a box, whose CPU is answered.
 fn take_box<N: RunName, B: TimerBase>(
     run: &Run<N, B>,
@@ -59,7 +67,9 @@ fn take_box<N: RunName, B: TimerBase>(
         ≡ (together seat.old.me.0 (seen (cpu_box.box ∷ []) []), seat.old.me.1) }
     ensures own { result ≡ cpu_box.box.own }
     ensures free { IsFree cpu_box }
+    ensures began { BeganWith N.opening cpu_box }
 {
+    law_began(&cpu_box.part);
     let (status, bases, other) = cpu_box.part.into_parts();
     take_in(run, seat, other);
     CoreCpu::from_parts(status, bases)
@@ -79,6 +89,7 @@ pub fn join_boxes<N: RunName, B: TimerBase>(
     ensures joined { seat.new.me ≡ with_boxes seat.old.me boxes.items }
     ensures cpus { cpus.new.items ≡ cpus.old.items ++ owns_of boxes.items }
     ensures free { Each IsFree boxes.items }
+    ensures began { Each (BeganWith N.opening) boxes.items }
 {
     for cpu_box in boxes {
         let own = take_box(run, seat, cpu_box);

@@ -1,8 +1,10 @@
 //! The table of a run: how it is made of a core at rest, and how threads get at what it guards.
 #![tactic(auto)]
 
+mod apart;
 mod cpu_box;
 mod cutting;
+mod finishing;
 mod first_words;
 mod joining;
 mod leaf;

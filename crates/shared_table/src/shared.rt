@@ -6,8 +6,9 @@ ghost use Rattle.std.specs.Sync.Mutex.{mutex_guard_value};
 ghost use Rattle.core_world.specs.Covered.{IsSettled};
 ghost use Rattle.core_world.specs.World.{cpu_of};
 ghost use Rattle.shared_rule.specs.Rule.{seat_of, tail_of};
-ghost use Rattle.shared_table.specs.Begun.{RoomsFit, begun_pass, begun_passes, boxes_from};
-ghost use Rattle.shared_table.specs.Begun.{passes_from};
+ghost use Rattle.shared_table.specs.Begun.{IsBoxRoom, IsSpareSeat, RoomsFit, begun_pass};
+ghost use Rattle.shared_table.specs.Begun.{begun_passes, boxes_from, passes_from};
+ghost use Rattle.shared_table.specs.Ended.{AreAllPasses};
 ghost use Rattle.shared_table.specs.Readied.{MayBegin};
 
 use crate::cpu_box::CpuBox;
@@ -25,14 +26,16 @@ use tm_base::{CpuId, Jiffy, NoMemory};
 use wheel_core::TimerBase;
 
 /// What is kept of the core for the end of the run: its clock, and room for its groups, for where
-/// its timers are queued, for its CPUs and for what it counts of them.
+/// its timers are queued, for its CPUs and for what it counts of them; and room for the boxes as
+/// they come out of their locks.
 #[derive(Drop)]
-pub(crate) struct Rooms<B: TimerBase> {
+pub(crate) struct Rooms<N: RunName, B: TimerBase> {
     pub(crate) clock: Jiffy,
     pub(crate) groups: Vec<CoreGroup>,
     pub(crate) holders: Vec<Option<CpuId>>,
     pub(crate) cpus: Vec<CoreCpu<B>>,
     pub(crate) tally: Tally,
+    pub(crate) boxes: Vec<CpuBox<N, B>>,
 }
 
 /// A run: its words, and the box of each CPU behind a lock of its own. It may be lent to several
@@ -41,16 +44,21 @@ pub(crate) struct Rooms<B: TimerBase> {
 pub struct Shared<N: RunName, B: TimerBase> {
     pub(crate) run: Run<N, B>,
     pub(crate) boxes: Vec<Mutex<CpuBox<N, B>>>,
-    pub(crate) rooms: Rooms<B>,
+    pub(crate) rooms: Rooms<N, B>,
+    /// The seat that has given all parts away, and takes them in at the end.
+    pub(crate) seat: Seat,
     ghost each: { vec_len boxes ≡ length N.opening.cpus },
+    ghost room: { IsBoxRoom (length N.opening.cpus) (vec_len rooms.boxes)
+        (vec_capacity rooms.boxes) },
+    ghost spare: { IsSpareSeat N.table seat.table_id seat.me },
     ghost kept: { RoomsFit N.opening rooms.clock (vec_len rooms.groups) (vec_len rooms.holders)
         rooms.cpus.items (vec_capacity rooms.cpus) (length rooms.tally.marks) },
 }
 
 impl<N: RunName, B: TimerBase> Shared<N, B> {
     /// Begins a run over a table that is ready: a box for each CPU behind its lock, and a pass
-    /// for each CPU in order, outside an interrupt and without a receipt. Want of memory gives
-    /// back what was ready.
+    /// for each CPU in order, outside an interrupt and without a receipt; with these passes the run
+    /// may be ended. Want of memory gives back what was ready.
     pub fn begin(
         alloc: Global,
         ready: Ready<B>,
@@ -59,15 +67,17 @@ impl<N: RunName, B: TimerBase> Shared<N, B> {
         requires opening { ready.core ≡ N.opening }
         ensures passes { IfOk result
             (λ r. r.1.items ≡ begun_passes N.table N.opening ready.made) }
+        ensures all { IfOk result
+            (λ r. AreAllPasses N.table (length N.opening.cpus) r.1.items) }
         ensures settled { OnOk result (IsSettled N.opening) }
         ensures err { IfErr result (λ e. e.0 ≡ ready) }
     {
         let count = ready.opening.core.tree().cpu_count();
-        let (boxes, passes) = match make_room(alloc, count) {
+        let (boxes, passes, taken) = match make_room(alloc, count) {
             Ok(room) => room,
             Err(refused) => return Err((ready, refused)),
         };
-        Ok(begun(alloc, ready, boxes, passes))
+        Ok(begun(alloc, ready, boxes, passes, taken))
     }
 
     /// The words of the run, with its tree.
@@ -93,17 +103,19 @@ impl<N: RunName, B: TimerBase> Shared<N, B> {
     }
 }
 
-/// Room for so many boxes, and for as many passes.
+/// Room for so many boxes behind their locks, for as many passes, and for the boxes at the end.
 fn make_room<N: RunName, B: TimerBase>(
     alloc: Global,
     count: u16,
-) -> Result<(Vec<Mutex<CpuBox<N, B>>>, Vec<Pass>), NoMemory>
+) -> Result<(Vec<Mutex<CpuBox<N, B>>>, Vec<Pass>, Vec<CpuBox<N, B>>), NoMemory>
     ensures boxes { IfOk result (λ r. (vec_len r.0 ≡ 0) × (count ≤ vec_capacity r.0)) }
     ensures passes { IfOk result (λ r. (r.1.items ≡ []) × (count ≤ vec_capacity r.1)) }
+    ensures taken { IfOk result (λ r. IsBoxRoom count (vec_len r.2) (vec_capacity r.2)) }
 {
     let boxes = Vec::with_capacity(alloc, usize::from(count))?;
     let passes = Vec::with_capacity(alloc, usize::from(count))?;
-    Ok((boxes, passes))
+    let taken = Vec::with_capacity(alloc, usize::from(count))?;
+    Ok((boxes, passes, taken))
 }
 
 /// The run of a table that is ready, where there is room for its boxes and passes.
@@ -112,12 +124,15 @@ fn begun<N: RunName, B: TimerBase>(
     ready: Ready<B>,
     boxes: Vec<Mutex<CpuBox<N, B>>>,
     passes: Vec<Pass>,
+    taken: Vec<CpuBox<N, B>>,
 ) -> (Shared<N, B>, Vec<Pass>)
     requires table { ready.table ≡ N.table }
     requires opening { ready.core ≡ N.opening }
     requires boxes { (vec_len boxes ≡ 0) × (length N.opening.cpus ≤ vec_capacity boxes) }
     requires passes { (passes.items ≡ []) × (length N.opening.cpus ≤ vec_capacity passes) }
+    requires taken { IsBoxRoom (length N.opening.cpus) (vec_len taken) (vec_capacity taken) }
     ensures passes { result.1.items ≡ begun_passes N.table N.opening ready.made }
+    ensures all { AreAllPasses N.table (length N.opening.cpus) result.1.items }
     ensures settled { IsSettled N.opening }
 {
     let (mut boxes, mut passes) = (boxes, passes);
@@ -152,8 +167,17 @@ fn begun<N: RunName, B: TimerBase>(
         holders,
         cpus: room,
         tally,
+        boxes: taken,
     };
-    (Shared { run, boxes, rooms }, passes)
+    (
+        Shared {
+            run,
+            boxes,
+            rooms,
+            seat,
+        },
+        passes,
+    )
 }
 
 /// The boxes of all CPUs, in order, each with the first part that the seat then has.
@@ -226,7 +250,9 @@ fn fill_passes<N: RunName, B: TimerBase>(
     requires table { seat.old.table_id ≡ N.table }
     requires all { seat.old.me
         ≡ seat_of [] (passes_from N.opening made 0 (length N.opening.cpus)) }
-    ensures { passes.new.items ≡ begun_passes N.table N.opening made }
+    ensures passes { passes.new.items ≡ begun_passes N.table N.opening made }
+    ensures table { seat.new.table_id ≡ N.table }
+    ensures left { seat.new.me ≡ seat_of [] [] }
 {
     let count = run.layout.cpus;
     for cpu in 0..count {

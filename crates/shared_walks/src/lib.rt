@@ -15,5 +15,5 @@ pub use activation::{mark_step, own_step, up_step};
 pub use leaving::{child_step, own_child_step, read_step, swap_step};
 pub use locking::{free_child_step, free_group_step, lock_child_step, lock_group_step};
 pub use sight::{first_step, scan_step, see_child_step, see_group_step};
-pub use stepping::walk_step;
+pub use stepping::{make_step, walk_step};
 pub use telling::store_step;

@@ -12,6 +12,7 @@ use crate::locking::{free_child_step, free_group_step, lock_child_step, lock_gro
 use crate::sight::{first_step, scan_step, see_child_step, see_group_step};
 use crate::telling::store_step;
 use shared_parts::{BoxPart, Run, RunName};
+use std::sync::Wait;
 use walk_rules::{Stage, Walk};
 use wheel_core::TimerBase;
 
@@ -71,4 +72,22 @@ pub fn walk_step<N: RunName, B: TimerBase>(run: &Run<N, B>, part: &mut BoxPart<N
         Some(walk) => step_from(run, part, walk),
         None => unreachable!(),
     }
+}
+
+/// The walk of a part makes its next step, where it goes on: the step is tried again as long as
+/// another walk has the lock, or has changed the word that an activation was to exchange.
+pub fn make_step<N: RunName, B: TimerBase, R: Wait>(
+    rt: &R,
+    run: &Run<N, B>,
+    part: &mut BoxPart<N, B>,
+)
+    requires { GoesOn part.old }
+    ensures { HasStepped N.opening true part.old part.new }
+{
+    for _ in rt.forever() {
+        if walk_step(run, part) {
+            return;
+        }
+    }
+    unreachable!()
 }

@@ -7,8 +7,13 @@ ghost use Rattle.core_world.specs.Covered.{Covered, IsSettled, machine_of};
 ghost use Rattle.core_world.specs.Lawful.{IsLawful};
 ghost use Rattle.core_facts.specs.Cover.Headline.{IsWaiting};
 ghost use Rattle.core_facts.specs.Cover.Once.{IsOnce};
+ghost use Rattle.core_state.specs.Kept.{WorldsStayFit};
+ghost use Rattle.step_laws.specs.Reached.{EachReachedFits};
 
+use core_facts::{law_height, law_replay};
+use core_laws::{law_start, law_step};
 use core_state::Core;
+use core_world::law_sizes;
 use wheel_core::TimerBase;
 
 /// Every core is lawful: it began so, and each step keeps it.
@@ -42,4 +47,25 @@ pub fn law_once<B: TimerBase>(core: &Core<B>)
 {
     law_lawful(core);
     core_facts::law_once();
+}
+
+/// No step leaves what a core keeps.
+fn law_stay()
+    ensures { WorldsStayFit }
+{
+    law_sizes();
+    law_step();
+    law_replay();
+    law_height();
+}
+
+/// Each world that enabled steps reach from a machine's start is one of which a core can be made:
+/// it keeps all that `Core::from_parts` asks of a world, walks at levels that fit among it.
+pub fn law_reached()
+    ensures { EachReachedFits }
+{
+    law_start();
+    law_replay();
+    law_height();
+    law_stay();
 }

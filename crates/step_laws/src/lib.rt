@@ -6,7 +6,7 @@ mod laws;
 mod running;
 mod settled;
 
-pub use laws::{law_covered, law_lawful, law_once, law_settled};
+pub use laws::{law_covered, law_lawful, law_once, law_reached, law_settled};
 pub use running::{StepsFault, run_steps};
 pub use settled::is_settled;
 

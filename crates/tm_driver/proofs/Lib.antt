@@ -2,6 +2,7 @@ mod BySteps
 mod DeepSeen
 mod DeepTold
 mod Due
+mod NextMoments
 mod NoDevice
 mod Onlines
 mod Playable

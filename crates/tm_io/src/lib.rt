@@ -20,6 +20,3 @@ pub use plain::{PlainSink, PlainSource};
 pub use sinks::{Sink, WriteCause, WriteFault, write_all};
 pub use sources::{ReadFault, Source, read_all};
 pub use standard::{StdSink, StdSource};
-
-#[cfg(test)]
-mod tests;

@@ -9,6 +9,3 @@ mod texts;
 pub use drafts::Draft;
 pub use lines::{Line, ShownCover, ShownReason, ShownReply};
 pub use reports::{Report, text_of};
-
-#[cfg(test)]
-mod tests;

@@ -39,6 +39,3 @@ pub use lists::{Moments, Ops};
 pub use print::print_script;
 pub use reading::read_script;
 pub use syntax::{Moment, Op, Script, What};
-
-#[cfg(test)]
-mod tests;

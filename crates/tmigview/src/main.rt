@@ -5,7 +5,8 @@ use std::alloc::AllocError;
 use std::process::ExitCode;
 use std::{env, io};
 use tm_io::{StdSink, StdSource};
-use trace_view::{NO_MEMORY, run_view};
+use trace_view::NO_MEMORY;
+use view_main::run_views;
 
 /// The words after the program's name. Words that aren't UTF-8 are no command, and neither are no
 /// words.
@@ -23,7 +24,7 @@ fn run(rt: &HostRuntime) -> Result<u8, AllocError> {
     let words = words(rt)?;
     let mut source = StdSource::new(rt.reader());
     let mut sink = StdSink::new(io::writer(rt));
-    Ok(run_view(alloc, &words, &mut source, &mut sink))
+    Ok(run_views(alloc, &words, &mut source, &mut sink))
 }
 
 fn main(rt: HostRuntime) -> ExitCode {

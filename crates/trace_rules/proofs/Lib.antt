@@ -1,4 +1,2 @@
 pub mod Verdicts
-mod Steps
-mod Answering
 mod Answered

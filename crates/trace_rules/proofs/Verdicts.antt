@@ -8,7 +8,7 @@ use Rattle.trace_rules.specs.declared.judge.Course.{Course}
 use Rattle.trace_rules.specs.declared.judge.Misfit.{Misfit}
 use Rattle.trace_rules.specs.declared.judge.Verdict.{Verdict}
 use Rattle.trace_rules.specs.Judge.{EachFits, IsFirstAt, IsFitting, judged, line_misfit}
-use Rattle.trace_rules.specs.Told.{counted}
+use Rattle.trace_seen.specs.Counts.{counted}
 use Rattle.trace_rules.specs.Judge.{said_verdict, start, text_after, text_verdict, verdict_of}
 use Rattle.trace_rules.specs.Judge.{verdict_or}
 

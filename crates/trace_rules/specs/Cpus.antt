@@ -1,5 +1,5 @@
 -- the other events: of CPUs, of queues, of the tree
-use Rattle.std.specs.Prelude.{ℕ, ◌==◌, ◌&&◌, ◌||◌, not, nat_lt, Bool, true, false, List}
+use Rattle.std.specs.Prelude.{ℕ, ◌==◌, ◌&&◌, ◌||◌, not, nat_lt, Bool, true, false}
 use Rattle.std.specs.Prelude.{Option, Some, None, if◌then◌else◌}
 use Rattle.tm_base.specs.declared.names.CpuId.{CpuId}
 use Rattle.trace_lines.specs.declared.events.TheConstants.{NO_EXPIRY}
@@ -11,31 +11,22 @@ use Rattle.trace_lines.specs.declared.events.CpuKind.{CpuKind}
 use Rattle.trace_lines.specs.declared.events.CpuKind.TheVariants.{Online, Awake, Asleep, Offline}
 use Rattle.trace_lines.specs.declared.events.CpuKind.TheVariants.{NewTimer, StillAsleep}
 use Rattle.trace_lines.specs.declared.events.CpuKind.TheVariants.{RunElsewhere}
-use Rattle.trace_rules.specs.declared.rules.Rule.{Rule}
-use Rattle.trace_rules.specs.declared.rules.Rule.TheVariants as rules
-use Rattle.trace_rules.specs.declared.seen.Spot.{Spot}
-use Rattle.trace_rules.specs.declared.seen.Run.TheVariants as runs
-use Rattle.trace_rules.specs.declared.seen.Walk.{Walk}
-use Rattle.trace_rules.specs.declared.seen.Walk.TheVariants.{Unknown, Closed, Rising, Falling}
-use Rattle.trace_rules.specs.declared.seen.Walk.TheVariants.{Ending, Hung}
-use Rattle.trace_rules.specs.declared.seen.GroupSeen.{GroupSeen}
-use Rattle.trace_rules.specs.declared.seen.CpuSeen.{CpuSeen}
-use Rattle.trace_rules.specs.Seen.{Sight, cpu_at, group_at}
-use Rattle.trace_rules.specs.Tree.{parent_fits}
-use Rattle.trace_rules.specs.Walks.{may_end, may_rest, quiet}
+use Rattle.trace_seen.specs.declared.rules.Rule.{Rule}
+use Rattle.trace_seen.specs.declared.rules.Rule.TheVariants as rules
+use Rattle.trace_seen.specs.declared.seen.Spot.{Spot}
+use Rattle.trace_seen.specs.declared.seen.Run.TheVariants as runs
+use Rattle.trace_seen.specs.declared.seen.Walk.{Walk}
+use Rattle.trace_seen.specs.declared.seen.Walk.TheVariants.{Unknown, Closed, Rising, Falling}
+use Rattle.trace_seen.specs.declared.seen.Walk.TheVariants.{Ending, Hung}
+use Rattle.trace_seen.specs.declared.seen.Look.{Look}
+use Rattle.trace_seen.specs.declared.seen.CpuSeen.{CpuSeen}
+use Rattle.trace_seen.specs.Seen.{Sight, cpu_at, group_at}
+use Rattle.trace_seen.specs.Rests.{is_asleep, is_awake}
+use Rattle.trace_seen.specs.Tree.{parent_fits, same_pointer}
+use Rattle.trace_seen.specs.Walks.{may_end, may_rest, quiet}
 use Rattle.trace_rules.specs.Exchanges.{fault_or, spot_of, with_cpu, with_group}
 use Rattle.trace_rules.specs.Queues.{first_after, run_told, spoken, told_fault, with_event}
 use Rattle.trace_rules.specs.Queues.{with_hidden}
-
--- it is known to be awake
-abbrev pub is_awake : Option Bool → Bool
-is_awake None = false
-is_awake (Some awake) = awake
-
--- it is known to be asleep
-abbrev pub is_asleep : Option Bool → Bool
-is_asleep None = false
-is_asleep (Some awake) = not awake
 
 -- a CPU falls asleep at the end of its walk, and where it was awake
 abbrev pub sleep_fault : Option Bool → Walk → Option Rule
@@ -125,6 +116,36 @@ unfoldable pub moved : Sight → ℕ → CpuId → Sight
 moved s line own =
     with_cpu s
     (record (cpu_at s own) { walk = quiet (cpu_at s own).walk; last = line; run = runs.Own })
+
+-- the number of the child from which a CPU comes to a group, by the group to which it came before
+abbrev pub number_from : Option Look → Sight → ℕ → Option ℕ
+number_from None s group = None
+number_from (Some l) s group =
+    if same_pointer (group_at s l.group).parent (Some group) then (group_at s l.group).bit else None
+
+-- .. or its own number, in its leaf
+abbrev pub number_at : Sight → CpuSeen → ℕ → Option ℕ
+number_at s c group =
+    if same_pointer c.leaf (Some group) then c.bit else number_from c.looks s group
+
+-- the group to which a CPU comes, with the number of the child from which it does
+unfoldable pub look_seen : Sight → CpuId → ℕ → Look
+look_seen s own group = record { group = group; bit = number_at s (cpu_at s own) group }
+
+-- a CPU that came there
+unfoldable pub with_look : Sight → ℕ → CpuId → Look → Sight
+with_look s line own look =
+    with_cpu s
+    (record (cpu_at s own) {
+      walk = quiet (cpu_at s own).walk;
+      last = line;
+      run = runs.Own;
+      looks = Some look;
+    })
+
+-- the CPU came to a group to run timers of others
+abbrev pub looked : Sight → ℕ → CpuId → ℕ → Sight
+looked s line own group = with_look s line own (look_seen s own group)
 
 -- the CPU has gone on in its walk or its run by an update, and found a wakeup or not
 unfoldable pub with_first : Sight → ℕ → CpuId → Option ℕ → Sight

@@ -1,23 +1,23 @@
 -- exchanges on groups: the rules that one may break, and what is known after it
-use Rattle.std.specs.Prelude.{ℕ, ◌==◌, ◌&&◌, ◌||◌, not, nat_lt, Bool, true, false, List}
+use Rattle.std.specs.Prelude.{ℕ, ◌==◌, ◌&&◌, ◌||◌, not, nat_lt, Bool, true}
 use Rattle.std.specs.Prelude.{Option, Some, None, is_some, is_none, if◌then◌else◌}
 use Rattle.tm_base.specs.declared.names.CpuId.{CpuId}
 use Rattle.trace_lines.specs.declared.events.Place.{Place}
 use Rattle.trace_lines.specs.declared.events.Exchange.{Exchange}
-use Rattle.trace_rules.specs.declared.rules.Rule.{Rule}
-use Rattle.trace_rules.specs.declared.rules.Rule.TheVariants as rules
-use Rattle.trace_rules.specs.declared.seen.Spot.{Spot}
-use Rattle.trace_rules.specs.declared.seen.Run.TheVariants as runs
-use Rattle.trace_rules.specs.declared.seen.Word.{Word}
-use Rattle.trace_rules.specs.declared.seen.Late.{Late}
-use Rattle.trace_rules.specs.declared.seen.GroupSeen.{GroupSeen}
-use Rattle.trace_rules.specs.declared.seen.CpuSeen.{CpuSeen}
-use Rattle.trace_rules.specs.Seen.{Sight, cpu_at, group_at, put_cpu, put_group}
-use Rattle.trace_rules.specs.Words.{follows, state_of, word_after}
-use Rattle.trace_rules.specs.Tree.{bit_fits, cpus_free, groups_free, is_below, node_fits}
-use Rattle.trace_rules.specs.Tree.{parent_fits, spot_fits}
+use Rattle.trace_seen.specs.declared.rules.Rule.{Rule}
+use Rattle.trace_seen.specs.declared.rules.Rule.TheVariants as rules
+use Rattle.trace_seen.specs.declared.seen.Spot.{Spot}
+use Rattle.trace_seen.specs.declared.seen.Run.TheVariants as runs
+use Rattle.trace_seen.specs.declared.seen.Word.{Word}
+use Rattle.trace_seen.specs.declared.seen.Late.{Late}
+use Rattle.trace_seen.specs.declared.seen.GroupSeen.{GroupSeen}
+use Rattle.trace_seen.specs.declared.seen.CpuSeen.{CpuSeen}
+use Rattle.trace_seen.specs.Seen.{Sight, cpu_at, group_at, put_cpu, put_group}
+use Rattle.trace_seen.specs.Words.{follows, state_of, word_after}
+use Rattle.trace_seen.specs.Tree.{bit_fits, cpus_free, groups_free, is_below, node_fits}
+use Rattle.trace_seen.specs.Tree.{parent_fits, spot_fits}
 use Rattle.trace_rules.specs.Queues.{event_after, first_begun}
-use Rattle.trace_rules.specs.Walks.{allows, came_from, walk_after}
+use Rattle.trace_seen.specs.Walks.{allows, came_from, walk_after}
 
 -- with this group as it is seen now
 abbrev pub with_group : Sight → GroupSeen → Sight
@@ -79,14 +79,14 @@ is_resolved g late own e =
     not (own.cpu.0 == late.cpu.0) && nat_lt own.last late.line && is_some (word_before g e)
     && follows (word_after e) late.exchange
 
--- the line of a late exchange that this one leaves unresolved
-abbrev pub late_by : Option Late → GroupSeen → CpuSeen → Exchange → Option ℕ
+-- a late exchange that this one leaves unresolved
+abbrev pub late_by : Option Late → GroupSeen → CpuSeen → Exchange → Option Late
 late_by None g own e = None
-late_by (Some late) g own e = if is_resolved g late own e then None else Some late.line
+late_by (Some late) g own e = if is_resolved g late own e then None else Some late
 
--- the line of the group's late exchange, where this one doesn't explain it
-abbrev pub late_line : Sight → CpuId → Exchange → Option ℕ
-late_line s cpu e =
+-- the group's late exchange, where this one doesn't explain it
+abbrev pub late_left : Sight → CpuId → Exchange → Option Late
+late_left s cpu e =
     late_by (group_at s e.place.group).late (group_at s e.place.group) (cpu_at s cpu) e
 
 -- ---- what is known afterwards

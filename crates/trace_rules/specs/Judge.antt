@@ -1,5 +1,5 @@
 -- the fold over the lines of a trace
-use Rattle.std.specs.Prelude.{◌≡◌, ◌⊎◌, ℕ, ◌==◌, not, Bool, true, false, List, [], ◌∷◌}
+use Rattle.std.specs.Prelude.{◌≡◌, ◌⊎◌, ℕ, Bool, true, false, List, [], ◌∷◌}
 use Rattle.std.specs.Prelude.{Option, Some, None, is_some, Result, Ok, Err, if◌then◌else◌}
 use Rattle.std.specs.Prelude.{count_by}
 use Rattle.text_words.specs.Words.{lines_of}
@@ -12,21 +12,28 @@ use Rattle.trace_lines.specs.declared.events.Happening.TheVariants.{Updated, Han
 use Rattle.trace_lines.specs.declared.events.Line.{Line}
 use Rattle.trace_lines.specs.declared.events.Line.TheVariants.{Remark, Loss, Foreign, Told}
 use Rattle.trace_lines.specs.Lines.{line_of}
-use Rattle.trace_rules.specs.declared.rules.Rule.{Rule}
-use Rattle.trace_rules.specs.declared.rules.Rule.TheVariants as rules
+use Rattle.trace_seen.specs.declared.rules.Rule.{Rule}
+use Rattle.trace_seen.specs.declared.rules.Rule.TheVariants as rules
 use Rattle.trace_rules.specs.declared.judge.Tally.{Tally}
 use Rattle.trace_rules.specs.declared.judge.Course.{Course}
 use Rattle.trace_rules.specs.declared.judge.Misfit.{Misfit}
 use Rattle.trace_rules.specs.declared.judge.Verdict.{Verdict}
 use Rattle.trace_rules.specs.declared.judge.Verdict.TheVariants.{Fits, Broken, NoTrace}
-use Rattle.trace_rules.specs.Seen.{Sight, cpu_at, timed}
-use Rattle.trace_rules.specs.Tree.{cpu_joining_fault, group_joining_fault, spot_fits}
-use Rattle.trace_rules.specs.Walks.{may_rest}
-use Rattle.trace_rules.specs.Exchanges.{exchange_fault, late_line, learned_exchange, with_cpu}
+use Rattle.trace_seen.specs.declared.seen.Late.{Late}
+use Rattle.trace_seen.specs.declared.whom.Whom.{Whom}
+use Rattle.trace_seen.specs.Seen.{Sight, cpu_at, timed}
+use Rattle.trace_runs.specs.declared.runs.Runs.{Runs}
+use Rattle.trace_runs.specs.Runs.{no_runs, runs_after}
+use Rattle.trace_runs.specs.Differences.{differences_after, no_differences}
+use Rattle.trace_seen.specs.Counts.{counted, counted_if}
+use Rattle.trace_seen.specs.Whom.{edge_whom, event_whom}
+use Rattle.trace_seen.specs.Tree.{cpu_joining_fault, group_joining_fault, spot_fits}
+use Rattle.trace_seen.specs.Walks.{may_rest}
+use Rattle.trace_rules.specs.Exchanges.{exchange_fault, late_left, learned_exchange, with_cpu}
 use Rattle.trace_rules.specs.Cpus.{cpu_fault, learned_cpu, learned_cpu_link, learned_group_link}
-use Rattle.trace_rules.specs.Cpus.{learned_place, learned_update, moved, update_fault}
-use Rattle.trace_rules.specs.Rests.{at_rest, rest_fits}
-use Rattle.trace_rules.specs.Told.{answers_if, counted, no_answers, told_fits}
+use Rattle.trace_rules.specs.Cpus.{learned_place, learned_update, looked, moved, update_fault}
+use Rattle.trace_seen.specs.Rests.{at_rest, rest_fits}
+use Rattle.trace_told.specs.Told.{answers_if, missing_whom, no_answers, told_fits}
 
 -- ---- one event
 
@@ -44,9 +51,9 @@ fault_of s cpu (CpuTold t) = cpu_fault s cpu t
 fault_of s cpu (Updated u) = update_fault s cpu u
 fault_of s cpu (Handling group) = handling_fault s cpu
 
--- the line of the late exchange that an exchange doesn't explain
-unfoldable pub late_fault : Sight → CpuId → Happening → Option ℕ
-late_fault s cpu (Exchanged e) = late_line s cpu e
+-- the late exchange that an exchange doesn't explain
+unfoldable pub late_fault : Sight → CpuId → Happening → Option Late
+late_fault s cpu (Exchanged e) = late_left s cpu e
 late_fault s cpu (GroupMade place) = None
 late_fault s cpu (GroupJoined child j) = None
 late_fault s cpu (CpuJoined joined j) = None
@@ -62,26 +69,39 @@ learned s line cpu (CpuJoined joined j) = learned_cpu_link s line cpu joined j
 learned s line cpu (Exchanged e) = learned_exchange s line cpu e
 learned s line cpu (CpuTold t) = learned_cpu s line cpu t
 learned s line cpu (Updated u) = learned_update s line cpu u
-learned s line cpu (Handling group) = moved s line cpu
+learned s line cpu (Handling group) = looked s line cpu group
 
--- the misfit of a line after which the rest is wrong, by its bits or by what was told
-abbrev pub rest_misfit : ℕ → Bool → Bool → Option Misfit
-rest_misfit line true true = None
-rest_misfit line true false = Some (record { line = line; rule = rules.Told })
-rest_misfit line false told = Some (record { line = line; rule = rules.Rest })
+-- what is wrong of those of whom is spoken
+abbrev pub misfit_of : ℕ → Rule → Whom → Misfit
+misfit_of line rule whom = record { line = line; rule = rule; whom = whom }
 
--- the misfit of a line, by the first rule that it breaks
-abbrev pub misfit_by : Option Rule → Option ℕ → ℕ → Bool → Bool → Option Misfit
-misfit_by (Some rule) late line fits told = Some (record { line = line; rule = rule })
-misfit_by None (Some late) line fits told = Some (record { line = late; rule = rules.Exchange })
-misfit_by None None line fits told = rest_misfit line fits told
+-- the misfit of a line after which the rest is wrong: by its bits, of the first group or CPU whose
+-- bit is wrong, or by what was told, of the first CPU for which nobody answers
+abbrev pub rest_by : ℕ → Sight → Bool → Bool → Option Misfit
+rest_by line s true true = None
+rest_by line s true false = Some (misfit_of line rules.Told (missing_whom s))
+rest_by line s false told = Some (misfit_of line rules.Rest (edge_whom s))
+
+-- the misfit of a line after which this is known
+abbrev pub rest_misfit : ℕ → Sight → Option Misfit
+rest_misfit line s = rest_by line s (rest_fits s) (told_fits s)
+
+-- of whom a late exchange speaks
+abbrev pub late_whom : Late → Whom
+late_whom late = record { cpu = Some late.cpu; group = Some late.exchange.place.group }
+
+-- the misfit of a line, by the first rule that it breaks; a late exchange's is that of its own line
+abbrev pub misfit_by : Option Rule → Option Late → ℕ → CpuId → Happening → Sight → Option Misfit
+misfit_by (Some rule) late line cpu h after = Some (misfit_of line rule (event_whom cpu h))
+misfit_by None (Some late) line cpu h after =
+    Some (misfit_of late.line rules.Exchange (late_whom late))
+misfit_by None None line cpu h after = rest_misfit line after
 
 -- where an event leaves the rules: by its own line, by a late exchange that it doesn't explain, or
 -- by what is known after it
 unfoldable pub told_misfit : Sight → ℕ → CpuId → Happening → Option Misfit
 told_misfit s line cpu h =
-    misfit_by (fault_of s cpu h) (late_fault s cpu h) line (rest_fits (learned s line cpu h))
-    (told_fits (learned s line cpu h))
+    misfit_by (fault_of s cpu h) (late_fault s cpu h) line cpu h (learned s line cpu h)
 
 -- ---- one line
 
@@ -106,11 +126,6 @@ line_misfit s line Remark = None
 line_misfit s line Loss = None
 line_misfit s line (Foreign cpu) = None
 line_misfit s line (Told cpu at h) = told_misfit (timed s at) line cpu h
-
--- counted, or not
-abbrev pub counted_if : Bool → ℕ → ℕ
-counted_if true n = counted n
-counted_if false n = n
 
 -- a line that tells an exchange
 abbrev pub is_exchange : Line → Bool
@@ -146,15 +161,17 @@ rests_after Remark s = false
 rests_after Loss s = false
 rests_after (Foreign cpu) s = false
 
--- the counts after a line, and what is known then
-unfoldable pub tally_after : Tally → Line → Sight → Tally
-tally_after t said s = record {
+-- the counts after a line, with these of runs, by what is known then
+unfoldable pub tally_after : Tally → Runs → Line → Sight → Tally
+tally_after t runs said s = record {
   lines = counted t.lines;
   events = counted_if (is_told said) t.events;
   exchanges = counted_if (is_exchange said) t.exchanges;
   rests = counted_if (rests_after said s) t.rests;
   losses = counted_if (is_loss_line said) t.losses;
   answers = answers_if (rests_after said s) t.answers s;
+  runs = runs;
+  differences = differences_after t.differences s said;
 }
 
 -- ---- the trace
@@ -168,6 +185,8 @@ no_tally = record {
   rests = 0;
   losses = 0;
   answers = no_answers;
+  runs = no_runs;
+  differences = no_differences;
 }
 
 -- before the first line
@@ -189,7 +208,8 @@ abbrev pub said_after : Course → Result Line LineFault → Course
 said_after k (Err fault) = k
 said_after k (Ok said) = record {
   seen = seen_after k.seen (counted k.tally.lines) said;
-  tally = tally_after k.tally said (seen_after k.seen (counted k.tally.lines) said);
+  tally = tally_after k.tally (runs_after k.tally.runs k.seen said) said
+      (seen_after k.seen (counted k.tally.lines) said);
 }
 
 -- the verdict that a line decides, if it does

@@ -1,11 +1,5 @@
-pub mod Seen
-pub mod Words
-pub mod Tree
-pub mod Walks
 pub mod Exchanges
 pub mod Cpus
-pub mod Rests
 pub mod Queues
-pub mod Told
 pub mod Judge
 pub mod Agrees

@@ -1,5 +1,5 @@
 -- queues: the events, the told expiries and the wakeups of which lines speak
-use Rattle.std.specs.Prelude.{ℕ, ◌==◌, ◌&&◌, ◌||◌, not, nat_le, Bool, true, false}
+use Rattle.std.specs.Prelude.{ℕ, ◌==◌, ◌&&◌, ◌||◌, not, nat_le, Bool, true}
 use Rattle.std.specs.Prelude.{Option, Some, None, if◌then◌else◌}
 use Rattle.tm_base.specs.declared.names.CpuId.{CpuId}
 use Rattle.trace_lines.specs.declared.events.TheConstants.{NO_EXPIRY}
@@ -10,13 +10,12 @@ use Rattle.trace_lines.specs.declared.events.CpuKind.{CpuKind}
 use Rattle.trace_lines.specs.declared.events.CpuKind.TheVariants.{Online, Awake, Asleep, Offline}
 use Rattle.trace_lines.specs.declared.events.CpuKind.TheVariants.{NewTimer, StillAsleep}
 use Rattle.trace_lines.specs.declared.events.CpuKind.TheVariants.{RunElsewhere}
-use Rattle.trace_rules.specs.declared.rules.Rule.{Rule}
-use Rattle.trace_rules.specs.declared.rules.Rule.TheVariants as rules
-use Rattle.trace_rules.specs.declared.seen.Run.{Run}
-use Rattle.trace_rules.specs.declared.seen.Run.TheVariants as runs
-use Rattle.trace_rules.specs.declared.seen.GroupSeen.{GroupSeen}
-use Rattle.trace_rules.specs.declared.seen.CpuSeen.{CpuSeen}
-use Rattle.trace_rules.specs.Seen.{Sight, cpu_at, group_at, put_cpu, put_group}
+use Rattle.trace_seen.specs.declared.rules.Rule.{Rule}
+use Rattle.trace_seen.specs.declared.rules.Rule.TheVariants as rules
+use Rattle.trace_seen.specs.declared.seen.Run.{Run}
+use Rattle.trace_seen.specs.declared.seen.Run.TheVariants as runs
+use Rattle.trace_seen.specs.declared.seen.CpuSeen.{CpuSeen}
+use Rattle.trace_seen.specs.Seen.{Sight, cpu_at, group_at, put_cpu, put_group}
 
 -- ---- what an exchange shows
 
@@ -81,6 +80,12 @@ words_fault now t c =
     else if not (is_kept now c.event t.expiry) then Some rules.Event
     else None
 
+-- another CPU runs a CPU's timers where its event is due, as far as that is known
+abbrev pub due_by : Option ℕ → Option ℕ → Option Rule
+due_by None event = None
+due_by (Some now) None = None
+due_by (Some now) (Some expiry) = if nat_le expiry now then None else Some rules.Remote
+
 -- what the queue side of a CPU's event breaks
 abbrev pub told_fault : CpuKind → Option ℕ → CpuEvent → CpuSeen → Option Rule
 told_fault Asleep now t c = words_fault now t c
@@ -89,7 +94,7 @@ told_fault Online now t c = None
 told_fault Awake now t c = None
 told_fault Offline now t c = None
 told_fault NewTimer now t c = None
-told_fault RunElsewhere now t c = None
+told_fault RunElsewhere now t c = due_by now c.event
 
 -- ---- what an update of a queue shows
 

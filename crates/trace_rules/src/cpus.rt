@@ -1,42 +1,23 @@
 //! The other events: of CPUs, of queues, of the tree.
 
 ghost use Rattle.std.specs.Prelude.{◌≡◌, OnOk};
-ghost use Rattle.trace_rules.specs.Cpus.{active_after, cpu_fault, is_asleep, is_awake, learned_cpu};
+ghost use Rattle.trace_rules.specs.Cpus.{active_after, cpu_fault, learned_cpu};
 ghost use Rattle.trace_rules.specs.Cpus.{learned_cpu_link, learned_group_link, learned_place};
-ghost use Rattle.trace_rules.specs.Cpus.{moved};
+ghost use Rattle.trace_rules.specs.Cpus.{look_seen, looked, moved, number_at, number_from, with_look};
 ghost use Rattle.trace_rules.specs.Cpus.{with_hung, with_leaf, with_link, with_named, with_writer};
 ghost use Rattle.trace_rules.specs.Cpus.{hung, is_elsewhere, is_level, must_rise, state_fault};
 ghost use Rattle.trace_rules.specs.Cpus.{first_seen, learned_update, with_first};
 ghost use Rattle.trace_rules.specs.Cpus.{update_fault, walk_told};
 
-use crate::Rule;
 use crate::exchanges::spot_of;
 use crate::queues::{first_after, forget_hidden, learn_event, run_told, spoken, told_fault};
-use crate::seen::{CpuSeen, GroupSeen, Next, Run, Seen, Spot, Walk};
-use crate::tree::parent_fits;
-use crate::walks::{may_end, may_rest, quiet};
 use tm_base::{CpuId, NoMemory};
 use trace_lines::{CpuEvent, CpuKind, Joining, NO_EXPIRY, Place, Update};
-
-/// Whether a CPU is known to be awake.
-pub fn is_awake(active: Option<bool>) -> bool
-    ensures { result ≡ is_awake active }
-{
-    match active {
-        Some(awake) => awake,
-        None => false,
-    }
-}
-
-/// Whether a CPU is known to sleep.
-pub fn is_asleep(active: Option<bool>) -> bool
-    ensures { result ≡ is_asleep active }
-{
-    match active {
-        Some(awake) => !awake,
-        None => false,
-    }
-}
+use trace_seen::Rule;
+use trace_seen::rests::{is_asleep, is_awake};
+use trace_seen::seen::{CpuSeen, GroupSeen, Look, Next, Run, Seen, Spot, Walk};
+use trace_seen::tree::{parent_fits, same_pointer};
+use trace_seen::walks::{may_end, may_rest, quiet};
 
 /// The rule that a CPU's event breaks, by what was seen of the CPU that is named and of the CPU's
 /// walk that wrote the line.
@@ -171,6 +152,65 @@ pub fn move_on(seen: &mut Seen, line: u64, own: CpuId) -> Result<(), NoMemory>
         run: Run::Own,
         ..writer
     })
+}
+
+/// The number of the child from which a CPU comes to a group, by the group to which it came before.
+fn number_from(looks: Option<Look>, seen: &Seen, group: u64) -> Option<u8>
+    ensures { result ≡ number_from looks seen.now group }
+{
+    let Some(look) = looks else {
+        return None;
+    };
+    let below = seen.group(look.group);
+    if same_pointer(below.parent, Some(group)) {
+        below.bit
+    } else {
+        None
+    }
+}
+
+/// The number of the child from which a CPU comes to a group.
+fn number_at(seen: &Seen, cpu: &CpuSeen, group: u64) -> Option<u8>
+    ensures { result ≡ number_at seen.now cpu.now group }
+{
+    if same_pointer(cpu.leaf, Some(group)) {
+        cpu.bit
+    } else {
+        number_from(cpu.looks, seen, group)
+    }
+}
+
+/// The group to which a CPU comes, with the number of the child from which it does.
+#[tactic(auto, unfolding(crate::specs::Cpus::look_seen))]
+fn look_seen(seen: &Seen, own: CpuId, group: u64) -> Look
+    ensures { result ≡ look_seen seen.now own group }
+{
+    let writer = seen.cpu(own);
+    let bit = number_at(seen, &writer, group);
+    Look { group, bit }
+}
+
+/// Keeps that a CPU came there.
+#[tactic(auto, unfolding(crate::specs::Cpus::with_look))]
+fn learn_look(seen: &mut Seen, line: u64, own: CpuId, look: Look) -> Result<(), NoMemory>
+    ensures { OnOk result (seen.new ≡ with_look seen.old line own look) }
+{
+    let writer = seen.cpu(own);
+    seen.put_cpu(CpuSeen {
+        walk: quiet(writer.walk),
+        last: line,
+        run: Run::Own,
+        looks: Some(look),
+        ..writer
+    })
+}
+
+/// Keeps that a CPU came to a group to run timers of others.
+pub fn look_at(seen: &mut Seen, line: u64, own: CpuId, group: u64) -> Result<(), NoMemory>
+    ensures { OnOk result (seen.new ≡ looked seen.old line own group) }
+{
+    let look = look_seen(seen, own, group);
+    learn_look(seen, line, own, look)
 }
 
 /// Keeps that a CPU went on in its walk or its run by an update, and the wakeup that it has found.

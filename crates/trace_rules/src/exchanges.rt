@@ -2,20 +2,22 @@
 
 ghost use Rattle.std.specs.Prelude.{◌≡◌, OnOk};
 ghost use Rattle.trace_rules.specs.Exchanges.{bit_is_right, child_after, cpu_after, exchange_fault};
-ghost use Rattle.trace_rules.specs.Exchanges.{group_after, is_resolved, late_line};
+ghost use Rattle.trace_rules.specs.Exchanges.{group_after, is_resolved, late_left};
 ghost use Rattle.trace_rules.specs.Exchanges.{learned_exchange};
 ghost use Rattle.trace_rules.specs.Exchanges.{place_fault, settled, spot_of, word_before, told_by};
 ghost use Rattle.trace_rules.specs.Exchanges.{learned_child, learned_group, learned_walk};
 ghost use Rattle.trace_rules.specs.Exchanges.{source_seen, word_seen};
 
-use crate::Rule;
 use crate::queues::{event_after, first_begun};
-use crate::seen::{CpuSeen, GroupSeen, Late, Run, Seen, Spot, Word};
-use crate::tree::{bit_fits, cpus_free, groups_free, is_below, node_fits, parent_fits, spot_fits};
-use crate::walks::{allows, came_from, walk_after};
-use crate::words::{follows, state_of, word_after};
 use tm_base::{CpuId, NoMemory};
 use trace_lines::{Exchange, Place};
+use trace_seen::Rule;
+use trace_seen::seen::{CpuSeen, GroupSeen, Late, Run, Seen, Spot, Word};
+use trace_seen::tree::{
+    bit_fits, cpus_free, groups_free, is_below, node_fits, parent_fits, spot_fits,
+};
+use trace_seen::walks::{allows, came_from, walk_after};
+use trace_seen::words::{follows, state_of, word_after};
 
 /// Whether the child of an exchange has the number that it was seen with, and no other has it.
 fn bit_is_right(seen: &Seen, cpu: CpuId, exchange: &Exchange) -> bool
@@ -103,9 +105,9 @@ fn is_resolved(group: &GroupSeen, late: &Late, own: &CpuSeen, exchange: &Exchang
         && follows(word_after(exchange), &late.exchange)
 }
 
-/// The line of the group's late exchange, where this one doesn't explain it.
-pub fn late_line(seen: &Seen, cpu: CpuId, exchange: &Exchange) -> Option<u64>
-    ensures { result ≡ late_line seen.now cpu exchange.now }
+/// The group's late exchange, where this one doesn't explain it.
+pub fn late_left(seen: &Seen, cpu: CpuId, exchange: &Exchange) -> Option<Late>
+    ensures { result ≡ late_left seen.now cpu exchange.now }
 {
     let group = seen.group(exchange.place.group);
     let own = seen.cpu(cpu);
@@ -114,7 +116,7 @@ pub fn late_line(seen: &Seen, cpu: CpuId, exchange: &Exchange) -> Option<u64>
             if is_resolved(&group, &late, &own, exchange) {
                 None
             } else {
-                Some(late.line)
+                Some(late)
             }
         }
         None => None,

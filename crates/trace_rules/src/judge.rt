@@ -1,35 +1,40 @@
 //! The fold over the lines of a trace.
 
-ghost use Rattle.std.specs.Prelude.{◌≡◌, ◌↔◌, IfOk, OnOk, None};
+ghost use Rattle.std.specs.Prelude.{◌≡◌, ◌↔◌, IfOk, OnOk, None, is_some, true};
 ghost use Rattle.text_words.specs.Words.{lines_of};
-ghost use Rattle.trace_rules.specs.Judge.{counted_if, fault_of, rest_misfit};
+ghost use Rattle.trace_rules.specs.Judge.{fault_of, rest_misfit};
 ghost use Rattle.trace_rules.specs.Judge.{is_exchange, is_loss_line, is_told, judged, late_count};
 ghost use Rattle.trace_rules.specs.Judge.{late_fault, learned, line_misfit, rests_after};
 ghost use Rattle.trace_rules.specs.Judge.{seen_after};
 ghost use Rattle.trace_rules.specs.Judge.{start, tally_after, text_after, text_verdict};
 ghost use Rattle.trace_rules.specs.Judge.{told_misfit};
 ghost use Rattle.trace_rules.specs.Judge.{EachLineFits, IsFirstFault, IsFitting};
-ghost use Rattle.trace_rules.specs.Judge.{handling_fault, noted};
+ghost use Rattle.trace_rules.specs.Judge.{handling_fault, late_whom, misfit_of, noted};
+ghost use Rattle.trace_seen.specs.declared.rules.Rule.TheVariants as rules;
 ghost use Rattle.trace_rules.specs.Agrees.{EachRestAnswers};
 ghost use Rattle.trace_rules.specs.Cpus.{learned_place, moved};
-ghost use Rattle.trace_rules.specs.Rests.{rest_fits};
-ghost use Rattle.trace_rules.specs.Told.{told_fits};
+ghost use Rattle.trace_seen.specs.Rests.{rest_fits};
+ghost use Rattle.trace_told.specs.Told.{told_fits};
 
-use crate::Rule;
 use crate::cpus::{
-    cpu_fault, learn_cpu, learn_cpu_link, learn_group_link, learn_place, learn_update, move_on,
-    update_fault,
+    cpu_fault, learn_cpu, learn_cpu_link, learn_group_link, learn_place, learn_update, look_at,
+    move_on, update_fault,
 };
-use crate::exchanges::{exchange_fault, late_line, learn_exchange};
-use crate::rests::{at_rest, rest_fits};
-use crate::seen::{CpuSeen, Seen};
-use crate::told::{Answers, answers_if, counted, no_answers, told_fits};
-use crate::tree::{cpu_joining_fault, group_joining_fault, spot_fits};
-use crate::walks::may_rest;
+use crate::exchanges::{exchange_fault, late_left, learn_exchange};
 use std::alloc::Global;
 use text_words::cut;
 use tm_base::{CpuId, NoMemory};
 use trace_lines::{Happening, Line, LineFault, Place, read_line};
+use trace_runs::{Differences, Runs, differences_after, no_differences, no_runs, runs_after};
+use trace_seen::counts::{counted, counted_if};
+use trace_seen::rests::{at_rest, rest_fits};
+use trace_seen::seen::{CpuSeen, Late, Seen};
+use trace_seen::tree::{cpu_joining_fault, group_joining_fault, spot_fits};
+use trace_seen::walks::may_rest;
+use trace_seen::whom::{edge_whom, event_whom};
+use trace_seen::{Rule, Whom};
+use trace_told::told::{answers_if, missing_whom, no_answers, told_fits};
+use trace_told::{Answers, law_rests};
 
 /// How much of a trace was read and checked.
 #[derive(Clone, Copy)]
@@ -46,6 +51,10 @@ pub struct Tally {
     pub losses: u64,
     /// Who answered for what idle CPUs had told, at each rest.
     pub answers: Answers,
+    /// Runs of other CPUs' timers, by how late they were.
+    pub runs: Runs,
+    /// What Linux does otherwise.
+    pub differences: Differences,
 }
 
 /// Where a trace leaves the rules.
@@ -55,6 +64,8 @@ pub struct Misfit {
     pub line: u64,
     /// The rule that it breaks.
     pub rule: Rule,
+    /// The CPU and the group at fault.
+    pub whom: Whom,
 }
 
 /// What is said of a trace.
@@ -110,13 +121,13 @@ fn handling_fault(seen: &Seen, cpu: CpuId) -> Option<Rule>
     }
 }
 
-/// The line of the late exchange that an event doesn't explain.
+/// The late exchange that an event doesn't explain.
 #[tactic(auto, unfolding(crate::specs::Judge::late_fault))]
-fn late_fault(seen: &Seen, cpu: CpuId, happening: &Happening) -> Option<u64>
+fn late_fault(seen: &Seen, cpu: CpuId, happening: &Happening) -> Option<Late>
     ensures { result ≡ late_fault seen.now cpu happening.now }
 {
     match happening {
-        Happening::Exchanged(exchange) => late_line(seen, cpu, exchange),
+        Happening::Exchanged(exchange) => late_left(seen, cpu, exchange),
         _ => None,
     }
 }
@@ -146,7 +157,7 @@ fn learn(seen: &mut Seen, line: u64, cpu: CpuId, happening: &Happening) -> Resul
         Happening::Exchanged(exchange) => learn_exchange(seen, line, cpu, exchange),
         Happening::CpuTold(event) => learn_cpu(seen, line, cpu, event),
         Happening::Updated(update) => learn_update(seen, line, cpu, update),
-        Happening::Handling(_) => move_on(seen, line, cpu),
+        Happening::Handling(group) => look_at(seen, line, cpu, *group),
     }
 }
 
@@ -163,26 +174,42 @@ fn take_told(
         → seen.new ≡ learned seen.old line cpu happening.now) }
 {
     if let Some(rule) = fault_of(seen, cpu, happening) {
-        return Ok(Some(Misfit { line, rule }));
+        let whom = event_whom(cpu, happening);
+        return Ok(Some(Misfit { line, rule, whom }));
     }
     if let Some(late) = late_fault(seen, cpu, happening) {
-        let rule = Rule::Exchange;
-        return Ok(Some(Misfit { line: late, rule }));
+        return Ok(Some(late_misfit(&late)));
     }
     learn(seen, line, cpu, happening)?;
     Ok(rest_misfit(seen, line))
 }
 
+/// The misfit of a late exchange that nothing explains.
+fn late_misfit(late: &Late) -> Misfit
+    ensures { result ≡ misfit_of late.now.line rules.Exchange (late_whom late.now) }
+{
+    Misfit {
+        line: late.line,
+        rule: Rule::Exchange,
+        whom: Whom {
+            cpu: Some(late.cpu),
+            group: Some(late.exchange.place.group),
+        },
+    }
+}
+
 /// Where a line leaves the rules by what is known after it.
 fn rest_misfit(seen: &Seen, line: u64) -> Option<Misfit>
-    ensures { result ≡ rest_misfit line (rest_fits seen.now) (told_fits seen.now) }
+    ensures { result ≡ rest_misfit line seen.now }
 {
     if !rest_fits(seen) {
         let rule = Rule::Rest;
-        Some(Misfit { line, rule })
+        let whom = edge_whom(seen);
+        Some(Misfit { line, rule, whom })
     } else if !told_fits(seen) {
         let rule = Rule::Told;
-        Some(Misfit { line, rule })
+        let whom = missing_whom(seen);
+        Some(Misfit { line, rule, whom })
     } else {
         None
     }
@@ -224,12 +251,6 @@ fn take_line(
     }
 }
 
-fn counted_if(counts: bool, n: u64) -> u64
-    ensures { result ≡ counted_if counts n }
-{
-    if counts { counted(n) } else { n }
-}
-
 fn is_exchange(said: &Line) -> bool
     ensures { result ≡ is_exchange said.now }
 {
@@ -269,10 +290,10 @@ fn rests_after(said: &Line, seen: &Seen) -> bool
     }
 }
 
-/// The counts after a line.
+/// The counts after a line; the runs are counted by what was seen before it.
 #[tactic(auto, unfolding(crate::specs::Judge::tally_after))]
-fn tally_after(tally: Tally, said: &Line, seen: &Seen) -> Tally
-    ensures { result ≡ tally_after tally said.now seen.now }
+fn tally_after(tally: Tally, runs: Runs, said: &Line, seen: &Seen) -> Tally
+    ensures { result ≡ tally_after tally runs said.now seen.now }
 {
     Tally {
         lines: counted(tally.lines),
@@ -281,22 +302,32 @@ fn tally_after(tally: Tally, said: &Line, seen: &Seen) -> Tally
         rests: counted_if(rests_after(said, seen), tally.rests),
         losses: counted_if(is_loss_line(said), tally.losses),
         answers: answers_if(rests_after(said, seen), tally.answers, seen),
+        runs,
+        differences: differences_after(tally.differences, seen, said),
     }
 }
 
-/// Takes a line, and answers what it decides.
+/// Takes a line, and answers what it decides, if it does. Where it does nothing is known of what was
+/// seen, and the counts are those of before.
 #[tactic(auto, unfolding(crate::specs::Judge::text_verdict, crate::specs::Judge::text_after))]
-fn take_text(alloc: Global, course: &mut Course, text: &[u8]) -> Result<Option<Verdict>, NoMemory>
+pub fn take_text(
+    alloc: Global,
+    course: &mut Course,
+    text: &[u8],
+) -> Result<Option<Verdict>, NoMemory>
     ensures verdict { IfOk result (λ v. v ≡ text_verdict course.old text.now) }
     ensures after { IfOk result (λ v. v ≡ None → course.new ≡ text_after course.old text.now) }
+    ensures counts { IfOk result
+        (λ v. is_some v ≡ true → course.new.tally ≡ course.old.tally) }
 {
     let line = counted(course.tally.lines);
     match read_line(text) {
         Ok(said) => {
+            let runs = runs_after(course.tally.runs, &course.seen, &said);
             if let Some(misfit) = take_line(alloc, &mut course.seen, line, &said)? {
                 return Ok(Some(Verdict::Broken(misfit)));
             }
-            course.tally = tally_after(course.tally, &said, &course.seen);
+            course.tally = tally_after(course.tally, runs, &said, &course.seen);
             Ok(None)
         }
         Err(fault) => Ok(Some(Verdict::NoTrace(line, fault))),
@@ -304,17 +335,17 @@ fn take_text(alloc: Global, course: &mut Course, text: &[u8]) -> Result<Option<V
 }
 
 /// How many groups have an exchange that nothing explains yet.
-fn late_count(seen: &Seen) -> usize
+pub fn late_count(seen: &Seen) -> usize
     ensures { result ≡ late_count seen.now }
 {
     seen.groups().iter().filter(|g| g.late.is_some()).count()
 }
 
-/// What the function on lists says of a trace.
-fn judge_lines(alloc: Global, bytes: &[u8]) -> Result<Verdict, NoMemory>
-    ensures { IfOk result (λ v. v ≡ judged start (lines_of bytes.now)) }
+/// Before the first line; takes no memory.
+pub fn new_course(alloc: Global) -> Course
+    ensures { result ≡ start }
 {
-    let mut course = Course {
+    Course {
         seen: Seen::new(alloc),
         tally: Tally {
             lines: 0,
@@ -323,8 +354,17 @@ fn judge_lines(alloc: Global, bytes: &[u8]) -> Result<Verdict, NoMemory>
             rests: 0,
             losses: 0,
             answers: no_answers(),
+            runs: no_runs(),
+            differences: no_differences(),
         },
-    };
+    }
+}
+
+/// What the function on lists says of a trace.
+fn judge_lines(alloc: Global, bytes: &[u8]) -> Result<Verdict, NoMemory>
+    ensures { IfOk result (λ v. v ≡ judged start (lines_of bytes.now)) }
+{
+    let mut course = new_course(alloc);
     let mut rest = bytes;
     while let Some((text, after)) = cut(rest, b'\n') {
         if let Some(verdict) = take_text(alloc, &mut course, text)? {
@@ -347,6 +387,7 @@ pub fn check_trace(alloc: Global, bytes: &[u8]) -> Result<Verdict, NoMemory>
     ensures first { IfOk result (λ v. (IsFitting v → ⊥) → IsFirstFault bytes.now v) }
     ensures answered { IfOk result (λ v. IsFitting v → EachRestAnswers bytes.now) }
 {
+    law_rests();
     let verdict = judge_lines(alloc, bytes)?;
     Ok(verdict)
 }

@@ -1,15 +1,15 @@
 //! Queues: the events, the told expiries and the wakeups of which lines speak.
 
 ghost use Rattle.std.specs.Prelude.{◌≡◌, OnOk};
-ghost use Rattle.trace_rules.specs.Queues.{event_after, event_told, first_after, first_at};
+ghost use Rattle.trace_rules.specs.Queues.{due_by, event_after, event_told, first_after, first_at};
 ghost use Rattle.trace_rules.specs.Queues.{first_begun, first_found, is_found, is_kept, run_told};
 ghost use Rattle.trace_rules.specs.Queues.{spoken, told_fault, with_event, with_group_event};
 ghost use Rattle.trace_rules.specs.Queues.{with_hidden, with_leaf_event, words_fault};
 
-use crate::Rule;
-use crate::seen::{CpuSeen, GroupSeen, Run, Seen};
 use tm_base::{CpuId, NoMemory};
 use trace_lines::{CpuEvent, CpuKind, Exchange, NO_EXPIRY, Update};
+use trace_seen::Rule;
+use trace_seen::seen::{CpuSeen, GroupSeen, Run, Seen};
 
 /// A group's event in its parent after an exchange on the group.
 pub fn event_after(exchange: &Exchange, event: Option<u64>) -> Option<u64>
@@ -151,17 +151,31 @@ fn words_fault(clock: Option<u64>, event: &CpuEvent, cpu: &CpuSeen) -> Option<Ru
     }
 }
 
+/// The rule that a run of a CPU's timers by another CPU breaks (`tmigr_handle_remote_cpu`).
+fn due_fault(clock: Option<u64>, event: Option<u64>) -> Option<Rule>
+    ensures { result ≡ due_by clock event }
+{
+    let Some(now) = clock else {
+        return None;
+    };
+    let Some(expiry) = event else {
+        return None;
+    };
+    if expiry <= now {
+        None
+    } else {
+        Some(Rule::Remote)
+    }
+}
+
 /// The rule that an event of a CPU breaks by what it says of queues.
 pub fn told_fault(clock: Option<u64>, event: &CpuEvent, cpu: &CpuSeen) -> Option<Rule>
     ensures { result ≡ told_fault event.now.kind clock event.now cpu.now }
 {
     match event.kind {
         CpuKind::Asleep | CpuKind::StillAsleep => words_fault(clock, event, cpu),
-        CpuKind::Online
-        | CpuKind::Awake
-        | CpuKind::Offline
-        | CpuKind::NewTimer
-        | CpuKind::RunElsewhere => None,
+        CpuKind::RunElsewhere => due_fault(clock, cpu.event),
+        CpuKind::Online | CpuKind::Awake | CpuKind::Offline | CpuKind::NewTimer => None,
     }
 }
 

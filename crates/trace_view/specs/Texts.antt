@@ -1,22 +1,29 @@
 -- what tmigview writes
-use Rattle.std.specs.Prelude.{ℕ, List, ◌++◌, codes}
+use Rattle.std.specs.Prelude.{ℕ, zero, suc, ◌+◌, ◌/◌, ◌%◌, nat_lt, List, [], ◌∷◌, ◌++◌, codes}
+use Rattle.std.specs.Prelude.{Option, Some, None, if◌then◌else◌}
 use Rattle.std.specs.Fmt.{decimal}
+use Rattle.tm_base.specs.declared.names.CpuId.{CpuId}
 use Rattle.trace_lines.specs.declared.faults.LineFault.{LineFault}
 use Rattle.trace_lines.specs.declared.faults.LineFault.TheVariants.{NoEvent, BadCpu, FieldMissing}
 use Rattle.trace_lines.specs.declared.faults.LineFault.TheVariants.{BadNumber, OutOfRange}
 use Rattle.trace_lines.specs.declared.faults.LineFault.TheVariants.{HiddenPointer}
-use Rattle.trace_rules.specs.declared.rules.Rule.{Rule}
-use Rattle.trace_rules.specs.declared.rules.Rule.TheVariants.{Group, Tree, Node, Walk, Exchange}
-use Rattle.trace_rules.specs.declared.rules.Rule.TheVariants.{Cpu, Event, Wakeup, Rest, Told}
+use Rattle.trace_seen.specs.declared.rules.Rule.{Rule}
+use Rattle.trace_seen.specs.declared.rules.Rule.TheVariants.{Group, Tree, Node, Walk, Exchange}
+use Rattle.trace_seen.specs.declared.rules.Rule.TheVariants.{Cpu, Event, Remote, Wakeup, Rest, Told}
 use Rattle.trace_rules.specs.declared.judge.Tally.{Tally}
-use Rattle.trace_rules.specs.declared.told.Answers.{Answers}
+use Rattle.trace_told.specs.declared.told.Answers.{Answers}
+use Rattle.trace_seen.specs.declared.whom.Whom.{Whom}
+use Rattle.trace_runs.specs.declared.runs.Runs.{Runs}
+use Rattle.trace_runs.specs.declared.differences.Differences.{Differences}
+use Rattle.trace_view.specs.declared.texts.TheConstants.{POINTER_DIGITS}
 use Rattle.trace_rules.specs.declared.judge.Misfit.{Misfit}
 use Rattle.trace_rules.specs.declared.judge.Verdict.{Verdict}
 use Rattle.trace_rules.specs.declared.judge.Verdict.TheVariants.{Fits, Broken, NoTrace}
 
 -- the text where the words are no command
 abbrev pub usage_line : List ℕ
-usage_line = codes "usage: tmigview linux < TRACE\n"
+usage_line =
+    codes "usage: tmigview linux < TRACE | chart [--from J] [--to J] [--cpus A-B] < REPORT\n"
 
 -- .. where the source failed
 abbrev pub read_fault_line : List ℕ
@@ -29,7 +36,7 @@ too_long_line = codes "tmigview: the input has more than 67108864 bytes\n"
 -- a rule in words
 unfoldable pub rule_text : Rule → List ℕ
 rule_text Group =
-    codes "a group's migrator is one of its active children, and none where none is"
+    codes "a group's migrator is one of its active children, and none where none is (tmigr_active_up, tmigr_inactive_up)"
 rule_text Tree =
     codes "groups keep levels, parents and children's numbers (tmigr_setup_groups)"
 rule_text Node =
@@ -38,13 +45,16 @@ rule_text Walk = codes "a walk goes on exactly where it has to (__walk_groups)"
 rule_text Exchange =
     codes "an exchange follows from the state before it (tmigr_active_up, tmigr_inactive_up)"
 rule_text Cpu =
-    codes "a CPU wakes where it sleeps, and only a sleeping one is run elsewhere"
+    codes "a CPU wakes where it sleeps, and only a sleeping one is run elsewhere (tmigr_cpu_activate, tmigr_handle_remote_cpu)"
+rule_text Remote =
+    codes "a CPU's timers are run elsewhere when its event is due (tmigr_handle_remote_cpu)"
 rule_text Event = codes "an event is the first of a sleeping child (tmigr_update_events)"
 rule_text Wakeup =
     codes "an idle CPU wakes for the first event of a sleeping top (tmigr_next_groupevt_expires)"
 rule_text Told =
     codes "each idle CPU's told timer is answered for (tmigr_update_events, tmigr_inactive_up)"
-rule_text Rest = codes "with no walk under way a child's bit says whether it is active"
+rule_text Rest =
+    codes "with no walk under way a child's bit says whether it is active (tmigr_active_up, tmigr_inactive_up)"
 
 -- why a line is no line of a trace
 unfoldable pub fault_text : LineFault → List ℕ
@@ -73,15 +83,72 @@ answers_text a =
     ++ count_text (codes " itself ") a.itself ++ count_text (codes " open ") a.unsure
     ++ count_text (codes " due ") a.due
 
+-- how many runs of other CPUs' timers were late by a tick or so
+unfoldable pub tick_runs_text : Runs → List ℕ
+tick_runs_text r = count_text (codes " 4000us ") r.in_4_ms ++ count_text (codes " 10000us ") r.in_10_ms
+
+-- .. by more, or by an unknown time
+unfoldable pub late_runs_text : Runs → List ℕ
+late_runs_text r =
+    count_text (codes " 100000us ") r.in_100_ms ++ count_text (codes " later ") r.later
+    ++ count_text (codes " open ") r.unsure
+
+-- how late other CPUs' timers were run
+unfoldable pub runs_text : Runs → List ℕ
+runs_text r =
+    count_text (codes "\nremote: 1000us ") r.in_1_ms ++ tick_runs_text r ++ late_runs_text r
+
+-- what Linux does otherwise with events and wakeups
+unfoldable pub events_text : Differences → List ℕ
+events_text d =
+    count_text (codes "\nlinux: early ") d.early ++ count_text (codes " twice ") d.twice
+
+-- .. with runs of timers
+unfoldable pub orders_text : Runs → List ℕ
+orders_text r = count_text (codes " order ") r.queued ++ count_text (codes " own ") r.itself
+
+-- what isn't known at the end
+unfoldable pub open_text : Runs → ℕ → List ℕ
+open_text r late =
+    count_text (codes "\nopen: late exchanges ") late
+    ++ count_text (codes " astray ") r.astray ++ codes "\nnot checked: timers\n"
+
+-- what was counted besides
+unfoldable pub others_text : Tally → List ℕ
+others_text t = runs_text t.runs ++ events_text t.differences ++ orders_text t.runs
+
 -- the text of a trace that fits
 unfoldable pub fits_text : Tally → ℕ → List ℕ
-fits_text t late =
-    tally_text t ++ answers_text t.answers ++ count_text (codes "\nopen: late exchanges ") late
-    ++ codes "\nnot checked: remote runs, timers, times\n"
+fits_text t late = tally_text t ++ answers_text t.answers ++ others_text t ++ open_text t.runs late
 
--- .. of one that breaks a rule
+-- one digit in hexadecimal
+abbrev pub hex_digit : ℕ → ℕ
+hex_digit d = if nat_lt d 10 then 48 + d else 87 + d
+
+-- the last so many digits of a number in hexadecimal
+unfoldable pub hex_digits : ℕ → ℕ → List ℕ
+hex_digits zero n = []
+hex_digits (suc count) n = hex_digits count (n / 16) ++ hex_digit (n % 16) ∷ []
+
+-- a CPU, where there is one
+abbrev pub cpu_text : Option CpuId → List ℕ
+cpu_text None = []
+cpu_text (Some cpu) = count_text (codes ", CPU ") cpu.0
+
+-- a group by its pointer, where there is one
+abbrev pub behind_text : Option ℕ → List ℕ
+behind_text None = []
+behind_text (Some pointer) = codes ", group " ++ hex_digits POINTER_DIGITS pointer
+
+-- of whom something is said
+unfoldable pub whom_text : Whom → List ℕ
+whom_text w = cpu_text w.cpu ++ behind_text w.group
+
+-- the text of a trace that breaks a rule
 unfoldable pub broken_text : Misfit → List ℕ
-broken_text m = count_text (codes "line ") m.line ++ codes ": " ++ rule_text m.rule ++ codes "\n"
+broken_text m =
+    count_text (codes "line ") m.line ++ whom_text m.whom ++ codes ": " ++ rule_text m.rule
+    ++ codes "\n"
 
 -- .. of what is no trace
 unfoldable pub no_trace_text : ℕ → LineFault → List ℕ

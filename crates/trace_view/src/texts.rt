@@ -1,22 +1,31 @@
 //! What tmigview writes.
 
-ghost use Rattle.std.specs.Prelude.{◌≡◌, ◌++◌, codes, IfOk, OnOk};
+ghost use Rattle.std.specs.Prelude.{◌≡◌, ◌<◌, ◌++◌, codes, IfOk, OnOk};
 ghost use Rattle.std.specs.Fmt.{decimal};
 ghost use Rattle.trace_view.specs.Texts.{answers_text, broken_text, count_text, fault_text, fits_text};
 ghost use Rattle.trace_view.specs.Texts.{no_trace_text, read_fault_line, too_long_line};
 ghost use Rattle.trace_view.specs.Texts.{rule_text, tally_text, usage_line, verdict_text};
+ghost use Rattle.trace_view.specs.Texts.{events_text, hex_digit, hex_digits};
+ghost use Rattle.trace_view.specs.Texts.{behind_text, cpu_text, late_runs_text, open_text, orders_text};
+ghost use Rattle.trace_view.specs.Texts.{others_text, runs_text, tick_runs_text, whom_text};
 
 use std::alloc::Global;
 use text_words::{push_bytes, push_number};
-use tm_base::NoMemory;
+use tm_base::{CpuId, NoMemory};
 use trace_lines::LineFault;
-use trace_rules::{Answers, Misfit, Rule, Tally, Verdict};
+use trace_rules::{Misfit, Tally, Verdict};
+use trace_runs::{Differences, Runs};
+use trace_seen::{Rule, Whom};
+use trace_told::Answers;
+
+/// The digits of a pointer in hexadecimal, as the kernel writes it.
+const POINTER_DIGITS: u8 = 16;
 
 /// How the program is used.
 pub fn usage_text() -> &'static [u8]
     ensures { result.now ≡ usage_line }
 {
-    b"usage: tmigview linux < TRACE\n"
+    b"usage: tmigview linux < TRACE | chart [--from J] [--to J] [--cpus A-B] < REPORT\n"
 }
 
 /// That the source failed.
@@ -39,19 +48,24 @@ fn rule_text(rule: Rule) -> &'static [u8]
     ensures { result.now ≡ rule_text rule }
 {
     match rule {
-        Rule::Group => b"a group's migrator is one of its active children, and none where none is",
+        Rule::Group => b"a group's migrator is one of its active children, and none where none is \
+              (tmigr_active_up, tmigr_inactive_up)",
         Rule::Tree => b"groups keep levels, parents and children's numbers (tmigr_setup_groups)",
         Rule::Node => b"a group of a node has children of that node alone (tmigr_setup_groups)",
         Rule::Walk => b"a walk goes on exactly where it has to (__walk_groups)",
         Rule::Exchange => b"an exchange follows from the state before it (tmigr_active_up, \
               tmigr_inactive_up)",
-        Rule::Cpu => b"a CPU wakes where it sleeps, and only a sleeping one is run elsewhere",
+        Rule::Cpu => b"a CPU wakes where it sleeps, and only a sleeping one is run elsewhere \
+              (tmigr_cpu_activate, tmigr_handle_remote_cpu)",
+        Rule::Remote => b"a CPU's timers are run elsewhere when its event is due \
+              (tmigr_handle_remote_cpu)",
         Rule::Event => b"an event is the first of a sleeping child (tmigr_update_events)",
         Rule::Wakeup => b"an idle CPU wakes for the first event of a sleeping top \
               (tmigr_next_groupevt_expires)",
         Rule::Told => b"each idle CPU's told timer is answered for (tmigr_update_events, \
               tmigr_inactive_up)",
-        Rule::Rest => b"with no walk under way a child's bit says whether it is active",
+        Rule::Rest => b"with no walk under way a child's bit says whether it is active \
+              (tmigr_active_up, tmigr_inactive_up)",
     }
 }
 
@@ -106,15 +120,147 @@ fn push_answers(text: &mut Vec<u8>, answers: Answers) -> Result<(), NoMemory>
     Ok(())
 }
 
+/// How many runs of other CPUs' timers were late by a tick or so.
+#[tactic(auto, using(std::proofs::lemmas::List::append_assoc), unfolding(crate::specs::Texts::tick_runs_text))]
+fn push_tick_runs(text: &mut Vec<u8>, runs: Runs) -> Result<(), NoMemory>
+    ensures { OnOk result (text.new.items ≡ text.old.items ++ tick_runs_text runs) }
+{
+    push_count(text, b" 4000us ", runs.in_4_ms)?;
+    push_count(text, b" 10000us ", runs.in_10_ms)?;
+    Ok(())
+}
+
+/// .. by more, or by an unknown time.
+#[tactic(auto, using(std::proofs::lemmas::List::append_assoc), unfolding(crate::specs::Texts::late_runs_text))]
+fn push_late_runs(text: &mut Vec<u8>, runs: Runs) -> Result<(), NoMemory>
+    ensures { OnOk result (text.new.items ≡ text.old.items ++ late_runs_text runs) }
+{
+    push_count(text, b" 100000us ", runs.in_100_ms)?;
+    push_count(text, b" later ", runs.later)?;
+    push_count(text, b" open ", runs.unsure)?;
+    Ok(())
+}
+
+/// How late other CPUs' timers were run.
+#[tactic(auto, using(std::proofs::lemmas::List::append_assoc), unfolding(crate::specs::Texts::runs_text))]
+fn push_runs(text: &mut Vec<u8>, runs: Runs) -> Result<(), NoMemory>
+    ensures { OnOk result (text.new.items ≡ text.old.items ++ runs_text runs) }
+{
+    push_count(text, b"\nremote: 1000us ", runs.in_1_ms)?;
+    push_tick_runs(text, runs)?;
+    push_late_runs(text, runs)?;
+    Ok(())
+}
+
+/// What Linux does otherwise with events and wakeups.
+#[tactic(auto, using(std::proofs::lemmas::List::append_assoc), unfolding(crate::specs::Texts::events_text))]
+fn push_events(text: &mut Vec<u8>, differences: Differences) -> Result<(), NoMemory>
+    ensures { OnOk result (text.new.items ≡ text.old.items ++ events_text differences) }
+{
+    push_count(text, b"\nlinux: early ", differences.early)?;
+    push_count(text, b" twice ", differences.twice)?;
+    Ok(())
+}
+
+/// .. with runs of timers.
+#[tactic(auto, using(std::proofs::lemmas::List::append_assoc), unfolding(crate::specs::Texts::orders_text))]
+fn push_orders(text: &mut Vec<u8>, runs: Runs) -> Result<(), NoMemory>
+    ensures { OnOk result (text.new.items ≡ text.old.items ++ orders_text runs) }
+{
+    push_count(text, b" order ", runs.queued)?;
+    push_count(text, b" own ", runs.itself)?;
+    Ok(())
+}
+
+/// What isn't known at the end.
+#[tactic(auto, using(std::proofs::lemmas::List::append_assoc), unfolding(crate::specs::Texts::open_text))]
+fn push_open(text: &mut Vec<u8>, runs: Runs, late: u64) -> Result<(), NoMemory>
+    ensures { OnOk result (text.new.items ≡ text.old.items ++ open_text runs late) }
+{
+    push_count(text, b"\nopen: late exchanges ", late)?;
+    push_count(text, b" astray ", runs.astray)?;
+    push_bytes(text, b"\nnot checked: timers\n")?;
+    Ok(())
+}
+
+/// What was counted besides.
+#[tactic(auto, unfolding(crate::specs::Texts::others_text))]
+fn push_others(text: &mut Vec<u8>, tally: Tally) -> Result<(), NoMemory>
+    ensures { OnOk result (text.new.items ≡ text.old.items ++ others_text tally) }
+{
+    push_runs(text, tally.runs)?;
+    push_events(text, tally.differences)?;
+    push_orders(text, tally.runs)?;
+    Ok(())
+}
+
 /// The text of a trace that fits.
-#[tactic(auto, using(std::proofs::lemmas::List::append_assoc), unfolding(crate::specs::Texts::fits_text))]
+#[tactic(auto, unfolding(crate::specs::Texts::fits_text))]
 fn push_fits(text: &mut Vec<u8>, tally: Tally, late: u64) -> Result<(), NoMemory>
     ensures { OnOk result (text.new.items ≡ text.old.items ++ fits_text tally late) }
 {
     push_tally(text, tally)?;
     push_answers(text, tally.answers)?;
-    push_count(text, b"\nopen: late exchanges ", late)?;
-    push_bytes(text, b"\nnot checked: remote runs, timers, times\n")?;
+    push_others(text, tally)?;
+    push_open(text, tally.runs, late)?;
+    Ok(())
+}
+
+/// One digit of a number in hexadecimal.
+fn hex_digit(digit: u8) -> u8
+    requires { digit < 16 }
+    ensures { result ≡ hex_digit digit }
+{
+    if digit < 10 {
+        b'0' + digit
+    } else {
+        b'a' + (digit - 10)
+    }
+}
+
+/// The last so many digits of a number in hexadecimal.
+#[tactic(auto, using(crate::proofs::Digits::hex_more, std::proofs::lemmas::List::append_assoc))]
+fn push_hex(text: &mut Vec<u8>, count: u8, n: u64) -> Result<(), NoMemory>
+    ensures { OnOk result (text.new.items ≡ text.old.items ++ hex_digits count n) }
+{
+    if count == 0 {
+        return Ok(());
+    }
+    push_hex(text, count - 1, n / 16)?;
+    text.push(hex_digit((n % 16) as u8))?;
+    Ok(())
+}
+
+/// Of whom something is said.
+#[tactic(auto, using(std::proofs::lemmas::List::append_assoc), unfolding(crate::specs::Texts::whom_text))]
+fn push_whom(text: &mut Vec<u8>, whom: Whom) -> Result<(), NoMemory>
+    ensures { OnOk result (text.new.items ≡ text.old.items ++ whom_text whom) }
+{
+    push_cpu(text, whom.cpu)?;
+    push_behind(text, whom.group)?;
+    Ok(())
+}
+
+/// A CPU, where there is one.
+#[tactic(auto, using(std::proofs::lemmas::List::append_assoc))]
+fn push_cpu(text: &mut Vec<u8>, cpu: Option<CpuId>) -> Result<(), NoMemory>
+    ensures { OnOk result (text.new.items ≡ text.old.items ++ cpu_text cpu) }
+{
+    if let Some(known) = cpu {
+        push_count(text, b", CPU ", u64::from(known.0))?;
+    }
+    Ok(())
+}
+
+/// A group, where there is one.
+#[tactic(auto, using(std::proofs::lemmas::List::append_assoc))]
+fn push_behind(text: &mut Vec<u8>, group: Option<u64>) -> Result<(), NoMemory>
+    ensures { OnOk result (text.new.items ≡ text.old.items ++ behind_text group) }
+{
+    if let Some(pointer) = group {
+        push_bytes(text, b", group ")?;
+        push_hex(text, POINTER_DIGITS, pointer)?;
+    }
     Ok(())
 }
 
@@ -124,8 +270,19 @@ fn push_broken(text: &mut Vec<u8>, misfit: Misfit) -> Result<(), NoMemory>
     ensures { OnOk result (text.new.items ≡ text.old.items ++ broken_text misfit) }
 {
     push_count(text, b"line ", misfit.line)?;
+    push_whom(text, misfit.whom)?;
+    push_rule(text, misfit.rule)?;
+    Ok(())
+}
+
+/// A rule behind a colon.
+#[tactic(auto, using(std::proofs::lemmas::List::append_assoc))]
+fn push_rule(text: &mut Vec<u8>, rule: Rule) -> Result<(), NoMemory>
+    ensures { OnOk result
+        (text.new.items ≡ text.old.items ++ codes ": " ++ rule_text rule ++ codes "\n") }
+{
     push_bytes(text, b": ")?;
-    push_bytes(text, rule_text(misfit.rule))?;
+    push_bytes(text, rule_text(rule))?;
     push_bytes(text, b"\n")?;
     Ok(())
 }

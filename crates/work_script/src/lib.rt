@@ -25,6 +25,3 @@ pub use lists::{WorkMoments, WorkOps};
 pub use reading::read_works;
 pub use syntax::{WorkMoment, WorkOp, WorkScript};
 pub use words::{ARG_LIMIT, DELAY_LIMIT, JOB_LIMIT, NumberSlot, WorkCommand, WorkKnown, WorkSaid};
-
-#[cfg(test)]
-mod tests;

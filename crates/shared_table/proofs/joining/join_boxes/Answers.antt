@@ -3,6 +3,7 @@ use Rattle.std.proofs.lemmas.List.{append-nil, nil_from_length}
 use Rattle.shared_rule.specs.Rule.{Each}
 use Rattle.shared_parts.specs.Parts.{HeldPart}
 use Rattle.shared_table.specs.Begun.{IsFree}
+use Rattle.shared_table.specs.Ended.{BeganWith}
 use Rattle.shared_table.specs.Joined.{owns_of, with_boxes}
 use Rattle.shared_table.proofs.Together.{each_both, one_box, one_own, with_none}
 use Rattle.shared_table.proofs.joining.join_boxes.Goals as goal
@@ -18,6 +19,7 @@ loop-cpu_box-init g c =
       joined = ap (with_boxes c.args.seat.now.me) same;
       written = ap (λ l. c.args.cpus.now.items ++ owns_of l) same;
       free = λ h. subst (Each IsFree) same h;
+      began = λ h. subst (Each (BeganWith g.N.RunName.opening)) same h;
     }
 
 pub loop-cpu_box-preserved : goal.loop-cpu_box-preserved
@@ -38,6 +40,9 @@ loop-cpu_box-preserved g c =
           c.take_box-own.ensures.own pushed c.loop-cpu_box.invariant.written;
       free = λ others. c.loop-cpu_box.invariant.free
           (each_both IsFree rest c.in-Some.cpu_box later steps c.take_box-own.ensures.free others);
+      began = λ others. c.loop-cpu_box.invariant.began
+          (each_both (BeganWith g.N.RunName.opening) rest c.in-Some.cpu_box later steps
+          c.take_box-own.ensures.began others);
     }
 
 pub returns-clause-joined : goal.returns-clause-joined
@@ -60,3 +65,10 @@ returns-clause-free g c =
     let rest = c.loop-cpu_box.cpu_box-iterator.rest in
     let none : rest.items ≡ [] = nil_from_length rest.items (sym rest.ok.0 ∙ c.in-None.ensures.steps.0) in
     c.loop-cpu_box.invariant.free (subst (Each IsFree) (sym none) tt)
+
+pub returns-clause-began : goal.returns-clause-began
+returns-clause-began g c =
+    let rest = c.loop-cpu_box.cpu_box-iterator.rest in
+    let none : rest.items ≡ [] = nil_from_length rest.items (sym rest.ok.0 ∙ c.in-None.ensures.steps.0) in
+    c.loop-cpu_box.invariant.began
+    (subst (Each (BeganWith g.N.RunName.opening)) (sym none) tt)

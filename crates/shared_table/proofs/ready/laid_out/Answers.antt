@@ -16,6 +16,7 @@ returns-clause-table g c =
     let made = c.in_ok-words.ensures in record {
       opened = ap (λ k. k.core) made.5;
       count = made.0 ∙ (ap length c.deref.ensures.value ∙ (c.in_ok-first.ensures 0).count);
+      slots = made.1;
       seated = made.2;
       knows = made.4;
     }

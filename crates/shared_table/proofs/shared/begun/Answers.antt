@@ -1,8 +1,12 @@
-use Rattle.std.proofs.Common.{◌≡◌, [], length, ap, sym, ◌∙◌, arith}
+use Rattle.std.proofs.Common.{◌≡◌, [], length, ap, sym, ◌∙◌, arith, subst}
+use Rattle.core_world.specs.Covered.{IsSettled}
+use Rattle.atomic_table.specs.Seated.{TableId}
 use Rattle.core_world.specs.World.{World}
 use Rattle.core_state.specs.Kept.{world_of}
 use Rattle.shared_rule.specs.Rule.{Me, seat_of}
 use Rattle.shared_table.specs.Begun.{boxes_from}
+use Rattle.shared_table.specs.Ended.{AreAllPasses}
+use Rattle.shared_table.proofs.Passes.{all_begun}
 use Rattle.shared_table.proofs.Rows.{begins_with}
 use Rattle.shared_table.proofs.shared.begun.Goals as goal
 
@@ -26,6 +30,15 @@ fill_passes-requires-clause-all g c =
     c.ready.invariant.1.knows in
     c.fill_boxes.ensures.left ∙ ap (seat_of []) (ap (λ (m : Me). m.0.passes) all)
 
+pub returns-clause-all : goal.returns-clause-all
+returns-clause-all g c =
+    let o : World = g.N.RunName.opening in
+    let opened : c.ready.inside.opening.core ≡ o
+    = ap (λ z. z.core) c.ready.view_is ∙ c.requires.opening in
+    subst (AreAllPasses g.N.RunName.table (length o.cpus)) (sym c.fill_passes.ensures.passes)
+    (all_begun g.N.RunName.table o c.ready.inside.opening.made
+    (subst IsSettled opened c.ready.invariant.0.settled))
+
 pub invariant_of-result : goal.invariant_of-result
 invariant_of-result g c =
     let o : World = g.N.RunName.opening in
@@ -40,6 +53,15 @@ invariant_of-result g c =
     let timers : length parts.holders.items ≡ o.timers = ap (λ (w : World). w.timers) is in
     record {
       each = c.fill_boxes.ensures.each;
+      room = c.requires.taken;
+      spare = record {
+        seated = c.fill_passes.ensures.table;
+        knows = c.fill_passes.ensures.left;
+        slots =
+            ap (λ (t : TableId). t.slots)
+            (sym c.requires.table ∙ sym (ap (λ z. z.table) c.ready.view_is))
+            ∙ c.ready.invariant.1.slots;
+      };
       kept = record {
         clock_is = ap (λ (w : World). w.clock) is;
         groups_are = parts.groups.ok.0 ∙ groups;

@@ -13,4 +13,4 @@ returns-clause-first c =
 
 pub returns-clause-answered : goal.returns-clause-answered
 returns-clause-answered c =
-    answers_law (lines_of c.args.bytes.now) c.in_ok-verdict.verdict c.in_ok-verdict.ensures
+    answers_law c.law_rests.ensures (lines_of c.args.bytes.now) c.in_ok-verdict.verdict c.in_ok-verdict.ensures

@@ -1,0 +1,2 @@
+mod Meetings
+mod Answering

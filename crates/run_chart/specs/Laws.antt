@@ -1,0 +1,111 @@
+-- what a chart says of its report
+use Rattle.std.specs.Prelude.{◌≡◌, ◌⊎◌, ℕ, ◌≤◌, ◌<◌, nat_le, Bool, true, false, List, [], ◌∷◌}
+use Rattle.std.specs.Prelude.{◌++◌, Option, Some, None, if◌then◌else◌, map}
+use Rattle.tm_report.specs.declared.lines.Line.{Line}
+use Rattle.run_chart.specs.declared.model.Arrow.{Arrow}
+use Rattle.run_chart.specs.declared.model.Point.{Point}
+use Rattle.run_chart.specs.declared.model.Span.{Span}
+use Rattle.run_chart.specs.declared.model.Window.{Window}
+use Rattle.run_chart.specs.declared.said.Run.{Run}
+use Rattle.run_chart.specs.declared.said.State.{State}
+use Rattle.run_chart.specs.declared.said.State.TheVariants as states
+use Rattle.run_chart.specs.Said.{run_in, time_of}
+use Rattle.run_chart.specs.Model.{arrows_from, first_point, has_run, new_state, points_from}
+use Rattle.run_chart.specs.Model.{spans_of_cpu}
+
+-- behind a line of this jiffy, if it has one, the lines go on so
+abbrev pub goes_on : (before : ℕ) → Option ℕ → (Rest : ℕ → Type 0) → Type 0
+goes_on before None Rest = Rest before
+goes_on before (Some at) Rest = (before ≤ at) × Rest at
+
+-- no line is of a jiffy before that of the line before it, as in each report
+abbrev pub Ascends : (before : ℕ) → List Line → Type 0
+Ascends before [] = Unit {0}
+Ascends before (line ∷ rest) = goes_on before (time_of line) (λ at. Ascends at rest)
+
+-- whether a line of this jiffy is at or before jiffy j
+abbrev pub is_by : (j : ℕ) → Option ℕ → Bool
+is_by j None = false
+is_by j (Some at) = nat_le at j
+
+-- what a CPU is behind a line, where it was such before it
+abbrev pub left_where : State → (counts : Bool) → Option State → State
+left_where state false becomes = state
+left_where state true None = state
+left_where state true (Some becomes) = becomes
+
+-- WHAT A REPORT LEAVES of CPU c at jiffy j, where it was such before these lines: what the last line
+-- at or before j that says what it becomes makes of it
+abbrev pub left_by : (c j : ℕ) → State → List Line → State
+left_by c j state [] = state
+left_by c j state (line ∷ rest) =
+    left_by c j (left_where state (is_by j (time_of line)) (new_state c line)) rest
+
+-- a span is one of these
+abbrev pub IsOneOf : Span → List Span → Type 0
+IsOneOf s [] = ⊥
+IsOneOf s (first ∷ rest) = (s ≡ first) ⊎ IsOneOf s rest
+
+-- it has this jiffy
+pub record HasJiffy (s : Span) (j : ℕ) : Type 0 where
+  pub begun : s.from.at ≤ j
+  pub not_ended : j < s.to.at
+
+-- there is a span that has this jiffy
+pub record IsCovered (spans : List Span) (j : ℕ) : Type 0 where
+  pub span : Span
+  pub there : IsOneOf span spans
+  pub has : HasJiffy span j
+
+-- at a jiffy a CPU is drawn as this, and as nothing else
+pub record IsDrawn (spans : List Span) (j : ℕ) (state : State) : Type 0 where
+  pub covered : IsCovered spans j
+  pub each : (s : Span) → IsOneOf s spans → HasJiffy s j → s.state ≡ state
+
+-- A CPU IS DRAWN, at each jiffy of the window, as what the report leaves of it: asleep exactly where
+-- it leaves it asleep
+abbrev pub StatesRight : Type 0
+StatesRight = (w : Window) (c : ℕ) (ls : List Line) (j : ℕ) → Ascends 0 ls → w.from ≤ j →
+    j < w.to → IsDrawn (spans_of_cpu w c ls) j (left_by c j states.Awake ls)
+
+-- what an arrow shows
+abbrev pub shown_by : Arrow → Run
+shown_by a = record { at = a.point.at; home = a.home; runner = a.runner; timer = a.timer }
+
+-- a run, if there is one and the window has it
+abbrev pub run_for : Window → Option Run → List Run
+run_for w None = []
+run_for w (Some r) = if has_run w r then (r ∷ []) else []
+
+-- the runs that a report tells in a window, in the order of their lines
+abbrev pub runs_in : Window → List Line → List Run
+runs_in w [] = []
+runs_in w (line ∷ rest) = run_for w (run_in line) ++ runs_in w rest
+
+-- EACH RUN OF THE WINDOW HAS ONE ARROW, from its home to its runner at its jiffy, and nothing else
+-- has
+abbrev pub ArrowsRight : Type 0
+ArrowsRight = (w : Window) (ls : List Line) → Ascends 0 ls → w.from ≤ w.to →
+    map shown_by (arrows_from w (first_point w) ls) ≡ runs_in w ls
+
+-- of two points the later one has a later column, and points of one jiffy have one column
+pub record IsBehind (p q : Point) : Type 0 where
+  pub at : p.at ≤ q.at
+  pub later : p.at < q.at → p.column < q.column
+  pub same : p.at ≡ q.at → p.column ≡ q.column
+
+-- these points are behind another one
+abbrev pub AreBehind : Point → List Point → Type 0
+AreBehind p [] = Unit {0}
+AreBehind p (q ∷ rest) = IsBehind p q × AreBehind p rest
+
+-- each point is behind all that stand before it
+abbrev pub Rises : List Point → Type 0
+Rises [] = Unit {0}
+Rises (p ∷ rest) = AreBehind p rest × Rises rest
+
+-- FOLDING SWALLOWS NOTHING: the columns of lines rise with their jiffies, so each jiffy with a line
+-- has its own column
+abbrev pub ColumnsRise : Type 0
+ColumnsRise = (w : Window) (ls : List Line) →
+    Rises (first_point w ∷ points_from w (first_point w) ls)

@@ -1,0 +1,20 @@
+//! What a chart says of its report. Each of these functions does nothing; its contract is the law.
+
+ghost use Rattle.run_chart.specs.Laws.{ArrowsRight, ColumnsRise, StatesRight};
+
+/// A CPU is drawn asleep in a jiffy exactly where the report leaves it so, and so with the other
+/// states.
+pub fn law_states()
+    ensures { StatesRight }
+{}
+
+/// Each run that the window has is drawn as one arrow, from its home to its runner at its jiffy, and
+/// nothing else is.
+pub fn law_arrows()
+    ensures { ArrowsRight }
+{}
+
+/// Folding keeps the order of jiffies, and each jiffy with a line has its own column.
+pub fn law_columns()
+    ensures { ColumnsRise }
+{}

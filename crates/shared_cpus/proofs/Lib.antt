@@ -1,0 +1,3 @@
+pub mod Guesting
+pub mod Turned
+pub mod Finished

@@ -1,0 +1,100 @@
+use Rattle.std.proofs.Common.{◌≡◌, ◌∷◌, [], refl, sym, ap, ◌∙◌, subst, false}
+use mathlib.Core.Option.{none}
+use Rattle.atomic_table.specs.Table.{step}
+use Rattle.core_world.specs.World.{World}
+use Rattle.shared_rule.specs.Plays as plays
+use Rattle.shared_rule.specs.Turns as turns
+use Rattle.shared_rule.specs.Rule.{seat_of}
+use Rattle.shared_rule.specs.Whole.{cpu_at}
+use Rattle.shared_parts.specs.Parts.{Hosts, box_held, guest_room, looked_of}
+use Rattle.shared_parts.proofs.Calls.{asks}
+use Rattle.shared_cpus.specs.Conditions.{CanLeave}
+use Rattle.shared_cpus.specs.Pairs.{by_pair, of_box}
+use Rattle.shared_cpus.proofs.Guesting.{same_hosts}
+use Rattle.shared_cpus.proofs.Turned.{keeps, shows}
+use Rattle.shared_cpus.proofs.turns.leave_step.Goals as goal
+
+pub store-requires : goal.store-requires
+store-requires g c =
+    let run = c.args.run.now in
+    let table = run.words.shared.table_id in
+    let part = c.part.inside in
+    let o : World = g.N.RunName.opening in
+    let b = box_held o part.cpu.0 part.status part.bases.plain part.leaf part.read
+    (looked_of part.seat.me.0.boxes) in
+    let can = subst CanLeave (sym c.part.view_is) c.requires in
+    let p = can.pass in
+    let me : part.seat.me ≡ seat_of (b ∷ []) (p ∷ []) =
+    c.part.invariant.seat ∙ ap (seat_of (b ∷ [])) can.turn.brought in
+    let new = c.status_word-word.result in
+    asks g.N.RunName.table o table run.words.shared.key.core run.tree run.layout run.fits
+    part.seat.table_id part.seat.id c.index-place.result part.seat.me b (p ∷ []) (cpu_at b.cpu)
+    (λ n. new) (λ i v n w. turns.Exits (step table.slots i new 0 none) v new w)
+    c.part.invariant.named me c.index-place.ensures c.part.invariant.fits.cpu
+    (c.law_turn.ensures.leave o table.slots part.seat.id b p new
+    (record {
+      cpu = c.part.invariant.fits.cpu;
+      own = can.turn.own;
+      free = can.turn.free;
+      online = can.turn.online;
+      word = c.status_word-word.ensures part.bases.plain;
+    })
+    (record { inside = can.inside; busy = can.awake; marks_nobody = can.marks_nobody }))
+
+pub invariant_of-part : goal.invariant_of-part
+invariant_of-part g c =
+    let part = c.part.inside in
+    let o : World = g.N.RunName.opening in
+    let b = box_held o part.cpu.0 part.status part.bases.plain part.leaf part.read
+    (looked_of part.seat.me.0.boxes) in
+    let can = subst CanLeave (sym c.part.view_is) c.requires in
+    let p = can.pass in
+    let me : part.seat.me ≡ seat_of (b ∷ []) (p ∷ []) =
+    c.part.invariant.seat ∙ ap (seat_of (b ∷ [])) can.turn.brought in
+    let m = c.store.new.seat.me in
+    let is : m ≡ seat_of (of_box turns.outside_box b p ∷ []) (turns.outside_pass b p ∷ []) =
+    c.store.ensures.2.0 ∙ ap (plays.on_both turns.outside_box turns.outside_pass) me in
+    let same : box_held o part.cpu.0 (record part.status {
+      inside =
+          false;
+    }) part.bases.plain part.leaf part.read (looked_of part.seat.me.0.boxes) ≡ of_box
+    turns.outside_box b p =
+    refl in
+    keeps g.N.RunName.table c.store.new.seat.table_id o part.cpu.0 (record part.status {
+      inside =
+          false;
+    })
+    part.bases.plain part.leaf part.read (looked_of part.seat.me.0.boxes) part.guest m
+    (of_box turns.outside_box) (turns.outside_pass) b p is same
+    (c.store.ensures.0 ∙ c.part.invariant.named) c.store.ensures.2.1
+    (same_hosts part.guest p (turns.outside_pass b p) (subst (Hosts part.guest) can.turn.brought
+    c.part.invariant.hosts)
+    (record { cpu = refl; walks_are = refl; receipts = refl }))
+
+pub returns : goal.returns
+returns g c =
+    let part = c.part.inside in
+    let o : World = g.N.RunName.opening in
+    let b = box_held o part.cpu.0 part.status part.bases.plain part.leaf part.read
+    (looked_of part.seat.me.0.boxes) in
+    let can = subst CanLeave (sym c.part.view_is) c.requires in
+    let p = can.pass in
+    let me : part.seat.me ≡ seat_of (b ∷ []) (p ∷ []) =
+    c.part.invariant.seat ∙ ap (seat_of (b ∷ [])) can.turn.brought in
+    let m = c.store.new.seat.me in
+    let is : m ≡ seat_of (of_box turns.outside_box b p ∷ []) (turns.outside_pass b p ∷ []) =
+    c.store.ensures.2.0 ∙ ap (plays.on_both turns.outside_box turns.outside_pass) me in
+    let same : box_held o part.cpu.0 (record part.status {
+      inside =
+          false;
+    }) part.bases.plain part.leaf part.read (looked_of part.seat.me.0.boxes) ≡ of_box
+    turns.outside_box b p =
+    refl in
+    shows g.N.RunName.table c.store.new.seat.table_id o part.cpu.0 (record part.status {
+      inside =
+          false;
+    })
+    part.bases.plain part.leaf part.read (looked_of part.seat.me.0.boxes) part.guest m
+    (of_box turns.outside_box) (turns.outside_pass) b p is same
+    part.bases.room (guest_room part.guest) part.seat.me.0.passes refl can.turn.brought
+    ∙ ap (by_pair (of_box turns.outside_box) (turns.outside_pass)) c.part.view_is

@@ -1,0 +1,135 @@
+use Rattle.std.proofs.Common.{◌≡◌, ◌∷◌, [], Option, refl, sym, ap, ◌∙◌, subst, false}
+use mathlib.Core.Option.{none}
+use Rattle.atomic_table.specs.Table.{step}
+use Rattle.tm_base.specs.declared.names.TheConstants.{NEVER}
+use Rattle.walk_rules.specs.declared.walk.Walk.{Walk}
+use Rattle.walk_rules.specs.declared.walk.WalkKind.TheVariants as kinds
+use Rattle.walk_rules.specs.declared.walk.Stage.TheVariants as stages
+use Rattle.core_world.specs.World.{World}
+use Rattle.shared_rule.specs.Plays as plays
+use Rattle.shared_rule.specs.Turns as turns
+use Rattle.shared_rule.specs.Rule.{seat_of}
+use Rattle.shared_rule.specs.Whole.{cpu_at}
+use Rattle.shared_parts.specs.declared.box_part.Guest.{Guest}
+use Rattle.shared_parts.specs.Parts.{HeldPart, Hosts, box_held, guest_room, looked_of}
+use Rattle.shared_parts.proofs.Calls.{asks}
+use Rattle.shared_cpus.specs.Conditions.{CanWake}
+use Rattle.shared_cpus.specs.Pairs.{by_pair, of_box}
+use Rattle.shared_cpus.proofs.Guesting.{few_walks, more_hosts, same_room}
+use Rattle.shared_cpus.proofs.Turned.{keeps, shows}
+use Rattle.shared_cpus.proofs.turns.wake_step.Goals as goal
+
+pub store-requires : goal.store-requires
+store-requires g c =
+    let run = c.args.run.now in
+    let table = run.words.shared.table_id in
+    let part = c.part.inside in
+    let o : World = g.N.RunName.opening in
+    let b = box_held o part.cpu.0 part.status part.bases.plain part.leaf part.read
+    (looked_of part.seat.me.0.boxes) in
+    let can = subst CanWake (sym c.part.view_is) c.requires in
+    let p = can.pass in
+    let me : part.seat.me ≡ seat_of (b ∷ []) (p ∷ []) =
+    c.part.invariant.seat ∙ ap (seat_of (b ∷ [])) can.turn.brought in
+    let new = c.status_word-word.result in
+    asks g.N.RunName.table o table run.words.shared.key.core run.tree run.layout run.fits
+    part.seat.table_id part.seat.id c.index-place.result part.seat.me b (p ∷ []) (cpu_at b.cpu)
+    (λ n. new) (λ i v n w. plays.Wakes (step table.slots i new 0 none) v new w)
+    c.part.invariant.named me c.index-place.ensures c.part.invariant.fits.cpu
+    (c.law_wake.ensures o table.slots part.seat.id b p new
+    (record {
+      cpu = c.part.invariant.fits.cpu;
+      own = can.turn.own;
+      free = can.turn.free;
+      online = can.turn.online;
+      idle = can.idle;
+      left = can.left;
+      word = c.status_word-word.ensures part.bases.plain;
+    }))
+
+pub invariant_of-part : goal.invariant_of-part
+invariant_of-part g c =
+    let part = c.part.inside in
+    let o : World = g.N.RunName.opening in
+    let b = box_held o part.cpu.0 part.status part.bases.plain part.leaf part.read
+    (looked_of part.seat.me.0.boxes) in
+    let can = subst CanWake (sym c.part.view_is) c.requires in
+    let p = can.pass in
+    let me : part.seat.me ≡ seat_of (b ∷ []) (p ∷ []) =
+    c.part.invariant.seat ∙ ap (seat_of (b ∷ [])) can.turn.brought in
+    let m = c.store.new.seat.me in
+    let is : m ≡ seat_of (of_box plays.woken_box b p ∷ []) (plays.woken_pass b p ∷ []) =
+    c.store.ensures.2.0 ∙ ap (plays.on_both plays.woken_box plays.woken_pass) me in
+    let same : box_held o part.cpu.0 (record part.status {
+      idle = false;
+      wakeup = NEVER;
+      walk =
+          c.begun-walk.result;
+    }) part.bases.plain part.leaf part.read [] ≡ of_box plays.woken_box b p =
+    ap (λ (z : Option Walk). box_held o part.cpu.0 (record part.status {
+      idle = false;
+      wakeup =
+          NEVER;
+      walk = z;
+    }) part.bases.plain part.leaf part.read [])
+    (c.begun-walk.ensures ∙ ap (λ (z : HeldPart). turns.begun o z.box.cpu z.box.own kinds.Activate
+    stages.Own) (sym c.part.view_is)) in
+    keeps g.N.RunName.table c.store.new.seat.table_id o part.cpu.0 (record part.status {
+      idle =
+          false;
+      wakeup = NEVER;
+      walk = c.begun-walk.result;
+    })
+    part.bases.plain part.leaf part.read [] c.count_walk.new.guest m (of_box plays.woken_box)
+    (plays.woken_pass) b p is same
+    (c.store.ensures.0 ∙ c.part.invariant.named) c.store.ensures.2.1
+    (subst (λ (z : Option Guest). Hosts z (plays.woken_pass b p ∷ [])) (sym c.count_walk.ensures)
+    (more_hosts part.guest p (plays.woken_pass b p) (subst (Hosts part.guest) can.turn.brought
+    c.part.invariant.hosts)
+    (record { cpu = refl; walks_are = refl; receipts = refl })))
+
+pub returns : goal.returns
+returns g c =
+    let part = c.part.inside in
+    let o : World = g.N.RunName.opening in
+    let b = box_held o part.cpu.0 part.status part.bases.plain part.leaf part.read
+    (looked_of part.seat.me.0.boxes) in
+    let can = subst CanWake (sym c.part.view_is) c.requires in
+    let p = can.pass in
+    let me : part.seat.me ≡ seat_of (b ∷ []) (p ∷ []) =
+    c.part.invariant.seat ∙ ap (seat_of (b ∷ [])) can.turn.brought in
+    let m = c.store.new.seat.me in
+    let is : m ≡ seat_of (of_box plays.woken_box b p ∷ []) (plays.woken_pass b p ∷ []) =
+    c.store.ensures.2.0 ∙ ap (plays.on_both plays.woken_box plays.woken_pass) me in
+    let same : box_held o part.cpu.0 (record part.status {
+      idle = false;
+      wakeup = NEVER;
+      walk =
+          c.begun-walk.result;
+    }) part.bases.plain part.leaf part.read [] ≡ of_box plays.woken_box b p =
+    ap (λ (z : Option Walk). box_held o part.cpu.0 (record part.status {
+      idle = false;
+      wakeup =
+          NEVER;
+      walk = z;
+    }) part.bases.plain part.leaf part.read [])
+    (c.begun-walk.ensures ∙ ap (λ (z : HeldPart). turns.begun o z.box.cpu z.box.own kinds.Activate
+    stages.Own) (sym c.part.view_is)) in
+    shows g.N.RunName.table c.store.new.seat.table_id o part.cpu.0 (record part.status {
+      idle =
+          false;
+      wakeup = NEVER;
+      walk = c.begun-walk.result;
+    })
+    part.bases.plain part.leaf part.read [] c.count_walk.new.guest m (of_box plays.woken_box)
+    (plays.woken_pass) b p is same
+    part.bases.room (guest_room part.guest) part.seat.me.0.passes
+    (ap guest_room c.count_walk.ensures ∙ same_room part.guest) can.turn.brought
+    ∙ ap (by_pair (of_box plays.woken_box) (plays.woken_pass)) c.part.view_is
+
+pub count_walk-requires : goal.count_walk-requires
+count_walk-requires g c =
+    let part = c.part.inside in
+    let can = subst CanWake (sym c.part.view_is) c.requires in
+    few_walks part.guest can.pass (subst (Hosts part.guest) can.turn.brought
+    c.part.invariant.hosts) can.left

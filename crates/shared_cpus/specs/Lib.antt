@@ -1,0 +1,4 @@
+pub mod Guests
+pub mod Pairs
+pub mod Conditions
+pub mod Steps

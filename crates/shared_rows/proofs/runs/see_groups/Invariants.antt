@@ -1,0 +1,9 @@
+use Rattle.shared_parts.specs.Passes.{IsOfRun}
+use Rattle.shared_rows.specs.Looks.{StaysAt}
+use Rattle.shared_rows.proofs.runs.see_groups.Given as goal
+
+abbrev pub invariant-loop-group : goal.invariant-loop-group
+invariant-loop-group g l = record {
+  run : IsOfRun g.N.RunName.table l.pass;
+  stays : StaysAt g.N.RunName.table l.fn.pass l.pass;
+}

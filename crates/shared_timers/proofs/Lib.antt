@@ -1,0 +1,7 @@
+mod Drained
+pub mod Unqueued
+pub mod Kept
+pub mod Exchanged
+pub mod Cancelled
+pub mod Tried
+pub mod Visits

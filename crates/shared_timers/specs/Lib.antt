@@ -1,0 +1,4 @@
+pub mod Exchanging
+pub mod Entries
+pub mod Queueing
+pub mod Draining

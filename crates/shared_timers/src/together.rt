@@ -1,0 +1,64 @@
+//! A pass is brought into a part for one step on a timer, and goes from it again.
+
+ghost use Rattle.std.specs.Prelude.{◌≡◌, [], MatchResult};
+ghost use Rattle.cpu_bases.specs.Laws.{Keeps};
+ghost use Rattle.shared_parts.specs.Parts.{pass_parted, with_guest, without_guest};
+ghost use Rattle.shared_parts.specs.Passes.{IsOfRun};
+ghost use Rattle.shared_timers.specs.Queueing.{ArmedWith, FoundWith, MayArm, MayCancel};
+ghost use Rattle.shared_timers.specs.Queueing.{cancelled_part};
+
+use crate::arming::Arming;
+use crate::queueing::{arm_step, cancel_step};
+use shared_parts::{BoxPart, Pass, Run, RunName, bring, part_off};
+use tm_base::{Jiffy, OpFault, TimerId};
+use wheel_core::TimerBase;
+
+/// A CPU tries to arm a timer at `now`, in jiffies, as `arm_step` does, with its own pass, which is
+/// brought into its part for it.
+pub fn arm_with<N: RunName, B: TimerBase>(
+    run: &Run<N, B>,
+    part: &mut BoxPart<N, B>,
+    pass: &mut Pass,
+    now: Jiffy,
+    arming: Arming,
+) -> Result<Jiffy, OpFault>
+    requires run { IsOfRun N.table pass.old }
+    requires alone { part.old.brought ≡ [] }
+    requires now { now ≡ N.opening.clock }
+    requires may { MayArm N.opening (with_guest part.old pass.old) arming }
+    ensures { MatchResult result
+        (ArmedWith N.table now arming part.old pass.old part.new pass.new)
+        (FoundWith N.table N.opening arming.timer.0 part.old pass.old part.new pass.new) }
+{
+    pass.law();
+    bring(run, part, pass);
+    let result = arm_step(run, part, now, arming);
+    part_off(run, part, pass);
+    result
+}
+
+/// A timer that is queued in the part of a CPU is cancelled at `now`, in jiffies, as `cancel_step`
+/// does it, with a pass that is brought into the part for it.
+pub fn cancel_with<N: RunName, B: TimerBase>(
+    run: &Run<N, B>,
+    part: &mut BoxPart<N, B>,
+    pass: &mut Pass,
+    now: Jiffy,
+    timer: TimerId,
+    line: u32,
+)
+    requires run { IsOfRun N.table pass.old }
+    requires alone { part.old.brought ≡ [] }
+    requires now { now ≡ N.opening.clock }
+    requires may { MayCancel N.opening (with_guest part.old pass.old) timer }
+    ensures part { part.new
+        ≡ without_guest (cancelled_part timer.0 line (with_guest part.old pass.old)) }
+    ensures pass { pass.new ≡ pass_parted N.table pass.old.cpu
+        (cancelled_part timer.0 line (with_guest part.old pass.old)) }
+    ensures keeps { Keeps now part.old.box.own.bases part.new.box.own.bases }
+{
+    pass.law();
+    bring(run, part, pass);
+    cancel_step(run, part, now, timer, line);
+    part_off(run, part, pass);
+}

@@ -1,0 +1,3 @@
+mod Steps
+mod Answering
+mod Answered

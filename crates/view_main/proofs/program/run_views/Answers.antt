@@ -1,0 +1,24 @@
+use Rattle.std.proofs.Common.{subst}
+use Rattle.view_main.specs.Ends.{Runs, ViewsBy}
+use Rattle.view_main.proofs.program.run_views.Goals as goal
+
+pub returns-in-Other : goal.returns-in-Other
+returns-in-Other g c =
+    subst
+    (λ command. ViewsBy command c.args.words.now (g.S.Source.seen c.args.source.now)
+    (g.S.Source.seen c.run_view.new.source) (g.K.Sink.seen c.args.sink.now)
+    (g.K.Sink.seen c.run_view.new.sink) c.run_view.result)
+    c.in-Other.ensures c.run_view.ensures
+
+pub returns-in-Chart : goal.returns-in-Chart
+returns-in-Chart g c =
+    subst
+    (λ command. ViewsBy command c.args.words.now (g.S.Source.seen c.args.source.now)
+    (g.S.Source.seen c.run_command.new.source) (g.K.Sink.seen c.args.sink.now)
+    (g.K.Sink.seen c.run_command.new.sink) c.run_command.result)
+    c.in-Chart.ensures
+    (subst
+    (λ command. Runs command (g.S.Source.seen c.args.source.now)
+    (g.S.Source.seen c.run_command.new.source) (g.K.Sink.seen c.args.sink.now)
+    (g.K.Sink.seen c.run_command.new.sink) c.run_command.result)
+    c.in-Chart.is c.run_command.ensures)

@@ -1,0 +1,12 @@
+//! The program tmigview as a whole: its commands `linux` and `chart`, with all texts and
+//! statuses.
+#![tactic(auto)]
+
+mod outputs;
+mod program;
+mod refusals;
+mod words;
+
+pub use outputs::Output;
+pub use program::run_views;
+pub use words::{Awaited, CPU_NUMBERS, Command, HYPHEN, Options};

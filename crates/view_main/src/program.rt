@@ -1,0 +1,105 @@
+//! The whole program.
+
+ghost use Rattle.std.specs.Prelude.{◌≡◌, IfOk};
+ghost use Rattle.trace_view.specs.Ends.{IsEnd};
+ghost use Rattle.view_main.specs.Ends.{IsAnswer, IsOutput, Runs, Views};
+ghost use Rattle.view_main.specs.Words.{command_of};
+ghost use Rattle.view_main.specs.declared.words.Command.TheVariants as commands;
+
+use crate::outputs::{Output, draw};
+use crate::words::{Command, command_of};
+use std::alloc::Global;
+use text_words::push_bytes;
+use tm_base::NoMemory;
+use tm_io::{ReadFault, Sink, Source, WriteCause, read_all, write_all};
+use trace_view::{
+    MOST_TRACE_BYTES, NO_MEMORY, READ_FAULT, TOO_LONG, WRITE_FAULT, read_fault_text, run_view,
+    too_long_text,
+};
+
+/// An output of these bytes.
+fn output_of(alloc: Global, bytes: &[u8], status: u8) -> Result<Output, NoMemory>
+    ensures text { IfOk result (λ o. o.text.items ≡ bytes.now) }
+    ensures status { IfOk result (λ o. o.status ≡ status) }
+{
+    let mut text = Vec::new(alloc);
+    push_bytes(&mut text, bytes)?;
+    Ok(Output { text, status })
+}
+
+/// What a command writes of these bytes.
+fn answer(alloc: Global, command: Command, bytes: &[u8]) -> Result<Output, NoMemory>
+    ensures { IfOk result (λ o. IsAnswer command bytes.now o.text.items o.status) }
+{
+    match command {
+        Command::Chart(choice) => draw(alloc, choice, bytes),
+        Command::Other => Err(NoMemory),
+    }
+}
+
+/// What a command writes of the source, which it reads to its end.
+fn output_for<S: Source>(
+    alloc: Global,
+    command: Command,
+    source: &mut S,
+) -> Result<Output, NoMemory>
+    ensures { IfOk result
+        (λ o. IsOutput command (S.seen source.old) (S.seen source.new) o.text.items o.status) }
+{
+    match read_all(alloc, source, MOST_TRACE_BYTES) {
+        Ok(bytes) => answer(alloc, command, &bytes),
+        Err(ReadFault::Read) => output_of(alloc, read_fault_text(), READ_FAULT),
+        Err(ReadFault::TooLong) => output_of(alloc, too_long_text(), TOO_LONG),
+        Err(ReadFault::NoMemory) => Err(NoMemory),
+    }
+}
+
+/// Writes an output, and answers the status that says how that went: the output's own where all of
+/// it was written.
+fn write_output<K: Sink>(sink: &mut K, output: &Output) -> u8
+    ensures { IsEnd output.now.text.items output.now.status
+        (K.seen sink.old) (K.seen sink.new) result }
+{
+    match write_all(sink, &output.text) {
+        Ok(()) => output.status,
+        Err(fault) => match fault.cause {
+            WriteCause::NoMemory => NO_MEMORY,
+            _ => WRITE_FAULT,
+        },
+    }
+}
+
+/// Does what a command says that isn't `Other`.
+fn run_command<S: Source, K: Sink>(
+    alloc: Global,
+    command: Command,
+    source: &mut S,
+    sink: &mut K,
+) -> u8
+    ensures { Runs command (S.seen source.old) (S.seen source.new)
+        (K.seen sink.old) (K.seen sink.new) result }
+{
+    match output_for(alloc, command, source) {
+        Ok(output) => write_output(sink, &output),
+        Err(_) => NO_MEMORY,
+    }
+}
+
+/// Does all that the program does: `chart` draws a report, and
+/// what other words say is `trace_view::run_view`. It reads the source to its end, writes the
+/// answer at the end, and answers the exit status.
+pub fn run_views<S: Source, K: Sink>(
+    alloc: Global,
+    words: &[String],
+    source: &mut S,
+    sink: &mut K,
+) -> u8
+    ensures { Views words.now (S.seen source.old) (S.seen source.new)
+        (K.seen sink.old) (K.seen sink.new) result }
+{
+    let command = command_of(words);
+    match command {
+        Command::Other => run_view(alloc, words, source, sink),
+        Command::Chart(_) => run_command(alloc, command, source, sink),
+    }
+}

@@ -1,0 +1,45 @@
+//! What is told of an input that can't be read.
+
+ghost use Rattle.std.specs.Prelude.{◌≡◌, ◌++◌, codes, IfOk, OnOk};
+ghost use Rattle.std.specs.Fmt.{decimal};
+ghost use Rattle.view_main.specs.Refusals.{back_text, cause_text, report_text};
+
+use report_reader::{Kind, ReportFault};
+use std::alloc::Global;
+use text_words::{push_bytes, push_number};
+use tm_base::NoMemory;
+
+/// What is wrong with a line of a report.
+fn cause_text(kind: Kind) -> &'static [u8]
+    ensures { result.now ≡ cause_text kind }
+{
+    match kind {
+        Kind::UnknownName => b": no line has this name\n",
+        Kind::WrongWords => b": these are not the words of such a line\n",
+        Kind::NoLineFeed => b": no line feed ends it\n",
+    }
+}
+
+/// A text that is no report.
+#[tactic(auto, using(std::proofs::lemmas::List::append_assoc), unfolding(crate::specs::Refusals::report_text))]
+pub(crate) fn report_refused(alloc: Global, fault: ReportFault) -> Result<Vec<u8>, NoMemory>
+    ensures { IfOk result (λ text. text.items ≡ report_text fault) }
+{
+    let mut text = Vec::new(alloc);
+    push_bytes(&mut text, b"report refused line ")?;
+    push_number(&mut text, fault.line as u64)?;
+    push_bytes(&mut text, cause_text(fault.kind))?;
+    Ok(text)
+}
+
+/// A report of which the line of this number goes back in time.
+#[tactic(auto, using(std::proofs::lemmas::List::append_assoc), unfolding(crate::specs::Refusals::back_text))]
+pub(crate) fn back_refused(alloc: Global, number: usize) -> Result<Vec<u8>, NoMemory>
+    ensures { IfOk result (λ text. text.items ≡ back_text number) }
+{
+    let mut text = Vec::new(alloc);
+    push_bytes(&mut text, b"report refused line ")?;
+    push_number(&mut text, number as u64)?;
+    push_bytes(&mut text, b": it goes back in time\n")?;
+    Ok(text)
+}

@@ -1,0 +1,8 @@
+mod Lists
+mod Framing
+mod Looking
+mod Stepping
+mod Coming
+mod Resting
+mod Parted
+mod Retelling

@@ -1,0 +1,31 @@
+-- where a walk that tells passes a gate (no public clause cites these)
+use Rattle.std.specs.Prelude.{ℕ, zero, suc, Option, Some, None}
+use Rattle.tm_base.specs.declared.gates.Point.{Point}
+use Rattle.tm_base.specs.declared.gates.Point.TheVariants as points
+use Rattle.walk_rules.specs.declared.walk.Stage.{Stage}
+use Rattle.walk_rules.specs.declared.walk.Stage.TheVariants as stages
+
+-- the first lock that is taken at a level
+abbrev pub lock_point : (level : ℕ) → Option Point
+lock_point zero = Some points.BeforeLock
+lock_point (suc l) = None
+
+-- GATES: the place that a walk at this stage of a level comes to, if it is one
+abbrev pub point_at : (level : ℕ) → Stage → Option Point
+point_at level stages.Own = None
+point_at level stages.Up = None
+point_at level (stages.Mark more) = None
+point_at level stages.Read = None
+point_at level stages.Child = Some points.BeforeChildRead
+point_at level stages.Swap = Some points.BeforeSwap
+point_at level stages.LockChild = Some points.BeforeLock
+point_at level stages.LockGroup = lock_point level
+point_at level stages.SeeChild = None
+point_at level stages.SeeGroup = None
+point_at level (stages.Scan k) = None
+point_at level stages.Store = Some points.BeforeStore
+point_at level (stages.First k) = None
+point_at level stages.FreeGroup = None
+point_at level stages.FreeChild = None
+point_at level stages.Finish = None
+point_at level stages.Handing = None

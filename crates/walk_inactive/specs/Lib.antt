@@ -1,0 +1,5 @@
+pub mod Looks
+pub mod Frames
+pub mod Ends
+pub mod Gates
+pub mod Ways
