@@ -56,8 +56,8 @@ fn a_run_that_only_loads_gives_back_the_core_as_it_was(rt: HostRuntime) -> Resul
                 );
                 let count = u64::from(nodes) * u64::from(cpus);
                 let queued = u64::from(timers);
-                assert_eq!(rt; seen.front, queued * (count / 2));
-                assert_eq!(rt; seen.back, queued * (count - count / 2));
+                assert_eq!(rt; seen.front, queued.wrapping_mul(count / 2));
+                assert_eq!(rt; seen.back, queued.wrapping_mul(count - count / 2));
             },
             None => assert!(rt; false, "{nodes} nodes of {cpus} are not at rest"),
         }
