@@ -1,0 +1,4 @@
+mod Joined
+mod Spots
+mod Waiting
+mod TellLaws

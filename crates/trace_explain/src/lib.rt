@@ -1,0 +1,16 @@
+//! Traces told to people: what each step changes, in words, who answers for each waiting timer after
+//! it, and why the first step that can't be made can't.
+#![tactic(auto)]
+
+mod answers;
+mod explaining;
+mod pieces;
+mod places;
+mod sentences;
+mod starting;
+mod walks;
+
+pub use explaining::{Explanation, explain};
+
+#[cfg(test)]
+mod tests;
