@@ -1,15 +1,22 @@
 -- what each status says, by the reply and by how writing it went
 use Rattle.std.proofs.Common.{◌≡◌, ℕ, List, [], Option, Some, None, refl, sym, ◌∙◌, ap, subst}
-use Rattle.std.proofs.Common.{inl, inr, append-nil, lit<}
-use Rattle.std.specs.Prelude.{◌⊎◌, String, Vec, Result, Ok, Err, IfOk, MatchResult}
+use Rattle.std.proofs.Common.{inl, inr, append-nil, length, lit<, ◌<◌, ◌≤◌, ◌+◌, ◌*◌, arith}
+use Rattle.std.proofs.lemmas.Option.{same_Some}
+use Rattle.std.specs.Prelude.{◌⊎◌, take, String, Vec, Result, Ok, Err, IfOk, MatchResult}
 use Rattle.std.specs.declared.alloc.Global.{Global}
 use Rattle.std.specs.Io.KnownBytes.{Appends}
+use Rattle.tm_base.specs.declared.limits.TheConstants.{MOST_BYTES, WORK_LIMIT_V1}
 use Rattle.tm_io.specs.Seen.{SourceSeen, SourceUnbroken, SinkSeen}
+use Rattle.tm_io.specs.Sources.{TakesUpTo}
 use Rattle.tm_script.specs.declared.faults.ScriptFault.{ScriptFault}
+use Rattle.tm_generate.specs.Generated.{generated}
 use Rattle.play_rules.specs.Interrupts.{Replies}
+use Rattle.script_main.specs.declared.commands.Recipe.{Recipe}
 use Rattle.script_main.specs.declared.commands.Command.{Command}
+use Rattle.script_main.specs.declared.commands.Command.TheVariants.{Day}
 use Rattle.script_main.specs.declared.inputs.Form.{Form}
 use Rattle.script_main.specs.declared.inputs.Input.{Input}
+use Rattle.script_main.specs.declared.inputs.Input.TheVariants as inputs
 use Rattle.script_main.specs.declared.replies.Reply.{Reply}
 use Rattle.script_main.specs.declared.replies.Reply.TheVariants.{Usage, ReadFault, TooLong, Refused}
 use Rattle.script_main.specs.declared.replies.Reply.TheVariants.{JobUnknown, WorkSpent, Played}
@@ -17,7 +24,8 @@ use Rattle.script_main.specs.declared.replies.Reply.TheVariants.{Made}
 use Rattle.script_main.specs.declared.statuses.TheConstants.{DONE, USAGE, NO_MEMORY, WRITE_FAULT}
 use Rattle.script_main.specs.declared.statuses.TheConstants.{WORK_SPENT, JOB_UNKNOWN}
 use Rattle.script_main.specs.Words.{command_of, form_of, recipe_in, IsPlayer}
-use Rattle.script_main.specs.Scripts.{IsOutput, LacksJob}
+use Rattle.script_main.specs.Scripts.{BringsBy, EndsLate, IsOutput, LacksJob, MakesScript}
+use Rattle.script_main.specs.Scripts.{script_by}
 use Rattle.script_main.specs.Replies.{IsReply, IsReplyBy, RepliesToInput, SpendsWork}
 use Rattle.script_main.specs.Replies.{reply_text, refused_status, status_written, status_broken}
 use Rattle.script_main.specs.Replies.{ReadsNone}
@@ -25,7 +33,8 @@ use Rattle.script_main.specs.Ends.{EndsAs, EndsUnwritten, EndsWith, WritesAll, W
 use Rattle.script_main.specs.Ends.{whole, part, wanting, unwritten}
 use Rattle.script_main.specs.Statuses.{HasInput, SaysDone, SaysJobUnknown}
 use Rattle.script_main.specs.Statuses.{SaysNoMemory, SaysRefusedAs, SaysWorkSpent}
-use Rattle.script_main.specs.Statuses.{SaysWriteFault, WritesReplyFront}
+use Rattle.script_main.specs.Statuses.{IsShortDay, SaysWriteFault, WritesNothing, WritesReplyFront}
+use Rattle.script_main.proofs.OneText.{brought_up, front_of_none, takes_up}
 use Rattle.script_main.proofs.Refusals.{is_refusal, no_break, no_want, no_done}
 use Rattle.script_main.proofs.Refusals.{no_job, no_work, never_write_fault, never_no_memory}
 use Rattle.script_main.proofs.Refusals.{broken_output, own_of_broken, never_broken_done}
@@ -203,51 +212,76 @@ module _ (jobs : Replies) (table : ℕ) (words : List (String Global)) (s t : So
       subst (λ r. Refuses form r) (sym refusal.1)
       (refusal_by form refusal.0 (command_of words) refl (subst Is refusal.1 is))
 
-  -- nothing was put: the reply's text isn't empty, or the source didn't fail
+  -- nothing was put: the reply's text isn't empty, or the command has read
   module _ (k m : SinkSeen) (same : m ≡ k) where
     GainsNothing : Type 0
-    GainsNothing = (SourceUnbroken s t × Appends k.held m.held [])
-        ⊎ WritesReplyFront jobs table words s t k m
+    GainsNothing = WritesNothing words s t k m ⊎ WritesReplyFront jobs table words s t k m
 
-    sound_source : SourceUnbroken s t → GainsNothing
+    has_read : (command : Command) → command_of words ≡ Some command → SourceUnbroken s t
+        → TakesUpTo s t MOST_BYTES → GainsNothing
     unfolding GainsNothing
-    sound_source sound = inl (sound, no_change k m same)
+    has_read command named sound read = inl (record {
+      has_read = record { command = command; named = named; unbroken = sound; read = read };
+      nothing = no_change k m same;
+    })
 
-    nothing_put : (o : Option Command) (reply : Reply) → IsReplyBy jobs table o s t reply
-        → IsReply jobs table words s t reply → GainsNothing
+    has_brought : (command : Command) → command_of words ≡ Some command → (reply : Reply)
+        → RepliesToInput jobs table command s t reply → GainsNothing
+    has_brought command named reply r =
+        has_read command named r.unbroken
+        (brought_up s t (recipe_in command) (form_of command) r.input r.brought)
+
+    front_of : (reply : Reply) → IsReply jobs table words s t reply
+        → 0 < length (reply_text reply) → Appends k.held m.held (take 0 (reply_text reply))
+        → GainsNothing
     unfolding GainsNothing
-    nothing_put o Usage by is = inr (record {
-      reply = Usage;
+    front_of reply is some put = inr (record {
+      reply = reply;
       called_for = is;
       count = 0;
-      front = (lit< tt, no_change k m same);
+      front = (some, put);
+      not_all = front_of_none jobs table words s t reply 0 is some;
     })
-    nothing_put o ReadFault by is = inr (record {
-      reply = ReadFault;
-      called_for = is;
-      count = 0;
-      front = (lit< tt, no_change k m same);
-    })
-    nothing_put None TooLong by is = cc
-    nothing_put None (Refused form fault) by is = cc
-    nothing_put None (JobUnknown line job) by is = cc
-    nothing_put None (WorkSpent count) by is = cc
-    nothing_put None (Played text) by is = cc
-    nothing_put None (Made text) by is = cc
-    nothing_put (Some command) TooLong by is = sound_source by.1
-    nothing_put (Some command) (Refused form fault) by is = sound_source by.1
-    nothing_put (Some command) (JobUnknown line job) by is = sound_source by.unbroken
-    nothing_put (Some command) (WorkSpent count) by is = sound_source by.unbroken
-    nothing_put (Some command) (Played text) by is = sound_source by.unbroken
-    nothing_put (Some command) (Made text) by is = sound_source by.unbroken
+
+    nothing_put : (o : Option Command) → command_of words ≡ o → (reply : Reply)
+        → IsReplyBy jobs table o s t reply → IsReply jobs table words s t reply → GainsNothing
+    nothing_put o named Usage by is = front_of Usage is (lit< tt) (no_change k m same)
+    nothing_put o named ReadFault by is = front_of ReadFault is (lit< tt) (no_change k m same)
+    nothing_put o named TooLong by is = front_of TooLong is (lit< tt) (no_change k m same)
+    nothing_put None named (Refused form fault) by is = cc
+    nothing_put None named (JobUnknown line job) by is = cc
+    nothing_put None named (WorkSpent count) by is = cc
+    nothing_put None named (Played text) by is = cc
+    nothing_put None named (Made text) by is = cc
+    nothing_put (Some command) named (Refused form fault) by is =
+        has_read command named by.1 (takes_up s t by.3.bytes by.3.read)
+    nothing_put (Some command) named (JobUnknown line job) by is =
+        has_brought command named (JobUnknown line job) by
+    nothing_put (Some command) named (WorkSpent count) by is =
+        has_brought command named (WorkSpent count) by
+    nothing_put (Some command) named (Played text) by is =
+        has_brought command named (Played text) by
+    nothing_put (Some command) named (Made text) by is = has_brought command named (Made text) by
 
     unwritten_says : (reply : Reply) → IsReply jobs table words s t reply
         → SaysNoMemory jobs table words s t k m
     unfolding GainsNothing
     unwritten_says reply is = record {
       sound = (ap (λ (x : SinkSeen). x.faults) same, ap (λ (x : SinkSeen). x.refusals) same);
-      written = nothing_put (command_of words) reply is is;
+      written = nothing_put (command_of words) refl reply is is;
     }
+
+-- ---- a day that ends too early for so much work
+
+below : (a b : ℕ) → a < b → b ≤ a → ⊥
+below a b less more = absurd (omega (arith, less, more))
+
+day_late : (r : Recipe) → EndsLate (inputs.Script (script_by r))
+    → WORK_LIMIT_V1 ≤ 5 * (r.moments + 1) * (1 + r.cpus + r.timers)
+unfolding generated
+day_late r late =
+    let count : 1 * r.cpus ≡ r.cpus = omega arith in
+    subst (λ (n : ℕ). WORK_LIMIT_V1 ≤ 5 * (r.moments + 1) * (1 + n + r.timers)) count late
 
 -- ---- what each status says
 
@@ -300,7 +334,13 @@ module _ {jobs : Replies} {table : ℕ} {words : List (String Global)} {s t : So
           (own_of_broken e.reply NO_MEMORY (λ no. cc) (sym own ∙ at)))
       no_memory_by (wanting count front sound own) = record {
         sound = sound;
-        written = inr (record { reply = e.reply; called_for = e.is; count = count; front = front });
+        written = inr (record {
+          reply = e.reply;
+          called_for = e.is;
+          count = count;
+          front = front;
+          not_all = front_of_none jobs table words s t e.reply count e.is front.0;
+        });
       }
       no_memory_by (unwritten same) =
           unwritten_says jobs table words s t k m same.0 e.reply e.is
@@ -366,3 +406,13 @@ module _ {jobs : Replies} {table : ℕ} {words : List (String Global)} {s t : So
       (λ own w. refusal_said form (own_of_broken e.reply (refused_status form) (no_break form) own)
       (inr w))
       (λ own. absurd (no_want form own))
+
+  pub day_ends : (recipe : Recipe) → command_of words ≡ Some (Day recipe) → IsShortDay recipe
+      → status ≡ WORK_SPENT → ⊥
+  day_ends recipe named short at =
+      let says = says_work_spent at in
+      let same = same_Some says.command (Day recipe) (sym says.has.named ∙ named) in
+      let By : Command → Type 0 = λ c. BringsBy (recipe_in c) (form_of c) s t says.input in
+      let brought : MakesScript recipe s t says.input = subst By same says.has.brought in
+      let limit = day_late recipe (subst EndsLate brought.made says.spends.late) in
+      below (5 * (recipe.moments + 1) * (1 + recipe.cpus + recipe.timers)) WORK_LIMIT_V1 short limit

@@ -1,22 +1,15 @@
 -- which status comes, by its cause
-use Rattle.std.proofs.Common.{◌≡◌, ◌≢◌, ◌≤◌, ◌+◌, ℕ, List, ◌++◌, Option, Some, None, length, refl}
-use Rattle.std.proofs.Common.{sym, ◌∙◌, ap, subst, arith, inl, inr, append-nil, length-append}
-use Rattle.std.specs.Prelude.{◌⊎◌, String, option_map}
+use Rattle.std.proofs.Common.{◌≡◌, ◌≢◌, ℕ, List, Option, Some, None, refl}
+use Rattle.std.proofs.Common.{sym, ◌∙◌, subst, inl, inr}
+use Rattle.std.specs.Prelude.{◌⊎◌, String}
 use Rattle.std.specs.declared.alloc.Global.{Global}
-use Rattle.std.specs.Io.KnownBytes.{Consumes, IsAtEnd}
-use Rattle.tm_base.specs.declared.limits.TheConstants.{MOST_BYTES}
 use Rattle.tm_io.specs.Seen.{SourceSeen, SourceFailed, SinkSeen}
-use Rattle.tm_io.specs.Sources.{TakesAll, TakesCount}
 use Rattle.tm_script.specs.declared.faults.ScriptFault.{ScriptFault}
 use Rattle.play_rules.specs.Interrupts.{Replies}
-use Rattle.play_rules.specs.Parts.{counted}
 use Rattle.script_main.specs.declared.commands.Recipe.{Recipe}
 use Rattle.script_main.specs.declared.commands.Command.{Command}
-use Rattle.script_main.specs.declared.commands.Command.TheVariants as commands
 use Rattle.script_main.specs.declared.inputs.Form.{Form}
-use Rattle.script_main.specs.declared.inputs.Form.TheVariants as forms
 use Rattle.script_main.specs.declared.inputs.Input.{Input}
-use Rattle.script_main.specs.declared.inputs.Input.TheVariants as inputs
 use Rattle.script_main.specs.declared.replies.Reply.{Reply}
 use Rattle.script_main.specs.declared.replies.Reply.TheVariants.{Usage, ReadFault, TooLong, Refused}
 use Rattle.script_main.specs.declared.replies.Reply.TheVariants.{JobUnknown, WorkSpent, Played}
@@ -24,9 +17,9 @@ use Rattle.script_main.specs.declared.replies.Reply.TheVariants.{Made}
 use Rattle.script_main.specs.declared.statuses.TheConstants.{DONE, NO_MEMORY, READ_FAULT}
 use Rattle.script_main.specs.declared.statuses.TheConstants.{WRITE_FAULT, WORK_SPENT}
 use Rattle.script_main.specs.declared.statuses.TheConstants.{JOB_UNKNOWN}
-use Rattle.script_main.specs.Inputs.{IsInputRefusalOf, SpellsInput}
-use Rattle.script_main.specs.Words.{form_of, recipe_in, IsPlayer}
-use Rattle.script_main.specs.Scripts.{BringsBy, CanEnd, IsOutput, KnowsJobs, LacksJob}
+use Rattle.script_main.specs.Inputs.{SpellsInput}
+use Rattle.script_main.specs.Words.{form_of, recipe_in}
+use Rattle.script_main.specs.Scripts.{BringsBy}
 use Rattle.script_main.specs.Replies.{IsReplyBy, IsReplyTo, RepliesToInput, refused_status}
 use Rattle.script_main.specs.Replies.{ReadsNone, reply_text}
 use Rattle.script_main.specs.Ends.{Breaks, EndsAs, EndsWith, whole, part, wanting, unwritten}
@@ -34,34 +27,7 @@ use Rattle.script_main.specs.Statuses.{IsEither}
 use Rattle.script_main.specs.Causes.{Asks, HasText, IsFine, IsInputBy, IsJobUnknown}
 use Rattle.script_main.specs.Causes.{IsRefusedAs, IsWorkSpent}
 use Rattle.script_main.proofs.Endings.{Ended}
-
--- ---- bytes that a source tells
-
--- what was read to the end of known bytes is these bytes
-reads_known : (known bytes : List ℕ) (left : Option (List ℕ)) → Consumes (Some known) left bytes
-    → IsAtEnd left → known ≡ bytes
-reads_known known bytes None taken end = absurd taken
-reads_known known bytes (Some rest) taken end =
-    taken ∙ ap (λ (xs : List ℕ). bytes ++ xs) end ∙ append-nil bytes
-
--- known bytes of which some were taken are no fewer
-takes_known : (known taken : List ℕ) (left : Option (List ℕ)) → Consumes (Some known) left taken
-    → length taken ≤ length known
-takes_known known taken None is = absurd is
-takes_known known taken (Some rest) is =
-    omega (arith, ap (λ (xs : List ℕ). length xs) is, length-append taken rest)
-
-module _ (s t : SourceSeen) (known : List ℕ) (left : s.left ≡ Some known) where
-  all_known : (bytes : List ℕ) → TakesAll s t MOST_BYTES bytes → known ≡ bytes
-  all_known bytes all =
-      let Gave : Option (List ℕ) → Type 0 = λ o. Consumes o t.left bytes in
-      reads_known known bytes t.left (subst Gave left all.taken) all.end
-
-  not_many : length known ≤ MOST_BYTES → TakesCount s t (MOST_BYTES + 1) → ⊥
-  not_many few count =
-      let Gave : Option (List ℕ) → Type 0 = λ o. Consumes o t.left count.0 in
-      let many = takes_known known count.0 t.left (subst Gave left count.2) in
-      absurd (omega (arith, many, count.1, few))
+use Rattle.script_main.proofs.Known.{all_known, not_both, not_many, out_plays, refuses}
 
 -- ---- the status of a text, by how it was written
 
@@ -89,49 +55,6 @@ module _ (text : List ℕ) (k m : SinkSeen) (status : ℕ) where
   out_whole (unwritten e) sound = inr e.1
 
 -- ---- the input that is asked for is the one that is replied to
-
--- bytes that are refused spell no input of that form
-refuses : (form : Form) (bytes : List ℕ) (fault : ScriptFault) → IsInputRefusalOf form bytes fault
-    → (input : Input) → SpellsInput form bytes input → ⊥
-refuses forms.Script bytes fault is (inputs.Script script) spelled = is.1 script spelled
-refuses forms.Script bytes fault is (inputs.Trace trace) spelled = spelled
-refuses forms.Script bytes fault is (inputs.Works works) spelled = spelled
-refuses forms.Trace bytes fault is (inputs.Script script) spelled = spelled
-refuses forms.Trace bytes fault is (inputs.Trace trace) spelled = is.1 trace spelled
-refuses forms.Trace bytes fault is (inputs.Works works) spelled = spelled
-refuses forms.Works bytes fault is (inputs.Script script) spelled = spelled
-refuses forms.Works bytes fault is (inputs.Trace trace) spelled = spelled
-refuses forms.Works bytes fault is (inputs.Works works) spelled = is.1 works spelled
-
--- a job that the table hasn't isn't known
-not_both : (table : ℕ) (input : Input) (line job : ℕ) → LacksJob table input line job
-    → KnowsJobs table input → ⊥
-not_both table (inputs.Script script) line job lacks known = cc (lacks, known)
-not_both table (inputs.Trace trace) line job lacks known = lacks
-not_both table (inputs.Works works) line job lacks known = cc (lacks, known)
-
--- a player's output is that of an input that can be played
-out_plays : (jobs : Replies) (table : ℕ) (command : Command) (input : Input) (text : List ℕ)
-    → IsPlayer command → IsOutput jobs table command input text → CanEnd jobs table input
-out_plays jobs table commands.Play (inputs.Script script) text plays out =
-    record { known = out.can_play.known; within = ap (option_map counted) out.can_play.within }
-out_plays jobs table commands.Play (inputs.Trace trace) text plays out = absurd out
-out_plays jobs table commands.Play (inputs.Works works) text plays out = absurd out
-out_plays jobs table commands.Tree input text plays out = absurd plays
-out_plays jobs table (commands.Generate recipe) input text plays out = absurd plays
-out_plays jobs table (commands.Day recipe) (inputs.Script script) text plays out =
-    record { known = out.can_play.known; within = ap (option_map counted) out.can_play.within }
-out_plays jobs table (commands.Day recipe) (inputs.Trace trace) text plays out = absurd out
-out_plays jobs table (commands.Day recipe) (inputs.Works works) text plays out = absurd out
-out_plays jobs table commands.Check input text plays out = absurd plays
-out_plays jobs table commands.Deep (inputs.Script script) text plays out =
-    record { known = out.can_play.known; within = ap (option_map counted) out.can_play.within }
-out_plays jobs table commands.Deep (inputs.Trace trace) text plays out = absurd out
-out_plays jobs table commands.Deep (inputs.Works works) text plays out = absurd out
-out_plays jobs table commands.Works (inputs.Script script) text plays out = absurd out
-out_plays jobs table commands.Works (inputs.Trace trace) text plays out = absurd out
-out_plays jobs table commands.Works (inputs.Works works) text plays out =
-    record { known = out.can_play.known; within = out.can_play.unspent }
 
 same_input : (s t : SourceSeen) (r : Option Recipe) (form : Form) (x y : Input)
     → BringsBy r form s t x → IsInputBy r form s.left y → x ≡ y

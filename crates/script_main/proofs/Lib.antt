@@ -2,6 +2,8 @@ pub mod TreeText
 mod Reading
 mod Replying
 mod Refusals
+mod Known
+mod OneText
 mod Endings
 mod Exactly
 mod Works

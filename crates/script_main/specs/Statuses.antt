@@ -1,14 +1,17 @@
 -- what each status says
-use Rattle.std.specs.Prelude.{◌≡◌, ◌⊎◌, ℕ, ◌+◌, ◌≤◌, List, [], String, Some, None}
+use Rattle.std.specs.Prelude.{◌≡◌, ◌≢◌, ◌⊎◌, ℕ, ◌+◌, ◌-◌, ◌*◌, ◌^◌, ◌<◌, ◌≤◌, List, []}
+use Rattle.std.specs.Prelude.{take, String, Some, None}
 use Rattle.std.specs.declared.alloc.Global.{Global}
 use Rattle.std.specs.Io.KnownBytes.{Appends}
-use Rattle.tm_base.specs.declared.limits.TheConstants.{MOST_BYTES}
+use Rattle.tm_base.specs.declared.limits.TheConstants.{MOST_BYTES, WORK_LIMIT_V1}
 use Rattle.tm_io.specs.Seen.{SourceSeen, SourceFailed, SourceUnbroken, SinkSeen}
 use Rattle.tm_io.specs.Sources.{TakesCount, TakesUpTo}
 use Rattle.tm_io.specs.Sinks.{AppendsFront}
 use Rattle.tm_script.specs.declared.faults.ScriptFault.{ScriptFault}
 use Rattle.play_rules.specs.Interrupts.{Replies}
+use Rattle.script_main.specs.declared.commands.Recipe.{Recipe}
 use Rattle.script_main.specs.declared.commands.Command.{Command}
+use Rattle.script_main.specs.declared.commands.Command.TheVariants.{Check}
 use Rattle.script_main.specs.declared.inputs.Form.{Form}
 use Rattle.script_main.specs.declared.inputs.Form.TheVariants as forms
 use Rattle.script_main.specs.declared.inputs.Input.{Input}
@@ -76,21 +79,51 @@ pub record SaysWriteFault (jobs : Replies) (table : ℕ) (words : List (String G
   pub output : IsOutput jobs table command input text
   pub writes : WritesFront text k m
 
--- a front, and not all, of the text of a reply that the words and the source call for
+-- ONE TEXT IS DUE: the source tells what it has left, and its count of faults isn't at the end of
+-- its type; and the words don't name `check`, of whose texts more than one may be allowed
+pub record IsOneDue (words : List (String Global)) (s : SourceSeen) : Type 0 where
+  pub bytes : List ℕ
+  pub told : s.left ≡ Some bytes
+  pub counts : s.faults ≢ 2 ^ 64 - 1
+  pub no_check : command_of words ≢ Some Check
+
+-- these bytes are all of no text of a reply that the words and the source call for
+abbrev pub IsAllOfNone : Replies → (table : ℕ) → List (String Global) → SourceSeen → SourceSeen
+    → List ℕ → Type 0
+IsAllOfNone jobs table words s t bytes =
+    (reply : Reply) → IsReply jobs table words s t reply → bytes ≢ reply_text reply
+
+-- a front, and not all, of the text of a reply that the words and the source call for; where one
+-- text is due it is all of no such text
 pub record WritesReplyFront (jobs : Replies) (table : ℕ) (words : List (String Global))
     (s t : SourceSeen) (k m : SinkSeen) : Type 0 where
   pub reply : Reply
   pub called_for : IsReply jobs table words s t reply
   pub count : ℕ
   pub front : AppendsFront k m count (reply_text reply)
+  pub not_all : IsOneDue words s
+      → IsAllOfNone jobs table words s t (take count (reply_text reply))
 
--- 5: memory was wanting, and the sink neither failed nor took nothing. It has gained a front of
--- what would have been written; or nothing, and then the source didn't fail either
+-- the words name a command, the source didn't fail, and no more was read of it than a script may
+-- have
+pub record HasRead (words : List (String Global)) (s t : SourceSeen) : Type 0 where
+  pub command : Command
+  pub named : command_of words ≡ Some command
+  pub unbroken : SourceUnbroken s t
+  pub read : TakesUpTo s t MOST_BYTES
+
+-- nothing was written, by a command whose source didn't fail and gave no byte too many
+pub record WritesNothing (words : List (String Global)) (s t : SourceSeen) (k m : SinkSeen)
+    : Type 0 where
+  pub has_read : HasRead words s t
+  pub nothing : Appends k.held m.held []
+
+-- 5: the sink neither failed nor took nothing, and nothing was written, by a command that has read,
+-- or a front, not all, of what was due
 pub record SaysNoMemory (jobs : Replies) (table : ℕ) (words : List (String Global))
     (s t : SourceSeen) (k m : SinkSeen) : Type 0 where
   pub sound : SinkSound k m
-  pub written : (SourceUnbroken s t × Appends k.held m.held [])
-      ⊎ WritesReplyFront jobs table words s t k m
+  pub written : WritesNothing words s t k m ⊎ WritesReplyFront jobs table words s t k m
 
 -- 6: the work of the input's play reached its limit before the end
 pub record SaysWorkSpent (jobs : Replies) (table : ℕ) (words : List (String Global))
@@ -102,6 +135,10 @@ pub record SaysWorkSpent (jobs : Replies) (table : ℕ) (words : List (String Gl
   pub count : ℕ
   pub spends : SpendsWork jobs table input count
   pub writes : Writes (work_spent_text count) k m
+
+-- the recipe's script ends so early that its CPUs and timers can't come to the limit of work
+abbrev pub IsShortDay : Recipe → Type 0
+IsShortDay r = 5 * (r.moments + 1) * (1 + r.cpus + r.timers) < WORK_LIMIT_V1
 
 -- 7: the source gave one byte more than a script may have
 pub record SaysTooLong (words : List (String Global)) (s t : SourceSeen) (k m : SinkSeen)

@@ -1,16 +1,18 @@
 //! The whole program.
 
-ghost use Rattle.std.specs.Prelude.{◌≢◌, ◌≡◌, ◌⊎◌, None, MatchResult};
+ghost use Rattle.std.specs.Prelude.{◌≢◌, ◌≡◌, ◌⊎◌, None, Some, MatchResult};
 ghost use Rattle.tm_io.specs.Seen.{SourceFailed, SourceUnbroken};
 ghost use Rattle.script_main.specs.Words.{Reads, command_of};
 ghost use Rattle.script_main.specs.Ends.{Breaks, EndsAs, EndsUnwritten, EndsWith};
-ghost use Rattle.script_main.specs.Statuses.{IsEither, IsStatus, SaysDone, SaysJobUnknown};
+ghost use Rattle.script_main.specs.Statuses.{IsEither, IsShortDay, IsStatus, SaysDone};
+ghost use Rattle.script_main.specs.Statuses.{SaysJobUnknown};
 ghost use Rattle.script_main.specs.Statuses.{SaysNoMemory, SaysTraceRefused, SaysWorksRefused};
 ghost use Rattle.script_main.specs.Statuses.{SaysReadFault, SaysRefused, SaysTooLong, SaysUsage};
 ghost use Rattle.script_main.specs.Statuses.{SaysWorkSpent, SaysWriteFault};
 ghost use Rattle.script_main.specs.Causes.{IsFine, IsJobUnknown, IsRefused, IsTooLong};
 ghost use Rattle.script_main.specs.Causes.{IsTraceRefused, IsWorkSpent, IsWorksRefused};
 
+use crate::commands::{Command, Recipe};
 use crate::replies::{Reply, refused_status, reply_to};
 use crate::texts::{
     job_unknown_text, read_fault_text, refused_text, too_long_text, usage_text, work_spent_text,
@@ -85,6 +87,11 @@ fn write_reply<K: Sink>(alloc: Global, reply: &Reply, sink: &mut K) -> u8
 /// The words are `play`, `tree`, `generate NUMBER CPUS TIMERS MOMENTS`,
 /// `day NUMBER CPUS TIMERS MOMENTS`, `check`, `deep` or `works`; of these `play`, `tree` and `deep`
 /// read a script from the source, `check` a trace, and `works` a script of works.
+///
+/// Want of memory with nothing written may come as the input is read, or made, or worked on, or as
+/// the sink takes its first bytes. Words that are no command, a source that failed, and one that has
+/// too many bytes want no memory for what is told of them: there it is the sink's alone. A front
+/// that was written is never all that was due.
 pub fn run_program<S: Source, K: Sink, J: Jobs>(
     alloc: Global,
     words: &[String],
@@ -139,6 +146,8 @@ pub fn run_program<S: Source, K: Sink, J: Jobs>(
     ensures job_unknown_exactly { result.0 ≢ READ_FAULT
         → IsJobUnknown (J.count jobs.now) words.now (S.seen source.old).left
         → IsEither result.0 JOB_UNKNOWN NO_MEMORY }
+    ensures day_ends { (recipe : Recipe) → command_of words.now ≡ Some (Command.Day recipe)
+        → IsShortDay recipe → result.0 ≢ WORK_SPENT }
     ensures work_spent_exactly { result.0 ≢ READ_FAULT
         → IsWorkSpent (J.replies jobs.now) (J.count jobs.now) words.now (S.seen source.old).left
         → IsEither result.0 WORK_SPENT NO_MEMORY }

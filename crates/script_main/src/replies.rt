@@ -2,7 +2,9 @@
 
 ghost use Rattle.std.specs.Prelude.{◌≡◌, ℕ, None, IfOk, OnErr};
 ghost use Rattle.play_rules.specs.Interrupts.{Replies};
+ghost use Rattle.tm_base.specs.declared.limits.TheConstants.{MOST_BYTES};
 ghost use Rattle.tm_io.specs.Seen.{SourceUnbroken};
+ghost use Rattle.tm_io.specs.Sources.{TakesUpTo};
 ghost use Rattle.tm_script.specs.Grammar.{IsScript};
 ghost use Rattle.trace_check.specs.Texts.{IsTrace};
 ghost use Rattle.work_script.specs.Grammar.{IsWorkScript};
@@ -10,6 +12,7 @@ ghost use Rattle.script_main.specs.Inputs.{IsInput};
 ghost use Rattle.script_main.specs.Words.{IsRecipe, Reads, form_of, recipe_in};
 ghost use Rattle.script_main.specs.Scripts.{script_by};
 ghost use Rattle.script_main.specs.Replies.{IsReply, IsReplyOf, IsReplyTo, refused_status};
+ghost use Rattle.script_main.specs.Statuses.{HasRead};
 ghost use Rattle.script_main.specs.Steps.{IsReplyToBytes};
 
 use crate::commands::{Command, Recipe, read_command};
@@ -217,6 +220,7 @@ fn reply_to_source<S: Source, J: Jobs>(
     ensures reply { IfOk result (IsReplyOf (J.replies jobs.now) (J.count jobs.now) command
         (S.seen source.old) (S.seen source.new)) }
     ensures unbroken { OnErr result (SourceUnbroken (S.seen source.old) (S.seen source.new)) }
+    ensures read { OnErr result (TakesUpTo (S.seen source.old) (S.seen source.new) MOST_BYTES) }
 {
     match read_all(alloc, source, MOST_BYTES) {
         Ok(bytes) => reply_to_bytes(alloc, command, &bytes, jobs),
@@ -258,7 +262,8 @@ pub(crate) fn reply_to<S: Source, J: Jobs>(
 ) -> Result<Reply, NoMemory>
     ensures reply { IfOk result (IsReply (J.replies jobs.now) (J.count jobs.now) words.now
         (S.seen source.old) (S.seen source.new)) }
-    ensures unbroken { OnErr result (SourceUnbroken (S.seen source.old) (S.seen source.new)) }
+    ensures has_read { OnErr result
+        (HasRead words.now (S.seen source.old) (S.seen source.new)) }
     ensures untouched { ¬ Reads words.now → source.new ≡ source.old }
 {
     let Some(command) = read_command(words) else {

@@ -1,5 +1,5 @@
 use Rattle.std.proofs.Common.{refl, inl}
-use Rattle.script_main.proofs.Endings.{appends_none, says_done, says_no_memory, says_write_fault}
+use Rattle.script_main.proofs.Endings.{appends_none, day_ends, says_done, says_no_memory, says_write_fault}
 use Rattle.script_main.specs.declared.inputs.Form.TheVariants as forms
 use Rattle.script_main.proofs.Endings.{says_work_spent, says_job_unknown, says_refused}
 use Rattle.script_main.proofs.Refusals.{has_status}
@@ -102,6 +102,16 @@ returns-in-Ok-clause-works_refused_exactly g c =
       ends = c.write_reply.ensures;
     }) forms.Works r not
 
+pub returns-in-Ok-clause-day_ends : goal.returns-in-Ok-clause-day_ends
+returns-in-Ok-clause-day_ends g c =
+    day_ends {jobs = g.J.Jobs.replies c.args.jobs.now} {table = g.J.Jobs.count c.args.jobs.now}
+    {words = c.args.words.now} {s = g.S.Source.seen c.args.source.now}
+    {t = g.S.Source.seen c.reply_to.new.source} (record {
+      reply = c.in-Ok.reply;
+      is = c.in-Ok.ensures.reply;
+      ends = c.write_reply.ensures;
+    })
+
 pub returns-in-Ok-clause-job_unknown_exactly : goal.returns-in-Ok-clause-job_unknown_exactly
 returns-in-Ok-clause-job_unknown_exactly g c =
     job_exactly (record {
@@ -137,4 +147,7 @@ returns-in-Ok-clause-complete g c =
 pub returns-in-Err-clause-no_memory : goal.returns-in-Err-clause-no_memory
 returns-in-Err-clause-no_memory g c =
     let nothing = appends_none (g.K.Sink.seen c.args.sink.now).held in
-    λ at. record { sound = (refl, refl); written = inl (c.in-Err.ensures.unbroken, nothing) }
+    λ at. record {
+      sound = (refl, refl);
+      written = inl (record { has_read = c.in-Err.ensures.has_read; nothing = nothing });
+    }

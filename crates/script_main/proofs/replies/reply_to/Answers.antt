@@ -1,9 +1,10 @@
-use Rattle.std.proofs.Common.{Option, sym, subst}
+use Rattle.std.proofs.Common.{Option, refl, sym, subst}
 use Rattle.std.proofs.lemmas.Result.{IfOk-weaker}
 use Rattle.script_main.specs.declared.commands.Command.{Command}
 use Rattle.script_main.specs.declared.inputs.Input.TheVariants as inputs
 use Rattle.script_main.specs.Scripts.{script_by}
 use Rattle.script_main.specs.Replies.{IsReplyBy, IsReplyTo, IsReply}
+use Rattle.script_main.proofs.OneText.{on_err, takes_none}
 use Rattle.script_main.proofs.Replying.{to_recipe}
 use Rattle.script_main.proofs.replies.reply_to.Goals as goal
 
@@ -22,3 +23,12 @@ returns-in-Some-recipe-clause-reply g c =
     let By : Option Command → Type 0 = λ o. IsReplyBy jobs table o s s reply in
     subst By c.in-Some.ensures.value (to_recipe jobs table command s recipe maker reply to))
     c.reply_to_recipe.ensures
+
+pub returns-in-Some-recipe-clause-has_read : goal.returns-in-Some-recipe-clause-has_read
+returns-in-Some-recipe-clause-has_read g c =
+    on_err c.reply_to_recipe.result (record {
+      command = c.in-Some.command;
+      named = sym c.in-Some.ensures.value;
+      unbroken = refl;
+      read = takes_none (g.S.Source.seen c.args.source.now);
+    })

@@ -4,6 +4,7 @@ use Rattle.tm_base.specs.declared.limits.TheConstants.{MOST_BYTES}
 use Rattle.tm_io.specs.Sources.{TakesAll}
 use Rattle.script_main.specs.Replies.{IsReplyOf}
 use Rattle.script_main.specs.Steps.{IsReplyToBytes}
+use Rattle.script_main.proofs.OneText.{on_err, takes_up}
 use Rattle.script_main.proofs.Replying.{to_source}
 use Rattle.script_main.proofs.replies.reply_to_source.Goals as goal
 
@@ -20,3 +21,12 @@ returns-in-Ok-clause-reply g c =
     IfOk-weaker c.reply_to_bytes.result (IsReplyToBytes jobs table c.args.command bytes)
     (IsReplyOf jobs table c.args.command s t)
     (to_source jobs table c.args.command s t bytes c.requires all sound) c.reply_to_bytes.ensures
+
+pub returns-in-Ok-clause-read : goal.returns-in-Ok-clause-read
+returns-in-Ok-clause-read g c =
+    let s = g.S.Source.seen c.args.source.now in
+    let t = g.S.Source.seen c.read_all.new.source in
+    let bytes = c.deref.result.now in
+    let Took : List ℕ → Type 0 = λ xs. TakesAll s t MOST_BYTES xs in
+    let all = subst Took (sym c.deref.ensures.value) c.in-Ok.ensures.ok in
+    on_err c.reply_to_bytes.result (takes_up s t bytes all)

@@ -1,0 +1,314 @@
+-- where one text is due, any two replies that are called for have it
+use Rattle.std.proofs.Common.{◌≡◌, ◌≢◌, ◌≤◌, ◌<◌, ◌+◌, ℕ, List, [], Option, Some, None, length, refl}
+use Rattle.std.proofs.Common.{sym, ◌∙◌, ap, subst, arith, inl, inr}
+use Rattle.std.specs.Prelude.{◌-◌, ◌^◌, take, String, Result, Ok, Err, OnErr}
+use Rattle.std.specs.declared.alloc.Global.{Global}
+use Rattle.std.proofs.lemmas.List.{length-take-le}
+use Rattle.std.proofs.lemmas.Option.{none-some, same_Some}
+use Rattle.std.specs.Io.KnownBytes.{Consumes}
+use Rattle.tm_base.specs.declared.limits.TheConstants.{MOST_BYTES}
+use Rattle.tm_io.specs.Seen.{SourceSeen, SourceFailed, SourceUnbroken}
+use Rattle.tm_io.specs.Sources.{TakesAll, TakesCount, TakesUpTo}
+use Rattle.tm_script.specs.declared.faults.ScriptFault.{ScriptFault}
+use Rattle.play_rules.specs.Interrupts.{Replies}
+use Rattle.play_rules.specs.declared.asks.UnknownJob.{UnknownJob}
+use Rattle.delayed_work.specs.declared.faults.UnknownWorkJob.{UnknownWorkJob}
+use Rattle.script_main.specs.declared.commands.Recipe.{Recipe}
+use Rattle.script_main.specs.declared.commands.Command.{Command}
+use Rattle.script_main.specs.declared.commands.Command.TheVariants as commands
+use Rattle.script_main.specs.declared.inputs.Form.{Form}
+use Rattle.script_main.specs.declared.inputs.Form.TheVariants as forms
+use Rattle.script_main.specs.declared.inputs.Input.{Input}
+use Rattle.script_main.specs.declared.inputs.Input.TheVariants as inputs
+use Rattle.script_main.specs.declared.replies.Reply.{Reply}
+use Rattle.script_main.specs.declared.replies.Reply.TheVariants.{Usage, ReadFault, TooLong, Refused}
+use Rattle.script_main.specs.declared.replies.Reply.TheVariants.{JobUnknown, WorkSpent, Played}
+use Rattle.script_main.specs.declared.replies.Reply.TheVariants.{Made}
+use Rattle.script_main.specs.Inputs.{IsInputRefusalOf, SpellsInput}
+use Rattle.script_main.specs.Words.{command_of, form_of, recipe_in, IsPlayer}
+use Rattle.script_main.specs.Scripts.{BringsBy, IsOutput, LacksJob}
+use Rattle.script_main.specs.Replies.{IsReader, IsReply, IsReplyBy, IsReplyOf, IsReplyTo, ReadsNone}
+use Rattle.script_main.specs.Replies.{RepliesToInput, SpendsWork, reply_text}
+use Rattle.script_main.specs.Statuses.{IsAllOfNone, IsOneDue}
+use Rattle.script_main.proofs.Known.{all_known, not_both, not_many, out_plays, refuses}
+
+-- ---- one text of an input
+
+-- a command but `check` writes one output
+one_output : (jobs : Replies) (table : ℕ) (command : Command) (input : Input) (xs ys : List ℕ)
+    → command ≢ commands.Check → IsOutput jobs table command input xs
+    → IsOutput jobs table command input ys → xs ≡ ys
+one_output jobs table commands.Play (inputs.Script script) xs ys not_check x y = x.played ∙ sym y.played
+one_output jobs table commands.Play (inputs.Trace trace) xs ys not_check x y = absurd x
+one_output jobs table commands.Play (inputs.Works works) xs ys not_check x y = absurd x
+one_output jobs table commands.Tree (inputs.Script script) xs ys not_check x y = x ∙ sym y
+one_output jobs table commands.Tree (inputs.Trace trace) xs ys not_check x y = absurd x
+one_output jobs table commands.Tree (inputs.Works works) xs ys not_check x y = absurd x
+one_output jobs table (commands.Generate recipe) (inputs.Script script) xs ys not_check x y = x ∙ sym y
+one_output jobs table (commands.Generate recipe) (inputs.Trace trace) xs ys not_check x y = absurd x
+one_output jobs table (commands.Generate recipe) (inputs.Works works) xs ys not_check x y = absurd x
+one_output jobs table (commands.Day recipe) (inputs.Script script) xs ys not_check x y =
+    x.summed ∙ sym y.summed
+one_output jobs table (commands.Day recipe) (inputs.Trace trace) xs ys not_check x y = absurd x
+one_output jobs table (commands.Day recipe) (inputs.Works works) xs ys not_check x y = absurd x
+one_output jobs table commands.Check input xs ys not_check x y = absurd (not_check refl)
+one_output jobs table commands.Deep (inputs.Script script) xs ys not_check x y = x.played ∙ sym y.played
+one_output jobs table commands.Deep (inputs.Trace trace) xs ys not_check x y = absurd x
+one_output jobs table commands.Deep (inputs.Works works) xs ys not_check x y = absurd x
+one_output jobs table commands.Works (inputs.Script script) xs ys not_check x y = absurd x
+one_output jobs table commands.Works (inputs.Trace trace) xs ys not_check x y = absurd x
+one_output jobs table commands.Works (inputs.Works works) xs ys not_check x y = x.played ∙ sym y.played
+
+same_unknown : (a b : UnknownJob) → Some a ≡ Some b → (a.line ≡ b.line) × (a.job ≡ b.job)
+same_unknown a b e =
+    let same = same_Some a b e in
+    (ap (λ (u : UnknownJob). u.line) same, ap (λ (u : UnknownJob). u.job) same)
+
+same_unknown_work : (a b : UnknownWorkJob) → Some a ≡ Some b
+    → (a.line ≡ b.line) × (a.job ≡ b.job)
+same_unknown_work a b e =
+    let same = same_Some a b e in
+    (ap (λ (u : UnknownWorkJob). u.line) same, ap (λ (u : UnknownWorkJob). u.job) same)
+
+-- one job is the first that the table hasn't
+one_lack : (table : ℕ) (input : Input) (l j m k : ℕ) → LacksJob table input l j
+    → LacksJob table input m k → (l ≡ m) × (j ≡ k)
+one_lack table (inputs.Script script) l j m k x y =
+    same_unknown (record { line = l; job = j }) (record { line = m; job = k }) (sym x ∙ y)
+one_lack table (inputs.Trace trace) l j m k x y = absurd x
+one_lack table (inputs.Works works) l j m k x y =
+    same_unknown_work (record { line = l; job = j }) (record { line = m; job = k }) (sym x ∙ y)
+
+-- what a reply to an input is
+data Answer (jobs : Replies) (table : ℕ) (command : Command) (input : Input) (reply : Reply)
+    : Type 0 where
+  lack : (line job : ℕ) → IsPlayer command → LacksJob table input line job
+      → reply ≡ JobUnknown line job → Answer jobs table command input reply
+  spend : (count : ℕ) → IsPlayer command → SpendsWork jobs table input count
+      → reply ≡ WorkSpent count → Answer jobs table command input reply
+  output : IsOutput jobs table command input (reply_text reply)
+      → Answer jobs table command input reply
+
+module _ (jobs : Replies) (table : ℕ) (command : Command) (no_check : command ≢ commands.Check)
+  where
+    answer : (input : Input) (reply : Reply) → IsReplyTo jobs table command input reply
+        → Answer jobs table command input reply
+    answer input Usage is = absurd is
+    answer input ReadFault is = absurd is
+    answer input TooLong is = absurd is
+    answer input (Refused form fault) is = absurd is
+    answer input (JobUnknown line job) is = lack line job is.0 is.1 refl
+    answer input (WorkSpent count) is = spend count is.0 is.1 refl
+    answer input (Played text) is = output is
+    answer input (Made text) is = output is
+
+    one_answer : (input : Input) (x y : Reply) → Answer jobs table command input x
+        → Answer jobs table command input y → reply_text x ≡ reply_text y
+    one_answer input x y (lack l j plays lacks is) (lack m k plays2 lacks2 is2) =
+        let same = one_lack table input l j m k lacks lacks2 in
+        let texts : reply_text (JobUnknown l j) ≡ reply_text (JobUnknown m k) =
+        λ i. reply_text (JobUnknown (same.0 i) (same.1 i)) in
+        ap reply_text is ∙ texts ∙ sym (ap reply_text is2)
+    one_answer input x y (lack l j plays lacks is) (spend n plays2 spent is2) =
+        absurd (not_both table input l j lacks spent.known)
+    one_answer input x y (lack l j plays lacks is) (output out) =
+        absurd (not_both table input l j lacks
+        (out_plays jobs table command input (reply_text y) plays out).known)
+    one_answer input x y (spend n plays spent is) (lack l j plays2 lacks is2) =
+        absurd (not_both table input l j lacks spent.known)
+    one_answer input x y (spend n plays spent is) (spend k plays2 spent2 is2) =
+        let same = same_Some n k (sym spent.spent ∙ spent2.spent) in
+        ap reply_text is ∙ ap (λ (c : ℕ). reply_text (WorkSpent c)) same ∙ sym (ap reply_text is2)
+    one_answer input x y (spend n plays spent is) (output out) =
+        let within = (out_plays jobs table command input (reply_text y) plays out).within in
+        absurd (none-some n (sym within ∙ spent.spent))
+    one_answer input x y (output out) (lack l j plays lacks is) =
+        absurd (not_both table input l j lacks
+        (out_plays jobs table command input (reply_text x) plays out).known)
+    one_answer input x y (output out) (spend n plays spent is) =
+        let within = (out_plays jobs table command input (reply_text x) plays out).within in
+        absurd (none-some n (sym within ∙ spent.spent))
+    one_answer input x y (output out) (output out2) =
+        one_output jobs table command input (reply_text x) (reply_text y) no_check out out2
+
+-- ---- one text of a source
+
+-- a form's bytes have one first fault
+one_fault : (form : Form) (bytes : List ℕ) (f g : ScriptFault) → IsInputRefusalOf form bytes f
+    → IsInputRefusalOf form bytes g → f ≡ g
+one_fault forms.Script bytes f g x y = same_Some f g (sym x.0 ∙ y.0)
+one_fault forms.Trace bytes f g x y = same_Some f g (sym x.0 ∙ y.0)
+one_fault forms.Works bytes f g x y = same_Some f g (sym x.0 ∙ y.0)
+
+-- a count that isn't at its end either rose or is as it was
+not_both_ways : (s t : SourceSeen) → s.faults ≢ 2 ^ 64 - 1 → SourceFailed s t
+    → SourceUnbroken s t → ⊥
+not_both_ways s t counts (inl less) same = absurd (omega (arith, less, same))
+not_both_ways s t counts (inr still) same = counts still.0
+
+-- why a reply is called for, by the source
+data Due (jobs : Replies) (table : ℕ) (command : Command) (s t : SourceSeen) (reply : Reply)
+    : Type 0 where
+  failed : SourceFailed s t → reply ≡ ReadFault → Due jobs table command s t reply
+  long : IsReader command → SourceUnbroken s t → TakesCount s t (MOST_BYTES + 1)
+      → reply ≡ TooLong → Due jobs table command s t reply
+  refused : (fault : ScriptFault) → IsReader command → SourceUnbroken s t
+      → ReadsNone (form_of command) s t fault → reply ≡ Refused (form_of command) fault
+      → Due jobs table command s t reply
+  answered : RepliesToInput jobs table command s t reply → Due jobs table command s t reply
+
+module _ (s t : SourceSeen) (known : List ℕ) (told : s.left ≡ Some known) where
+  few_known : (bytes : List ℕ) → TakesAll s t MOST_BYTES bytes → length known ≤ MOST_BYTES
+  few_known bytes all =
+      let same = all_known s t known told bytes all in
+      omega (arith, all.within, ap (λ (xs : List ℕ). length xs) same)
+
+  same_bytes : (xs ys : List ℕ) → TakesAll s t MOST_BYTES xs → TakesAll s t MOST_BYTES ys
+      → xs ≡ ys
+  same_bytes xs ys x y = sym (all_known s t known told xs x) ∙ all_known s t known told ys y
+
+  -- a command has one input
+  one_input : (r : Option Recipe) (form : Form) (x y : Input) → BringsBy r form s t x
+      → BringsBy r form s t y → x ≡ y
+  one_input None form x y a b =
+      let Spelled : List ℕ → Type 0 = λ bs. SpellsInput form bs x in
+      b.only x (subst Spelled (same_bytes a.bytes b.bytes a.read b.read) a.spelled)
+  one_input (Some recipe) form x y a b = a.made ∙ sym b.made
+
+  module _ (jobs : Replies) (table : ℕ) (command : Command) where
+    due : (reply : Reply) → IsReplyOf jobs table command s t reply
+        → Due jobs table command s t reply
+    due Usage is = absurd is
+    due ReadFault is = failed is.1 refl
+    due TooLong is = long is.0 is.1 is.2 refl
+    due (Refused form fault) is =
+        let Read : Form → Type 0 = λ f. ReadsNone f s t fault in
+        refused fault is.0 is.1 (subst Read (sym is.2) is.3)
+        (ap (λ (f : Form). Refused f fault) (sym is.2))
+    due (JobUnknown line job) is = answered is
+    due (WorkSpent count) is = answered is
+    due (Played text) is = answered is
+    due (Made text) is = answered is
+
+    read_by : IsReader command → (reply : Reply) → (r : RepliesToInput jobs table command s t reply)
+        → BringsBy None (form_of command) s t r.input
+    read_by reader reply r =
+        let By : Option Recipe → Type 0 = λ o. BringsBy o (form_of command) s t r.input in
+        subst By reader r.brought
+
+    not_long : (reply : Reply) → IsReader command → TakesCount s t (MOST_BYTES + 1)
+        → RepliesToInput jobs table command s t reply → ⊥
+    not_long reply reader count r =
+        let read = read_by reader reply r in
+        not_many s t known told (few_known read.bytes read.read) count
+
+    not_none : (reply : Reply) (fault : ScriptFault) → IsReader command
+        → ReadsNone (form_of command) s t fault → RepliesToInput jobs table command s t reply → ⊥
+    not_none reply fault reader none r =
+        let read = read_by reader reply r in
+        let Spelled : List ℕ → Type 0 = λ bs. SpellsInput (form_of command) bs r.input in
+        let same = same_bytes read.bytes none.bytes read.read none.read in
+        refuses (form_of command) none.bytes fault none.refusal r.input
+        (subst Spelled same read.spelled)
+
+    first_fault : (f g : ScriptFault) → ReadsNone (form_of command) s t f
+        → ReadsNone (form_of command) s t g → f ≡ g
+    first_fault f g x y =
+        let Is : List ℕ → Type 0 = λ bs. IsInputRefusalOf (form_of command) bs f in
+        one_fault (form_of command) y.bytes f g
+        (subst Is (same_bytes x.bytes y.bytes x.read y.read) x.refusal) y.refusal
+
+    module _ (counts : s.faults ≢ 2 ^ 64 - 1) (no_check : command ≢ commands.Check) where
+      sure : {A : Type 0} → SourceFailed s t → SourceUnbroken s t → A
+      sure fell sound = absurd (not_both_ways s t counts fell sound)
+
+      to_same : (x y : Reply) → (a : RepliesToInput jobs table command s t x)
+          → RepliesToInput jobs table command s t y → reply_text x ≡ reply_text y
+      to_same x y a b =
+          let To : Input → Type 0 = λ input. IsReplyTo jobs table command input x in
+          let same =
+          one_input (recipe_in command) (form_of command) a.input b.input a.brought b.brought in
+          one_answer jobs table command no_check b.input x y
+          (answer jobs table command no_check b.input x (subst To same a.reply_is))
+          (answer jobs table command no_check b.input y b.reply_is)
+
+      one_due : (x y : Reply) → Due jobs table command s t x → Due jobs table command s t y
+          → reply_text x ≡ reply_text y
+      one_due x y (failed fell is) (failed fell2 is2) = ap reply_text (is ∙ sym is2)
+      one_due x y (failed fell is) (long reader sound count is2) = sure fell sound
+      one_due x y (failed fell is) (refused fault reader sound none is2) = sure fell sound
+      one_due x y (failed fell is) (answered r) = sure fell r.unbroken
+      one_due x y (long reader sound count is) (failed fell is2) = sure fell sound
+      one_due x y (long reader sound count is) (long r2 s2 c2 is2) = ap reply_text (is ∙ sym is2)
+      one_due x y (long reader sound count is) (refused fault r2 s2 none is2) =
+          absurd (not_many s t known told (few_known none.bytes none.read) count)
+      one_due x y (long reader sound count is) (answered r) = absurd (not_long y reader count r)
+      one_due x y (refused fault reader sound none is) (failed fell is2) = sure fell sound
+      one_due x y (refused fault reader sound none is) (long r2 s2 count is2) =
+          absurd (not_many s t known told (few_known none.bytes none.read) count)
+      one_due x y (refused fault reader sound none is) (refused g r2 s2 none2 is2) =
+          let Told : ScriptFault → Reply = λ f. Refused (form_of command) f in
+          ap reply_text (is ∙ ap Told (first_fault fault g none none2) ∙ sym is2)
+      one_due x y (refused fault reader sound none is) (answered r) =
+          absurd (not_none y fault reader none r)
+      one_due x y (answered r) (failed fell is2) = sure fell r.unbroken
+      one_due x y (answered r) (long reader sound count is2) = absurd (not_long x reader count r)
+      one_due x y (answered r) (refused fault reader sound none is2) =
+          absurd (not_none x fault reader none r)
+      one_due x y (answered a) (answered b) = to_same x y a b
+
+-- ---- one text of the words
+
+module _ (jobs : Replies) (table : ℕ) (words : List (String Global)) (s t : SourceSeen)
+    (one : IsOneDue words s) where
+  one_by : (o : Option Command) → command_of words ≡ o → (x y : Reply)
+      → IsReplyBy jobs table o s t x → IsReplyBy jobs table o s t y
+      → reply_text x ≡ reply_text y
+  one_by None named x y a b = ap reply_text (a ∙ sym b)
+  one_by (Some command) named x y a b =
+      one_due s t one.bytes one.told jobs table command one.counts
+      (λ is. one.no_check (named ∙ ap Some is)) x y
+      (due s t one.bytes one.told jobs table command x a)
+      (due s t one.bytes one.told jobs table command y b)
+
+-- a front that isn't all of one text that is due is all of none
+pub front_of_none : (jobs : Replies) (table : ℕ) (words : List (String Global)) (s t : SourceSeen)
+    (reply : Reply) (count : ℕ) → IsReply jobs table words s t reply
+    → count < length (reply_text reply) → IsOneDue words s
+    → IsAllOfNone jobs table words s t (take count (reply_text reply))
+front_of_none jobs table words s t reply count is less one other due_too same =
+    let text = one_by jobs table words s t one (command_of words) refl reply other is due_too in
+    let long = length-take-le count (reply_text reply) (omega (arith, less)) in
+    let whole = ap (λ (xs : List ℕ). length xs) (same ∙ sym text) in
+    absurd (omega (arith, less, long, whole))
+
+-- ---- what was read by then
+
+reads_none : (left : Option (List ℕ)) → Consumes left left []
+reads_none None = tt
+reads_none (Some bytes) = refl
+
+pub takes_up : (s t : SourceSeen) (bytes : List ℕ) → TakesAll s t MOST_BYTES bytes
+    → TakesUpTo s t MOST_BYTES
+takes_up s t bytes all = (length bytes, all.within, (bytes, refl, all.taken))
+
+pub takes_none : (s : SourceSeen) → TakesUpTo s s MOST_BYTES
+takes_none s = (0, omega arith, ([], refl, reads_none s.left))
+
+-- a command that has its input has read no more than a script may have
+pub brought_up : (s t : SourceSeen) (r : Option Recipe) (form : Form) (input : Input)
+    → BringsBy r form s t input → TakesUpTo s t MOST_BYTES
+brought_up s t None form input is = takes_up s t is.bytes is.read
+brought_up s t (Some recipe) form input is =
+    let Took : SourceSeen → Type 0 = λ x. TakesUpTo s x MOST_BYTES in
+    subst Took (sym is.untouched) (takes_none s)
+
+-- what holds in any case holds after an Err
+pub on_err : {A E P : Type 0} (r : Result A E) → P → OnErr r P
+on_err (Ok a) p = tt
+on_err (Err e) p = p
+
+pub err_of_both : {A E P Q R : Type 0} (r : Result A E) → (P → Q → R) → OnErr r P → OnErr r Q
+    → OnErr r R
+err_of_both (Ok a) f p q = tt
+err_of_both (Err e) f p q = f p q
