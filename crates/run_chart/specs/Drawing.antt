@@ -91,7 +91,7 @@ frame_text width height =
 -- what begins a picture of this size
 unfoldable pub size_text : (width height : ℕ) → List ℕ
 size_text width height =
-    codes "<svg xmlns=\"http://www.w3.org/2000/svg\" role=\"img\" font-size=\"1.4\""
+    codes "<svg xmlns=\"http://www.w3.org/2000/svg\" role=\"img\""
     ++ (frame_text width height ++ codes "\">\n")
 
 -- what a picture shows, in words
@@ -104,7 +104,7 @@ description_text =
 -- how bars and arrows look
 unfoldable pub style_text : List ℕ
 style_text =
-    codes "<style>text{font-family:sans-serif}.c{text-anchor:end}"
+    codes "<style>text{font:1.4px sans-serif}.c{text-anchor:end}"
     ++ (codes "path{fill:none;stroke:#333}.a{stroke-width:.8;stroke:#999}.s{stroke-width:.15}"
     ++ (codes ".o{stroke-width:.15;stroke-dasharray:.2 .6}"
     ++ codes ".r{stroke-width:.2;stroke:#000;marker-end:url(#h)}</style>\n"))

@@ -266,7 +266,7 @@ fn push_size(text: &mut Vec<u8>, width: u64, height: u64) -> Result<(), NoMemory
 {
     push_words(
         text,
-        b"<svg xmlns=\"http://www.w3.org/2000/svg\" role=\"img\" font-size=\"1.4\"",
+        b"<svg xmlns=\"http://www.w3.org/2000/svg\" role=\"img\"",
     )?;
     push_frame(text, width, height)?;
     push_words(text, b"\">\n")?;
@@ -315,7 +315,7 @@ fn push_style(text: &mut Vec<u8>) -> Result<(), NoMemory>
 {
     push_words(
         text,
-        b"<style>text{font-family:sans-serif}.c{text-anchor:end}",
+        b"<style>text{font:1.4px sans-serif}.c{text-anchor:end}",
     )?;
     push_words(
         text,
