@@ -23,7 +23,8 @@ use Rattle.trace_rules.specs.declared.judge.Verdict.TheVariants.{Fits, Broken, N
 -- the text where the words are no command
 abbrev pub usage_line : List ℕ
 usage_line =
-    codes "usage: tmigview linux < TRACE | chart [--from J] [--to J] [--cpus A-B] < REPORT\n"
+    codes "usage: tmigview linux < TRACE | explain < STEPS "
+    ++ codes "| chart [--text] [--covers] [--from J] [--to J] [--cpus A-B] < REPORT\n"
 
 -- .. where the source failed
 abbrev pub read_fault_line : List ℕ

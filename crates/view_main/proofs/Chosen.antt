@@ -4,7 +4,7 @@ use Rattle.std.specs.Prelude.{drop, length, String, string_bytes}
 use Rattle.std.specs.declared.alloc.Global.{Global}
 use Rattle.std.proofs.lemmas.List.{drop_all, drop_more}
 use Rattle.view_main.specs.declared.words.Options.{Options}
-use Rattle.view_main.specs.Words.{choice_of, first_options, options_behind, options_from, take_word}
+use Rattle.view_main.specs.Words.{look_of, first_options, options_behind, options_from, take_word}
 
 module _ (i : ℕ) (options : Options) (words : List (String Global)) (d : String Global) where
   word_at : i < length words → options_from options (drop i words)
@@ -33,6 +33,6 @@ module _ (i : ℕ) (options : Options) (words : List (String Global)) (d : Strin
 
 pub words_end : (i : ℕ) (options : Options) (words : List (String Global)) → length words ≤ i
     → options_from options (drop i words) ≡ options_from first_options words
-    → choice_of options ≡ options_from first_options words
+    → look_of options ≡ options_from first_options words
 unfolding options_behind
 words_end i options words past far = rw (drop_all i words past) at far

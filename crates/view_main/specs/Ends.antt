@@ -9,12 +9,13 @@ use Rattle.trace_view.specs.Ends.{IsEnd, Reads}
 use Rattle.trace_view.specs.Texts.{read_fault_line, too_long_line}
 use Rattle.view_main.specs.declared.words.Command.{Command}
 use Rattle.view_main.specs.declared.words.Command.TheVariants as commands
-use Rattle.view_main.specs.Outputs.{IsDrawing}
+use Rattle.view_main.specs.Outputs.{IsDrawing, IsTelling}
 use Rattle.view_main.specs.Words.{command_of}
 
 -- what a command writes of its input
 abbrev pub IsAnswer : Command → (bytes text : List ℕ) → (status : ℕ) → Type 0
-IsAnswer (commands.Chart choice) bytes text status = IsDrawing choice bytes text status
+IsAnswer (commands.Chart look) bytes text status = IsDrawing look bytes text status
+IsAnswer commands.Explain bytes text status = IsTelling bytes text status
 IsAnswer commands.Other bytes text status = ⊥
 
 -- WHAT A COMMAND WRITES of the source, which went from old to new
@@ -37,8 +38,9 @@ pub data Runs (command : Command) (from to : SourceSeen) (old new : SinkSeen) (s
 -- where the words are no command of these, a kernel's trace is checked, or the words are refused
 abbrev pub ViewsBy : Command → List (String Global) → (from to : SourceSeen) →
     (old new : SinkSeen) → (status : ℕ) → Type 0
-ViewsBy (commands.Chart choice) words from to old new status =
-    Runs (commands.Chart choice) from to old new status
+ViewsBy (commands.Chart look) words from to old new status =
+    Runs (commands.Chart look) from to old new status
+ViewsBy commands.Explain words from to old new status = Runs commands.Explain from to old new status
 ViewsBy commands.Other words from to old new status = Reads words from to old new status
 
 -- WHAT THE PROGRAM DOES

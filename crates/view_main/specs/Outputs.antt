@@ -1,25 +1,58 @@
 -- what a command writes of its input
-use Rattle.std.specs.Prelude.{◌≡◌, ℕ, List, Some, None}
+use Rattle.std.specs.Prelude.{◌≡◌, ℕ, List, Some, None, if◌then◌else◌}
 use Rattle.tm_report.specs.declared.lines.Line.{Line}
 use Rattle.report_reader.specs.declared.faults.ReportFault.{ReportFault}
 use Rattle.report_reader.specs.Reader.{IsFirstFault, IsReportOf}
-use Rattle.run_chart.specs.declared.charting.Choice.{Choice}
 use Rattle.run_chart.specs.Charts.{back_from, chart_text, window_of}
-use Rattle.trace_view.specs.declared.statuses.TheConstants.{FITS, NO_TRACE}
-use Rattle.view_main.specs.Refusals.{back_text, report_text}
+use Rattle.tm_script.specs.declared.faults.ScriptFault.{ScriptFault}
+use Rattle.trace_check.specs.declared.traces.Trace.{Trace}
+use Rattle.trace_check.specs.declared.verdict.Verdict.{Verdict}
+use Rattle.trace_check.specs.declared.verdict.Verdict.TheVariants as verdicts
+use Rattle.trace_check.specs.Answers.{start_for}
+use Rattle.trace_check.specs.Faults.{trace_fault}
+use Rattle.trace_check.specs.Texts.{Spells}
+use Rattle.trace_explain.specs.Explained.{IsExplained}
+use Rattle.trace_view.specs.declared.statuses.TheConstants.{FITS, MISFIT, NO_TRACE}
+use Rattle.text_chart.specs.Texts.{window_text}
+use Rattle.view_main.specs.declared.words.Look.{Look}
+use Rattle.view_main.specs.Refusals.{back_text, report_text, steps_text}
 
--- what is written of the lines of a report: the picture; or one of them goes back in time, and the
+-- the lines of a report as a picture, or as text
+abbrev pub drawing_of : Look → List Line → List ℕ
+drawing_of look ls =
+    if look.text then window_text (window_of look.choice ls) look.covers ls
+    else chart_text (window_of look.choice ls) ls
+
+-- what is written of the lines of a report: the drawing; or one of them goes back in time, and the
 -- first is told
-pub data IsDrawn (choice : Choice) (ls : List Line) (text : List ℕ) (status : ℕ) : Type 0 where
-  drawn : back_from 1 0 ls ≡ None → text ≡ chart_text (window_of choice ls) ls →
-      status ≡ FITS → IsDrawn choice ls text status
+pub data IsDrawn (look : Look) (ls : List Line) (text : List ℕ) (status : ℕ) : Type 0 where
+  drawn : back_from 1 0 ls ≡ None → text ≡ drawing_of look ls → status ≡ FITS →
+      IsDrawn look ls text status
   back : (number : ℕ) → back_from 1 0 ls ≡ Some number → text ≡ back_text number →
-      status ≡ NO_TRACE → IsDrawn choice ls text status
+      status ≡ NO_TRACE → IsDrawn look ls text status
 
--- WHAT `chart` WRITES: the report that the bytes are is drawn; or they are none, and the first fault
--- is told
-pub data IsDrawing (choice : Choice) (bytes text : List ℕ) (status : ℕ) : Type 0 where
-  read : (ls : List Line) → IsReportOf bytes ls → IsDrawn choice ls text status →
-      IsDrawing choice bytes text status
+-- WHAT `chart` WRITES: the report that the bytes are is drawn; or they are none, and the first
+-- fault is told
+pub data IsDrawing (look : Look) (bytes text : List ℕ) (status : ℕ) : Type 0 where
+  read : (ls : List Line) → IsReportOf bytes ls → IsDrawn look ls text status →
+      IsDrawing look bytes text status
   refused : (fault : ReportFault) → IsFirstFault bytes fault → text ≡ report_text fault →
-      status ≡ NO_TRACE → IsDrawing choice bytes text status
+      status ≡ NO_TRACE → IsDrawing look bytes text status
+
+-- the status of a trace that was told
+abbrev pub status_told : Verdict → ℕ
+status_told (verdicts.Yes steps) = FITS
+status_told (verdicts.No index) = MISFIT
+
+-- what is written of a trace: what is told of it, with its verdict
+pub record IsTold (t : Trace) (text : List ℕ) (status : ℕ) : Type 0 where
+  pub verdict : Verdict
+  pub told : IsExplained (start_for t) 0 t.lines verdict text
+  pub status_is : status ≡ status_told verdict
+
+-- WHAT `explain` WRITES: the trace that the bytes spell is told; or they spell none, and the first
+-- fault is told
+pub data IsTelling (bytes text : List ℕ) (status : ℕ) : Type 0 where
+  spelled : (t : Trace) → Spells bytes t → IsTold t text status → IsTelling bytes text status
+  unread : (fault : ScriptFault) → trace_fault bytes ≡ Some fault → text ≡ steps_text fault →
+      status ≡ NO_TRACE → IsTelling bytes text status

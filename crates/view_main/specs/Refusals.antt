@@ -4,6 +4,9 @@ use Rattle.std.specs.Fmt.{decimal}
 use Rattle.report_reader.specs.declared.faults.Kind.{Kind}
 use Rattle.report_reader.specs.declared.faults.Kind.TheVariants as causes
 use Rattle.report_reader.specs.declared.faults.ReportFault.{ReportFault}
+use Rattle.tm_script.specs.declared.faults.Kind.{Kind as FaultKind}
+use Rattle.tm_script.specs.declared.faults.Kind.TheVariants as kinds
+use Rattle.tm_script.specs.declared.faults.ScriptFault.{ScriptFault}
 
 -- what is wrong with a line of a report
 abbrev pub cause_text : Kind → List ℕ
@@ -20,3 +23,16 @@ report_text fault =
 unfoldable pub back_text : (number : ℕ) → List ℕ
 back_text number =
     codes "report refused line " ++ (decimal number ++ codes ": it goes back in time\n")
+
+-- what is wrong with a line of a trace of steps: its kind by number, and in words
+abbrev pub kind_text : FaultKind → List ℕ
+kind_text kinds.BadLine = codes " kind 1: no such line may stand here\n"
+kind_text kinds.BadNumber = codes " kind 2: a number is spelled wrong\n"
+kind_text kinds.OutOfRange = codes " kind 3: a number is out of its range\n"
+kind_text kinds.OutOfOrder = codes " kind 4: the numbers don't ascend\n"
+kind_text kinds.NoEnd = codes " kind 5: the end is missing\n"
+kind_text kinds.TooManyLines = codes " kind 6: there are too many lines\n"
+
+-- the text where the input is no trace of steps
+unfoldable pub steps_text : ScriptFault → List ℕ
+steps_text fault = codes "trace refused line " ++ (decimal fault.line ++ kind_text fault.kind)

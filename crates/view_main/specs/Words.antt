@@ -1,5 +1,6 @@
 -- what the program's words say
-use Rattle.std.specs.Prelude.{ℕ, ◌+◌, ◌==◌, nat_lt, List, [], ◌∷◌, codes, take, drop}
+use Rattle.std.specs.Prelude.{ℕ, ◌+◌, ◌==◌, ◌&&◌, nat_lt, not, true, false, length, List, []}
+use Rattle.std.specs.Prelude.{◌∷◌, codes, take, drop}
 use Rattle.std.specs.Prelude.{Option, Some, None, if◌then◌else◌, String, string_bytes, bytes_eq}
 use Rattle.std.specs.List.{position}
 use Rattle.std.specs.declared.alloc.Global.{Global}
@@ -10,6 +11,7 @@ use Rattle.view_main.specs.declared.words.Awaited.{Awaited}
 use Rattle.view_main.specs.declared.words.Awaited.TheVariants as awaits
 use Rattle.view_main.specs.declared.words.Command.{Command}
 use Rattle.view_main.specs.declared.words.Command.TheVariants as commands
+use Rattle.view_main.specs.declared.words.Look.{Look}
 use Rattle.view_main.specs.declared.words.Options.{Options}
 use Rattle.view_main.specs.declared.words.TheConstants.{CPU_NUMBERS, HYPHEN}
 
@@ -60,64 +62,87 @@ abbrev pub with_cpus : Choice → Option (CpuId × CpuId) → Option Choice
 with_cpus choice None = None
 with_cpus choice (Some cpus) = Some (record choice { cpus = Some cpus })
 
--- options of which an option's word comes next
-abbrev pub chosen : Option Choice → Option Options
-chosen None = None
-chosen (Some choice) = Some (record { choice = choice; awaited = awaits.Nothing })
+-- options with a look, of which an option's word comes next
+abbrev pub looking : Look → Options
+looking look = record { look = look; awaited = awaits.Nothing }
+
+-- the same, with another choice
+abbrev pub chosen : Look → Option Choice → Option Options
+chosen look None = None
+chosen look (Some choice) = Some (looking (record look { choice = choice }))
 
 -- options that await what this option does
 abbrev pub awaiting : Options → Option Awaited → Option Options
 awaiting options None = None
-awaiting options (Some awaited) = Some (record { choice = options.choice; awaited = awaited })
+awaiting options (Some awaited) = Some (record { look = options.look; awaited = awaited })
+
+-- options with an option's word: for text, with who answers, or one that awaits another word
+abbrev pub with_option : Options → (word : List ℕ) → Option Options
+with_option options word =
+    if bytes_eq word (codes "--text") then Some (looking (record options.look { text = true }))
+    else (if bytes_eq word (codes "--covers") then
+    Some (looking (record options.look { covers = true }))
+    else awaiting options (option_in word))
 
 -- a word behind options, where this is awaited
 abbrev pub word_where : Options → Awaited → (word : List ℕ) → Option Options
-word_where options awaits.Nothing word = awaiting options (option_in word)
-word_where options awaits.From word = chosen (with_from options.choice (number_of word))
-word_where options awaits.To word = chosen (with_to options.choice (number_of word))
-word_where options awaits.Cpus word = chosen (with_cpus options.choice (cpus_in word))
+word_where options awaits.Nothing word = with_option options word
+word_where options awaits.From word =
+    chosen options.look (with_from options.look.choice (number_of word))
+word_where options awaits.To word =
+    chosen options.look (with_to options.look.choice (number_of word))
+word_where options awaits.Cpus word =
+    chosen options.look (with_cpus options.look.choice (cpus_in word))
 
 -- options with one more word, if it may stand there
 abbrev pub take_word : Options → (word : List ℕ) → Option Options
 take_word options word = word_where options options.awaited word
 
+-- a look, where who answers is chosen for text alone
+abbrev pub as_look : Look → Option Look
+as_look look = if look.covers && not look.text then None else Some look
+
 -- what is chosen, if nothing is awaited any more
-abbrev pub choice_where : Choice → Awaited → Option Choice
-choice_where choice awaits.Nothing = Some choice
-choice_where choice awaits.From = None
-choice_where choice awaits.To = None
-choice_where choice awaits.Cpus = None
+abbrev pub look_where : Look → Awaited → Option Look
+look_where look awaits.Nothing = as_look look
+look_where look awaits.From = None
+look_where look awaits.To = None
+look_where look awaits.Cpus = None
 
 -- what options choose, if they await nothing any more
-abbrev pub choice_of : Options → Option Choice
-choice_of options = choice_where options.choice options.awaited
+abbrev pub look_of : Options → Option Look
+look_of options = look_where options.look options.awaited
 
 -- nothing is chosen
 abbrev pub first_options : Options
-first_options = record {
+first_options = looking (record {
   choice = record { from = None; to = None; cpus = None };
-  awaited = awaits.Nothing;
-}
+  text = false;
+  covers = false;
+})
 
 -- what further words choose, where options came before, if they came
-unfoldable pub options_behind : Option Options → List (String Global) → Option Choice
+unfoldable pub options_behind : Option Options → List (String Global) → Option Look
 options_behind None words = None
-options_behind (Some options) [] = choice_of options
+options_behind (Some options) [] = look_of options
 options_behind (Some options) (word ∷ rest) =
     options_behind (take_word options (string_bytes word)) rest
 
 -- WHAT THE WORDS behind `chart` choose
-abbrev pub options_from : Options → List (String Global) → Option Choice
+abbrev pub options_from : Options → List (String Global) → Option Look
 options_from options words = options_behind (Some options) words
 
 -- a command of these options, which may be none
-abbrev pub chart_with : Option Choice → Command
+abbrev pub chart_with : Option Look → Command
 chart_with None = commands.Other
-chart_with (Some choice) = commands.Chart choice
+chart_with (Some look) = commands.Chart look
 
 -- WHAT THE PROGRAM'S WORDS SAY
 abbrev pub command_of : List (String Global) → Command
 command_of [] = commands.Other
 command_of (word ∷ rest) =
-    if bytes_eq (string_bytes word) (codes "chart") then chart_with (options_from first_options rest)
-    else commands.Other
+    if bytes_eq (string_bytes word) (codes "chart") then
+    chart_with (options_from first_options rest)
+    else (if bytes_eq (string_bytes word) (codes "explain") && (length (word ∷ rest) == 1) then
+    commands.Explain
+    else commands.Other)

@@ -1,5 +1,5 @@
-//! The program tmigview as a whole: its commands `linux` and `chart`, with all texts and
-//! statuses.
+//! The program tmigview as a whole: its commands `linux`, `chart` and `explain`, with all
+//! texts and statuses.
 #![tactic(auto)]
 
 mod outputs;
@@ -9,4 +9,4 @@ mod words;
 
 pub use outputs::Output;
 pub use program::run_views;
-pub use words::{Awaited, CPU_NUMBERS, Command, HYPHEN, Options};
+pub use words::{Awaited, CPU_NUMBERS, Command, HYPHEN, Look, Options};

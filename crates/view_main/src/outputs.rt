@@ -1,15 +1,22 @@
 //! What a command writes of its input.
 
-ghost use Rattle.std.specs.Prelude.{IfOk};
-ghost use Rattle.view_main.specs.Outputs.{IsDrawing, IsDrawn};
+ghost use Rattle.std.specs.Prelude.{◌≡◌, IfErr, IfOk, None};
+ghost use Rattle.run_chart.specs.Charts.{IsRefusal, back_from};
+ghost use Rattle.trace_check.specs.Texts.{IsTrace};
+ghost use Rattle.view_main.specs.Outputs.{IsDrawing, IsDrawn, IsTelling, IsTold, drawing_of};
+ghost use Rattle.view_main.specs.Outputs.{status_told};
 
-use crate::refusals::{back_refused, report_refused};
+use crate::refusals::{back_refused, report_refused, steps_refused};
+use crate::words::Look;
 use report_reader::{ReadReport, read_report};
-use run_chart::{Choice, NoChart, chart};
+use run_chart::{NoChart, chart};
 use std::alloc::Global;
+use text_chart::text_chart;
 use tm_base::NoMemory;
 use tm_report::Line;
-use trace_view::{FITS, NO_TRACE};
+use trace_check::{ReadTrace, Trace, Verdict, read_trace};
+use trace_explain::explain;
+use trace_view::{FITS, MISFIT, NO_TRACE};
 
 /// A text, and the status where all of it is written.
 #[derive(Drop)]
@@ -18,11 +25,24 @@ pub struct Output {
     pub status: u8,
 }
 
-/// What `chart` writes of these lines.
-fn draw_lines(alloc: Global, choice: Choice, lines: &[Line]) -> Result<Output, NoMemory>
-    ensures { IfOk result (λ o. IsDrawn choice lines.now o.text.items o.status) }
+/// The lines of a report as a picture, or as text.
+fn drawing_of(alloc: Global, look: Look, lines: &[Line]) -> Result<Vec<u8>, NoChart>
+    ensures text { IfOk result (λ text. text.items ≡ drawing_of look lines.now) }
+    ensures ascends { IfOk result (λ text. back_from 1 0 lines.now ≡ None) }
+    ensures refused { IfErr result (IsRefusal lines.now) }
 {
-    match chart(alloc, choice, lines) {
+    if look.text {
+        text_chart(alloc, look.choice, look.covers, lines)
+    } else {
+        chart(alloc, look.choice, lines)
+    }
+}
+
+/// What `chart` writes of these lines.
+fn draw_lines(alloc: Global, look: Look, lines: &[Line]) -> Result<Output, NoMemory>
+    ensures { IfOk result (λ o. IsDrawn look lines.now o.text.items o.status) }
+{
+    match drawing_of(alloc, look, lines) {
         Ok(text) => Ok(Output { text, status: FITS }),
         Err(NoChart::BackInTime(number)) => Ok(Output {
             text: back_refused(alloc, number)?,
@@ -33,15 +53,51 @@ fn draw_lines(alloc: Global, choice: Choice, lines: &[Line]) -> Result<Output, N
 }
 
 /// What `chart` writes of these bytes.
-pub(crate) fn draw(alloc: Global, choice: Choice, bytes: &[u8]) -> Result<Output, NoMemory>
-    ensures { IfOk result (λ o. IsDrawing choice bytes.now o.text.items o.status) }
+pub(crate) fn draw(alloc: Global, look: Look, bytes: &[u8]) -> Result<Output, NoMemory>
+    ensures { IfOk result (λ o. IsDrawing look bytes.now o.text.items o.status) }
 {
     match read_report(alloc, bytes) {
-        Ok(lines) => draw_lines(alloc, choice, &lines),
+        Ok(lines) => draw_lines(alloc, look, &lines),
         Err(ReadReport::Refused(fault)) => Ok(Output {
             text: report_refused(alloc, fault)?,
             status: NO_TRACE,
         }),
         Err(ReadReport::NoMemory) => Err(NoMemory),
+    }
+}
+
+/// The status of a trace that was told.
+fn status_told(verdict: Verdict) -> u8
+    ensures { result ≡ status_told verdict }
+{
+    match verdict {
+        Verdict::Yes { steps: _ } => FITS,
+        Verdict::No { index: _ } => MISFIT,
+    }
+}
+
+/// What `explain` writes of a trace.
+fn tell_trace(alloc: Global, trace: &Trace) -> Result<Output, NoMemory>
+    requires { IsTrace trace.now }
+    ensures { IfOk result (λ o. IsTold trace.now o.text.items o.status) }
+{
+    let told = explain(alloc, trace)?;
+    Ok(Output {
+        text: told.text,
+        status: status_told(told.verdict),
+    })
+}
+
+/// What `explain` writes of these bytes.
+pub(crate) fn tell(alloc: Global, bytes: &[u8]) -> Result<Output, NoMemory>
+    ensures { IfOk result (λ o. IsTelling bytes.now o.text.items o.status) }
+{
+    match read_trace(alloc, bytes) {
+        Ok(trace) => tell_trace(alloc, &trace),
+        Err(ReadTrace::Refused(fault)) => Ok(Output {
+            text: steps_refused(alloc, fault)?,
+            status: NO_TRACE,
+        }),
+        Err(ReadTrace::NoMemory) => Err(NoMemory),
     }
 }

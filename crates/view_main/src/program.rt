@@ -6,7 +6,7 @@ ghost use Rattle.view_main.specs.Ends.{IsAnswer, IsOutput, Runs, Views};
 ghost use Rattle.view_main.specs.Words.{command_of};
 ghost use Rattle.view_main.specs.declared.words.Command.TheVariants as commands;
 
-use crate::outputs::{Output, draw};
+use crate::outputs::{Output, draw, tell};
 use crate::words::{Command, command_of};
 use std::alloc::Global;
 use text_words::push_bytes;
@@ -32,7 +32,8 @@ fn answer(alloc: Global, command: Command, bytes: &[u8]) -> Result<Output, NoMem
     ensures { IfOk result (λ o. IsAnswer command bytes.now o.text.items o.status) }
 {
     match command {
-        Command::Chart(choice) => draw(alloc, choice, bytes),
+        Command::Chart(look) => draw(alloc, look, bytes),
+        Command::Explain => tell(alloc, bytes),
         Command::Other => Err(NoMemory),
     }
 }
@@ -85,7 +86,7 @@ fn run_command<S: Source, K: Sink>(
     }
 }
 
-/// Does all that the program does: `chart` draws a report, and
+/// Does all that the program does: `chart` draws a report, `explain` tells a trace of steps, and
 /// what other words say is `trace_view::run_view`. It reads the source to its end, writes the
 /// answer at the end, and answers the exit status.
 pub fn run_views<S: Source, K: Sink>(
@@ -101,5 +102,6 @@ pub fn run_views<S: Source, K: Sink>(
     match command {
         Command::Other => run_view(alloc, words, source, sink),
         Command::Chart(_) => run_command(alloc, command, source, sink),
+        Command::Explain => run_command(alloc, command, source, sink),
     }
 }

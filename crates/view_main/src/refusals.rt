@@ -2,12 +2,14 @@
 
 ghost use Rattle.std.specs.Prelude.{◌≡◌, ◌++◌, codes, IfOk, OnOk};
 ghost use Rattle.std.specs.Fmt.{decimal};
-ghost use Rattle.view_main.specs.Refusals.{back_text, cause_text, report_text};
+ghost use Rattle.view_main.specs.Refusals.{back_text, cause_text, kind_text, report_text};
+ghost use Rattle.view_main.specs.Refusals.{steps_text};
 
 use report_reader::{Kind, ReportFault};
 use std::alloc::Global;
 use text_words::{push_bytes, push_number};
 use tm_base::NoMemory;
+use tm_script::ScriptFault;
 
 /// What is wrong with a line of a report.
 fn cause_text(kind: Kind) -> &'static [u8]
@@ -41,5 +43,31 @@ pub(crate) fn back_refused(alloc: Global, number: usize) -> Result<Vec<u8>, NoMe
     push_bytes(&mut text, b"report refused line ")?;
     push_number(&mut text, number as u64)?;
     push_bytes(&mut text, b": it goes back in time\n")?;
+    Ok(text)
+}
+
+/// What is wrong with a line of a trace of steps.
+fn kind_text(kind: tm_script::Kind) -> &'static [u8]
+    ensures { result.now ≡ kind_text kind }
+{
+    match kind {
+        tm_script::Kind::BadLine => b" kind 1: no such line may stand here\n",
+        tm_script::Kind::BadNumber => b" kind 2: a number is spelled wrong\n",
+        tm_script::Kind::OutOfRange => b" kind 3: a number is out of its range\n",
+        tm_script::Kind::OutOfOrder => b" kind 4: the numbers don't ascend\n",
+        tm_script::Kind::NoEnd => b" kind 5: the end is missing\n",
+        tm_script::Kind::TooManyLines => b" kind 6: there are too many lines\n",
+    }
+}
+
+/// A text that is no trace of steps.
+#[tactic(auto, using(std::proofs::lemmas::List::append_assoc), unfolding(crate::specs::Refusals::steps_text))]
+pub(crate) fn steps_refused(alloc: Global, fault: ScriptFault) -> Result<Vec<u8>, NoMemory>
+    ensures { IfOk result (λ text. text.items ≡ steps_text fault) }
+{
+    let mut text = Vec::new(alloc);
+    push_bytes(&mut text, b"trace refused line ")?;
+    push_number(&mut text, u64::from(fault.line))?;
+    push_bytes(&mut text, kind_text(fault.kind))?;
     Ok(text)
 }

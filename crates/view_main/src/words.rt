@@ -4,7 +4,8 @@ ghost use Rattle.std.specs.Prelude.{◌≡◌, ◌<◌, ◌==◌, IfSome, length
 ghost use Rattle.std.specs.List.{position};
 ghost use Rattle.std.specs.Str.{bytes_eq};
 ghost use Rattle.text_words.specs.Numbers.{number_of};
-ghost use Rattle.view_main.specs.Words.{awaiting, both, chart_with, choice_of, chosen, command_of};
+ghost use Rattle.view_main.specs.Words.{as_look, awaiting, both, chart_with, chosen, command_of};
+ghost use Rattle.view_main.specs.Words.{look_of, looking, with_option};
 ghost use Rattle.view_main.specs.Words.{cpu_in, cpus_in, first_options, option_in, options_from};
 ghost use Rattle.view_main.specs.Words.{take_word, with_cpus, with_from, with_to};
 
@@ -31,10 +32,21 @@ pub enum Awaited {
     Cpus,
 }
 
+/// How a report is drawn.
+#[derive(Clone, Copy)]
+pub struct Look {
+    /// What of it is.
+    pub choice: Choice,
+    /// As text, for a terminal.
+    pub text: bool,
+    /// With who answers for idle CPUs, which text has alone.
+    pub covers: bool,
+}
+
 /// What the words of `chart` have given so far.
 #[derive(Clone, Copy)]
 pub struct Options {
-    pub choice: Choice,
+    pub look: Look,
     pub awaited: Awaited,
 }
 
@@ -42,7 +54,9 @@ pub struct Options {
 #[derive(Clone, Copy)]
 pub enum Command {
     /// A report is drawn.
-    Chart(Choice),
+    Chart(Look),
+    /// A trace of steps is told.
+    Explain,
     /// The words are those of a kernel's trace, or no command.
     Other,
 }
@@ -147,13 +161,13 @@ fn with_cpus(choice: Choice, word: &[u8]) -> Option<Choice>
     }
 }
 
-/// Options of which an option's word comes next.
-fn chosen(choice: Option<Choice>) -> Option<Options>
-    ensures { result ≡ chosen choice }
+/// Options with another choice, of which an option's word comes next.
+fn chosen(look: Look, choice: Option<Choice>) -> Option<Options>
+    ensures { result ≡ chosen look choice }
 {
     match choice {
         Some(choice) => Some(Options {
-            choice,
+            look: Look { choice, ..look },
             awaited: Awaited::Nothing,
         }),
         None => None,
@@ -166,11 +180,38 @@ fn awaiting(options: Options, awaited: Option<Awaited>) -> Option<Options>
 {
     match awaited {
         Some(awaited) => Some(Options {
-            choice: options.choice,
+            look: options.look,
             awaited,
         }),
         None => None,
     }
+}
+
+/// Options with a look.
+fn looking(look: Look) -> Options
+    ensures { result ≡ looking look }
+{
+    Options {
+        look,
+        awaited: Awaited::Nothing,
+    }
+}
+
+/// Options with an option's word.
+fn with_option(options: Options, word: &[u8]) -> Option<Options>
+    ensures { result ≡ with_option options word.now }
+{
+    let look = options.look;
+    if word == b"--text".as_slice() {
+        return Some(looking(Look { text: true, ..look }));
+    }
+    if word == b"--covers".as_slice() {
+        return Some(looking(Look {
+            covers: true,
+            ..look
+        }));
+    }
+    awaiting(options, option_in(word))
 }
 
 /// Options with one more word, if it may stand there.
@@ -178,19 +219,30 @@ fn take_word(options: Options, word: &[u8]) -> Option<Options>
     ensures { result ≡ take_word options word.now }
 {
     match options.awaited {
-        Awaited::Nothing => awaiting(options, option_in(word)),
-        Awaited::From => chosen(with_from(options.choice, word)),
-        Awaited::To => chosen(with_to(options.choice, word)),
-        Awaited::Cpus => chosen(with_cpus(options.choice, word)),
+        Awaited::Nothing => with_option(options, word),
+        Awaited::From => chosen(options.look, with_from(options.look.choice, word)),
+        Awaited::To => chosen(options.look, with_to(options.look.choice, word)),
+        Awaited::Cpus => chosen(options.look, with_cpus(options.look.choice, word)),
+    }
+}
+
+/// A look, where who answers is chosen for text alone.
+fn as_look(look: Look) -> Option<Look>
+    ensures { result ≡ as_look look }
+{
+    if look.covers && !look.text {
+        None
+    } else {
+        Some(look)
     }
 }
 
 /// What options choose, if nothing is awaited any more.
-fn choice_of(options: Options) -> Option<Choice>
-    ensures { result ≡ choice_of options }
+fn look_of(options: Options) -> Option<Look>
+    ensures { result ≡ look_of options }
 {
     match options.awaited {
-        Awaited::Nothing => Some(options.choice),
+        Awaited::Nothing => as_look(options.look),
         Awaited::From => None,
         Awaited::To => None,
         Awaited::Cpus => None,
@@ -198,14 +250,18 @@ fn choice_of(options: Options) -> Option<Choice>
 }
 
 /// What the words behind `chart` choose.
-fn read_options(words: &[String]) -> Option<Choice>
+fn read_options(words: &[String]) -> Option<Look>
     ensures { result ≡ options_from first_options words.now }
 {
     let mut options = Options {
-        choice: Choice {
-            from: None,
-            to: None,
-            cpus: None,
+        look: Look {
+            choice: Choice {
+                from: None,
+                to: None,
+                cpus: None,
+            },
+            text: false,
+            covers: false,
         },
         awaited: Awaited::Nothing,
     };
@@ -215,15 +271,15 @@ fn read_options(words: &[String]) -> Option<Choice>
             None => return None,
         }
     }
-    choice_of(options)
+    look_of(options)
 }
 
 /// A command of these options.
-fn chart_with(choice: Option<Choice>) -> Command
-    ensures { result ≡ chart_with choice }
+fn chart_with(look: Option<Look>) -> Command
+    ensures { result ≡ chart_with look }
 {
-    match choice {
-        Some(choice) => Command::Chart(choice),
+    match look {
+        Some(look) => Command::Chart(look),
         None => Command::Other,
     }
 }
@@ -244,6 +300,9 @@ pub(crate) fn command_of(words: &[String]) -> Command
     }
     if is_word(&words[0], b"chart") {
         return chart_with(read_options(&words[1..]));
+    }
+    if is_word(&words[0], b"explain") && words.len() == 1 {
+        return Command::Explain;
     }
     Command::Other
 }

@@ -6,9 +6,9 @@ use Rattle.view_main.proofs.outputs.draw.Goals as goal
 pub returns-in-Ok : goal.returns-in-Ok
 returns-in-Ok c =
     IfOk-weaker c.draw_lines.result
-    (λ o. IsDrawn c.args.choice c.deref.result.now o.text.items o.status) _
+    (λ o. IsDrawn c.args.look c.deref.result.now o.text.items o.status) _
     (λ o drawn. read c.in-Ok.lines.items c.in-Ok.ensures.lines
-    (subst (λ ls. IsDrawn c.args.choice ls o.text.items o.status) c.deref.ensures.value drawn))
+    (subst (λ ls. IsDrawn c.args.look ls o.text.items o.status) c.deref.ensures.value drawn))
     c.draw_lines.ensures
 
 pub returns-in_ok-report_refused-in-Err-Refused :

@@ -22,3 +22,16 @@ returns-in-Chart g c =
     (g.S.Source.seen c.run_command.new.source) (g.K.Sink.seen c.args.sink.now)
     (g.K.Sink.seen c.run_command.new.sink) c.run_command.result)
     c.in-Chart.is c.run_command.ensures)
+
+pub returns-in-Explain : goal.returns-in-Explain
+returns-in-Explain g c =
+    subst
+    (λ command. ViewsBy command c.args.words.now (g.S.Source.seen c.args.source.now)
+    (g.S.Source.seen c.run_command-in-Explain.new.source) (g.K.Sink.seen c.args.sink.now)
+    (g.K.Sink.seen c.run_command-in-Explain.new.sink) c.run_command-in-Explain.result)
+    c.in-Explain.ensures
+    (subst
+    (λ command. Runs command (g.S.Source.seen c.args.source.now)
+    (g.S.Source.seen c.run_command-in-Explain.new.source) (g.K.Sink.seen c.args.sink.now)
+    (g.K.Sink.seen c.run_command-in-Explain.new.sink) c.run_command-in-Explain.result)
+    c.in-Explain.is c.run_command-in-Explain.ensures)

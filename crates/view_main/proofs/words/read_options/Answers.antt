@@ -20,4 +20,4 @@ loop-word-preserved c =
 
 pub returns : goal.returns
 returns c =
-    c.choice_of.ensures ∙ words_end _ _ _ c.loop-word-test.false c.loop-word.invariant
+    c.look_of.ensures ∙ words_end _ _ _ c.loop-word-test.false c.loop-word.invariant
