@@ -1,6 +1,6 @@
 -- what tmigview writes
 use Rattle.std.specs.Prelude.{ℕ, zero, suc, ◌+◌, ◌/◌, ◌%◌, nat_lt, List, [], ◌∷◌, ◌++◌, codes}
-use Rattle.std.specs.Prelude.{Option, Some, None, if◌then◌else◌}
+use Rattle.std.specs.Prelude.{Option, Some, None, if◌then◌else◌, flat_map, length, nat_eq}
 use Rattle.std.specs.Fmt.{decimal}
 use Rattle.tm_base.specs.declared.names.CpuId.{CpuId}
 use Rattle.trace_lines.specs.declared.faults.LineFault.{LineFault}
@@ -15,6 +15,7 @@ use Rattle.trace_told.specs.declared.told.Answers.{Answers}
 use Rattle.trace_seen.specs.declared.whom.Whom.{Whom}
 use Rattle.trace_runs.specs.declared.runs.Runs.{Runs}
 use Rattle.trace_runs.specs.declared.differences.Differences.{Differences}
+use Rattle.trace_view.specs.declared.statuses.TheConstants.{FITS, MISFIT, NO_TRACE}
 use Rattle.trace_view.specs.declared.texts.TheConstants.{POINTER_DIGITS}
 use Rattle.trace_rules.specs.declared.judge.Misfit.{Misfit}
 use Rattle.trace_rules.specs.declared.judge.Verdict.{Verdict}
@@ -23,7 +24,7 @@ use Rattle.trace_rules.specs.declared.judge.Verdict.TheVariants.{Fits, Broken, N
 -- the text where the words are no command
 abbrev pub usage_line : List ℕ
 usage_line =
-    codes "usage: tmigview linux < TRACE | explain < STEPS "
+    codes "usage: tmigview linux [--all] < TRACE | explain < STEPS "
     ++ codes "| chart [--text] [--covers] [--from J] [--to J] [--cpus A-B] < REPORT\n"
 
 -- .. where the source failed
@@ -70,10 +71,10 @@ fault_text HiddenPointer = codes "pointers are hidden: boot with no_hash_pointer
 unfoldable pub count_text : List ℕ → ℕ → List ℕ
 count_text before n = before ++ decimal n
 
--- what was counted
-unfoldable pub tally_text : Tally → List ℕ
-tally_text t =
-    count_text (codes "fits: lines ") t.lines ++ count_text (codes " events ") t.events
+-- what was counted, under this heading
+unfoldable pub tally_text : List ℕ → Tally → List ℕ
+tally_text heading t =
+    count_text heading t.lines ++ count_text (codes " events ") t.events
     ++ count_text (codes " exchanges ") t.exchanges ++ count_text (codes " rests ") t.rests
     ++ count_text (codes " losses ") t.losses
 
@@ -118,9 +119,14 @@ open_text r late =
 unfoldable pub others_text : Tally → List ℕ
 others_text t = runs_text t.runs ++ events_text t.differences ++ orders_text t.runs
 
+-- all counts, under this heading
+unfoldable pub counts_text : List ℕ → Tally → ℕ → List ℕ
+counts_text heading t late =
+    tally_text heading t ++ answers_text t.answers ++ others_text t ++ open_text t.runs late
+
 -- the text of a trace that fits
-unfoldable pub fits_text : Tally → ℕ → List ℕ
-fits_text t late = tally_text t ++ answers_text t.answers ++ others_text t ++ open_text t.runs late
+abbrev pub fits_text : Tally → ℕ → List ℕ
+fits_text t late = counts_text (codes "fits: lines ") t late
 
 -- one digit in hexadecimal
 abbrev pub hex_digit : ℕ → ℕ
@@ -162,3 +168,26 @@ unfoldable pub verdict_text : Verdict → List ℕ
 verdict_text (Fits tally late) = fits_text tally late
 verdict_text (Broken misfit) = broken_text misfit
 verdict_text (NoTrace line fault) = no_trace_text line fault
+
+-- the texts of misfits, in order
+abbrev pub misfits_text : List Misfit → List ℕ
+misfits_text ms = flat_map broken_text ms
+
+-- what stands behind so many misfits: their number with all counts, or that a line is none of a
+-- trace
+unfoldable pub end_text : ℕ → Verdict → List ℕ
+end_text n (Fits tally late) =
+    count_text (codes "misfits: ") n ++ counts_text (codes "\nread: lines ") tally late
+end_text n (Broken misfit) = broken_text misfit
+end_text n (NoTrace line fault) = no_trace_text line fault
+
+-- THE TEXT of all that was found: of a trace without misfits that of its verdict
+abbrev pub all_text : List Misfit → Verdict → List ℕ
+all_text [] end = verdict_text end
+all_text (m ∷ ms) end = misfits_text (m ∷ ms) ++ end_text (length (m ∷ ms)) end
+
+-- the status of all that was found
+abbrev pub all_status : List Misfit → Verdict → ℕ
+all_status ms (Fits tally late) = if nat_eq (length ms) 0 then FITS else MISFIT
+all_status ms (Broken misfit) = MISFIT
+all_status ms (NoTrace line fault) = NO_TRACE

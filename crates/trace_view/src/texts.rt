@@ -2,16 +2,19 @@
 
 ghost use Rattle.std.specs.Prelude.{◌≡◌, ◌<◌, ◌++◌, codes, IfOk, OnOk};
 ghost use Rattle.std.specs.Fmt.{decimal};
-ghost use Rattle.trace_view.specs.Texts.{answers_text, broken_text, count_text, fault_text, fits_text};
+ghost use Rattle.trace_view.specs.Texts.{all_status, all_text, answers_text, broken_text, count_text};
+ghost use Rattle.trace_view.specs.Texts.{counts_text, end_text, fault_text, misfits_text};
 ghost use Rattle.trace_view.specs.Texts.{no_trace_text, read_fault_line, too_long_line};
 ghost use Rattle.trace_view.specs.Texts.{rule_text, tally_text, usage_line, verdict_text};
 ghost use Rattle.trace_view.specs.Texts.{events_text, hex_digit, hex_digits};
 ghost use Rattle.trace_view.specs.Texts.{behind_text, cpu_text, late_runs_text, open_text, orders_text};
 ghost use Rattle.trace_view.specs.Texts.{others_text, runs_text, tick_runs_text, whom_text};
 
+use crate::statuses::{FITS, MISFIT, NO_TRACE};
 use std::alloc::Global;
 use text_words::{push_bytes, push_number};
 use tm_base::{CpuId, NoMemory};
+use trace_all::Found;
 use trace_lines::LineFault;
 use trace_rules::{Misfit, Tally, Verdict};
 use trace_runs::{Differences, Runs};
@@ -25,7 +28,7 @@ const POINTER_DIGITS: u8 = 16;
 pub fn usage_text() -> &'static [u8]
     ensures { result.now ≡ usage_line }
 {
-    b"usage: tmigview linux < TRACE | explain < STEPS \
+    b"usage: tmigview linux [--all] < TRACE | explain < STEPS \
       | chart [--text] [--covers] [--from J] [--to J] [--cpus A-B] < REPORT\n"
 }
 
@@ -95,12 +98,13 @@ fn push_count(text: &mut Vec<u8>, before: &[u8], n: u64) -> Result<(), NoMemory>
     Ok(())
 }
 
-/// The counts of what was read and checked.
+/// The counts of what was read and checked, under a heading.
 #[tactic(auto, using(std::proofs::lemmas::List::append_assoc), unfolding(crate::specs::Texts::tally_text))]
-fn push_tally(text: &mut Vec<u8>, tally: Tally) -> Result<(), NoMemory>
-    ensures { OnOk result (text.new.items ≡ text.old.items ++ tally_text tally) }
+fn push_tally(text: &mut Vec<u8>, heading: &[u8], tally: Tally) -> Result<(), NoMemory>
+    ensures { OnOk result
+        (text.new.items ≡ text.old.items ++ tally_text heading.now tally) }
 {
-    push_count(text, b"fits: lines ", tally.lines)?;
+    push_count(text, heading, tally.lines)?;
     push_count(text, b" events ", tally.events)?;
     push_count(text, b" exchanges ", tally.exchanges)?;
     push_count(text, b" rests ", tally.rests)?;
@@ -195,12 +199,13 @@ fn push_others(text: &mut Vec<u8>, tally: Tally) -> Result<(), NoMemory>
     Ok(())
 }
 
-/// The text of a trace that fits.
-#[tactic(auto, unfolding(crate::specs::Texts::fits_text))]
-fn push_fits(text: &mut Vec<u8>, tally: Tally, late: u64) -> Result<(), NoMemory>
-    ensures { OnOk result (text.new.items ≡ text.old.items ++ fits_text tally late) }
+/// All counts, under a heading.
+#[tactic(auto, unfolding(crate::specs::Texts::counts_text))]
+fn push_counts(text: &mut Vec<u8>, heading: &[u8], tally: Tally, late: u64) -> Result<(), NoMemory>
+    ensures { OnOk result
+        (text.new.items ≡ text.old.items ++ counts_text heading.now tally late) }
 {
-    push_tally(text, tally)?;
+    push_tally(text, heading, tally)?;
     push_answers(text, tally.answers)?;
     push_others(text, tally)?;
     push_open(text, tally.runs, late)?;
@@ -307,9 +312,69 @@ pub fn print_verdict(alloc: Global, verdict: Verdict) -> Result<Vec<u8>, NoMemor
 {
     let mut text = Vec::new(alloc);
     match verdict {
-        Verdict::Fits(tally, late) => push_fits(&mut text, tally, late as u64)?,
+        Verdict::Fits(tally, late) => {
+            push_counts(&mut text, b"fits: lines ", tally, late as u64)?
+        },
         Verdict::Broken(misfit) => push_broken(&mut text, misfit)?,
         Verdict::NoTrace(line, fault) => push_no_trace(&mut text, line, fault)?,
     }
     Ok(text)
+}
+
+/// The texts of misfits.
+fn push_misfits(text: &mut Vec<u8>, misfits: &[Misfit]) -> Result<(), NoMemory>
+    ensures { OnOk result (text.new.items ≡ text.old.items ++ misfits_text misfits.now) }
+{
+    for misfit in misfits {
+        push_broken(text, *misfit)?;
+    }
+    Ok(())
+}
+
+/// What stands behind so many misfits.
+#[tactic(auto, using(std::proofs::lemmas::List::append_assoc), unfolding(crate::specs::Texts::end_text))]
+fn push_end(text: &mut Vec<u8>, count: usize, end: Verdict) -> Result<(), NoMemory>
+    ensures { OnOk result (text.new.items ≡ text.old.items ++ end_text count end) }
+{
+    match end {
+        Verdict::Fits(tally, late) => {
+            push_count(text, b"misfits: ", count as u64)?;
+            push_counts(text, b"\nread: lines ", tally, late as u64)?;
+        },
+        Verdict::Broken(misfit) => push_broken(text, misfit)?,
+        Verdict::NoTrace(line, fault) => push_no_trace(text, line, fault)?,
+    }
+    Ok(())
+}
+
+/// The text of all that was found: the misfits, each on a line of its own, and behind them their
+/// number and all counts. Of a trace without misfits it is that of its verdict. The only error is
+/// want of memory.
+#[tactic(auto, using(std::proofs::lemmas::List::append_assoc))]
+pub fn print_all(alloc: Global, found: &Found) -> Result<Vec<u8>, NoMemory>
+    ensures { IfOk result
+        (λ text. text.items ≡ all_text found.now.misfits.items found.now.end) }
+{
+    if found.misfits.is_empty() {
+        return print_verdict(alloc, found.end);
+    }
+    let mut text = Vec::new(alloc);
+    push_misfits(&mut text, &found.misfits)?;
+    push_end(&mut text, found.misfits.len(), found.end)?;
+    Ok(text)
+}
+
+/// The status of all that was found.
+pub fn all_status(found: &Found) -> u8
+    ensures { result ≡ all_status found.now.misfits.items found.now.end }
+{
+    match found.end {
+        Verdict::Fits(_, _) => if found.misfits.is_empty() {
+            FITS
+        } else {
+            MISFIT
+        },
+        Verdict::Broken(_) => MISFIT,
+        Verdict::NoTrace(_, _) => NO_TRACE,
+    }
 }

@@ -9,13 +9,14 @@ use Rattle.trace_view.specs.Ends.{IsEnd, Reads}
 use Rattle.trace_view.specs.Texts.{read_fault_line, too_long_line}
 use Rattle.view_main.specs.declared.words.Command.{Command}
 use Rattle.view_main.specs.declared.words.Command.TheVariants as commands
-use Rattle.view_main.specs.Outputs.{IsDrawing, IsTelling}
+use Rattle.view_main.specs.Outputs.{IsAllTold, IsDrawing, IsTelling}
 use Rattle.view_main.specs.Words.{command_of}
 
 -- what a command writes of its input
 abbrev pub IsAnswer : Command → (bytes text : List ℕ) → (status : ℕ) → Type 0
 IsAnswer (commands.Chart look) bytes text status = IsDrawing look bytes text status
 IsAnswer commands.Explain bytes text status = IsTelling bytes text status
+IsAnswer commands.All bytes text status = IsAllTold bytes text status
 IsAnswer commands.Other bytes text status = ⊥
 
 -- WHAT A COMMAND WRITES of the source, which went from old to new
@@ -41,6 +42,7 @@ abbrev pub ViewsBy : Command → List (String Global) → (from to : SourceSeen)
 ViewsBy (commands.Chart look) words from to old new status =
     Runs (commands.Chart look) from to old new status
 ViewsBy commands.Explain words from to old new status = Runs commands.Explain from to old new status
+ViewsBy commands.All words from to old new status = Runs commands.All from to old new status
 ViewsBy commands.Other words from to old new status = Reads words from to old new status
 
 -- WHAT THE PROGRAM DOES

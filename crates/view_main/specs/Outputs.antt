@@ -1,5 +1,5 @@
 -- what a command writes of its input
-use Rattle.std.specs.Prelude.{◌≡◌, ℕ, List, Some, None, if◌then◌else◌}
+use Rattle.std.specs.Prelude.{◌≡◌, ℕ, List, [], Some, None, if◌then◌else◌}
 use Rattle.tm_report.specs.declared.lines.Line.{Line}
 use Rattle.report_reader.specs.declared.faults.ReportFault.{ReportFault}
 use Rattle.report_reader.specs.Reader.{IsFirstFault, IsReportOf}
@@ -12,6 +12,10 @@ use Rattle.trace_check.specs.Answers.{start_for}
 use Rattle.trace_check.specs.Faults.{trace_fault}
 use Rattle.trace_check.specs.Texts.{Spells}
 use Rattle.trace_explain.specs.Explained.{IsExplained}
+use Rattle.text_words.specs.Words.{lines_of}
+use Rattle.trace_rules.specs.Judge.{start}
+use Rattle.trace_all.specs.All.{all_of}
+use Rattle.trace_view.specs.Texts.{all_status, all_text}
 use Rattle.trace_view.specs.declared.statuses.TheConstants.{FITS, MISFIT, NO_TRACE}
 use Rattle.text_chart.specs.Texts.{window_text}
 use Rattle.view_main.specs.declared.words.Look.{Look}
@@ -56,3 +60,10 @@ pub data IsTelling (bytes text : List ℕ) (status : ℕ) : Type 0 where
   spelled : (t : Trace) → Spells bytes t → IsTold t text status → IsTelling bytes text status
   unread : (fault : ScriptFault) → trace_fault bytes ≡ Some fault → text ≡ steps_text fault →
       status ≡ NO_TRACE → IsTelling bytes text status
+
+-- WHAT `linux --all` WRITES: all that is wrong with the trace that the bytes are
+pub record IsAllTold (bytes text : List ℕ) (status : ℕ) : Type 0 where
+  pub text_is : text ≡ all_text (all_of start [] (lines_of bytes)).misfits
+      (all_of start [] (lines_of bytes)).end
+  pub status_is : status ≡ all_status (all_of start [] (lines_of bytes)).misfits
+      (all_of start [] (lines_of bytes)).end

@@ -1,5 +1,5 @@
 -- what the program's words say
-use Rattle.std.specs.Prelude.{ℕ, ◌+◌, ◌==◌, ◌&&◌, nat_lt, not, true, false, length, List, []}
+use Rattle.std.specs.Prelude.{ℕ, ◌+◌, ◌==◌, ◌&&◌, nat_lt, not, Bool, true, false, length, List, []}
 use Rattle.std.specs.Prelude.{◌∷◌, codes, take, drop}
 use Rattle.std.specs.Prelude.{Option, Some, None, if◌then◌else◌, String, string_bytes, bytes_eq}
 use Rattle.std.specs.List.{position}
@@ -137,6 +137,14 @@ abbrev pub chart_with : Option Look → Command
 chart_with None = commands.Other
 chart_with (Some look) = commands.Chart look
 
+-- the two words `linux --all`
+abbrev pub is_all : List (String Global) → Bool
+is_all [] = false
+is_all (word ∷ []) = false
+is_all (word ∷ option ∷ []) =
+    bytes_eq (string_bytes word) (codes "linux") && bytes_eq (string_bytes option) (codes "--all")
+is_all (word ∷ option ∷ other ∷ more) = false
+
 -- WHAT THE PROGRAM'S WORDS SAY
 abbrev pub command_of : List (String Global) → Command
 command_of [] = commands.Other
@@ -145,4 +153,4 @@ command_of (word ∷ rest) =
     chart_with (options_from first_options rest)
     else (if bytes_eq (string_bytes word) (codes "explain") && (length (word ∷ rest) == 1) then
     commands.Explain
-    else commands.Other)
+    else (if is_all (word ∷ rest) then commands.All else commands.Other))

@@ -3,6 +3,7 @@
 ghost use Rattle.std.specs.Prelude.{◌≡◌, IfErr, IfOk, None};
 ghost use Rattle.run_chart.specs.Charts.{IsRefusal, back_from};
 ghost use Rattle.trace_check.specs.Texts.{IsTrace};
+ghost use Rattle.view_main.specs.Outputs.{IsAllTold};
 ghost use Rattle.view_main.specs.Outputs.{IsDrawing, IsDrawn, IsTelling, IsTold, drawing_of};
 ghost use Rattle.view_main.specs.Outputs.{status_told};
 
@@ -14,9 +15,10 @@ use std::alloc::Global;
 use text_chart::text_chart;
 use tm_base::NoMemory;
 use tm_report::Line;
+use trace_all::check_all;
 use trace_check::{ReadTrace, Trace, Verdict, read_trace};
 use trace_explain::explain;
-use trace_view::{FITS, MISFIT, NO_TRACE};
+use trace_view::{FITS, MISFIT, NO_TRACE, all_status, print_all};
 
 /// A text, and the status where all of it is written.
 #[derive(Drop)]
@@ -100,4 +102,15 @@ pub(crate) fn tell(alloc: Global, bytes: &[u8]) -> Result<Output, NoMemory>
         }),
         Err(ReadTrace::NoMemory) => Err(NoMemory),
     }
+}
+
+/// What `linux --all` writes of these bytes.
+pub(crate) fn tell_all(alloc: Global, bytes: &[u8]) -> Result<Output, NoMemory>
+    ensures { IfOk result (λ o. IsAllTold bytes.now o.text.items o.status) }
+{
+    let found = check_all(alloc, bytes)?;
+    Ok(Output {
+        text: print_all(alloc, &found)?,
+        status: all_status(&found),
+    })
 }

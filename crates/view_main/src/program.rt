@@ -6,7 +6,7 @@ ghost use Rattle.view_main.specs.Ends.{IsAnswer, IsOutput, Runs, Views};
 ghost use Rattle.view_main.specs.Words.{command_of};
 ghost use Rattle.view_main.specs.declared.words.Command.TheVariants as commands;
 
-use crate::outputs::{Output, draw, tell};
+use crate::outputs::{Output, draw, tell, tell_all};
 use crate::words::{Command, command_of};
 use std::alloc::Global;
 use text_words::push_bytes;
@@ -34,6 +34,7 @@ fn answer(alloc: Global, command: Command, bytes: &[u8]) -> Result<Output, NoMem
     match command {
         Command::Chart(look) => draw(alloc, look, bytes),
         Command::Explain => tell(alloc, bytes),
+        Command::All => tell_all(alloc, bytes),
         Command::Other => Err(NoMemory),
     }
 }
@@ -86,8 +87,8 @@ fn run_command<S: Source, K: Sink>(
     }
 }
 
-/// Does all that the program does: `chart` draws a report, `explain` tells a trace of steps, and
-/// what other words say is `trace_view::run_view`. It reads the source to its end, writes the
+/// Does all that the program does: `chart` draws a report, `explain` tells a trace of steps,
+/// `linux --all` tells all that is wrong with a kernel's trace, and what other words say is `trace_view::run_view`. It reads the source to its end, writes the
 /// answer at the end, and answers the exit status.
 pub fn run_views<S: Source, K: Sink>(
     alloc: Global,
@@ -103,5 +104,6 @@ pub fn run_views<S: Source, K: Sink>(
         Command::Other => run_view(alloc, words, source, sink),
         Command::Chart(_) => run_command(alloc, command, source, sink),
         Command::Explain => run_command(alloc, command, source, sink),
+        Command::All => run_command(alloc, command, source, sink),
     }
 }

@@ -4,6 +4,7 @@ ghost use Rattle.std.specs.Prelude.{◌≡◌, ◌<◌, ◌==◌, IfSome, length
 ghost use Rattle.std.specs.List.{position};
 ghost use Rattle.std.specs.Str.{bytes_eq};
 ghost use Rattle.text_words.specs.Numbers.{number_of};
+ghost use Rattle.view_main.specs.Words.{is_all};
 ghost use Rattle.view_main.specs.Words.{as_look, awaiting, both, chart_with, chosen, command_of};
 ghost use Rattle.view_main.specs.Words.{look_of, looking, with_option};
 ghost use Rattle.view_main.specs.Words.{cpu_in, cpus_in, first_options, option_in, options_from};
@@ -57,6 +58,8 @@ pub enum Command {
     Chart(Look),
     /// A trace of steps is told.
     Explain,
+    /// All misfits of a kernel's trace are told.
+    All,
     /// The words are those of a kernel's trace, or no command.
     Other,
 }
@@ -291,6 +294,16 @@ fn is_word(word: &String, name: &[u8]) -> bool
     word.as_bytes() == name
 }
 
+/// Whether the words ask for all misfits of a kernel's trace.
+fn is_all(words: &[String]) -> bool
+    ensures { result ≡ is_all words.now }
+{
+    match words {
+        [word, option] => is_word(word, b"linux") && is_word(option, b"--all"),
+        _ => false,
+    }
+}
+
 /// What the program's words say.
 pub(crate) fn command_of(words: &[String]) -> Command
     ensures { result ≡ command_of words.now }
@@ -303,6 +316,9 @@ pub(crate) fn command_of(words: &[String]) -> Command
     }
     if is_word(&words[0], b"explain") && words.len() == 1 {
         return Command::Explain;
+    }
+    if is_all(words) {
+        return Command::All;
     }
     Command::Other
 }

@@ -35,3 +35,16 @@ returns-in-Explain g c =
     (g.S.Source.seen c.run_command-in-Explain.new.source) (g.K.Sink.seen c.args.sink.now)
     (g.K.Sink.seen c.run_command-in-Explain.new.sink) c.run_command-in-Explain.result)
     c.in-Explain.is c.run_command-in-Explain.ensures)
+
+pub returns-in-All : goal.returns-in-All
+returns-in-All g c =
+    subst
+    (λ command. ViewsBy command c.args.words.now (g.S.Source.seen c.args.source.now)
+    (g.S.Source.seen c.run_command-in-All.new.source) (g.K.Sink.seen c.args.sink.now)
+    (g.K.Sink.seen c.run_command-in-All.new.sink) c.run_command-in-All.result)
+    c.in-All.ensures
+    (subst
+    (λ command. Runs command (g.S.Source.seen c.args.source.now)
+    (g.S.Source.seen c.run_command-in-All.new.source) (g.K.Sink.seen c.args.sink.now)
+    (g.K.Sink.seen c.run_command-in-All.new.sink) c.run_command-in-All.result)
+    c.in-All.is c.run_command-in-All.ensures)
