@@ -2,7 +2,7 @@
 use Rattle.std.proofs.Common.{◌≡◌, ℕ, zero, suc, ◌+◌, ◌*◌, ◌<◌, ◌≤◌, List, [], ◌∷◌, ◌++◌, length}
 use Rattle.std.proofs.Common.{drop, map, take, refl, sym, ap, ◌∙◌, subst, arith, inl, inr, get_or}
 use Rattle.std.proofs.Common.{Some, None, length-append}
-use Rattle.std.specs.Prelude.{All, Err, IfOk, Ok, Result, codes, slice_get}
+use Rattle.std.specs.Prelude.{All, codes, slice_get}
 use Rattle.std.proofs.lemmas.List.{append-nil, append_assoc, drop_all, drop_more, length-map}
 use Rattle.std.proofs.lemmas.List.{length-replicate}
 use Rattle.std.proofs.lemmas.List.Elements.{All-weaker}
@@ -219,29 +219,24 @@ module _ (t : Trace) (w : World) (start : w ≡ start_for t) (ls : List TraceLin
       subst (λ u. IsPlayed u 0 t.lines v p.text) start
       (subst (λ xs. IsPlayed w 0 xs v p.text) same p.played)
 
-  module _ {E : Type 0} where
-    pub ok_verdict : (r : Result Verdict E) (old new : List ℕ) →
-        IfOk r (λ v. WritesPlayed w ls v old new) →
-        IfOk r (IsVerdict (start_for t) (steps_of t.lines))
-    ok_verdict (Ok v) old new p =
+  module _ (v : Verdict) (old new : List ℕ) (p : WritesPlayed w ls v old new) where
+    pub is_verdict : IsVerdict (start_for t) (steps_of t.lines) v
+    is_verdict =
         whole_verdict (start_for t) (steps_of t.lines) v
         (verdict_from t.lines (start_for t) 0 v p.text (here v old new p))
-    ok_verdict (Err e) old new p = tt
 
-    pub ok_yes : (r : Result Verdict E) (old new : List ℕ) →
-        IfOk r (λ v. WritesPlayed w ls v old new) →
-        IfOk r (λ v. (after : World) → IsRun (steps_of t.lines) (start_for t) after →
-        v ≡ verdicts.Yes (length (steps_of t.lines)))
-    ok_yes (Ok v) old new p = λ after run.
+    pub is_yes : (after : World) → IsRun (steps_of t.lines) (start_for t) after →
+        v ≡ verdicts.Yes (length (steps_of t.lines))
+    is_yes after run =
         yes_where_run (start_for t) (steps_of t.lines) v
         (verdict_from t.lines (start_for t) 0 v p.text (here v old new p)) run.enabled
-    ok_yes (Err e) old new p = tt
 
-    pub ok_text : (r : Result Verdict E) (old new : List ℕ) →
-        IfOk r (λ v. WritesPlayed w ls v old new) →
-        IfOk r (λ v. (text : List ℕ) × (new ≡ old ++ text) × IsCheckText t text)
-    ok_text (Ok v) old new p = (p.text, p.written, (v, here v old new p))
-    ok_text (Err e) old new p = tt
+    -- it was told into a report of its own, which was put behind another one
+    pub is_text : old ≡ [] → (before after : List ℕ) → after ≡ before ++ new →
+        (text : List ℕ) × (after ≡ before ++ text) × IsCheckText t text
+    is_text none before after put =
+        let own = p.written ∙ ap (λ (xs : List ℕ). xs ++ p.text) none in
+        (p.text, put ∙ ap (λ (xs : List ℕ). before ++ xs) own, (v, here v old new p))
 
 -- ---- what a trace gives
 

@@ -1,7 +1,7 @@
 //! Playing a trace: its steps are made as far as they can be, and its questions are answered.
 
 ghost use Rattle.std.specs.Prelude.{◌≡◌, ℕ, ◌+◌, ◌<◌, ◌≤◌, List, ◌++◌, All, IfOk, IfSome};
-ghost use Rattle.std.specs.Prelude.{OnOk, length};
+ghost use Rattle.std.specs.Prelude.{OnErr, OnOk, length};
 ghost use Rattle.core_world.specs.Frames.{SameSize};
 ghost use Rattle.core_world.specs.Lists.{IsRun};
 ghost use Rattle.core_world.specs.World.{World};
@@ -147,7 +147,7 @@ fn play_lines<B: TimerBase>(
 /// Whether the steps of a trace can be made one after the other, from the start of its machine: yes
 /// exactly where they are a run of the core; else the first step that isn't enabled where it
 /// stands. The report gets, for each question before that end, a line on who answers, and then the
-/// verdict. After want of memory it may have got a front of these lines.
+/// verdict; or after want of memory nothing.
 pub fn check(alloc: Global, trace: &Trace, out: &mut Report) -> Result<Verdict, NoMemory>
     requires { IsTrace trace.now }
     ensures verdict { IfOk result (IsVerdict (start_for trace.now) (steps_of trace.now.lines)) }
@@ -156,8 +156,12 @@ pub fn check(alloc: Global, trace: &Trace, out: &mut Report) -> Result<Verdict, 
         verdict ≡ verdicts.Yes (length (steps_of trace.now.lines))) }
     ensures text { IfOk result (λ verdict. (text : List ℕ) × (out.new ≡ out.old ++ text)
         × IsCheckText trace.now text) }
+    ensures err { OnErr result (out.new ≡ out.old) }
 {
     let mut core = start_core(alloc, trace)?;
     core.kept();
-    play_lines(&mut core, trace.lines.as_slice(), out)
+    let mut told = Report::new(alloc);
+    let verdict = play_lines(&mut core, trace.lines.as_slice(), &mut told)?;
+    out.append(&told)?;
+    Ok(verdict)
 }
