@@ -11,11 +11,11 @@ use Rattle.core_world.specs.World.{World}
 use Rattle.shared_rule.specs.declared.parts.PassView.{PassView}
 use Rattle.shared_rule.specs.Plays.{Agree, PartFits}
 use Rattle.shared_parts.specs.Parts.{HeldPart}
-use Rattle.shared_parts.specs.Passes.{HeldPass, IsPassIn, Seated, with_pass}
+use Rattle.shared_parts.specs.Passes.{HeldPass, IsPassIn, Seated, knowing, with_pass}
 use Rattle.walk_inactive.specs.Looks.{FindsFirst}
 use Rattle.idle_wakeup.specs.declared.idling.IdleAnswer.{IdleAnswer}
 use Rattle.idle_wakeup.specs.declared.idling.IdleAnswer.TheVariants as answers
-use Rattle.idle_wakeup.specs.Calls.{knowing, known_journal}
+use Rattle.idle_wakeup.specs.Calls.{known_journal}
 use Rattle.idle_wakeup.specs.Resting.{IsAnswer, IsBoxAnswer, known_bases, made_by}
 use Rattle.idle_wakeup.specs.Resting.{resting}
 use Rattle.idle_wakeup.proofs.Meetings as meetings

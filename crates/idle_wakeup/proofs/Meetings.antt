@@ -12,46 +12,20 @@ use Rattle.core_world.specs.World.{cpu_of}
 use Rattle.cpu_word.specs.declared.state.CpuState.{CpuState}
 use Rattle.core_state.specs.Shown.{shown_cpu}
 use Rattle.shared_rule.specs.declared.parts.PassView.{PassView}
-use Rattle.shared_rule.specs.Rule.{Each, renewed}
 use Rattle.shared_rule.specs.Plays.{Agree, PartFits}
 use Rattle.shared_rule.specs.Shows.{BeginsWith}
-use Rattle.shared_parts.specs.Parts.{HasGuest, HeldPart, pass_parted, with_guest, without_guest}
-use Rattle.shared_parts.specs.Passes.{HeldPass, IsOfRun, IsPassIn, Seated, passes_of, seated_of}
-use Rattle.shared_parts.specs.Passes.{walks_of, with_pass}
+use Rattle.shared_parts.specs.Parts.{HeldPart, without_guest}
+use Rattle.shared_parts.specs.Passes.{HeldPass, IsOfRun, IsPassIn, Seated}
+use Rattle.shared_parts.specs.Passes.{knowing, walks_of, with_pass}
 use Rattle.shared_table.specs.declared.ready.TheConstants.{MOST_MADE}
 use Rattle.walk_active.specs.Activated.{IsOwnPass, activated_pass}
 use Rattle.tm_base.specs.declared.faults.OpFault.{OpFault}
-use Rattle.idle_wakeup.specs.Calls.{Renews, awake, idle_fault_of, known_journal, knowing, refusal}
+use Rattle.idle_wakeup.specs.Calls.{Renews, awake, idle_fault_of, known_journal, refusal}
 use Rattle.idle_wakeup.specs.Calls.{spent, wake_fault_of}
 
 -- A PASS of the run in the box of its CPU
 module _ (part : HeldPart) (held : HeldPass) (table : TableId) (p : PassView)
     (is : IsPassIn table held p) where
-  -- it is there
-  pub is_there : p.cpu ≡ held.cpu → HasGuest held.cpu (with_guest part held)
-  is_there own = (p, ap passes_of is, own)
-
-  -- it goes off with the box's journal
-  pub goes_off : p.cpu ≡ part.box.cpu → pass_parted table held.cpu (with_guest part held)
-      ≡ with_pass (knowing part.box.own.bases.journal) held
-  goes_off own =
-      let seated : Option Seated → HeldPass = λ s. record held {
-        seated = seated_of table (renewed (part.box ∷ []) (passes_of s));
-      } in
-      let wanted : Option Seated → HeldPass =
-      λ s. with_pass (knowing part.box.own.bases.journal) (record held { seated = s }) in
-      subst (λ s. seated s ≡ wanted s) (sym is)
-      (ap (λ t. record held {
-        seated = Some (record {
-          table = table;
-          pass = record p { journal = cond t part.box.own.bases.journal p.journal };
-        });
-      }) (eq-eqb p.cpu part.box.cpu own))
-
-  -- where the two agree in the box, they agree
-  pub agrees : Each (Agree part.box) (passes_of held.seated) → Agree part.box p
-  agrees each = (subst (λ s. Each (Agree part.box) (passes_of s)) is each).0
-
   -- it is still the CPU's own
   pub still_own : (journal : List Entry) → IsOwnPass table part.box.cpu held
       → IsOwnPass table part.box.cpu (with_pass (knowing journal) held)

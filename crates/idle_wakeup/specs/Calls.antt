@@ -8,7 +8,7 @@ use Rattle.cpu_bases.specs.declared.entry.Entry.{Entry}
 use Rattle.core_world.specs.World.{cpu_of}
 use Rattle.shared_rule.specs.declared.parts.PassView.{PassView}
 use Rattle.shared_rule.specs.Shows.{BeginsWith}
-use Rattle.shared_parts.specs.Passes.{HeldPass, Seated, with_pass}
+use Rattle.shared_parts.specs.Passes.{HeldPass, Seated, knowing, with_pass}
 use Rattle.shared_table.specs.declared.ready.TheConstants.{MOST_MADE}
 
 -- too many walks were begun with a pass
@@ -39,10 +39,6 @@ refusal f (Some s) = f (cpu_of s.pass.opening s.pass.cpu).online s.pass.idle s.p
 abbrev pub known_journal : Option Seated → List Entry
 known_journal None = []
 known_journal (Some s) = s.pass.journal
-
--- a pass with this journal
-abbrev pub knowing : List Entry → PassView → PassView
-knowing journal p = record p { journal = journal }
 
 -- RENEWED: the pass has changed so, and knows the journal of its CPU as it is by now, which begins
 -- with what it knew before

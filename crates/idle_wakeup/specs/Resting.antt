@@ -10,13 +10,13 @@ use Rattle.core_world.specs.World.{World}
 use Rattle.shared_rule.specs.declared.parts.BoxView.{BoxView}
 use Rattle.shared_rule.specs.declared.parts.Look.{Look}
 use Rattle.shared_rule.specs.declared.parts.PassView.{PassView}
-use Rattle.shared_parts.specs.Passes.{HeldPass, IsPassIn, with_pass}
+use Rattle.shared_parts.specs.Passes.{HeldPass, IsPassIn, knowing, with_pass}
 use Rattle.atomic_table.specs.Seated.{TableId}
 use Rattle.walk_inactive.specs.Ends.{leaf_of, next_of, wakeup_of}
 use Rattle.walk_inactive.specs.Looks.{FindsFirst}
 use Rattle.idle_wakeup.specs.declared.idling.IdleAnswer.{IdleAnswer}
 use Rattle.idle_wakeup.specs.declared.idling.IdleAnswer.TheVariants as answers
-use Rattle.idle_wakeup.specs.Calls.{Renews, knowing, known_journal}
+use Rattle.idle_wakeup.specs.Calls.{Renews, known_journal}
 
 -- the pass, where it has its seat, says that its CPU isn't inside an interrupt
 abbrev pub IsOutside : TableId → HeldPass → Type 0

@@ -4,20 +4,12 @@ ghost use Rattle.std.specs.Prelude.{◌≡◌};
 ghost use Rattle.shared_rule.specs.declared.parts.PassView.{PassView};
 ghost use Rattle.shared_rule.specs.Plays.{Agree, PartFits};
 ghost use Rattle.shared_parts.specs.Parts.{without_guest};
-ghost use Rattle.shared_parts.specs.Passes.{IsPassIn, with_pass};
+ghost use Rattle.shared_parts.specs.Passes.{IsPassIn, knowing, with_pass};
 ghost use Rattle.walk_active.specs.Activated.{IsOwnPass};
-ghost use Rattle.idle_wakeup.specs.Calls.{knowing};
 
-use shared_parts::{BoxPart, Pass, Run, RunName, bring, part_off};
+use shared_parts::{Pass, Run, RunName, visit};
 use shared_table::CpuBox;
 use wheel_core::TimerBase;
-
-/// Does nothing: its contract says of which run a part is.
-fn of_run<N: RunName, B: TimerBase>(part: &BoxPart<N, B>)
-    ensures { part.now.box.opening ≡ N.opening }
-{
-    let _ = &part.cpu;
-}
 
 /// A pass goes into the box of its CPU and off again, and so the two agree, and the pass has the
 /// journal of the box.
@@ -33,9 +25,5 @@ pub(crate) fn meet_own<N: RunName, B: TimerBase>(
     ensures fits { PartFits cpu_box.old.box }
     ensures agree { (p : PassView) → IsPassIn N.table pass.old p → Agree cpu_box.old.box p }
 {
-    let part = &mut cpu_box.part;
-    part.law();
-    of_run(part);
-    bring(run, part, pass);
-    part_off(run, part, pass);
+    visit(run, &mut cpu_box.part, pass);
 }

@@ -2,6 +2,7 @@
 use Rattle.std.specs.Prelude.{◌≡◌, ◌+◌, ℕ, List, [], ◌∷◌, Option, Some, None, length, max}
 use Rattle.std.specs.Prelude.{option_map}
 use Rattle.atomic_table.specs.Seated.{TableId}
+use Rattle.cpu_bases.specs.declared.entry.Entry.{Entry}
 use Rattle.shared_rule.specs.declared.parts.PassView.{PassView}
 use Rattle.shared_rule.specs.declared.parts.Receipt.{Receipt}
 use Rattle.shared_rule.specs.Rule.{Me, seat_of}
@@ -78,6 +79,10 @@ away held = record held { room = 0; seated = None }
 abbrev pub with_receipts_room : (more : ℕ) → HeldPass → HeldPass
 with_receipts_room more held =
     record held { room = max held.room (length (receipts_of held.seated) + more) }
+
+-- what a pass knows, with this journal of its CPU
+abbrev pub knowing : List Entry → PassView → PassView
+knowing journal p = record p { journal = journal }
 
 -- a pass after a change of what it knows
 abbrev pub with_pass : (PassView → PassView) → HeldPass → HeldPass

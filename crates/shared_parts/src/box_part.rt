@@ -121,9 +121,10 @@ impl<N: RunName, B: TimerBase> BoxPart<N, B> {
         self.status.walk
     }
 
-    /// Does nothing: its contract says what every part keeps. It fits, and agrees with each pass
-    /// that is brought.
+    /// Does nothing: its contract says what every part keeps. It is of the core with which its run
+    /// began, it fits, and it agrees with each pass that is brought.
     pub fn law(&self)
+        ensures opening { self.now.box.opening ≡ N.opening }
         ensures fits { PartFits self.now.box }
         ensures agrees { Each (Agree self.now.box) self.now.brought }
     {

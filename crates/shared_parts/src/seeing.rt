@@ -5,15 +5,25 @@ ghost use Rattle.shared_words.specs.Exchanges.{HasRoom};
 ghost use Rattle.shared_words.specs.Layout.{IsWordOf, index_of};
 ghost use Rattle.shared_rule.specs.declared.parts.PassView.{PassView};
 ghost use Rattle.shared_rule.specs.Plays.{NamesCpu, seen_pass};
-ghost use Rattle.shared_rule.specs.Whole.{layout_of, state_at, timer_at};
+ghost use Rattle.shared_rule.specs.Whole.{layout_of, slot_at, state_at, timer_at};
+ghost use Rattle.shared_parts.specs.Slots as slots;
+ghost use Rattle.shared_parts.specs.Slots.{HasEventOf};
 ghost use Rattle.shared_parts.specs.Passes.{IsOfRun, IsPassIn, with_pass};
 
 use crate::pass::Pass;
 use crate::run::{Run, RunName};
-use shared_rule::{Sees, SeesState, SeesTimer, law_see};
+use atomic_table::Play;
+use shared_rule::{Said, Sees, SeesState, SeesTimer, View, core_laws, law_see};
 use shared_words::SharedWord;
 use tm_base::{GroupId, TimerId};
 use wheel_core::TimerBase;
+
+/// A load of a slot by a pass.
+pub struct SeesSlot;
+
+impl Play<Said, View> for SeesSlot {
+    ghost then = { slots.SeesSlot };
+}
 
 impl Pass {
     /// Loads a word. What it found, and how many receipts the pass had then, is remembered.
@@ -64,6 +74,31 @@ impl Pass {
         let place = run.layout.index(SharedWord::Timer(timer));
         match self.seat.as_mut() {
             Some(seat) => run.words.shared.load::<SeesTimer>(seat, place),
+            None => unreachable!(),
+        }
+    }
+
+    /// Loads a slot of a group; its event, where there is one, is that of a CPU of the run. What it
+    /// found is remembered as in `see`.
+    pub fn see_slot<N: RunName, B: TimerBase>(
+        &mut self,
+        run: &Run<N, B>,
+        group: GroupId,
+        child: u8,
+    ) -> u64
+        requires run { IsOfRun N.table self.old }
+        requires group { group.0 < length N.opening.groups }
+        requires child { child < 8 }
+        ensures remembered { self.new
+            ≡ with_pass (seen_pass (index_of (layout_of N.opening) (slot_at group.0 child)) result)
+            self.old }
+        ensures event { (p : PassView) → IsPassIn N.table self.old p
+            → HasEventOf (p ∷ []) result }
+    {
+        core_laws();
+        let place = run.layout.index(SharedWord::Slot(group, child));
+        match self.seat.as_mut() {
+            Some(seat) => run.words.shared.load::<SeesSlot>(seat, place),
             None => unreachable!(),
         }
     }

@@ -1,5 +1,5 @@
 -- what arming on the shared words refuses, and what it makes of the pass
-use Rattle.std.specs.Prelude.{◌≡◌, ℕ, ◌<◌, ◌≤◌, Bool, ◌&&◌, not, Option, Some, None, List}
+use Rattle.std.specs.Prelude.{◌≡◌, ℕ, ◌<◌, ◌≤◌, Bool, ◌&&◌, not, Option, Some, None}
 use Rattle.std.specs.Prelude.{if◌then◌else◌}
 use Rattle.atomic_table.specs.Seated.{TableId}
 use Rattle.tm_base.specs.declared.faults.OpFault.{OpFault}
@@ -7,14 +7,13 @@ use Rattle.tm_base.specs.declared.faults.OpFault.TheVariants as faults
 use Rattle.tm_base.specs.declared.names.Class.{Class}
 use Rattle.tm_base.specs.declared.names.TheConstants.{TIME_LIMIT}
 use Rattle.tm_base.specs.declared.names.TimerId.{TimerId}
-use Rattle.cpu_bases.specs.declared.entry.Entry.{Entry}
 use Rattle.cpu_bases.specs.CpuBases.{item_queued, with_room}
 use Rattle.core_world.specs.World.{World, cpu_of}
 use Rattle.shared_rule.specs.declared.parts.PassView.{PassView}
 use Rattle.shared_rule.specs.Plays.{Agree, PartFits}
 use Rattle.shared_rule.specs.TimerLaws.{MayExchangeArm}
 use Rattle.shared_parts.specs.Parts.{HeldPart, pass_parted, with_guest}
-use Rattle.shared_parts.specs.Passes.{HeldPass, IsPassIn, with_pass, with_receipts_room}
+use Rattle.shared_parts.specs.Passes.{HeldPass, IsPassIn, knowing, with_pass, with_receipts_room}
 use Rattle.shared_timers.specs.declared.arming.Arming.{Arming}
 use Rattle.shared_timers.specs.Queueing.{FoundQueued, armed_part}
 
@@ -38,10 +37,6 @@ IsRefused expected faults.Offline = expected ≡ Some faults.Offline
 IsRefused expected faults.AlreadyOnline = expected ≡ Some faults.AlreadyOnline
 IsRefused expected faults.LastOnline = expected ≡ Some faults.LastOnline
 IsRefused expected (faults.Spent made) = expected ≡ Some (faults.Spent made)
-
--- a pass with this journal of its CPU
-abbrev pub knowing : List Entry → PassView → PassView
-knowing journal p = record p { journal = journal }
 
 -- THE PART of a pass's CPU, as the call finds it: it fits, and agrees with the pass
 pub record MetBy (table : TableId) (part : HeldPart) (held : HeldPass) : Type 0 where

@@ -8,9 +8,8 @@ ghost use Rattle.shared_table.specs.Begun.{IsFree};
 ghost use Rattle.timer_calls.specs.Arms.{HasArmed, HasFailed, IsArmable, IsArmed, MayArmIn, MetBy};
 ghost use Rattle.timer_calls.specs.Arms.{NotArmed, arm_fault_of, arming_of, with_entry_room};
 
-use crate::meeting::{law_opening, meet};
 use cpu_word::CpuState;
-use shared_parts::{BoxPart, Pass, Run, RunName};
+use shared_parts::{BoxPart, Pass, Run, RunName, visit};
 use shared_table::{CpuBox, Shared};
 use shared_timers::{Arming, arm_with};
 use std::sync::Wait;
@@ -87,8 +86,7 @@ fn arm_part<N: RunName, B: TimerBase>(
         (HasArmed N.table now arming (without_guest part.old) pass.old pass.new)
         (NotArmed N.table N.opening arming.timer.0 (without_guest part.old) pass.old pass.new) }
 {
-    law_opening(part);
-    meet(run, part, pass);
+    visit(run, part, pass);
     match arm_fault(part.state()) {
         Some(fault) => Err(fault),
         None => arm_free(run, part, pass, now, arming),

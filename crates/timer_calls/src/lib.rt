@@ -3,6 +3,5 @@
 #![tactic(auto)]
 
 mod arming;
-mod meeting;
 
 pub use arming::arm;

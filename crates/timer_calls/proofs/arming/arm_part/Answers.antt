@@ -1,11 +1,11 @@
 use Rattle.std.proofs.Common.{refl, sym, ap, ◌∙◌, subst}
 use Rattle.std.specs.Prelude.{MatchResult}
 use Rattle.shared_parts.specs.Parts.{HeldPart, without_guest}
-use Rattle.shared_parts.specs.Passes.{HeldPass}
+use Rattle.shared_parts.specs.Passes.{HeldPass, knowing}
 use Rattle.shared_table.specs.Begun.{IsFree}
-use Rattle.timer_calls.specs.Arms.{HasFailed, IsArmed, knowing}
+use Rattle.timer_calls.specs.Arms.{HasFailed, IsArmed}
 use Rattle.timer_calls.proofs.Allowed.{by_pass, finish, may_arm_in, not_armed}
-use Rattle.timer_calls.proofs.Meetings.{knows}
+use Rattle.shared_parts.proofs.Visits.{knows}
 use Rattle.timer_calls.proofs.arming.arm_part.Goals as goal
 
 pub arm_free-requires-clause-run : goal.arm_free-requires-clause-run
@@ -13,51 +13,51 @@ arm_free-requires-clause-run g c =
     let run = c.requires.run in
     let journal = c.args.part.now.box.own.bases.journal in (
       knowing journal run.0,
-      ap (λ (z : HeldPass). z.seated) c.meet.ensures.pass
+      ap (λ (z : HeldPass). z.seated) c.visit.ensures.pass
           ∙ knows c.args.part.now c.args.pass.now g.N.RunName.table run.0 run.1 journal,
     )
 
 pub arm_free-requires-clause-free : goal.arm_free-requires-clause-free
 arm_free-requires-clause-free g c =
     let free = c.requires.free in
-    subst IsFree (sym c.meet.ensures.part)
+    subst IsFree (sym c.visit.ensures.part)
     (record { walkless = free.walkless; alone = refl; whole = free.whole })
 
 pub arm_free-requires-clause-may : goal.arm_free-requires-clause-may
 arm_free-requires-clause-may g c =
     let run = c.requires.run in
-    may_arm_in g.N.RunName.table g.N.RunName.opening c.args.part.now c.meet.new.part c.args.pass.now
-    c.meet.new.pass run.0 c.args.arming c.state.result run.1 c.state.ensures c.meet.ensures.part
-    c.meet.ensures.pass c.law_opening.ensures c.meet.ensures.fits (c.meet.ensures.own run.0 run.1)
+    may_arm_in g.N.RunName.table g.N.RunName.opening c.args.part.now c.visit.new.part c.args.pass.now
+    c.visit.new.pass run.0 c.args.arming c.state.result run.1 c.state.ensures c.visit.ensures.part
+    c.visit.ensures.pass c.visit.ensures.opening c.visit.ensures.fits (c.visit.ensures.own run.0 run.1)
     c.requires.free c.requires.arming c.in-None.ensures
 
 pub returns-in-Some-clause-free : goal.returns-in-Some-clause-free
 returns-in-Some-clause-free g c =
     let free = c.requires.free in
-    subst IsFree (sym c.meet.ensures.part)
+    subst IsFree (sym c.visit.ensures.part)
     (record { walkless = free.walkless; alone = refl; whole = free.whole })
 
 pub returns-in-Some-clause-met : goal.returns-in-Some-clause-met
 returns-in-Some-clause-met g c = record {
   own = sym c.requires.own;
-  fits = c.meet.ensures.fits;
-  agree = c.meet.ensures.agree;
+  fits = c.visit.ensures.fits;
+  agree = c.visit.ensures.agree;
 }
 
 pub returns-in-Some-clause-done : goal.returns-in-Some-clause-done
 returns-in-Some-clause-done g c =
     let part = c.args.part.now in
-    let meets = c.meet.ensures in
+    let meets = c.visit.ensures in
     not_armed g.N.RunName.table g.N.RunName.opening c.args.arming.timer.0 (without_guest part)
-    c.args.pass.now c.meet.new.pass c.in-Some.fault c.state.result c.in-Some.ensures
-    (λ q there. by_pass part c.meet.new.part c.state.result q c.state.ensures meets.part meets.fits
+    c.args.pass.now c.visit.new.pass c.in-Some.fault c.state.result c.in-Some.ensures
+    (λ q there. by_pass part c.visit.new.part c.state.result q c.state.ensures meets.part meets.fits
     (meets.agree q there) (meets.own q there)) meets.pass
 
 pub returns-in-None-clause-met : goal.returns-in-None-clause-met
 returns-in-None-clause-met g c = record {
   own = sym c.requires.own;
-  fits = c.meet.ensures.fits;
-  agree = c.meet.ensures.agree;
+  fits = c.visit.ensures.fits;
+  agree = c.visit.ensures.agree;
 }
 
 pub returns-in-None-clause-done : goal.returns-in-None-clause-done
@@ -65,16 +65,16 @@ returns-in-None-clause-done g c =
     let table = g.N.RunName.table in
     let o = g.N.RunName.opening in
     let part = c.args.part.now in
-    let meets = c.meet.ensures in
+    let meets = c.visit.ensures in
     let a = c.args.arming in
     let run = c.requires.run in
     let result = c.arm_free.result in
     let after = c.arm_free.new.pass in
     finish table o c.args.now a (without_guest part) c.args.pass.now after result
-    (λ q there. sym (by_pass part c.meet.new.part c.state.result q c.state.ensures meets.part
+    (λ q there. sym (by_pass part c.visit.new.part c.state.result q c.state.ensures meets.part
     meets.fits (meets.agree q there) (meets.own q there)) ∙ sym c.in-None.ensures) run.0 run.1
     (subst (λ (h : HeldPass). MatchResult result
     (IsArmed table c.args.now a (without_guest part) h after)
     (HasFailed table o a.timer.0 (without_guest part) h after)) meets.pass
-    (subst (λ (q : HeldPart). MatchResult result (IsArmed table c.args.now a q c.meet.new.pass after)
-    (HasFailed table o a.timer.0 q c.meet.new.pass after)) meets.part c.arm_free.ensures.done))
+    (subst (λ (q : HeldPart). MatchResult result (IsArmed table c.args.now a q c.visit.new.pass after)
+    (HasFailed table o a.timer.0 q c.visit.new.pass after)) meets.part c.arm_free.ensures.done))

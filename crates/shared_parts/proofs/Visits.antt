@@ -1,4 +1,4 @@
--- a pass that meets the part of its CPU
+-- for crates above: a pass that meets the part of its CPU
 use Rattle.std.proofs.Common.{◌≡◌, List, [], ◌∷◌, Option, Some, sym, ap, subst, cond}
 use Rattle.std.proofs.Common.{eq-eqb}
 use Rattle.std.specs.Prelude.{option_map}
@@ -8,8 +8,8 @@ use Rattle.shared_rule.specs.declared.parts.PassView.{PassView}
 use Rattle.shared_rule.specs.Rule.{Each, renewed}
 use Rattle.shared_rule.specs.Plays.{Agree}
 use Rattle.shared_parts.specs.Parts.{HasGuest, HeldPart, pass_parted, with_guest}
-use Rattle.shared_parts.specs.Passes.{HeldPass, IsPassIn, Seated, passes_of, seated_of, with_pass}
-use Rattle.timer_calls.specs.Arms.{knowing}
+use Rattle.shared_parts.specs.Passes.{HeldPass, IsPassIn, Seated, knowing, passes_of, seated_of}
+use Rattle.shared_parts.specs.Passes.{with_pass}
 
 module _ (part : HeldPart) (held : HeldPass) (table : TableId) (p : PassView)
     (is : IsPassIn table held p) where

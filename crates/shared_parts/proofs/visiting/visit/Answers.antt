@@ -3,8 +3,8 @@ use Rattle.shared_rule.specs.Rule.{Each}
 use Rattle.shared_rule.specs.Plays.{Agree}
 use Rattle.shared_parts.specs.Parts.{HasGuest, HeldPart, pass_parted, without_guest}
 use Rattle.shared_parts.specs.Passes.{HeldPass}
-use Rattle.timer_calls.proofs.Meetings as meetings
-use Rattle.timer_calls.proofs.meeting.meet.Goals as goal
+use Rattle.shared_parts.proofs.Visits as visits
+use Rattle.shared_parts.proofs.visiting.visit.Goals as goal
 
 pub part_off-requires-clause-brought : goal.part_off-requires-clause-brought
 part_off-requires-clause-brought g c =
@@ -13,7 +13,7 @@ part_off-requires-clause-brought g c =
     let held = c.args.pass.now in
     subst (λ n. HasGuest n c.bring.new.part) (sym (ap (λ (z : HeldPass). z.cpu) c.bring.ensures.pass))
     (subst (HasGuest held.cpu) (sym c.bring.ensures.part)
-    (meetings.is_there c.args.part.now held table run.0 run.1 (c.law.ensures table run.0 run.1)))
+    (visits.is_there c.args.part.now held table run.0 run.1 (c.law.ensures table run.0 run.1)))
 
 pub returns-clause-part : goal.returns-clause-part
 returns-clause-part g c = c.part_off.ensures.part ∙ ap without_guest c.bring.ensures.part
@@ -27,7 +27,7 @@ returns-clause-pass g c =
     ∙ (ap (λ n. pass_parted table n c.bring.new.part)
     (ap (λ (z : HeldPass). z.cpu) c.bring.ensures.pass)
     ∙ (ap (pass_parted table held.cpu) c.bring.ensures.part
-    ∙ meetings.goes_off c.args.part.now held table run.0 run.1
+    ∙ visits.goes_off c.args.part.now held table run.0 run.1
     (c.law.ensures table run.0 run.1 ∙ c.requires.own)))
 
 pub returns-clause-own : goal.returns-clause-own
@@ -36,8 +36,11 @@ returns-clause-own g c p is = c.law.ensures g.N.RunName.table p is ∙ c.require
 pub returns-clause-fits : goal.returns-clause-fits
 returns-clause-fits g c = c.law-2.ensures.fits
 
+pub returns-clause-opening : goal.returns-clause-opening
+returns-clause-opening g c = c.law-2.ensures.opening
+
 pub returns-clause-agree : goal.returns-clause-agree
 returns-clause-agree g c p is =
-    meetings.agrees c.args.part.now c.args.pass.now g.N.RunName.table p is
+    visits.agrees c.args.part.now c.args.pass.now g.N.RunName.table p is
     (subst (λ (z : HeldPart). Each (Agree z.box) z.brought) c.bring.ensures.part
     c.bring.ensures.agrees)
