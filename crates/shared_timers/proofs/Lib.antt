@@ -4,4 +4,5 @@ pub mod Kept
 pub mod Exchanged
 pub mod Cancelled
 pub mod Tried
+pub mod Outgoing
 pub mod Visits

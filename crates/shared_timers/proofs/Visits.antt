@@ -6,21 +6,24 @@ use Rattle.atomic_table.specs.Seated.{TableId}
 use Rattle.tm_base.specs.declared.faults.OpFault.{OpFault}
 use Rattle.tm_base.specs.declared.names.Class.{Class}
 use Rattle.wheel_core.specs.declared.item.Item.{Item}
-use Rattle.cpu_bases.specs.CpuBases.{found_in, item_queued}
+use Rattle.wheel_core.specs.PlainBase.{next_out}
+use Rattle.cpu_bases.specs.CpuBases.{base_of, found_in, item_queued}
 use Rattle.cpu_bases.specs.Laws.{Keeps}
 use Rattle.core_world.specs.World.{World}
 use Rattle.shared_rule.specs.declared.parts.BoxView.{BoxView}
 use Rattle.shared_rule.specs.declared.parts.PassView.{PassView}
 use Rattle.shared_rule.specs.Plays.{head_pass, seen_pass}
 use Rattle.shared_rule.specs.Timers.{armed_box, armed_pass, cancel_noted, cancelled_box}
-use Rattle.shared_rule.specs.Timers.{cancelled_pass}
+use Rattle.shared_rule.specs.Timers.{cancelled_pass, handed_box}
 use Rattle.shared_parts.specs.Parts.{HasGuest, HeldPart, pass_parted, with_guest, without_guest}
 use Rattle.shared_parts.specs.Passes.{HeldPass, IsPassIn, passes_of}
 use Rattle.shared_timers.specs.declared.arming.Arming.{Arming}
+use Rattle.shared_timers.specs.Draining.{drained_part, drained_pass}
 use Rattle.shared_timers.specs.Entries.{on_both_of, pair_changed}
 use Rattle.shared_timers.specs.Exchanging.{timer_word}
 use Rattle.shared_timers.specs.Queueing.{ArmedWith, FoundQueued, FoundWith, armed_part}
 use Rattle.shared_timers.specs.Queueing.{cancelled_part}
+use Rattle.shared_timers.proofs.Outgoing.{same_cpu}
 
 -- a pass that a step changes is still brought
 pub changed_guest : (f : BoxView → PassView → BoxView) (h : BoxView → PassView → PassView)
@@ -62,6 +65,15 @@ module _ (table : TableId) (part : HeldPart) (held : HeldPass) (p : PassView)
       same_cpu : (found : Option (Class × Item)) → (cancel_noted line found b.box p).cpu ≡ p.cpu
       same_cpu None = refl
       same_cpu (Some found) = refl
+
+  -- and after a drain
+  pub drained_guest : (class : Class) (mid : HeldPart) → mid ≡ drained_part class b
+      → HasGuest held.cpu mid
+  drained_guest class mid gone =
+      subst (HasGuest held.cpu) (sym gone)
+      (changed_guest (handed_box class) (drained_pass class) b p held.cpu brought
+      (same_cpu class (next_out b.box.opening.clock (base_of class b.box.own.bases)) b.box p
+      ∙ own))
 
 -- what an arming is, once the pass has gone off
 pub went_off : (table : TableId) (part : HeldPart) (held : HeldPass) (b : HeldPart)

@@ -54,7 +54,7 @@ abbrev pub MayTryDrain : World → Me → (cpu : ℕ) → Class → Option Timer
 MayTryDrain o me cpu class None = MayTryTick o me cpu class
 MayTryDrain o me cpu class (Some timer) = MayTryHand o me cpu class timer
 
--- the next due timer of a class in the bases of a box (no public clause cites it)
+-- the next due timer of a class in the bases of a box
 abbrev pub IsNext : World → BoxView → Class → Option TimerId → Type 0
 IsNext o b class None = next_out o.clock (base_of class b.own.bases) ≡ None
 IsNext o b class (Some timer) =

@@ -1,17 +1,21 @@
 //! A pass is brought into a part for one step on a timer, and goes from it again.
 
-ghost use Rattle.std.specs.Prelude.{◌≡◌, [], MatchResult};
-ghost use Rattle.cpu_bases.specs.Laws.{Keeps};
+ghost use Rattle.std.specs.Prelude.{◌≡◌, [], IfNone, MatchResult, OnSome};
+ghost use Rattle.wheel_core.specs.PlainBase.{NoneBehind, OneFewer, OutIsDue, next_out};
+ghost use Rattle.cpu_bases.specs.CpuBases.{NotAhead, base_of};
+ghost use Rattle.cpu_bases.specs.Laws.{HandsOut, Keeps};
 ghost use Rattle.shared_parts.specs.Parts.{pass_parted, with_guest, without_guest};
 ghost use Rattle.shared_parts.specs.Passes.{IsOfRun};
+ghost use Rattle.shared_timers.specs.Draining.{MayDrain, drained_part};
 ghost use Rattle.shared_timers.specs.Queueing.{ArmedWith, FoundWith, MayArm, MayCancel};
 ghost use Rattle.shared_timers.specs.Queueing.{cancelled_part};
 
 use crate::arming::Arming;
+use crate::draining::drain_step;
 use crate::queueing::{arm_step, cancel_step};
 use shared_parts::{BoxPart, Pass, Run, RunName, bring, part_off};
-use tm_base::{Jiffy, OpFault, TimerId};
-use wheel_core::TimerBase;
+use tm_base::{Class, Jiffy, OpFault, TimerId};
+use wheel_core::{Item, TimerBase};
 
 /// A CPU tries to arm a timer at `now`, in jiffies, as `arm_step` does, with its own pass, which is
 /// brought into its part for it.
@@ -61,4 +65,37 @@ pub fn cancel_with<N: RunName, B: TimerBase>(
     bring(run, part, pass);
     cancel_step(run, part, now, timer, line);
     part_off(run, part, pass);
+}
+
+/// The next due timer of a class goes out of the part of a CPU at `now`, in jiffies, or its base
+/// counts as drained, as `drain_step` does it, with a pass that is brought into the part for it.
+pub fn hand_with<N: RunName, B: TimerBase>(
+    run: &Run<N, B>,
+    part: &mut BoxPart<N, B>,
+    pass: &mut Pass,
+    now: Jiffy,
+    class: Class,
+) -> Option<Item>
+    requires run { IsOfRun N.table pass.old }
+    requires alone { part.old.brought ≡ [] }
+    requires now { now ≡ N.opening.clock }
+    requires may { MayDrain (with_guest part.old pass.old) class }
+    ensures item { result ≡ next_out now (base_of class part.old.box.own.bases) }
+    ensures part { part.new
+        ≡ without_guest (drained_part class (with_guest part.old pass.old)) }
+    ensures pass { pass.new ≡ pass_parted N.table pass.old.cpu
+        (drained_part class (with_guest part.old pass.old)) }
+    ensures due { OutIsDue now (base_of class part.old.box.own.bases).items result }
+    ensures one_fewer { OnSome result (OneFewer (base_of class part.old.box.own.bases)
+        (base_of class part.new.box.own.bases)) }
+    ensures none_behind { IfNone result (NotAhead now (base_of class part.old.box.own.bases)
+        → NoneBehind (base_of class part.new.box.own.bases)) }
+    ensures keeps { HandsOut now class pass.old.cpu part.old.box.own.bases
+        part.new.box.own.bases }
+{
+    pass.law();
+    bring(run, part, pass);
+    let item = drain_step(run, part, now, class);
+    part_off(run, part, pass);
+    item
 }

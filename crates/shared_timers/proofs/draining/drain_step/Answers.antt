@@ -1,0 +1,132 @@
+use Rattle.std.proofs.Common.{◌≡◌, ◌∷◌, [], List, Option, Some, refl, sym, ap, ◌∙◌, subst}
+use Rattle.std.specs.Prelude.{IfNone, length}
+use Rattle.std.specs.Option.{option_copied_mut}
+use Rattle.core_world.specs.World.{World}
+use Rattle.tm_base.specs.declared.names.CpuId.{CpuId}
+use Rattle.cpu_bases.specs.declared.entry.Entry.{Entry}
+use Rattle.wheel_core.specs.PlainBase.{NoneBehind}
+use Rattle.cpu_bases.specs.CpuBases.{CpuBases, NotAhead, base_of, handed_out}
+use Rattle.shared_rule.specs.declared.parts.BoxView.{BoxView}
+use Rattle.shared_rule.specs.Timers.{handed_box}
+use Rattle.shared_parts.specs.declared.box_part.Guest.{Guest}
+use Rattle.shared_parts.specs.Parts.{HeldPart, Hosts, box_held, guest_room, looked_of}
+use Rattle.shared_rule.specs.Rule.{seat_of}
+use Rattle.shared_rule.specs.Shows.{receipt_of}
+use Rattle.shared_timers.specs.Draining.{MayDrain, drained_pass}
+use Rattle.shared_timers.specs.Entries.{on_both_of, with_receipt}
+use Rattle.shared_timers.specs.Exchanging.{IsNext}
+use Rattle.shared_timers.proofs.Exchanged.{on_pair_of}
+use Rattle.shared_timers.proofs.Kept.{entry_there, guest_of, noted_part, shown, shown_part}
+use Rattle.shared_timers.proofs.Outgoing.{journal_is, may_drain, out_entry, pass_is}
+use Rattle.shared_timers.proofs.draining.drain_step.Goals as goal
+
+pub drain-requires-clause-may : goal.drain-requires-clause-may
+drain-requires-clause-may g c =
+    let part = c.part.inside in
+    let o : World = g.N.RunName.opening in
+    let v : HeldPart = shown o part.cpu.0 part.status part.bases.plain part.leaf part.read
+    (looked_of part.seat.me.0.boxes) part.seat.me.0.passes part.bases.room (guest_room part.guest) in
+    may_drain o v part.seat.me c.args.class c.next_timer-next.result
+    (subst (λ z. MayDrain z c.args.class) (sym c.part.view_is) c.requires.may)
+    c.part.invariant.seat refl c.part.invariant.fits
+    (subst (λ (z : HeldPart). IsNext o z.box c.args.class c.next_timer-next.result)
+    (sym c.part.view_is) c.next_timer-next.ensures)
+
+pub note-requires-clause-there : goal.note-requires-clause-there
+note-requires-clause-there g c =
+    let bases : CpuBases = c.part.inside.bases.plain in
+    let by : CpuId = c.in-Some.guest.now.cpu in
+    let e : Entry = out_entry c.args.now c.args.class by bases in (
+      e,
+      entry_there bases.journal c.take_due-item.new.self.plain.journal e c.len-place.result
+          (ap (λ z. z.plain.journal) c.take_due-item.ensures.after
+          ∙ journal_is c.args.now c.args.class by bases)
+          (c.len-place.ensures ∙ ap (λ (es : List Entry). length es) c.journal.ensures.entries),
+    )
+
+pub invariant_of-part : goal.invariant_of-part
+invariant_of-part g c =
+    let part = c.part.inside in
+    let o : World = g.N.RunName.opening in
+    let bases : CpuBases = part.bases.plain in
+    let looked = looked_of part.seat.me.0.boxes in
+    let may = subst (λ z. MayDrain z c.args.class) (sym c.part.view_is) c.requires.may in
+    let p = may.pass in
+    let class = c.args.class in
+    let b : BoxView = box_held o part.cpu.0 part.status bases part.leaf part.read looked in
+    let is = on_pair_of (handed_box class) (drained_pass class) part.seat.me c.drain.new.seat.me b p
+    (c.part.invariant.seat ∙ ap (seat_of (b ∷ [])) may.brought) c.drain.ensures.told in
+    let guest : Guest = c.in-Some.guest.now in
+    let there : part.guest ≡ Some guest =
+    sym c.as_mut.ensures.value ∙ ap option_copied_mut c.in-Some.is in
+    let hosts : Hosts (Some guest) part.seat.me.0.passes =
+    subst (λ (z : Option Guest). Hosts z part.seat.me.0.passes) there c.part.invariant.hosts in
+    let bytes = guest_of guest part.seat.me.0.passes p hosts may.brought in
+    let now : c.args.now ≡ o.clock = c.requires.now in
+    let e : Entry = out_entry o.clock class (record { 0 = p.cpu }) bases in
+    let was : Entry = out_entry c.args.now class guest.cpu bases in
+    let place : c.len-place.result ≡ length bases.journal =
+    c.len-place.ensures ∙ ap (λ (es : List Entry). length es) c.journal.ensures.entries in
+    noted_part g.N.RunName.table c.drain.new.seat.table_id o part.cpu.0 part.status bases
+    (handed_out o.clock class (record { 0 = p.cpu }) bases) part.leaf part.read
+    looked p part.seat.me.0.passes c.drain.new.seat.me (handed_box class) (drained_pass class)
+    may.brought is refl e guest c.drain.ensures.table c.drain.ensures.sound hosts
+    (pass_is class b p)
+    c.take_due-item.new.self.plain
+    (ap (λ z. z.plain) c.take_due-item.ensures.after
+    ∙ (λ i. handed_out (now i) class (record { 0 = sym bytes.cpu i }) bases))
+    c.note.new.guest
+    (c.note.ensures was
+    (entry_there bases.journal c.take_due-item.new.self.plain.journal was c.len-place.result
+    (ap (λ z. z.plain.journal) c.take_due-item.ensures.after
+    ∙ journal_is c.args.now class guest.cpu bases) place)
+    ∙ (λ i. with_receipt (receipt_of part.cpu.0 (place i) (out_entry (now i) class
+    (record { 0 = sym bytes.cpu i }) bases)) guest))
+
+pub returns-clause-part : goal.returns-clause-part
+returns-clause-part g c =
+    let part = c.part.inside in
+    let o : World = g.N.RunName.opening in
+    let bases : CpuBases = part.bases.plain in
+    let looked = looked_of part.seat.me.0.boxes in
+    let may = subst (λ z. MayDrain z c.args.class) (sym c.part.view_is) c.requires.may in
+    let p = may.pass in
+    let class = c.args.class in
+    let b : BoxView = box_held o part.cpu.0 part.status bases part.leaf part.read looked in
+    let is = on_pair_of (handed_box class) (drained_pass class) part.seat.me c.drain.new.seat.me b p
+    (c.part.invariant.seat ∙ ap (seat_of (b ∷ [])) may.brought) c.drain.ensures.told in
+    let guest : Guest = c.in-Some.guest.now in
+    let there : part.guest ≡ Some guest =
+    sym c.as_mut.ensures.value ∙ ap option_copied_mut c.in-Some.is in
+    let hosts : Hosts (Some guest) part.seat.me.0.passes =
+    subst (λ (z : Option Guest). Hosts z part.seat.me.0.passes) there c.part.invariant.hosts in
+    let bytes = guest_of guest part.seat.me.0.passes p hosts may.brought in
+    let now : c.args.now ≡ o.clock = c.requires.now in
+    let was : Entry = out_entry c.args.now class guest.cpu bases in
+    let place : c.len-place.result ≡ length bases.journal =
+    c.len-place.ensures ∙ ap (λ (es : List Entry). length es) c.journal.ensures.entries in
+    shown_part g.N.RunName.table c.drain.new.seat.table_id o part.cpu.0 part.status bases
+    (handed_out o.clock class (record { 0 = p.cpu }) bases) part.leaf part.read
+    looked p part.seat.me.0.passes c.drain.new.seat.me (handed_box class) (drained_pass class)
+    may.brought is refl
+    c.take_due-item.new.self.plain
+    (ap (λ z. z.plain) c.take_due-item.ensures.after
+    ∙ (λ i. handed_out (now i) class (record { 0 = sym bytes.cpu i }) bases))
+    part.bases.room c.take_due-item.new.self.room
+    (ap (λ z. z.room) c.take_due-item.ensures.after)
+    (guest_room part.guest) c.note.new.guest.receipts.capacity
+    (ap (λ (z : Guest). z.receipts.capacity)
+    (c.note.ensures was
+    (entry_there bases.journal c.take_due-item.new.self.plain.journal was c.len-place.result
+    (ap (λ z. z.plain.journal) c.take_due-item.ensures.after
+    ∙ journal_is c.args.now class guest.cpu bases)
+    place))
+    ∙ ap guest_room (sym there))
+    ∙ ap (on_both_of (handed_box class) (drained_pass class)) c.part.view_is
+
+pub returns-clause-none_behind : goal.returns-clause-none_behind
+returns-clause-none_behind g c =
+    subst (λ (z : HeldPart). IfNone c.take_due-item.result
+    (NotAhead c.args.now (base_of c.args.class z.box.own.bases)
+    → NoneBehind (base_of c.args.class c.take_due-item.new.self.plain))) c.part.view_is
+    c.take_due-item.ensures.none_behind
