@@ -10,7 +10,7 @@ use Rattle.wheel_core.specs.declared.item.Item.{Item}
 use Rattle.wheel_core.specs.PlainBase.{item_of, next_out}
 use Rattle.cpu_bases.specs.declared.entry.Act.TheVariants as acts
 use Rattle.cpu_bases.specs.declared.entry.Entry.{Entry}
-use Rattle.cpu_bases.specs.CpuBases.{CpuBases, after_hand_out, base_of, class_in, entry_of}
+use Rattle.cpu_bases.specs.CpuBases.{CpuBases, after_hand_out, base_of, entry_of}
 use Rattle.cpu_bases.specs.CpuBases.{handed_out, ticked_entry}
 use Rattle.cpu_bases.proofs.Queued.{queued_once}
 use Rattle.core_world.specs.World.{World}

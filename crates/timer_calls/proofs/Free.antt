@@ -40,7 +40,7 @@ few Deferrable bases =
     omega (arith, below, above)
 
 -- what is one more than a number is within a larger room
-within : (n m room : ℕ) → n ≤ m → n < max room (m + 1)
+pub within : (n m room : ℕ) → n ≤ m → n < max room (m + 1)
 within n m room low =
     let above = le-max_right room (m + 1) in
     omega (arith, low, above)

@@ -1,2 +1,6 @@
 pub mod Free
 pub mod Allowed
+mod Looks
+mod Asking
+mod Taking
+mod Trying

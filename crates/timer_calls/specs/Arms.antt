@@ -7,7 +7,7 @@ use Rattle.tm_base.specs.declared.faults.OpFault.TheVariants as faults
 use Rattle.tm_base.specs.declared.names.Class.{Class}
 use Rattle.tm_base.specs.declared.names.TheConstants.{TIME_LIMIT}
 use Rattle.tm_base.specs.declared.names.TimerId.{TimerId}
-use Rattle.cpu_bases.specs.CpuBases.{item_queued, with_room}
+use Rattle.cpu_bases.specs.CpuBases.{item_queued}
 use Rattle.core_world.specs.World.{World, cpu_of}
 use Rattle.shared_rule.specs.declared.parts.PassView.{PassView}
 use Rattle.shared_rule.specs.Plays.{Agree, PartFits}
@@ -16,6 +16,7 @@ use Rattle.shared_parts.specs.Parts.{HeldPart, pass_parted, with_guest}
 use Rattle.shared_parts.specs.Passes.{HeldPass, IsPassIn, knowing, with_pass, with_receipts_room}
 use Rattle.shared_timers.specs.declared.arming.Arming.{Arming}
 use Rattle.shared_timers.specs.Queueing.{FoundQueued, armed_part}
+use Rattle.timer_calls.specs.Rooms.{with_more_room}
 
 -- ARM: why a CPU can't: it is offline, or idle and outside its interrupt
 abbrev pub arm_fault_of : (online idle inside : Bool) → Option OpFault
@@ -50,9 +51,7 @@ met part held = with_pass (knowing part.box.own.bases.journal) held
 
 -- a part with memory for one timer more in each base, and for one entry
 abbrev pub with_entry_room : HeldPart → HeldPart
-with_entry_room part = record part {
-  room = (with_room 1 1 (record { plain = part.box.own.bases; room = part.room })).room;
-}
+with_entry_room part = with_more_room 1 1 part
 
 -- the pass in the part, with room in both for a timer, its entry and its receipt
 abbrev pub roomy : HeldPart → HeldPass → HeldPart

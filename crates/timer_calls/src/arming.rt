@@ -1,19 +1,20 @@
 //! A CPU's thread arms a timer.
 
-ghost use Rattle.std.specs.Prelude.{◌≡◌, ◌+◌, ◌<◌, MatchResult, OnErr, OnOk, length};
+ghost use Rattle.std.specs.Prelude.{◌≡◌, ◌+◌, ◌<◌, MatchResult, length};
 ghost use Rattle.tm_base.specs.declared.names.TheConstants.{TIME_LIMIT};
 ghost use Rattle.shared_parts.specs.Parts.{HeldPart, without_guest};
-ghost use Rattle.shared_parts.specs.Passes.{IsOfRun, with_receipts_room};
+ghost use Rattle.shared_parts.specs.Passes.{IsOfRun};
 ghost use Rattle.shared_table.specs.Begun.{IsFree};
 ghost use Rattle.timer_calls.specs.Arms.{HasArmed, HasFailed, IsArmable, IsArmed, MayArmIn, MetBy};
-ghost use Rattle.timer_calls.specs.Arms.{NotArmed, arm_fault_of, arming_of, with_entry_room};
+ghost use Rattle.timer_calls.specs.Arms.{NotArmed, arm_fault_of, arming_of};
 
+use crate::room::take_room;
 use cpu_word::CpuState;
 use shared_parts::{BoxPart, Pass, Run, RunName, visit};
 use shared_table::{CpuBox, Shared};
 use shared_timers::{Arming, arm_with};
 use std::sync::Wait;
-use tm_base::{Class, Jiffy, NoMemory, OpFault, TimerId};
+use tm_base::{Class, Jiffy, OpFault, TimerId};
 use wheel_core::TimerBase;
 
 /// Why a CPU that shows this can't arm.
@@ -27,22 +28,6 @@ fn arm_fault(state: CpuState) -> Option<OpFault>
     } else {
         None
     }
-}
-
-/// Makes room for a timer with its entry in a part, and then for the receipt in a pass. Want of
-/// memory leaves the pass as it was.
-fn make_room<N: RunName, B: TimerBase>(
-    part: &mut BoxPart<N, B>,
-    pass: &mut Pass,
-) -> Result<(), NoMemory>
-    ensures ok { OnOk result (part.new ≡ with_entry_room part.old) }
-    ensures pass { OnOk result (pass.new ≡ with_receipts_room 1 pass.old) }
-    ensures kept { part.new.box ≡ part.old.box }
-    ensures brought { part.new.brought ≡ part.old.brought }
-    ensures err { OnErr result (pass.new ≡ pass.old) }
-{
-    part.bases.reserve(1, 1)?;
-    pass.reserve(1)
 }
 
 /// Arms in a part that lies behind its CPU's lock, with the CPU's own pass.
@@ -61,7 +46,7 @@ fn arm_free<N: RunName, B: TimerBase>(
     ensures done { MatchResult result (IsArmed N.table now arming part.old pass.old pass.new)
         (HasFailed N.table N.opening arming.timer.0 part.old pass.old pass.new) }
 {
-    match make_room(part, pass) {
+    match take_room(part, pass, 1, 1) {
         Ok(()) => arm_with(run, part, pass, now, arming),
         Err(_) => Err(OpFault::NoMemory),
     }

@@ -1,4 +1,4 @@
-use Rattle.std.proofs.Common.{◌≡◌, ◌<◌, Some, sym, ap, ◌∙◌, subst}
+use Rattle.std.proofs.Common.{◌<◌, sym, ap, ◌∙◌, subst}
 use Rattle.wheel_core.specs.PlainBase.{PlainBase, item_of, next_out}
 use Rattle.cpu_bases.specs.CpuBases.{CpuBases, base_of}
 use Rattle.core_world.specs.World.{World}

@@ -1,9 +1,9 @@
-use Rattle.std.proofs.Common.{◌≡◌, sym, ap, ◌∙◌, subst}
+use Rattle.std.proofs.Common.{sym, ap, ◌∙◌, subst}
 use Rattle.std.specs.Prelude.{IfNone, OnSome}
 use Rattle.wheel_core.specs.PlainBase.{NoneBehind, OneFewer, OutIsDue, next_out}
 use Rattle.cpu_bases.specs.CpuBases.{NotAhead, base_of}
 use Rattle.cpu_bases.specs.Laws.{HandsOut}
-use Rattle.shared_parts.specs.Parts.{HasGuest, HeldPart, pass_parted, with_guest, without_guest}
+use Rattle.shared_parts.specs.Parts.{HasGuest, HeldPart, pass_parted, without_guest}
 use Rattle.shared_parts.specs.Passes.{HeldPass, passes_of}
 use Rattle.shared_timers.specs.Draining.{MayDrain, drained_part}
 use Rattle.shared_timers.proofs.Visits.{drained_guest}

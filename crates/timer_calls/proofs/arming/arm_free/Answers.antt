@@ -14,13 +14,13 @@ arm_with-requires-clause-run g c = (
 )
 
 pub arm_with-requires-clause-alone : goal.arm_with-requires-clause-alone
-arm_with-requires-clause-alone g c = c.make_room.ensures.brought ∙ c.requires.free.alone
+arm_with-requires-clause-alone g c = c.take_room.ensures.brought ∙ c.requires.free.alone
 
 pub arm_with-requires-clause-may : goal.arm_with-requires-clause-may
 arm_with-requires-clause-may g c =
     let o = g.N.RunName.opening in
     let part = c.args.part.now in
-    subst (λ (q : HeldPart). MayArm o (with_guest q c.make_room.new.pass) c.args.arming)
+    subst (λ (q : HeldPart). MayArm o (with_guest q c.take_room.new.pass) c.args.arming)
     (sym c.in-Ok.ensures.ok)
     (subst (λ (h : HeldPass). MayArm o (with_guest (with_entry_room part) h) c.args.arming)
     (sym c.in-Ok.ensures.pass)
@@ -32,13 +32,13 @@ returns-in-Ok-clause-free g c =
     let o = g.N.RunName.opening in
     let part = c.args.part.now in
     let a = c.args.arming in
-    free_after table o c.args.now a part c.make_room.new.pass c.requires.run.0 c.arm_with.new.part
+    free_after table o c.args.now a part c.take_room.new.pass c.requires.run.0 c.arm_with.new.part
     c.arm_with.new.pass c.arm_with.result
     (ap (λ (z : HeldPass). passes_of z.seated) c.in-Ok.ensures.pass
     ∙ ap passes_of c.requires.run.1) c.requires.free
     (subst (λ (q : HeldPart). MatchResult c.arm_with.result
-    (ArmedWith table c.args.now a q c.make_room.new.pass c.arm_with.new.part c.arm_with.new.pass)
-    (FoundWith table o a.timer.0 q c.make_room.new.pass c.arm_with.new.part c.arm_with.new.pass))
+    (ArmedWith table c.args.now a q c.take_room.new.pass c.arm_with.new.part c.arm_with.new.pass)
+    (FoundWith table o a.timer.0 q c.take_room.new.pass c.arm_with.new.part c.arm_with.new.pass))
     c.in-Ok.ensures.ok c.arm_with.ensures)
 
 pub returns-in-Ok-clause-done : goal.returns-in-Ok-clause-done
@@ -54,11 +54,11 @@ returns-in-Ok-clause-done g c =
     (FoundWith table o a.timer.0 (with_entry_room part) h c.arm_with.new.part
     c.arm_with.new.pass)) c.in-Ok.ensures.pass
     (subst (λ (q : HeldPart). MatchResult c.arm_with.result
-    (ArmedWith table c.args.now a q c.make_room.new.pass c.arm_with.new.part c.arm_with.new.pass)
-    (FoundWith table o a.timer.0 q c.make_room.new.pass c.arm_with.new.part c.arm_with.new.pass))
+    (ArmedWith table c.args.now a q c.take_room.new.pass c.arm_with.new.part c.arm_with.new.pass)
+    (FoundWith table o a.timer.0 q c.take_room.new.pass c.arm_with.new.part c.arm_with.new.pass))
     c.in-Ok.ensures.ok c.arm_with.ensures))
 
 pub returns-in-Err-clause-free : goal.returns-in-Err-clause-free
 returns-in-Err-clause-free g c =
-    free_as c.args.part.now c.make_room.new.part c.make_room.ensures.kept
-    (c.make_room.ensures.brought ∙ c.requires.free.alone) c.requires.free
+    free_as c.args.part.now c.take_room.new.part c.take_room.ensures.kept
+    (c.take_room.ensures.brought ∙ c.requires.free.alone) c.requires.free

@@ -1,0 +1,14 @@
+use Rattle.std.proofs.Common.{◌≡◌, ap, ◌∙◌, subst}
+use Rattle.shared_parts.specs.Parts.{HeldPart}
+use Rattle.timer_calls.specs.Cancels.{IsPartOf}
+use Rattle.timer_calls.proofs.cancelling.cancel_at.Goals as goal
+
+pub returns : goal.returns
+returns g c =
+    let home = c.deref_mut.result.now in
+    let cpu : home.box.cpu ≡ c.args.cpu.0 =
+    ap (λ (z : HeldPart). z.box.cpu) c.deref_mut.ensures.value ∙ c.lock-guard.ensures in (
+      home,
+      subst (λ n. IsPartOf g.N.RunName.opening n home) cpu c.cancel_box.ensures.part,
+      c.cancel_box.ensures.done,
+    )

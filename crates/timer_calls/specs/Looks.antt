@@ -1,0 +1,29 @@
+-- what a pass has seen, load by load
+use Rattle.std.specs.Prelude.{◌≡◌, ℕ, ◌<◌, List, [], ◌∷◌, Some, length}
+use Rattle.atomic_table.specs.Seated.{TableId}
+use Rattle.core_world.specs.World.{World}
+use Rattle.shared_words.specs.declared.spot.Spot.{Spot}
+use Rattle.shared_words.specs.Words.{spot_of}
+use Rattle.shared_rule.specs.declared.parts.Look.{Look}
+use Rattle.shared_rule.specs.declared.parts.PassView.{PassView}
+use Rattle.shared_rule.specs.Plays.{seen_pass}
+use Rattle.shared_parts.specs.Passes.{HeldPass, IsPassIn}
+use Rattle.shared_timers.specs.Exchanging.{timer_word}
+
+-- a pass of the run, which began with this core
+pub record IsPassOf (table : TableId) (o : World) (held : HeldPass) : Type 0 where
+  pub pass : PassView
+  pub seated : IsPassIn table held pass
+  pub opening : pass.opening ≡ o
+
+-- a pass after these loads, in order
+abbrev pub seen_all : List Look → PassView → PassView
+seen_all [] p = p
+seen_all (x ∷ xs) p = seen_all xs (seen_pass x.word x.found p)
+
+-- a load of a timer's word that named a CPU of the run
+pub record NamesHome (o : World) (timer : ℕ) (x : Look) : Type 0 where
+  pub word : x.word ≡ timer_word o timer
+  pub spot : Spot
+  pub names : spot_of x.found ≡ Some spot
+  pub of_run : spot.cpu.0 < length o.cpus
