@@ -4,3 +4,5 @@ mod Looks
 mod Asking
 mod Taking
 mod Trying
+mod Sighted
+mod Marked

@@ -1,5 +1,5 @@
 -- a pass after loads
-use Rattle.std.proofs.Common.{◌≡◌, ℕ, List, [], ◌∷◌, ◌++◌, Option, Some, None, refl, sym, ap, ◌∙◌}
+use Rattle.std.proofs.Common.{◌≡◌, ℕ, List, [], ◌∷◌, ◌++◌, Option, Some, None, refl, ap, ◌∙◌}
 use Rattle.std.specs.Prelude.{option_map}
 use Rattle.atomic_table.specs.Seated.{TableId}
 use Rattle.core_world.specs.World.{World}
@@ -7,7 +7,7 @@ use Rattle.shared_rule.specs.declared.parts.Look.{Look}
 use Rattle.shared_rule.specs.declared.parts.PassView.{PassView}
 use Rattle.shared_rule.specs.Plays.{seen_pass}
 use Rattle.shared_rule.specs.Rule.{Each}
-use Rattle.shared_parts.specs.Passes.{HeldPass, IsOfRun, IsPassIn, Seated, with_pass}
+use Rattle.shared_parts.specs.Passes.{HeldPass, IsOfRun, Seated, with_pass}
 use Rattle.timer_calls.specs.Looks.{IsPassOf, seen_all}
 
 -- a seat whose pass changes
@@ -26,6 +26,14 @@ none (Some x) = refl
 -- no load leaves a pass as it was
 pub no_loads : (held : HeldPass) → with_pass (seen_all []) held ≡ held
 no_loads held = ap (λ m. record held { seated = m }) (none held.seated)
+
+-- loads after a first one
+pub loads_after : (x : Look) (xs : List Look) (held : HeldPass)
+    → with_pass (seen_all xs) (with_pass (seen_pass x.word x.found) held)
+    ≡ with_pass (seen_all (x ∷ xs)) held
+loads_after x xs held =
+    ap (λ m. record held { seated = m })
+    (both (seen_all xs) (seen_pass x.word x.found) held.seated)
 
 one_more : (xs : List Look) (x : Look) (p : PassView)
     → seen_pass x.word x.found (seen_all xs p) ≡ seen_all (xs ++ x ∷ []) p

@@ -1,7 +1,6 @@
-use Rattle.std.proofs.Common.{◌≡◌, ◌<◌, length, sym, subst}
+use Rattle.std.proofs.Common.{◌<◌, length, sym, subst}
 use Rattle.core_world.specs.World.{World}
 use Rattle.shared_timers.specs.Exchanging.{timer_word}
-use Rattle.timer_calls.specs.declared.cancelling.Tried.{Tried}
 use Rattle.timer_calls.specs.Cancels.{HasTried}
 use Rattle.timer_calls.proofs.Looks.{of_run, still_of}
 use Rattle.timer_calls.proofs.Trying.{came_to, elsewhere}
