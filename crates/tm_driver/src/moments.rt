@@ -1,6 +1,6 @@
 //! The moments of a play.
 
-ghost use Rattle.std.specs.Prelude.{◌≡◌, ◌<◌, ◌≤◌, All, IfErr, IfOk, OnOk, length};
+ghost use Rattle.std.specs.Prelude.{◌≡◌, ◌<◌, ◌≤◌, All, IfErr, IfOk, OnErr, OnOk, length};
 ghost use Rattle.std.specs.Option.{ForSome, option_copied};
 ghost use Rattle.play_rules.specs.Machines.{Same, SameBuild};
 ghost use Rattle.play_rules.specs.Moments.{moment, moment_at, moments_after, next_moment};
@@ -142,7 +142,7 @@ fn moment_of(moments: &[Moment], at: Jiffy) -> Option<&Moment>
 }
 
 /// One moment of a script into a report, with the interrupts of these CPUs; how many timers were
-/// handed out.
+/// handed out. After want of memory the report is as it was.
 pub(crate) fn moment_by_itself<M: Machine, J: Jobs>(
     alloc: Global,
     machine: &mut M,
@@ -167,16 +167,22 @@ pub(crate) fn moment_by_itself<M: Machine, J: Jobs>(
     ensures clock { OnOk result (M.rules.clock (M.world machine.new) ≡ at) }
     ensures same { OnOk result (SameBuild M.rules (M.world machine.old) (M.world machine.new)) }
     ensures fit { OnOk result (M.Fit resting (M.world machine.new)) }
-    ensures gains { Gains report.old report.new }
+    ensures err { OnErr result (report.new ≡ report.old) }
 {
     machine.set_clock(at);
+    let begin = report.text().len();
     let mut telling = Telling::new(mem::replace(report, Report::new(alloc)));
     let due = moment_of(script.moments.as_slice(), at);
     let played = moment(machine, jobs, interrupts, due, &mut telling);
     let runs = telling.tally().runs;
     *report = telling.into_report();
-    played?;
-    Ok(runs)
+    match played {
+        Ok(()) => Ok(runs),
+        Err(wanting) => {
+            report.truncate(begin);
+            Err(wanting)
+        }
+    }
 }
 
 /// When the next moment comes, in jiffies: the next interrupt, the script's next moment or the end.

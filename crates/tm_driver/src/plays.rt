@@ -1,9 +1,8 @@
 //! Playing a script on the core.
 
-ghost use Rattle.std.specs.Prelude.{◌≡◌, ◌≤◌, IfErr, IfOk, OnOk};
+ghost use Rattle.std.specs.Prelude.{◌≡◌, ◌≤◌, IfErr, IfOk, OnErr, OnOk};
 ghost use Rattle.tm_script.specs.Grammar.{IsScript};
 ghost use Rattle.play_rules.specs.Moments.{moment};
-ghost use Rattle.play_rules.specs.Parts.{Gains};
 ghost use Rattle.play_rules.specs.Play.{plain_rules, play_start};
 ghost use Rattle.step_play.specs.Rules.Seen.{InPlay, resting, state_of};
 ghost use Rattle.step_play.specs.Rules.StepRules.{step_rules};
@@ -113,8 +112,8 @@ pub fn play<J: Jobs>(
 /// Plays one moment of a script on a core, whose clock comes to it, with the interrupts of these
 /// CPUs, which are online; `play` plays each of its moments so, with the CPUs of
 /// `having_interrupt`. It answers how many timers were handed out; the count stands still at
-/// 2^32 - 1. After want of memory the core may stand anywhere within the moment, and the report may
-/// have gained a part of its lines.
+/// 2^32 - 1. After want of memory the report is as it was; the core may stand anywhere within the
+/// moment, as lawful as every core.
 pub fn play_moment<J: Jobs>(
     alloc: Global,
     player: &mut Player<WheelBase>,
@@ -138,7 +137,7 @@ pub fn play_moment<J: Jobs>(
     ensures clock { OnOk result (player.new.clock ≡ at) }
     ensures machine { OnOk result (HasMachineOf script.now player.new) }
     ensures in_play { OnOk result (InPlay resting player.new) }
-    ensures gains { Gains report.old report.new }
+    ensures err { OnErr result (report.new ≡ report.old) }
 {
     moment_by_itself(alloc, player, script, jobs, at, interrupts, report)
 }
