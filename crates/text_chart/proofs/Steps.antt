@@ -1,7 +1,8 @@
 -- rows and jiffies of a page, one by one
 use Rattle.std.proofs.Common.{◌≡◌, ℕ, ◌+◌, ◌-◌, ◌<◌, ◌≤◌, List, ◌∷◌, ◌++◌, Option, Some}
 use Rattle.std.proofs.Common.{append_assoc, drop, length, replicate, sym, ap, ◌∙◌, get_or}
-use Rattle.std.proofs.Common.{true, false}
+use Rattle.std.proofs.Common.{arith, true, false}
+use Rattle.std.proofs.lemmas.Bool.Decides.{nat_tests}
 use Rattle.std.specs.Prelude.{codes}
 use Rattle.std.specs.Fmt.{decimal}
 use Rattle.std.proofs.lemmas.Bool.{cond-false, cond-true}
@@ -40,6 +41,11 @@ rows_end begin i before spans text new all high far written =
 
 -- ---- jiffies
 
+-- where there is no room for nothing there is none for a number
+no_more_room : (begin at column count : ℕ) → has_room begin at column 0 ≡ false →
+    has_room begin at column count ≡ false
+no_more_room begin at column count none = grind (arith, nat_tests)
+
 module _ (begin at : ℕ) (p : Point) where
   pub skipped : has_room begin at p.column (length (decimal p.at)) ≡ false →
       (old : List ℕ) (rest : List Point) →
@@ -48,6 +54,11 @@ module _ (begin at : ℕ) (p : Point) where
   skipped none old rest =
       ap (λ x. old ++ x)
       (sym (cond-false (has_room begin at p.column (length (decimal p.at))) _ _ none))
+
+  pub passed_over : has_room begin at p.column 0 ≡ false → (old : List ℕ) (rest : List Point) →
+      old ++ ruler_from begin at rest ≡ old ++ ruler_from begin at (p ∷ rest)
+  passed_over none =
+      skipped (no_more_room begin at p.column (length (decimal p.at)) none)
 
   pub ticked : has_room begin at p.column (length (decimal p.at)) ≡ true → (old new : List ℕ) →
       new ≡ old ++ (replicate (p.column - begin - at) SPACE ++ (decimal p.at ++ codes " ")) →

@@ -1,6 +1,6 @@
 -- a chart in pages: a row for each CPU, and a character for each column
-use Rattle.std.specs.Prelude.{ℕ, zero, suc, ◌+◌, ◌-◌, ◌*◌, ◌/◌, ◌==◌, ◌&&◌, nat_le, min, Bool, List}
-use Rattle.std.specs.Prelude.{[], ◌∷◌, ◌++◌, codes, length, replicate, Option, Some, None}
+use Rattle.std.specs.Prelude.{ℕ, zero, suc, ◌+◌, ◌-◌, ◌*◌, ◌/◌, ◌==◌, ◌&&◌, nat_le, nat_lt, min, Bool}
+use Rattle.std.specs.Prelude.{List, [], ◌∷◌, ◌++◌, codes, length, replicate, Option, Some, None}
 use Rattle.std.specs.Prelude.{if◌then◌else◌}
 use Rattle.std.specs.Fmt.{decimal}
 use Rattle.run_chart.specs.declared.model.Point.{Point}
@@ -44,11 +44,12 @@ rows_from begin before [] = codes "\n"
 rows_from begin before (s ∷ rest) =
     front_of before s.cpu.0 ++ (signs_of begin s ++ rows_from begin (Some s.cpu.0) rest)
 
--- whether a text has room in a page from a column on, behind so many characters
+-- whether a text has room in a page from a column on, behind so many characters, and a space
+-- behind it
 abbrev pub has_room : (begin at column count : ℕ) → Bool
 has_room begin at column count =
     nat_le begin column && (nat_le at (column - begin)
-    && (nat_le (column - begin) WIDTH && nat_le count (WIDTH - (column - begin))))
+    && (nat_le (column - begin) WIDTH && nat_lt count (WIDTH - (column - begin))))
 
 -- THE JIFFIES above a page, behind so many characters: those of lines, where they have room
 unfoldable pub ruler_from : (begin at : ℕ) → List Point → List ℕ

@@ -137,7 +137,7 @@ fn push_rows(alloc: Global, text: &mut Vec<u8>, begin: u64, spans: &[Span]) -> R
     Ok(())
 }
 
-/// Whether a text has room in a page from a column on.
+/// Whether a text has room in a page from a column on, and a space behind it.
 fn has_room(begin: u64, at: u64, column: u64, count: u64) -> bool
     ensures room { result ≡ has_room begin at column count }
     ensures few { result ≡ true → count ≤ WIDTH }
@@ -149,7 +149,7 @@ fn has_room(begin: u64, at: u64, column: u64, count: u64) -> bool
         return false;
     }
     let place = column - begin;
-    at <= place && (place <= WIDTH && count <= WIDTH - place)
+    at <= place && (place <= WIDTH && count < WIDTH - place)
 }
 
 /// The characters of a number.
@@ -185,6 +185,9 @@ fn push_tick(
         text.new.items ++ ruler_from begin next rest
         ≡ text.old.items ++ ruler_from begin at (point ∷ rest)) }
 {
+    if !has_room(begin, at, point.column, 0) {
+        return Ok(at);
+    }
     let number = number_text(alloc, point.at)?;
     let count = count_of(&number);
     if !has_room(begin, at, point.column, count) {

@@ -4,17 +4,22 @@ use Rattle.std.specs.Prelude.{codes}
 use Rattle.std.specs.Fmt.{decimal}
 use Rattle.text_chart.specs.declared.pages.TheConstants.{SPACE}
 use Rattle.text_chart.specs.Pages.{has_room, ruler_from}
-use Rattle.text_chart.proofs.Steps.{skipped, ticked}
+use Rattle.text_chart.proofs.Steps.{passed_over, skipped, ticked}
 use Rattle.text_chart.proofs.pages.push_tick.Goals as goal
 
 pub returns-then-not-has_room : goal.returns-then-not-has_room
-returns-then-not-has_room c = λ rest.
+returns-then-not-has_room c =
+    passed_over c.args.begin c.args.at c.args.point (sym c.if-not-has_room.ensures.room)
+    c.args.text.now.items
+
+pub returns-then-not-has_room-2 : goal.returns-then-not-has_room-2
+returns-then-not-has_room-2 c = λ rest.
     let p = c.args.point in
     let count : c.count_of-count.result ≡ length (decimal p.at) =
     c.count_of-count.ensures ∙ ap length (c.deref.ensures.value ∙ c.in_ok-number.ensures) in
     skipped c.args.begin c.args.at p
     (subst (λ n. has_room c.args.begin c.args.at p.column n ≡ false) count
-    (sym c.if-not-has_room.ensures.room))
+    (sym c.if-not-has_room-2.ensures.room))
     c.args.text.now.items rest
 
 pub returns : goal.returns
@@ -27,7 +32,7 @@ returns c = λ rest.
     let count : c.count_of-count.result ≡ length (decimal p.at) =
     c.count_of-count.ensures ∙ ap length (c.deref.ensures.value ∙ c.in_ok-number.ensures) in
     let room = subst (λ n. has_room begin c.args.at p.column n ≡ true) count
-    (sym c.if-not-has_room.ensures.room) in
+    (sym c.if-not-has_room-2.ensures.room) in
     let written = subst (λ xs. new ≡ old ++ (spaces ++ (xs ++ codes " ")))
     (c.deref-2.ensures.value ∙ c.in_ok-number.ensures) c.in_ok-push_mark.ensures in
     subst (λ n. new ++ ruler_from begin (p.column - begin + n + 1) rest
