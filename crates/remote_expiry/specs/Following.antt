@@ -1,0 +1,121 @@
+-- how the runs of an interrupt and the receipts of its pass go together: each timer that was handed
+-- out was run once, in that order, and its job's reply was done
+use Rattle.std.specs.Prelude.{◌≡◌, ◌+◌, ℕ, List, [], ◌∷◌, ◌++◌, Some, Contains}
+use Rattle.tm_base.specs.declared.names.Class.{Class}
+use Rattle.cpu_bases.specs.declared.entry.Act.{Act}
+use Rattle.cpu_bases.specs.declared.entry.Act.TheVariants.{Armed, Cancelled, Handed, MovedIn}
+use Rattle.cpu_bases.specs.declared.entry.Act.TheVariants.{MovedOut, Ticked}
+use Rattle.cpu_bases.specs.declared.entry.Entry.{Entry}
+use Rattle.core_world.specs.World.{World}
+use Rattle.core_state.specs.Shown.{as_cpu}
+use Rattle.job_table.specs.declared.jobs.JobCall.{JobCall}
+use Rattle.job_table.specs.declared.jobs.JobReply.{JobReply}
+use Rattle.job_table.specs.declared.jobs.JobReply.TheVariants as replies
+use Rattle.shared_words.specs.declared.spot.Spot.{Spot}
+use Rattle.shared_words.specs.Words.{spot_of}
+use Rattle.shared_rule.specs.declared.parts.Deed.{Deed}
+use Rattle.shared_rule.specs.declared.parts.Deed.TheVariants as deeds
+use Rattle.shared_rule.specs.declared.parts.Receipt.{Receipt}
+use Rattle.shared_timers.specs.Exchanging.{timer_word}
+use Rattle.remote_expiry.specs.declared.runs.Ran.{Ran}
+use Rattle.remote_expiry.specs.declared.runs.RanReply.{RanReply}
+use Rattle.remote_expiry.specs.declared.runs.RanReply.TheVariants as ran
+
+-- what the job of a timer is told that was handed out
+abbrev pub call_of : (now runner : ℕ) → Entry → JobCall
+call_of now runner e =
+    record { timer = e.timer; arg = e.arg; now = now; runner = as_cpu runner }
+
+-- a run is that of a timer that was handed out
+pub record IsRunOf (r : Receipt) (x : Ran) : Type 0 where
+  pub timer : x.timer ≡ r.entry.timer
+  pub home : x.home ≡ r.cpu
+  pub wheel : x.wheel ≡ r.entry.wheel
+
+-- the timer's word, as the pass found it, named this CPU
+pub record FoundOn (o : World) (timer cpu : ℕ) (seen : List Deed) : Type 0 where
+  pub found : ℕ
+  pub spot : Spot
+  pub saw : Contains seen (deeds.Saw (timer_word o timer) found)
+  pub spelled : spot_of found ≡ Some spot
+  pub named : spot.cpu.0 ≡ cpu
+
+-- AGAIN: a timer whose job would have it armed again is told as armed in the class of the reply, or
+-- as skipped where it was queued by then
+abbrev pub IsAgain : World → (timer : ℕ) → List Deed → Class → RanReply → Type 0
+IsAgain o timer seen class ran.Done = ⊥
+IsAgain o timer seen class (ran.Mark m) = ⊥
+IsAgain o timer seen class (ran.Again c wheel) = c ≡ class
+IsAgain o timer seen class (ran.Skip cpu) = FoundOn o timer cpu.0 seen
+
+-- REPLIES: what a run tells is what the job replied
+abbrev pub IsTold : World → (timer : ℕ) → List Deed → JobReply → RanReply → Type 0
+IsTold o timer seen replies.Done reply = reply ≡ ran.Done
+IsTold o timer seen (replies.Mark m) reply = reply ≡ ran.Mark m
+IsTold o timer seen (replies.Again class delay) reply = IsAgain o timer seen class reply
+
+-- a timer that is still to be armed again: its run's reply, and how it was handed out
+pub record Owed : Type 0 where
+  pub class : Class
+  pub wheel : ℕ
+  pub delay : ℕ
+  pub out : Entry
+
+-- what a run leaves to be armed
+abbrev pub owed_by : JobReply → RanReply → Entry → List Owed
+owed_by replies.Done reply e = []
+owed_by (replies.Mark m) reply e = []
+owed_by (replies.Again class delay) ran.Done e = []
+owed_by (replies.Again class delay) (ran.Mark m) e = []
+owed_by (replies.Again class delay) (ran.Again c wheel) e =
+    record { class = c; wheel = wheel; delay = delay; out = e } ∷ []
+owed_by (replies.Again class delay) (ran.Skip cpu) e = []
+
+-- an arming is that of a timer which was to be armed again: by the CPU that ran it, asked for its
+-- delay from now, with the class and the wheel expiry that were told, and with its job and number
+pub record IsOwed (now runner : ℕ) (x : Owed) (r : Receipt) : Type 0 where
+  pub cpu : r.cpu.0 ≡ runner
+  pub line : r.line ≡ 0
+  pub timer : r.entry.timer ≡ x.out.timer
+  pub expires : r.entry.expires ≡ now + x.delay
+  pub class : r.entry.class ≡ x.class
+  pub wheel : r.entry.wheel ≡ x.wheel
+  pub job : r.entry.job ≡ x.out.job
+  pub arg : r.entry.arg ≡ x.out.arg
+
+-- a timer was handed out: it has the next run, and what that leaves to be armed comes last
+abbrev pub FollowsOut : World → (ℕ → JobCall → JobReply) → (runner : ℕ) → List Deed → Receipt
+    → (rest : List Owed → List Ran → Type 0) → List Owed → List Ran → Type 0
+FollowsOut o jobs runner seen r rest owed [] = ⊥
+FollowsOut o jobs runner seen r rest owed (x ∷ xs) =
+    IsRunOf r x
+    × IsTold o r.entry.timer.0 seen (jobs r.entry.job (call_of o.clock runner r.entry)) x.reply
+    × rest
+    (owed ++ owed_by (jobs r.entry.job (call_of o.clock runner r.entry)) x.reply r.entry) xs
+
+-- a timer was armed: it is the first of those to come
+abbrev pub FollowsArmed : (now runner : ℕ) → Receipt → (rest : List Owed → List Ran → Type 0)
+    → List Owed → List Ran → Type 0
+FollowsArmed now runner r rest [] runs = ⊥
+FollowsArmed now runner r rest (x ∷ owed) runs = IsOwed now runner x r × rest owed runs
+
+-- what comes with a receipt of this act
+abbrev pub FollowsBy : World → (ℕ → JobCall → JobReply) → (runner : ℕ) → List Deed → Act
+    → Receipt → (rest : List Owed → List Ran → Type 0) → List Owed → List Ran → Type 0
+FollowsBy o jobs runner seen Armed r rest owed runs =
+    FollowsArmed o.clock runner r rest owed runs
+FollowsBy o jobs runner seen Handed r rest owed runs =
+    FollowsOut o jobs runner seen r rest owed runs
+FollowsBy o jobs runner seen Cancelled r rest owed runs = ⊥
+FollowsBy o jobs runner seen MovedOut r rest owed runs = ⊥
+FollowsBy o jobs runner seen MovedIn r rest owed runs = ⊥
+FollowsBy o jobs runner seen Ticked r rest owed runs = rest owed runs
+
+-- FOLLOWS: the new receipts of a pass, from the first on, with the armings that are still to come
+-- and the runs that are still to be told: each timer handed out has the next run, each arming is
+-- the first one to come, and else there are drains alone
+unfoldable pub Follows : World → (ℕ → JobCall → JobReply) → (runner : ℕ) → List Deed
+    → List Receipt → List Owed → List Ran → Type 0
+Follows o jobs runner seen [] owed runs = (owed ≡ []) × (runs ≡ [])
+Follows o jobs runner seen (r ∷ rs) owed runs =
+    FollowsBy o jobs runner seen r.entry.act r (Follows o jobs runner seen rs) owed runs

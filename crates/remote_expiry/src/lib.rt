@@ -1,0 +1,7 @@
+//! What the interrupt of a CPU does on the words that threads share, and what it tells of it: its
+//! own due timers run, and those of the idle CPUs that it looks after (`tmigr_handle_remote`).
+#![tactic(auto)]
+
+mod runs;
+
+pub use runs::{Ran, RanReply, Runs};
