@@ -1,2 +1,4 @@
 pub mod Ends
+pub mod Frames
+pub mod Kinds
 pub mod Lone

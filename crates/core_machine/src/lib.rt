@@ -5,8 +5,11 @@ pub mod answers;
 mod machine;
 mod player;
 pub mod readings;
+mod run_machine;
+mod settled;
 pub mod timers;
 pub mod turns;
 pub mod walks;
 
-pub use player::Player;
+pub use player::{Player, RunPlayer};
+pub use settled::law_settled_in_run;

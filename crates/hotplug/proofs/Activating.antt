@@ -11,8 +11,8 @@ use Rattle.core_world.specs.World.{CpuRecord, World, cpu_of}
 use Rattle.step_play.specs.Rules.Alone.{goes_on}
 use Rattle.step_play.specs.Rules.StepRules.{made_active, woken_by_steps}
 use Rattle.step_play.proofs.Hotplug.{runs}
-use Rattle.hotplug.specs.Frames.{Activated, Framed, MayActivate}
-use Rattle.hotplug.proofs.Frames.{begun_framed}
+use Rattle.hotplug.specs.Frames.{Activated, MayActivate}
+use Rattle.core_machine.proofs.Alone.Frames.{Framed, begun_framed}
 use Rattle.hotplug.proofs.Settling.{online_free}
 
 module _ (w : World) (d : ℕ) (may : MayActivate w d) where

@@ -24,9 +24,9 @@ use Rattle.step_play.proofs.Hotplug.{runs}
 use Rattle.step_play.proofs.Worlds.{own_is, put_all, put_else, put_field}
 use Rattle.step_play.proofs.Activation.Calm.{handing}
 use Rattle.hotplug.specs.Afterwards.{HasCome, HasLeft}
-use Rattle.hotplug.specs.Frames.{Activated, Framed, HandedOn, MayActivate, Waits}
+use Rattle.hotplug.specs.Frames.{Activated, HandedOn, MayActivate, Waits}
 use Rattle.hotplug.specs.Settled.{AllWhole, IsWhole, gone_whole, heir_at, offline_fault}
-use Rattle.hotplug.proofs.Frames.{begun_framed}
+use Rattle.core_machine.proofs.Alone.Frames.{Framed, begun_framed}
 use Rattle.hotplug.proofs.Settling.{online_free, settled_lone}
 
 abbrev as_cpu : ℕ → CpuId

@@ -1,4 +1,3 @@
-pub mod Frames
 pub mod Settling
 pub mod Activating
 pub mod Leaving

@@ -2,25 +2,10 @@
 use Rattle.std.specs.Prelude.{◌≡◌, ◌≢◌, ℕ, ◌<◌, true, false, None, length}
 use Rattle.tree_plan.specs.Paths.{is_placed_in}
 use Rattle.core_world.specs.Covered.{IsSettled}
-use Rattle.core_world.specs.World.{CpuRecord, World, cpu_of, is_active}
+use Rattle.core_world.specs.World.{World, cpu_of, is_active}
 use Rattle.step_play.specs.Rules.StepRules.{is_waiting}
 use Rattle.step_play.specs.Rules.Lone.{IsLone}
 use Rattle.hotplug.specs.Settled.{AllWhole}
-
--- a CPU before and after steps of its walk
-pub record Own (y z : CpuRecord) : Type 0 where
-  pub online : z.online ≡ y.online
-  pub idle : z.idle ≡ y.idle
-  pub bases : z.bases ≡ y.bases
-  pub outside : y.inside ≡ false → z.inside ≡ false
-
--- world w comes of the old one with record y for CPU c, by steps of CPU c's walk alone
-pub record Framed (old : World) (c : ℕ) (y : CpuRecord) (w : World) : Type 0 where
-  pub tree : w.tree ≡ old.tree
-  pub clock : w.clock ≡ old.clock
-  pub cpus : length w.cpus ≡ length old.cpus
-  pub others : (d : ℕ) → d ≢ c → cpu_of w d ≡ cpu_of old d
-  pub itself : Own y (cpu_of w c)
 
 -- A CPU THAT IS MADE ACTIVE
 pub record MayActivate (w : World) (d : ℕ) : Type 0 where

@@ -28,12 +28,13 @@ use Rattle.core_world.specs.World as core
 use Rattle.core_world.specs.World.{World, cpu_of}
 use Rattle.core_laws.specs.Laws.{StepsStayLawful}
 use Rattle.step_play.specs.Rules.Alike.{Plays, WakesAlike}
-use Rattle.step_play.specs.Rules.Seen.{InPlay, Phase, cpu_seen, handing, hands_in, resting, state_of}
+use Rattle.step_play.specs.Rules.Seen.{InPlay, InRun, Phase, cpu_seen, handing, hands_in, resting}
+use Rattle.step_play.specs.Rules.Seen.{state_of}
 use Rattle.step_play.specs.Rules.StepRules.{handed_on_by_steps, made_active, step_rules}
 use Rattle.step_play.specs.Rules.StepRules.{woken_by_steps}
 use Rattle.step_play.proofs.Queues.Sights.{count_seen, seen_at}
 use Rattle.step_play.proofs.Takes.{hand_plays}
-use Rattle.step_play.proofs.Worlds.{bare, free_in}
+use Rattle.step_play.proofs.Worlds.{free_in}
 
 module _ (w : World) where
   abbrev s : State
@@ -130,11 +131,11 @@ module _ (w : World) where
   ]
 
   -- WHAT MAY BE
-  module _ (i : InPlay resting w) (c : ℕ) (low : c < length w.cpus)
+  module _ (i : InRun resting w) (c : ℕ) (low : c < length w.cpus)
       (online : (cpu_of w c).online ≡ true) (busy : (cpu_of w c).idle ≡ false) where
     pub may_idle : nat_le (first_event s c) (w.clock + 1) ≡ false → MayIdle w c
     may_idle later = record {
-      is_free = free_in resting w c (bare resting w i) refl low;
+      is_free = free_in resting w c i refl low;
       active = runs c online busy;
       outside = i.inside c;
       rests = (
@@ -153,27 +154,28 @@ module _ (w : World) where
 
     pub may_go : last_online step_rules w c ≡ None → MayGoOffline w c
     may_go none = record {
-      is_free = free_in resting w c (bare resting w i) refl low;
+      is_free = free_in resting w c i refl low;
       active = runs c online busy;
       outside = i.inside c;
       missed = missed (is_placed_in w.tree c) refl (successor s c) refl none;
     }
 
 -- A CPU IS MADE ACTIVE
+pub may_wake : (ph : Phase) (w : World) → InRun ph w → (d : ℕ) → d < length w.cpus →
+    hands_in ph d ≡ false → (cpu_of w d).online ≡ true → (cpu_of w d).idle ≡ true → MayWake w d
+may_wake ph w i d low other online idle = record {
+  is_free = free_in ph w d i other low;
+  online = online;
+  idle = idle;
+}
+
 module _ (wakes : WakesAlike) (ph : Phase) (w : World) (i : InPlay ph w) (d : ℕ)
     (low : d < length w.cpus) (other : hands_in ph d ≡ false)
     (online : (cpu_of w d).online ≡ true) where
-  pub may_wake : (cpu_of w d).idle ≡ true → MayWake w d
-  may_wake idle = record {
-    is_free = free_in ph w d (bare ph w i) other low;
-    online = online;
-    idle = idle;
-  }
-
   by_idle : (b : Bool) → (cpu_of w d).idle ≡ b →
       Plays ph (if b then woken_by_steps w d else w)
       (if b then woken (state_of w) d else state_of w)
-  by_idle true idle = wakes ph w d i (may_wake idle)
+  by_idle true idle = wakes ph w d i (may_wake ph w i.in_run d low other online idle)
   by_idle false busy = record { in_play = i; state = refl }
 
   pub active_plays : Plays ph (made_active w d) (controlling (state_of w) d)
@@ -207,7 +209,7 @@ handed_plays law wakes w c d i low hands is =
     let next = next_is w c d is in
     let idle = heir_idle w c d hands next in
     let p = wakes (handing c) w d i
-    (may_wake wakes (handing c) w i d next.low (ne_eqb d c next.another) next.online idle) in
+    (may_wake (handing c) w i.in_run d next.low (ne_eqb d c next.another) next.online idle) in
     let v = woken_by_steps w d in
     let many = ap (λ (t : State). length t.cpus) p.state in
     let within : c < length v.cpus =
@@ -216,9 +218,9 @@ handed_plays law wakes w c d i low hands is =
     let stays = length-set (state_of w).cpus d
     (record (cpu_at (state_of w) d) { idle = false; wakeup = NEVER; told = NEVER }) in
     omega (arith, low, many, old, new, stays)) in
-    let last = hand_plays law v c d p.in_play within next.another
+    let last = hand_plays law v c d within next.another
     (ap (λ (t : State). is_placed_in t.tree d) p.state ∙ next.placed)
-    (woken_active w v d p.state next.low next.online) in
+    (woken_active w v d p.state next.low next.online) p.in_play in
     subst (λ (u : World). Plays resting (stepped u (steps.HandOn (cpu_id c) (cpu_id d)))
     (woken (state_of w) d)) (sym (cond-true (cpu_of w d).idle v w idle))
     (record { in_play = last.in_play; state = last.state ∙ p.state })

@@ -32,7 +32,7 @@ use Rattle.core_world.specs.Steps.{stepped}
 use Rattle.core_world.specs.World.{World, cpu_of}
 use Rattle.core_laws.specs.Laws.{StepsStayLawful}
 use Rattle.step_play.specs.Rules.Alike.{Plays}
-use Rattle.step_play.specs.Rules.Seen.{InPlay, Phase, inside, resting, state_of}
+use Rattle.step_play.specs.Rules.Seen.{InPlay, InRun, Phase, inside, resting, state_of}
 use Rattle.step_play.specs.Rules.StepRules.{armed_by_steps, drained_by_steps}
 use Rattle.step_play.specs.Rules.StepRules.{ended_by_steps, items_due}
 use Rattle.step_play.specs.Rules.StepRules.{step_rules}
@@ -45,7 +45,7 @@ use Rattle.step_play.proofs.Hotplug.{read}
 use Rattle.step_play.proofs.Stages.{At, Inside, MayArm}
 use Rattle.step_play.proofs.Stages.{in_core, played}
 use Rattle.step_play.proofs.Takes.{enter_plays}
-use Rattle.step_play.proofs.Worlds.{bare, free_in}
+use Rattle.step_play.proofs.Worlds.{free_in}
 
 -- what holds of both holds of either
 pub of_either : {X Y : Type 0} (f : X → Y) (b : Bool) (x y : X) → f x ≡ f y →
@@ -67,22 +67,23 @@ next_late now b low late =
     let far = first_late now Global b low late in grind (arith, nat_tests, far)
 
 -- time goes on
-module _ (law : StepsStayLawful) (now : ℕ) (w : World) (i : InPlay resting w)
-    (not_back : w.clock ≤ now) (in_time : now < SCRIPT_TIME_LIMIT) where
+module _ (law : StepsStayLawful) (now : ℕ) (w : World) (not_back : w.clock ≤ now)
+    (in_time : now < SCRIPT_TIME_LIMIT) where
   pub may_time : MayTime w now
   may_time = record { not_back = not_back; in_time = omega (arith, in_time) }
 
-  pub time_goes : InPlay resting (stepped w (steps.Clock now))
-  time_goes = record {
+  pub time_runs : InRun resting w → InRun resting (stepped w (steps.Clock now))
+  time_runs i = record {
     lawful = law w (steps.Clock now) i.lawful may_time;
     planned = i.planned;
-    exact = i.exact;
-    told = i.told;
     whole = i.whole;
     inside = i.inside;
     marks = i.marks;
     walks = i.walks;
   }
+
+  pub time_goes : InPlay resting w → InPlay resting (stepped w (steps.Clock now))
+  time_goes i = record { in_run = time_runs i.in_run; exact = i.exact; told = i.told }
 
 module _ (law : StepsStayLawful) (walks : Walks) (t : Shape) (timers end : ℕ)
     (in_time : end < SCRIPT_TIME_LIMIT) where
@@ -104,8 +105,8 @@ module _ (law : StepsStayLawful) (walks : Walks) (t : Shape) (timers end : ℕ)
         clock = refl;
         many = was.many;
         early = omega (arith, by_end, in_time);
-        in_play = time_goes law next w i (omega (arith, is, later))
-            (omega (arith, by_end, in_time));
+        in_play = time_goes law next w (omega (arith, is, later))
+            (omega (arith, by_end, in_time)) i;
         settles = subst (λ due. Settles t next (begun due 0) (state_of v)) (sym (having_seen v))
             (plain.comes now next (state_of w) was.settles later by_end no_later);
       }
@@ -151,20 +152,20 @@ module _ (law : StepsStayLawful) (walks : Walks) (t : Shape) (timers end : ℕ)
       (few : k < 3) where
     module _ (was : Inside t timers now due c (own due c k) w) where
       free : IsFree w c
-      free = free_in (inside c) w c (bare (inside c) w was.at.in_play) refl
+      free = free_in (inside c) w c was.at.in_play.in_run refl
           (in_core t timers now (own due c k) (inside c) w was.at c low)
 
       pub drains_own : Plays (inside c) (drained_by_steps w c (nth_class k) c).state
           (drained_on (state_of w) c (nth_class k) c).state
       drains_own =
           drain_plays law (inside c) w was.at.in_play c (nth_class k) c free
-          (inl (refl, was.at.in_play.inside c ∙ eq-eqb c c refl))
+          (inl (refl, was.at.in_play.in_run.inside c ∙ eq-eqb c c refl))
 
       pub sees_own : drained_seen state_of (drained_by_steps w c (nth_class k) c)
           ≡ drained_on (state_of w) c (nth_class k) c
       sees_own =
           drain_seen law (inside c) w was.at.in_play c (nth_class k) c free
-          (inl (refl, was.at.in_play.inside c ∙ eq-eqb c c refl))
+          (inl (refl, was.at.in_play.in_run.inside c ∙ eq-eqb c c refl))
 
       pub drained : Inside t timers now due c (own due c (k + 1))
           (drained_by_steps w c (nth_class k) c).state
@@ -189,9 +190,9 @@ module _ (law : StepsStayLawful) (walks : Walks) (t : Shape) (timers end : ℕ)
           let early = was.at.early in
           let many = was.at.many in
           let known = fits.0 in
-          go (free_in (inside c) w c (bare (inside c) w was.at.in_play) refl here)
+          go (free_in (inside c) w c was.at.in_play.in_run refl here)
           (sym (read w (λ x. x.online) c here) ∙ was.at.settles.online c was.called)
-          (was.at.in_play.inside c ∙ eq-eqb c c refl) (omega (arith, known, many))
+          (was.at.in_play.in_run.inside c ∙ eq-eqb c c refl) (omega (arith, known, many))
           (omega (arith, clock, early))
 
       pub arms_own : Plays (inside c) (armed_by_steps w c a).state (armed_on (state_of w) c a).state
@@ -214,4 +215,4 @@ module _ (law : StepsStayLawful) (walks : Walks) (t : Shape) (timers end : ℕ)
       let many = was.many in
       All-weaker (λ item. item.id < w.timers) (MayRunAgain (MayArm timers))
       (λ item low again delay. (omega (arith, low, many), omega arith))
-      (items_due w home class) (drain_known law ph w was.in_play home class)
+      (items_due w home class) (drain_known law ph w was.in_play.in_run home class)

@@ -39,7 +39,7 @@ module _ (law : StepsStayLawful) (walks : Walks) (t : Shape)
       (Stands t timers)
   steps_keep = record {
     clock = λ now w was. was.clock;
-    all_cpus = λ now due w was. was.in_play.lawful.sized.cpus ∙ ap cpu_count_of was.tree;
+    all_cpus = λ now due w was. was.in_play.in_run.lawful.sized.cpus ∙ ap cpu_count_of was.tree;
     all_levels = λ now due c w low was. ap level_count_of was.tree;
     comes = λ now next w was later by_end no_later.
         comes law walks t timers end in_time now next w was later by_end no_later;

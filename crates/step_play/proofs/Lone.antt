@@ -23,8 +23,8 @@ use Rattle.core_world.specs.World.{scene_of, stale_walk}
 use Rattle.core_world.proofs.Moves.{beside, cpu_else}
 use Rattle.core_laws.proofs.Walks.Stands.{stands_in}
 use Rattle.step_play.specs.Rules.Alone.{goes_on, is_handing}
-use Rattle.step_play.specs.Rules.Seen.{InPlay, Phase}
-use Rattle.step_play.proofs.Activation.Calm.{handing, play_calm}
+use Rattle.step_play.specs.Rules.Seen.{InRun, Phase}
+use Rattle.step_play.proofs.Activation.Calm.{handing, run_calm}
 use Rattle.step_play.specs.Rules.Lone.{IsLone}
 
 -- A WALK THAT DOESN'T GO ON holds no lock
@@ -174,6 +174,6 @@ module _ (w : World) (c : ℕ) (lone : IsLone w c) where
   lone_made None = lone
   lone_made (Some k) = lone_walked k k.stage
 
--- in play no walk goes on
-pub play_lone : (ph : Phase) (w : World) (c : ℕ) → InPlay ph w → IsLone w c
-play_lone ph w c i d ne = play_calm ph w i d
+-- in a run that stands between two rules no walk goes on
+pub run_lone : (ph : Phase) (w : World) (c : ℕ) → InRun ph w → IsLone w c
+run_lone ph w c i d ne = run_calm ph w i d

@@ -46,7 +46,7 @@ use Rattle.step_play.proofs.Hotplug.{read}
 use Rattle.step_play.proofs.Stages.{At, Looking, MayArm, Running, Serving, TriedLate}
 use Rattle.step_play.proofs.Stages.{from_play, in_core, none_due, played}
 use Rattle.step_play.proofs.Takes.{take_plays}
-use Rattle.step_play.proofs.Worlds.{bare, free_in, no_walk, rests}
+use Rattle.step_play.proofs.Worlds.{free_in, no_walk, rests}
 use Rattle.step_play.proofs.Interrupted.{next_late}
 
 module _ (law : StepsStayLawful) (walks : Walks) (t : Shape) (timers end : ℕ)
@@ -67,13 +67,13 @@ module _ (law : StepsStayLawful) (walks : Walks) (t : Shape) (timers end : ℕ)
       can_take =
           each_can_be_taken w (rests (inside c) w i) c level d tried
           (none_due (inside c) w tried i was.late) is
-          (no_walk (inside c) w d (bare (inside c) w i) refl) (i.marks d)
+          (no_walk (inside c) w d i.in_run refl) (i.in_run.marks d)
 
       pub takes_plays : c < cpu_count_of t →
           Plays (serving c d) (step_rules.taken w c d) (state_of w)
       takes_plays low =
           take_plays law w c d i
-          ((placed_laws w.tree i.planned).has_group c was.inside.at.settles.grouped)
+          ((placed_laws w.tree i.in_run.planned).has_group c was.inside.at.settles.grouped)
           (in_core t timers now (looking due c level (suc n) tried) (inside c) w was.inside.at c
           low)
           can_take
@@ -118,10 +118,10 @@ module _ (law : StepsStayLawful) (walks : Walks) (t : Shape) (timers end : ℕ)
           was.at.settles.low
 
       free_d : IsFree w d
-      free_d = free_in (serving c d) w d (bare (serving c d) w was.at.in_play) refl low_d
+      free_d = free_in (serving c d) w d was.at.in_play.in_run refl low_d
 
       marked : (cpu_of w d).mark ≡ Some c
-      marked = was.at.in_play.marks d ∙ cond-true (d == d) (Some c) None (eq-eqb d d refl)
+      marked = was.at.in_play.in_run.marks d ∙ cond-true (d == d) (Some c) None (eq-eqb d d refl)
 
       pub drains_for : Plays (serving c d) (drained_by_steps w d Global c).state
           (drained_on (state_of w) d Global c).state
@@ -156,7 +156,8 @@ module _ (law : StepsStayLawful) (walks : Walks) (t : Shape) (timers end : ℕ)
         };
         drained = subst (λ m. NoneDue m (base_of Global
             (cpu_of (drained_by_steps w d Global c).state d).bases).items) (sym clock_for)
-            (drain_late law (serving c d) w was.at.in_play d Global c free_d (inr (refl, marked)));
+            (drain_late law (serving c d) w was.at.in_play.in_run d Global c free_d
+            (inr (refl, marked)));
       }
 
     -- and what its jobs arm
@@ -171,14 +172,14 @@ module _ (law : StepsStayLawful) (walks : Walks) (t : Shape) (timers end : ℕ)
       module _ (a : Arming) (fits : MayArm timers a)
           (none : queued_on (state_of w) a.timer.0 ≡ None) where
         free_c : IsFree w c
-        free_c = free_in (serving c d) w c (bare (serving c d) w at.in_play) refl here
+        free_c = free_in (serving c d) w c at.in_play.in_run refl here
 
         on : (cpu_of w c).online ≡ true
         on = sym (read w (λ x. x.online) c here)
             ∙ at.settles.looking.inside.online c was.serving.called
 
         within : (cpu_of w c).inside ≡ true
-        within = at.in_play.inside c ∙ eq-eqb c c refl
+        within = at.in_play.in_run.inside c ∙ eq-eqb c c refl
 
         there_is : a.timer.0 < w.timers
         there_is = let many = at.many in let known = fits.0 in omega (arith, known, many)
@@ -197,14 +198,14 @@ module _ (law : StepsStayLawful) (walks : Walks) (t : Shape) (timers end : ℕ)
           | inl same ↦
               subst (λ e. NoneDue w.clock
               (base_of Global (cpu_of (armed_by_steps w c a).state e).bases).items) (sym same)
-              (arm_late law (serving c d) w at.in_play c a free_c on (inr within) there_is fits.1
-              early none Global
+              (arm_late law (serving c d) w at.in_play.in_run c a free_c on (inr within) there_is
+              fits.1 early none Global
               (subst (λ e. NoneDue w.clock (base_of Global (cpu_of w e).bases).items) same
               was.drained))
           | inr ne ↦
               subst (λ b. NoneDue w.clock (base_of Global b).items)
-              (sym (arm_else law (serving c d) w at.in_play c a free_c on (inr within) there_is
-              fits.1 early none d ne)) was.drained
+              (sym (arm_else law (serving c d) w at.in_play.in_run c a free_c on (inr within)
+              there_is fits.1 early none d ne)) was.drained
         ]
 
         told_still : TriedLate tried (armed_on (state_of w) c a).state
@@ -248,7 +249,7 @@ module _ (law : StepsStayLawful) (walks : Walks) (t : Shape) (timers end : ℕ)
       }
 
       clock_comes : w.clock < NEVER
-      clock_comes = let clock = at.in_play.lawful.times.clock in omega (arith, clock)
+      clock_comes = let clock = at.in_play.in_run.lawful.times.clock in omega (arith, clock)
 
       tells_late : w.clock < teller.told
       tells_late =

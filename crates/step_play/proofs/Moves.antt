@@ -29,14 +29,15 @@ use Rattle.core_world.specs.Steps.{first_moved, moved_with, stepped, with_bases}
 use Rattle.core_world.specs.World.{CpuRecord, World, cpu_of, is_active}
 use Rattle.core_laws.specs.Laws.{StepsStayLawful}
 use Rattle.step_play.specs.Rules.Alike.{Plays}
-use Rattle.step_play.specs.Rules.Seen.{InPlay, resting, state_of}
+use Rattle.step_play.specs.Rules.Seen.{InPlay, InRun, resting, state_of}
 use Rattle.step_play.specs.Rules.StepRules.{moved_by_steps}
 use Rattle.step_play.proofs.Bases.{moved_out_whole, queued_whole}
 use Rattle.step_play.proofs.Drains.{rebased}
 use Rattle.step_play.proofs.Held.{bases_seen}
 use Rattle.step_play.proofs.Takes.{there}
-use Rattle.step_play.proofs.Worlds.{Bare, bare, bases_fit, bases_shown, dressed, free_in, put_bare}
-use Rattle.step_play.proofs.Worlds.{put_count, put_else, put_field}
+use Rattle.step_play.proofs.Worlds.{Bare, TellsExactly, bare, bases_fit, bases_shown, dressed}
+use Rattle.step_play.proofs.Worlds.{free_in, in_play, put_bare, put_count, put_else, put_field}
+use Rattle.step_play.proofs.Worlds.{put_tells, tells}
 
 -- what moves first is the same, however it is looked for
 first_by : (a b c : Option Item) →
@@ -53,7 +54,7 @@ first_alike bases =
     first_by (oldest_in (base_of Pinned bases).items) (oldest_in (base_of Global bases).items)
     (oldest_in (base_of Deferrable bases).items)
 
-module _ (law : StepsStayLawful) (w : World) (i : InPlay resting w) (from to : ℕ)
+module _ (law : StepsStayLawful) (w : World) (i : InRun resting w) (from to : ℕ)
     (low : from < length w.cpus) (offline : (cpu_of w from).online ≡ false)
     (placed : is_placed_in w.tree to ≡ true) (active : is_active (cpu_of w to) ≡ true)
     (class : Class) (item : Item)
@@ -122,9 +123,9 @@ module _ (law : StepsStayLawful) (w : World) (i : InPlay resting w) (from to : �
 
   pub may_move : MayMove w from to item.id
   may_move = record {
-    from_free = free_in resting w from (bare resting w i) refl low;
+    from_free = free_in resting w from i refl low;
     from_offline = offline;
-    to_free = free_in resting w to (bare resting w i) refl to_low;
+    to_free = free_in resting w to i refl to_low;
     to_placed = placed;
     to_active = active;
     to_outside = i.inside to;
@@ -151,11 +152,22 @@ module _ (law : StepsStayLawful) (w : World) (i : InPlay resting w) (from to : �
       ∙ (ap (λ b. play.with_bases (state_of mid) to (got b)) (sym (bases_seen mid to mid_low))
       ∙ ap (λ s. (moved_into s to (class, item)).state) out_seen)
 
-  pub move_plays : Plays resting (moved_by_steps w from to (class, item)).state
+  pub move_stays : InRun resting (moved_by_steps w from to (class, item)).state
+  move_stays =
+      dressed resting (moved_by_steps w from to (class, item)).state
+      (subst (Bare resting) (sym step_is) last_bare) lawful
+
+  move_tells : TellsExactly w → TellsExactly (moved_by_steps w from to (class, item)).state
+  move_tells t =
+      subst TellsExactly (sym step_is)
+      (put_tells mid to (with_bases (cpu_of mid to) (got (cpu_of mid to).bases)) mid_low refl refl
+      (put_tells w from (with_bases (cpu_of w from) given) low refl refl t))
+
+  pub moves : InPlay resting w → Plays resting (moved_by_steps w from to (class, item)).state
       (moved_one (state_of w) from to (class, item)).state
-  move_plays = record {
-    in_play = dressed resting (moved_by_steps w from to (class, item)).state
-        (subst (Bare resting) (sym step_is) last_bare) lawful;
+  moves p = record {
+    in_play = in_play resting (moved_by_steps w from to (class, item)).state move_stays
+        (move_tells (tells resting w p));
     state = ap state_of step_is ∙ in_seen;
   }
 
@@ -184,6 +196,15 @@ module _ (law : StepsStayLawful) (w : World) (i : InPlay resting w) (from to : �
       ∙ (put_field mid to (with_bases (cpu_of mid to) (got (cpu_of mid to).bases)) mid_low
       (λ y. y.online) refl d
       ∙ put_field w from (with_bases (cpu_of w from) given) low (λ y. y.online) refl d)
+
+pub move_plays : StepsStayLawful → (w : World) → InPlay resting w → (from to : ℕ) →
+    from < length w.cpus → (cpu_of w from).online ≡ false → is_placed_in w.tree to ≡ true →
+    is_active (cpu_of w to) ≡ true → (class : Class) (item : Item) →
+    first_to_move (cpu_of w from).bases ≡ Some (class, item) →
+    Plays resting (moved_by_steps w from to (class, item)).state
+    (moved_one (state_of w) from to (class, item)).state
+move_plays law w p from to low offline placed active class item first =
+    moves law w p.in_run from to low offline placed active class item first p
 
 -- the move that Play sees
 module _ (w : World) (from to : ℕ) (low : from < length w.cpus) where

@@ -40,7 +40,7 @@ use Rattle.step_play.proofs.Hotplug.{may_wake, read, runs}
 use Rattle.step_play.proofs.Interrupted.{of_either}
 use Rattle.step_play.proofs.Moves.{Finds, finds, move_online, move_plays, moves_none, moves_some}
 use Rattle.step_play.proofs.Stages.{At, Leaving, Moving, from_play, in_core, played, restaged}
-use Rattle.step_play.proofs.Worlds.{bare, free_in}
+use Rattle.step_play.proofs.Worlds.{free_in}
 
 -- who takes control leaves who is online
 pub control_online : (s : State) (d : ℕ) → d < cpu_count s → (e : ℕ) →
@@ -80,7 +80,7 @@ module _ (law : StepsStayLawful) (walks : Walks) (t : Shape)
             let many = was.many in
             let clock = was.clock in
             let early = was.early in
-            arm_plays law resting w i c a (free_in resting w c (bare resting w i) refl here) online
+            arm_plays law resting w i c a (free_in resting w c i.in_run refl here) online
             (inl (runs w c online busy)) (omega (arith, known, many)) short
             (omega (arith, clock, early)) none
 
@@ -97,7 +97,7 @@ module _ (law : StepsStayLawful) (walks : Walks) (t : Shape)
             (cancelled_on s held.cpu.0 a)
         cancel =
             cancel_plays law resting w i a held is
-            (free_in resting w held.cpu.0 (bare resting w i) refl
+            (free_in resting w held.cpu.0 i.in_run refl
             (from_play t timers now between resting w was held.cpu.0
             (queued_low s a.timer.0 held is)))
             (in_core t timers now between resting w was a.by.0 known.1)
@@ -110,7 +110,7 @@ module _ (law : StepsStayLawful) (walks : Walks) (t : Shape)
 
       module _ (later : nat_le (first_event s c) (w.clock + 1) ≡ false) where
         pub idles : Plays resting (idled_by_steps w c) (idled s c)
-        idles = walks.tell.idles w c i (may_idle w i c here online busy later)
+        idles = walks.tell.idles w c i (may_idle w i.in_run c here online busy later)
 
         pub idle : At t timers now between resting (idled_by_steps w c)
         idle =
@@ -119,7 +119,7 @@ module _ (law : StepsStayLawful) (walks : Walks) (t : Shape)
 
       module _ (none : last_online step_rules w c ≡ None) where
         pub goes : GoesAlike w c
-        goes = walks.tell.goes w c i (may_go w i c here online busy none)
+        goes = walks.tell.goes w c i (may_go w i.in_run c here online busy none)
 
         pub gone : Leaving t timers now c (gone_by_steps w c)
         gone = record {
@@ -133,7 +133,7 @@ module _ (law : StepsStayLawful) (walks : Walks) (t : Shape)
     -- an idle CPU
     module _ (online : (cpu_of w c).online ≡ true) (idle : (cpu_of w c).idle ≡ true) where
       pub wakes : Plays resting (woken_by_steps w c) (woken s c)
-      wakes = walks.wakes resting w c i (may_wake walks.wakes resting w i c here refl online idle)
+      wakes = walks.wakes resting w c i (may_wake resting w i.in_run c here refl online idle)
 
       pub woke : At t timers now between resting (woken_by_steps w c)
       woke =
@@ -149,7 +149,7 @@ module _ (law : StepsStayLawful) (walks : Walks) (t : Shape)
 
       pub comes : Plays resting (come_by_steps w c) (come_online s c)
       comes = walks.comes w c i (record {
-        is_free = free_in resting w c (bare resting w i) refl here;
+        is_free = free_in resting w c i.in_run refl here;
         offline = offline;
       })
 
@@ -262,8 +262,8 @@ module _ (law : StepsStayLawful) (walks : Walks) (t : Shape)
             (ap (λ (x : Moved World). state_of x.state) (sym f.made) ∙ moving_plays.state)
             moves_settled) refl refl refl;
         offline =
-            move_online law w was.at.in_play from to here_from was.offline placed active f.found.0
-            f.found.1 f.first from ∙ was.offline;
+            move_online law w was.at.in_play.in_run from to here_from was.offline placed active
+            f.found.0 f.found.1 f.first from ∙ was.offline;
         placed = was.placed;
       }
 

@@ -69,7 +69,7 @@ module _ (law : StepsStayLawful) (starts : StartsLawful) (walks : Walks)
       (level_count_of t) script.end (Stands t script.timers) (MayArm script.timers)
       (steps_keep law walks t script.timers script.end is.early_end)
       (steps_alike law walks t script.timers script.end is.early_end)
-      (λ now u was. was.in_play.lawful.sized.cpus ∙ ap cpu_count_of was.tree)
+      (λ now u was. was.in_play.in_run.lawful.sized.cpus ∙ ap cpu_count_of was.tree)
       (script.end + 1) 0 script.moments w (moments_in script is) (moments_rise script is)
       (omega arith) first
       ∙ ap (turns jobs plain_rules (script.end + 1) script.end 0 script.moments) seen

@@ -22,11 +22,11 @@ use Rattle.step_play.specs.Rules.Alone.{walked_out}
 use Rattle.step_play.specs.Rules.Lone.{IsLone, IsRunOf}
 use Rattle.step_play.specs.Rules.Runs.{RuleRun}
 use Rattle.step_play.specs.Rules.Runs as runs
-use Rattle.step_play.specs.Rules.Seen.{InPlay, Phase, inside, serving, state_of}
+use Rattle.step_play.specs.Rules.Seen.{InRun, Phase, inside, serving, state_of}
 use Rattle.step_play.specs.Rules.StepRules.{armed_by_steps, drained_by_steps, ended_by_steps}
 use Rattle.step_play.specs.Rules.StepRules.{let_go_by_steps, step_rules}
 use Rattle.step_play.proofs.Acts.{may_arm, may_cancel, may_drain}
-use Rattle.step_play.proofs.Lone.{lone_moved, play_lone}
+use Rattle.step_play.proofs.Lone.{lone_moved, run_lone}
 use Rattle.step_play.proofs.Telling.Letting.{may_carry}
 use Rattle.step_play.proofs.Telling.Reevaluating.{may_leave, may_reevaluate}
 use Rattle.step_play.proofs.WalkRuns.{begun_run}
@@ -35,10 +35,10 @@ use Rattle.step_play.proofs.WalkRuns.{begun_run}
 pub one_run : (step : Step) (w : World) → Enabled w step → IsRun (step ∷ []) w (stepped w step)
 one_run step w may = record { enabled = (may, tt); done = refl }
 
-module _ (law : StepsStayLawful) (ph : Phase) (w : World) (i : InPlay ph w) where
-  -- a step of a core in play that writes its CPU leaves no other walk that goes on
+module _ (law : StepsStayLawful) (ph : Phase) (w : World) (i : InRun ph w) where
+  -- a step of a core in a run that writes its CPU leaves no other walk that goes on
   pub lone : (c : ℕ) (y : CpuRecord) → IsLone (own w c y) c
-  lone c y = lone_moved w c (play_lone ph w c i) 0 (group_of w 0) y false
+  lone c y = lone_moved w c (run_lone ph w c i) 0 (group_of w 0) y false
 
   -- A DRAIN
   pub drain_runs : (home : ℕ) (class : Class) (runner : ℕ) → IsFree w home →
@@ -70,7 +70,7 @@ module _ (law : StepsStayLawful) (ph : Phase) (w : World) (i : InPlay ph w) wher
 
 -- THE END OF AN INTERRUPT
 module _ (law : StepsStayLawful) (sizes : SizesStay) (w : World) where
-  pub end_runs : (c : ℕ) → InPlay (inside c) w → c < length w.cpus →
+  pub end_runs : (c : ℕ) → InRun (inside c) w → c < length w.cpus →
       RuleRun w (ended_by_steps w c)
   end_runs c i low = elim (cases_Bool (cpu_of w c).idle) [
     | inl idle ↦
@@ -79,17 +79,17 @@ module _ (law : StepsStayLawful) (sizes : SizesStay) (w : World) where
         (sym (cond-true (cpu_of w c).idle (walked_out c (stepped w (steps.Reeval (cpu_id c))))
         (stepped w (steps.Leave (cpu_id c))) idle))
         (begun_run law sizes c (steps.Reeval (cpu_id c)) w i.lawful low
-        (may_reevaluate law w c i idle) (lone law (inside c) w i c _)))
+        (may_reevaluate w c i idle) (lone law (inside c) w i c _)))
     | inr busy ↦
         runs.ended_active c refl
         (subst (IsRun (steps.Leave (cpu_id c) ∷ []) w)
         (sym (cond-false (cpu_of w c).idle (walked_out c (stepped w (steps.Reeval (cpu_id c))))
         (stepped w (steps.Leave (cpu_id c))) busy))
-        (one_run (steps.Leave (cpu_id c)) w (may_leave law w c i busy)))
+        (one_run (steps.Leave (cpu_id c)) w (may_leave w c i busy)))
   ]
 
   -- A CPU IS LET GO
-  pub let_go_runs : (r d : ℕ) → InPlay (serving r d) w → d < length w.cpus →
+  pub let_go_runs : (r d : ℕ) → InRun (serving r d) w → d < length w.cpus →
       (cpu_of w d).online ≡ true → (cpu_of w d).idle ≡ true → RuleRun w (let_go_by_steps w d)
   let_go_runs r d i low online idle =
       runs.let_go r d refl
@@ -98,4 +98,4 @@ module _ (law : StepsStayLawful) (sizes : SizesStay) (w : World) where
       (walked_out d (stepped w (steps.Carry (cpu_id d)))) (stepped w (steps.Release (cpu_id d)))
       (and_from (cpu_of w d).online (cpu_of w d).idle online idle)))
       (begun_run law sizes d (steps.Carry (cpu_id d)) w i.lawful low
-      (may_carry law w r d i online idle) (lone law (serving r d) w i d _)))
+      (may_carry w r d i online idle) (lone law (serving r d) w i d _)))

@@ -35,7 +35,7 @@ use Rattle.core_laws.specs.Laws.{StepsStayLawful}
 use Rattle.step_play.specs.Rules.Lone.{IsRunOf}
 use Rattle.step_play.specs.Rules.Runs.{RuleRun, RuleRuns}
 use Rattle.step_play.specs.Rules.Runs as runs
-use Rattle.step_play.specs.Rules.Seen.{InPlay, Phase, handing, inside, resting, serving, state_of}
+use Rattle.step_play.specs.Rules.Seen.{InRun, Phase, handing, inside, resting, serving, state_of}
 use Rattle.step_play.specs.Rules.StepRules.{armed_by_steps, cancelled_by_steps, drained_by_steps}
 use Rattle.step_play.specs.Rules.StepRules.{ended_by_steps, handed_on_by_steps, is_waiting}
 use Rattle.step_play.specs.Rules.StepRules.{let_go_by_steps, made_active, named_by_queue}
@@ -53,7 +53,7 @@ use Rattle.step_play.proofs.Stages.{At, Inside, Leaving, Looking, MayArm, Moving
 use Rattle.step_play.proofs.Stages.{from_play, in_core}
 use Rattle.step_play.proofs.Takes.{may_enter, may_hand_on, may_take}
 use Rattle.step_play.proofs.WalkRuns.{begun_run}
-use Rattle.step_play.proofs.Worlds.{bare, free_in}
+use Rattle.step_play.proofs.Worlds.{free_in}
 
 module _ (law : StepsStayLawful) (sizes : SizesStay) (walks : Walks) (t : Shape) (timers end : ℕ)
     (in_time : end < SCRIPT_TIME_LIMIT) (now : ℕ) (w : World) where
@@ -63,7 +63,7 @@ module _ (law : StepsStayLawful) (sizes : SizesStay) (walks : Walks) (t : Shape)
   clock_runs next was later by_end =
       let is = was.clock in
       one_run (steps.Clock next) w
-      (may_time law next w was.in_play (omega (arith, is, later)) (omega (arith, by_end, in_time)))
+      (may_time law next w (omega (arith, is, later)) (omega (arith, by_end, in_time)))
 
   -- AN INTERRUPT
   module _ (due : set.FinSet nat_cmp) (c : ℕ) (low : c < cpu_count_of t) where
@@ -73,16 +73,16 @@ module _ (law : StepsStayLawful) (sizes : SizesStay) (walks : Walks) (t : Shape)
         let here = in_core t timers now (begun due c) resting w was c low in
         runs.entered c refl
         (one_run (steps.Enter (cpu_id c)) w
-        (may_enter w c was.in_play
+        (may_enter w c was.in_play.in_run
         (sym (read w (λ x. x.online) c here) ∙ was.settles.online c called)))
 
     pub own_drain_runs : (k : ℕ) → Inside t timers now due c (own due c k) w →
         RuleRun w (drained_by_steps w c (nth_class k) c).state
     own_drain_runs k was =
-        drain_runs law (inside c) w was.at.in_play c (nth_class k) c
-        (free_in (inside c) w c (bare (inside c) w was.at.in_play) refl
+        drain_runs law (inside c) w was.at.in_play.in_run c (nth_class k) c
+        (free_in (inside c) w c was.at.in_play.in_run refl
         (in_core t timers now (own due c k) (inside c) w was.at c low))
-        (inl (refl, was.at.in_play.inside c ∙ eq-eqb c c refl))
+        (inl (refl, was.at.in_play.in_run.inside c ∙ eq-eqb c c refl))
 
     pub own_arm_runs : (k : ℕ) → Inside t timers now due c (own due c (k + 1)) w → (a : Arming) →
         MayArm timers a → queued_on (state_of w) a.timer.0 ≡ None →
@@ -93,15 +93,15 @@ module _ (law : StepsStayLawful) (sizes : SizesStay) (walks : Walks) (t : Shape)
         let early = was.at.early in
         let many = was.at.many in
         let known = fits.0 in
-        arm_runs law (inside c) w was.at.in_play c a
-        (free_in (inside c) w c (bare (inside c) w was.at.in_play) refl here)
+        arm_runs law (inside c) w was.at.in_play.in_run c a
+        (free_in (inside c) w c was.at.in_play.in_run refl here)
         (sym (read w (λ x. x.online) c here) ∙ was.at.settles.online c was.called)
-        (inr (was.at.in_play.inside c ∙ eq-eqb c c refl)) (omega (arith, known, many)) fits.1
+        (inr (was.at.in_play.in_run.inside c ∙ eq-eqb c c refl)) (omega (arith, known, many)) fits.1
         (omega (arith, clock, early)) none
 
     pub ends_by_run : Inside t timers now due c (looked due c) w → RuleRun w (ended_by_steps w c)
     ends_by_run was =
-        end_runs law sizes w c was.at.in_play
+        end_runs law sizes w c was.at.in_play.in_run
         (in_core t timers now (looked due c) (inside c) w was.at c low)
 
     -- A LOOK
@@ -109,7 +109,7 @@ module _ (law : StepsStayLawful) (sizes : SizesStay) (walks : Walks) (t : Shape)
       pub take_runs : Looking t timers now due c (looking due c level (suc n) tried) tried w →
           named_by_queue w c level tried ≡ Some d → RuleRun w (step_rules.taken w c d)
       take_runs was is =
-          let i = was.inside.at.in_play in
+          let i = was.inside.at.in_play.in_run in
           runs.taken c d refl
           (one_run (steps.Take (cpu_id d) (cpu_id c)) w
           (may_take w c d i
@@ -122,9 +122,9 @@ module _ (law : StepsStayLawful) (sizes : SizesStay) (walks : Walks) (t : Shape)
           RuleRun w (drained_by_steps w d Global c).state
       serve_drain_runs was =
           let ph = serving c d in
-          let i = was.at.in_play in
+          let i = was.at.in_play.in_run in
           drain_runs law ph w i d Global c
-          (free_in ph w d (bare ph w i) refl
+          (free_in ph w d i refl
           (from_play t timers now (taking due c level n tried d) ph w was.at d was.at.settles.low))
           (inr (refl, i.marks d ∙ cond-true (d == d) (Some c) None (eq-eqb d d refl)))
 
@@ -136,13 +136,13 @@ module _ (law : StepsStayLawful) (sizes : SizesStay) (walks : Walks) (t : Shape)
             queued_on (state_of w) a.timer.0 ≡ None → RuleRun w (armed_by_steps w c a).state
         serve_arm_runs a fits none =
             let ph = serving c d in
-            let i = at.in_play in
+            let i = at.in_play.in_run in
             let here = in_core t timers now (running due c level n tried d) ph w at c low in
             let clock = at.clock in
             let early = at.early in
             let many = at.many in
             let known = fits.0 in
-            arm_runs law ph w i c a (free_in ph w c (bare ph w i) refl here)
+            arm_runs law ph w i c a (free_in ph w c i refl here)
             (sym (read w (λ x. x.online) c here)
             ∙ at.settles.looking.inside.online c was.serving.called)
             (inr (i.inside c ∙ eq-eqb c c refl)) (omega (arith, known, many)) fits.1
@@ -154,20 +154,20 @@ module _ (law : StepsStayLawful) (sizes : SizesStay) (walks : Walks) (t : Shape)
             at.settles.low in
             let parts = and_parts (cpu_at (state_of w) d).online (cpu_at (state_of w) d).idle
             at.settles.sleeps in
-            let_go_runs law sizes w c d at.in_play low_d
+            let_go_runs law sizes w c d at.in_play.in_run low_d
             (sym (read w (λ x. x.online) d low_d) ∙ parts.0)
             (sym (read w (λ x. x.idle) d low_d) ∙ parts.1)
 
   -- OPERATIONS
   module _ (was : At t timers now between resting w) (c : ℕ) (low : c < cpu_count_of t) where
-    abbrev i : InPlay resting w
-    i = was.in_play
+    abbrev i : InRun resting w
+    i = was.in_play.in_run
 
     here : c < length w.cpus
     here = in_core t timers now between resting w was c low
 
     free : IsFree w c
-    free = free_in resting w c (bare resting w i) refl here
+    free = free_in resting w c i refl here
 
     module _ (online : (cpu_of w c).online ≡ true) (busy : (cpu_of w c).idle ≡ false) where
       pub arms_by_run : (a : Arming) → a.timer.0 < timers → a.delay < 2 ^ 32 →
@@ -197,7 +197,7 @@ module _ (law : StepsStayLawful) (sizes : SizesStay) (walks : Walks) (t : Shape)
         RuleRun w (cancelled_by_steps w held.cpu.0 a)
     cancels_by_run a held by is =
         cancel_runs law resting w i a held is
-        (free_in resting w held.cpu.0 (bare resting w i) refl
+        (free_in resting w held.cpu.0 i refl
         (from_play t timers now between resting w was held.cpu.0
         (queued_low (state_of w) a.timer.0 held is)))
         (in_core t timers now between resting w was a.by.0 by)
@@ -207,7 +207,7 @@ module _ (law : StepsStayLawful) (sizes : SizesStay) (walks : Walks) (t : Shape)
     wakes_by_run online idle =
         runs.woken c refl
         (begun_run law sizes c (steps.Wake (cpu_id c)) w i.lawful here
-        (may_wake walks.wakes resting w i c here refl online idle) (lone law resting w i c _))
+        (may_wake resting w i c here refl online idle) (lone law resting w i c _))
 
     pub comes_by_run : (cpu_of w c).online ≡ false → RuleRun w (step_rules.come_online w c)
     comes_by_run offline =
@@ -219,7 +219,7 @@ module _ (law : StepsStayLawful) (sizes : SizesStay) (walks : Walks) (t : Shape)
   pub control_runs : At t timers now between resting w → (d : ℕ) →
       controller (state_of w) ≡ Some d → (v : World) → RuleRuns v w → RuleRuns v (made_active w d)
   control_runs was d is v before =
-      let i = was.in_play in
+      let i = was.in_play.in_run in
       let to = head_is w d is in
       elim (cases_Bool (cpu_of w d).idle) [
         | inl idle ↦
@@ -228,7 +228,7 @@ module _ (law : StepsStayLawful) (sizes : SizesStay) (walks : Walks) (t : Shape)
             (subst (IsRunOf (steps.Wake (cpu_id d)) d w)
             (sym (cond-true (cpu_of w d).idle (woken_by_steps w d) w idle))
             (begun_run law sizes d (steps.Wake (cpu_id d)) w i.lawful to.low
-            (may_wake walks.wakes resting w i d to.low refl to.online idle)
+            (may_wake resting w i d to.low refl to.online idle)
             (lone law resting w i d _))))
         | inr busy ↦
             subst (RuleRuns v) (sym (cond-false (cpu_of w d).idle (woken_by_steps w d) w busy))
@@ -254,7 +254,7 @@ module _ (law : StepsStayLawful) (sizes : SizesStay) (walks : Walks) (t : Shape)
         let low_c = in_core t timers now (leaving c) ph w left c low in
         let next = next_is w c d is in
         let idle = heir_idle w c d (sym was.waits ∙ waits) next in
-        let may = may_wake walks.wakes ph w i d next.low (ne_eqb d c next.another) next.online idle
+        let may = may_wake ph w i.in_run d next.low (ne_eqb d c next.another) next.online idle
         in
         let p = walks.wakes ph w d i may in
         let many = ap (λ (s : State). length s.cpus) p.state in
@@ -266,11 +266,11 @@ module _ (law : StepsStayLawful) (sizes : SizesStay) (walks : Walks) (t : Shape)
         omega (arith, low_c, many, old, new, stays)) in
         let hand = steps.HandOn (cpu_id c) (cpu_id d) in
         runs.handed_on c d awake refl
-        (begun_run law sizes d (steps.Wake (cpu_id d)) w i.lawful next.low may
-        (lone law ph w i d _))
+        (begun_run law sizes d (steps.Wake (cpu_id d)) w i.in_run.lawful next.low may
+        (lone law ph w i.in_run d _))
         (record {
           enabled = (
-            may_hand_on awake c d p.in_play within next.another
+            may_hand_on awake c d p.in_play.in_run within next.another
                 (ap (λ (s : State). is_placed_in s.tree d) p.state ∙ next.placed)
                 (woken_active w awake d p.state next.low next.online),
             tt,
@@ -294,7 +294,7 @@ module _ (law : StepsStayLawful) (sizes : SizesStay) (walks : Walks) (t : Shape)
         (subst (λ (x : Moved World).
         IsRun (steps.Move (cpu_id from) (cpu_id to) x.mover.timer ∷ []) w x.state) f.made
         (one_run (steps.Move (cpu_id from) (cpu_id to) (record { 0 = f.found.1.id })) w
-        (may_move law w was.at.in_play from to here_from was.offline
+        (may_move law w was.at.in_play.in_run from to here_from was.offline
         (ap (λ x. is_placed_in x to) was.at.tree ∙ was.placed)
         (sym (read w (λ x. x.online && not x.idle) to here_to) ∙ was.at.settles.active)
         f.found.0 f.found.1 f.first)))

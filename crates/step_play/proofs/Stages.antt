@@ -124,7 +124,7 @@ module _ (t : Shape) (timers : ℕ) where
     -- a CPU of the tree is there
     pub in_core : (c : ℕ) → c < cpu_count_of t → c < length w.cpus
     in_core c low =
-        let sized = was.in_play.lawful.sized.cpus in
+        let sized = was.in_play.in_run.lawful.sized.cpus in
         let same = ap cpu_count_of was.tree in
         omega (arith, low, sized, same)
 

@@ -98,18 +98,21 @@ module _ (t : Shape) (timers : ℕ) where
 
   pub start_in_play : IsLawful w → IsPlanned t → InPlay resting w
   start_in_play lawful planned = record {
-    lawful = lawful;
-    planned = planned;
+    in_run = record {
+      lawful = lawful;
+      planned = planned;
+      whole = λ c class.
+          subst (λ b. NoneBehind (base_of class b))
+          (sym (cpu_all (λ z. z.bases) empty_bases refl refl c)) (empty_whole class);
+      inside = cpu_all (λ z. z.inside) false refl refl;
+      marks = cpu_all (λ z. z.mark) None refl refl;
+      walks = λ c.
+          subst (WalkFits resting c) (sym (cpu_all (λ z. z.walk) None refl refl c)) refl;
+    };
     exact = λ x p parent. no_event p _
         ∙ sym (by_migrator (is_none (group_of w x).migrator) (first_in (group_of w x).events)
         (no_first x));
     told = λ c off. nothing_told c;
-    whole = λ c class.
-        subst (λ b. NoneBehind (base_of class b))
-        (sym (cpu_all (λ z. z.bases) empty_bases refl refl c)) (empty_whole class);
-    inside = cpu_all (λ z. z.inside) false refl refl;
-    marks = cpu_all (λ z. z.mark) None refl refl;
-    walks = λ c. subst (WalkFits resting c) (sym (cpu_all (λ z. z.walk) None refl refl c)) refl;
   }
     where
       by_migrator : (b : Bool) (o : Option Event) → o ≡ None → (if b then o else None) ≡ None

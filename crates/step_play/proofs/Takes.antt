@@ -19,12 +19,12 @@ use Rattle.core_world.specs.World.{CpuRecord, World, cpu_of, group_of, is_active
 use Rattle.core_laws.specs.Laws.{StepsStayLawful}
 use Rattle.step_play.specs.Rules.Alike.{Plays}
 use Rattle.step_play.specs.Rules.Live.{counting, expiry_of, told_by, told_in}
-use Rattle.step_play.specs.Rules.Seen.{InPlay, WalkFits, handing, inside, resting, serving}
+use Rattle.step_play.specs.Rules.Seen.{InPlay, InRun, WalkFits, handing, inside, resting, serving}
 use Rattle.step_play.specs.Rules.Seen.{state_of}
 use Rattle.step_play.specs.Rules.StepRules.{can_be_taken}
 use Rattle.step_play.proofs.Queues.Sights.{past_of}
 use Rattle.step_play.proofs.Worlds.{Bare, Fits, bare, dressed, free_in, own_is, put_bare}
-use Rattle.step_play.proofs.Worlds.{put_hidden, walk_by}
+use Rattle.step_play.proofs.Worlds.{put_hidden, put_plays, walk_by}
 
 -- whoever is online is there
 pub there : (w : World) (c : ℕ) → (cpu_of w c).online ≡ true → c < length w.cpus
@@ -90,32 +90,31 @@ takeable w d is =
 
 -- WHAT MAY BE
 module _ (w : World) where
-  pub may_enter : (c : ℕ) → InPlay resting w → (cpu_of w c).online ≡ true → MayEnter w c
+  pub may_enter : (c : ℕ) → InRun resting w → (cpu_of w c).online ≡ true → MayEnter w c
   may_enter c i online = record {
-    is_free = free_in resting w c (bare resting w i) refl (there w c online);
+    is_free = free_in resting w c i refl (there w c online);
     online = online;
     outside = i.inside c;
   }
 
-  pub may_take : (c d : ℕ) → InPlay (inside c) w → is_placed_in w.tree c ≡ true →
+  pub may_take : (c d : ℕ) → InRun (inside c) w → is_placed_in w.tree c ≡ true →
       c < length w.cpus → can_be_taken w d ≡ true → MayTake w d c
   may_take c d i placed low_c can =
       let t = takeable w d can in
-      let b = bare (inside c) w i in
-      let free = free_in (inside c) w c b refl low_c in
+      let free = free_in (inside c) w c i refl low_c in
       record {
         by_in_range = low_c;
         by_placed = placed;
         by_inside = i.inside c ∙ eq-eqb c c refl;
         by_goes_on = λ made. none-some made.made (sym free.free ∙ made.walk);
-        is_free = free_in (inside c) w d b refl (there w d t.online);
+        is_free = free_in (inside c) w d i refl (there w d t.online);
         online = t.online;
         idle = t.idle;
         unmarked = t.unmarked;
         due = due_at_leaf w d (let clock = i.lawful.times.clock in omega (arith, clock)) t.come;
       }
 
-  module _ (c d : ℕ) (i : InPlay (handing c) w) (low_c : c < length w.cpus)
+  module _ (c d : ℕ) (i : InRun (handing c) w) (low_c : c < length w.cpus)
       (another : d ≢ c) (placed : is_placed_in w.tree d ≡ true)
       (active : is_active (cpu_of w d) ≡ true) where
     may_hand : (m : Option Walk) → (cpu_of w c).walk ≡ m → WalkFits (handing c) c m →
@@ -137,16 +136,14 @@ module _ (w : World) where
 
 module _ (law : StepsStayLawful) (w : World) where
   -- ENTER
-  pub enter_plays : (c : ℕ) → InPlay resting w → (cpu_of w c).online ≡ true →
-      Plays (inside c) (stepped w (steps.Enter (cpu_id c))) (state_of w)
-  enter_plays c i online =
+  pub enters : (c : ℕ) → InRun resting w → (cpu_of w c).online ≡ true →
+      InRun (inside c) (stepped w (steps.Enter (cpu_id c)))
+  enters c i online =
       let low = there w c online in
       let y = record (cpu_of w c) { inside = true } in
       let v = stepped w (steps.Enter (cpu_id c)) in
       let lawful = law w (steps.Enter (cpu_id c)) i.lawful (may_enter w c i online) in
       let fits : Fits resting (inside c) w c y = record {
-        online = refl;
-        idle = refl;
         whole = i.whole c;
         inside = sym (eq-eqb c c refl);
         mark = i.marks c;
@@ -155,17 +152,25 @@ module _ (law : StepsStayLawful) (w : World) where
         others_marks = λ d ne. refl;
         others_hand = λ d ne. refl;
       } in
+      dressed (inside c) v (subst (Bare (inside c)) (sym (own_is w c y))
+      (put_bare resting (inside c) w c y low (bare resting w i) fits)) lawful
+
+  pub enter_plays : (c : ℕ) → InPlay resting w → (cpu_of w c).online ≡ true →
+      Plays (inside c) (stepped w (steps.Enter (cpu_id c))) (state_of w)
+  enter_plays c i online =
+      let low = there w c online in
+      let y = record (cpu_of w c) { inside = true } in
       record {
-        in_play = dressed (inside c) v (subst (Bare (inside c)) (sym (own_is w c y))
-            (put_bare resting (inside c) w c y low (bare resting w i) fits)) lawful;
+        in_play = put_plays resting (inside c) w c y _ low refl refl (own_is w c y) i
+            (enters c i.in_run online);
         state = ap state_of (own_is w c y) ∙ put_hidden w c y low refl;
       }
 
   -- TAKE
-  pub take_plays : (c d : ℕ) → InPlay (inside c) w → is_placed_in w.tree c ≡ true →
+  pub takes : (c d : ℕ) → InRun (inside c) w → is_placed_in w.tree c ≡ true →
       c < length w.cpus → can_be_taken w d ≡ true →
-      Plays (serving c d) (stepped w (steps.Take (cpu_id d) (cpu_id c))) (state_of w)
-  take_plays c d i placed low_c can =
+      InRun (serving c d) (stepped w (steps.Take (cpu_id d) (cpu_id c)))
+  takes c d i placed low_c can =
       let t = takeable w d can in
       let low = there w d t.online in
       let y = record (cpu_of w d) { mark = Some c } in
@@ -173,8 +178,6 @@ module _ (law : StepsStayLawful) (w : World) where
       let lawful = law w (steps.Take (cpu_id d) (cpu_id c)) i.lawful
       (may_take w c d i placed low_c can) in
       let fits : Fits (inside c) (serving c d) w d y = record {
-        online = refl;
-        idle = refl;
         whole = i.whole d;
         inside = i.inside d;
         mark = sym (cond-true (d == d) (Some c) None (eq-eqb d d refl));
@@ -183,25 +186,32 @@ module _ (law : StepsStayLawful) (w : World) where
         others_marks = λ e ne. cond-false (e == d) (Some c) None (ne_eqb e d ne);
         others_hand = λ e ne. refl;
       } in
+      dressed (serving c d) v (subst (Bare (serving c d)) (sym (own_is w d y))
+      (put_bare (inside c) (serving c d) w d y low (bare (inside c) w i) fits)) lawful
+
+  pub take_plays : (c d : ℕ) → InPlay (inside c) w → is_placed_in w.tree c ≡ true →
+      c < length w.cpus → can_be_taken w d ≡ true →
+      Plays (serving c d) (stepped w (steps.Take (cpu_id d) (cpu_id c))) (state_of w)
+  take_plays c d i placed low_c can =
+      let low = there w d (takeable w d can).online in
+      let y = record (cpu_of w d) { mark = Some c } in
       record {
-        in_play = dressed (serving c d) v (subst (Bare (serving c d)) (sym (own_is w d y))
-            (put_bare (inside c) (serving c d) w d y low (bare (inside c) w i) fits)) lawful;
+        in_play = put_plays (inside c) (serving c d) w d y _ low refl refl (own_is w d y) i
+            (takes c d i.in_run placed low_c can);
         state = ap state_of (own_is w d y) ∙ put_hidden w d y low refl;
       }
 
   -- HANDING ON
-  module _ (c d : ℕ) (i : InPlay (handing c) w) (low_c : c < length w.cpus)
-      (another : d ≢ c) (placed : is_placed_in w.tree d ≡ true)
-      (active : is_active (cpu_of w d) ≡ true) where
-    pub hand_plays : Plays resting (stepped w (steps.HandOn (cpu_id c) (cpu_id d))) (state_of w)
-    hand_plays =
+  module _ (c d : ℕ) (low_c : c < length w.cpus) (another : d ≢ c)
+      (placed : is_placed_in w.tree d ≡ true) (active : is_active (cpu_of w d) ≡ true) where
+    pub hands : InRun (handing c) w →
+        InRun resting (stepped w (steps.HandOn (cpu_id c) (cpu_id d)))
+    hands i =
         let y = with_walk (cpu_of w c) None in
         let v = stepped w (steps.HandOn (cpu_id c) (cpu_id d)) in
         let lawful = law w (steps.HandOn (cpu_id c) (cpu_id d)) i.lawful
         (may_hand_on w c d i low_c another placed active) in
         let fits : Fits (handing c) resting w c y = record {
-          online = refl;
-          idle = refl;
           whole = i.whole c;
           inside = i.inside c;
           mark = i.marks c;
@@ -210,8 +220,15 @@ module _ (law : StepsStayLawful) (w : World) where
           others_marks = λ e ne. refl;
           others_hand = λ e ne. sym (ne_eqb e c ne);
         } in
+        dressed resting v (subst (Bare resting) (sym (own_is w c y))
+        (put_bare (handing c) resting w c y low_c (bare (handing c) w i) fits)) lawful
+
+    pub hand_plays : InPlay (handing c) w →
+        Plays resting (stepped w (steps.HandOn (cpu_id c) (cpu_id d))) (state_of w)
+    hand_plays i =
+        let y = with_walk (cpu_of w c) None in
         record {
-          in_play = dressed resting v (subst (Bare resting) (sym (own_is w c y))
-              (put_bare (handing c) resting w c y low_c (bare (handing c) w i) fits)) lawful;
+          in_play = put_plays (handing c) resting w c y _ low_c refl refl (own_is w c y) i
+              (hands i.in_run);
           state = ap state_of (own_is w c y) ∙ put_hidden w c y low_c refl;
         }

@@ -19,8 +19,8 @@ use Rattle.core_world.specs.Lawful.{IsLawful}
 use Rattle.core_world.specs.Steps.{with_bases}
 use Rattle.core_world.specs.World.{CpuRecord, World, cpu_of, no_cpu, own}
 use Rattle.step_play.specs.Rules.Live.{Exact, told_by}
-use Rattle.step_play.specs.Rules.Seen.{InPlay, Phase, WalkFits, cpu_seen, hands_in, is_inside}
-use Rattle.step_play.specs.Rules.Seen.{marker_in, state_of}
+use Rattle.step_play.specs.Rules.Seen.{InPlay, InRun, Phase, WalkFits, cpu_seen, hands_in}
+use Rattle.step_play.specs.Rules.Seen.{is_inside, marker_in, state_of}
 use Rattle.step_play.specs.Queues.AtRest.{AtRest}
 use Rattle.step_play.proofs.Queues.Sights.{count_seen, seen_at}
 
@@ -122,10 +122,8 @@ bases_shown w c b low =
     ∙ ap (λ (x : Cpu). play.with_cpu (state_of w) c (record x { bases = b }))
     (sym (seen_at w c low))
 
--- A CORE IN PLAY, with one CPU written: its events and what is told stay
+-- A CORE IN A RUN, with one CPU written
 pub record Fits (ph new : Phase) (w : World) (c : ℕ) (y : CpuRecord) : Type 0 where
-  pub online : y.online ≡ (cpu_of w c).online
-  pub idle : y.idle ≡ (cpu_of w c).idle
   pub whole : (class : Class) → NoneBehind (base_of class y.bases)
   pub inside : y.inside ≡ is_inside new c
   pub mark : y.mark ≡ marker_in new c
@@ -143,30 +141,24 @@ walk_by ph new d (Some k) same fits = (same ∙ fits.0, fits.1)
 -- all of it but that the world is lawful
 pub record Bare (ph : Phase) (w : World) : Type 0 where
   pub planned : IsPlanned w.tree
-  pub exact : Exact w
-  pub told : (c : ℕ) → ((cpu_of w c).online && (cpu_of w c).idle) ≡ false → told_by w c ≡ NEVER
   pub whole : (c : ℕ) (class : Class) → NoneBehind (base_of class (cpu_of w c).bases)
   pub inside : (c : ℕ) → (cpu_of w c).inside ≡ is_inside ph c
   pub marks : (c : ℕ) → (cpu_of w c).mark ≡ marker_in ph c
   pub walks : (c : ℕ) → WalkFits ph c (cpu_of w c).walk
 
-pub bare : (ph : Phase) (w : World) → InPlay ph w → Bare ph w
+pub bare : (ph : Phase) (w : World) → InRun ph w → Bare ph w
 bare ph w i = record {
   planned = i.planned;
-  exact = i.exact;
-  told = i.told;
   whole = i.whole;
   inside = i.inside;
   marks = i.marks;
   walks = i.walks;
 }
 
-pub dressed : (ph : Phase) (w : World) → Bare ph w → IsLawful w → InPlay ph w
+pub dressed : (ph : Phase) (w : World) → Bare ph w → IsLawful w → InRun ph w
 dressed ph w b lawful = record {
   lawful = lawful;
   planned = b.planned;
-  exact = b.exact;
-  told = b.told;
   whole = b.whole;
   inside = b.inside;
   marks = b.marks;
@@ -177,9 +169,6 @@ pub put_bare : (ph new : Phase) (w : World) (c : ℕ) (y : CpuRecord) → c < le
     Bare ph w → Fits ph new w c y → Bare new (put w c y)
 put_bare ph new w c y low i fits = record {
   planned = i.planned;
-  exact = i.exact;
-  told = λ d off. i.told d (sym (put_field w c y low (λ z. z.online && z.idle)
-      (λ j. fits.online j && fits.idle j) d) ∙ off);
   whole = put_all w c y low (λ d z. (class : Class) → NoneBehind (base_of class z.bases)) fits.whole
       (λ d ne. i.whole d);
   inside = put_all w c y low (λ d z. z.inside ≡ is_inside new d) fits.inside
@@ -195,8 +184,6 @@ pub bases_fit : (ph : Phase) (w : World) (c : ℕ) (b : CpuBases) → Bare ph w 
     ((class : Class) → NoneBehind (base_of class b)) →
     Fits ph ph w c (with_bases (cpu_of w c) b)
 bases_fit ph w c b i whole = record {
-  online = refl;
-  idle = refl;
   whole = whole;
   inside = i.inside c;
   mark = i.marks c;
@@ -206,8 +193,36 @@ bases_fit ph w c b i whole = record {
   others_hand = λ d ne. refl;
 }
 
+-- A CORE IN PLAY: of what is told, that it is exact, and comes of idle CPUs alone
+pub record TellsExactly (w : World) : Type 0 where
+  pub exact : Exact w
+  pub told : (c : ℕ) → ((cpu_of w c).online && (cpu_of w c).idle) ≡ false → told_by w c ≡ NEVER
+
+pub tells : (ph : Phase) (w : World) → InPlay ph w → TellsExactly w
+tells ph w i = record { exact = i.exact; told = i.told }
+
+pub in_play : (ph : Phase) (w : World) → InRun ph w → TellsExactly w → InPlay ph w
+in_play ph w run tells = record { in_run = run; exact = tells.exact; told = tells.told }
+
+-- it stays so where one CPU is written that is as much awake as it was
+pub put_tells : (w : World) (c : ℕ) (y : CpuRecord) → c < length w.cpus →
+    y.online ≡ (cpu_of w c).online → y.idle ≡ (cpu_of w c).idle → TellsExactly w →
+    TellsExactly (put w c y)
+put_tells w c y low online idle t = record {
+  exact = t.exact;
+  told = λ d off. t.told d (sym (put_field w c y low (λ z. z.online && z.idle)
+      (λ j. online j && idle j) d) ∙ off);
+}
+
+pub put_plays : (ph new : Phase) (w : World) (c : ℕ) (y : CpuRecord) (v : World) →
+    c < length w.cpus → y.online ≡ (cpu_of w c).online → y.idle ≡ (cpu_of w c).idle →
+    v ≡ put w c y → InPlay ph w → InRun new v → InPlay new v
+put_plays ph new w c y v low online idle is i run =
+    in_play new v run
+    (subst TellsExactly (sym is) (put_tells w c y low online idle (tells ph w i)))
+
 -- WHO IS FREE: whoever doesn't wait to hand on
-pub no_walk : (ph : Phase) (w : World) (c : ℕ) → Bare ph w → hands_in ph c ≡ false →
+pub no_walk : (ph : Phase) (w : World) (c : ℕ) → InRun ph w → hands_in ph c ≡ false →
     (cpu_of w c).walk ≡ None
 no_walk ph w c i none = by_walk (cpu_of w c).walk refl (i.walks c)
   where
@@ -216,16 +231,16 @@ no_walk ph w c i none = by_walk (cpu_of w c).walk refl (i.walks c)
     by_walk None is fits = is
     by_walk (Some k) is fits = absurd (both_ways (hands_in ph c) none fits.0)
 
-pub free_in : (ph : Phase) (w : World) (c : ℕ) → Bare ph w → hands_in ph c ≡ false →
+pub free_in : (ph : Phase) (w : World) (c : ℕ) → InRun ph w → hands_in ph c ≡ false →
     c < length w.cpus → IsFree w c
 free_in ph w c i none low = record { in_range = low; free = no_walk ph w c i none }
 
 -- a core in play is at rest
 pub rests : (ph : Phase) (w : World) → InPlay ph w → AtRest w
 rests ph w i = record {
-  lawful = i.lawful;
-  planned = i.planned;
+  lawful = i.in_run.lawful;
+  planned = i.in_run.planned;
   exact = i.exact;
   told = i.told;
-  walks = λ c k is. (subst (WalkFits ph c) is (i.walks c)).1;
+  walks = λ c k is. (subst (WalkFits ph c) is (i.in_run.walks c)).1;
 }

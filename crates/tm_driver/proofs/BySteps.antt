@@ -48,8 +48,8 @@ no_walk c (Some k) fits = absurd (both_ways false refl fits.0)
 
 at_rest : (w : World) → InPlay resting w → IsSettled w
 at_rest w play = record {
-  free = λ c. no_walk c (cpu_of w c).walk (play.walks c);
-  outside = play.inside;
+  free = λ c. no_walk c (cpu_of w c).walk (play.in_run.walks c);
+  outside = play.in_run.inside;
 }
 
 module _ (jobs : Replies) (script : Script) (is : IsPlayOfSteps jobs script) where
@@ -59,7 +59,7 @@ module _ (jobs : Replies) (script : Script) (is : IsPlayOfSteps jobs script) whe
     answered =
         All-weaker (λ (t : Turn World). InPlay resting t.played.state)
         (λ t. EachIsAnsweredFor t.played.state)
-        (λ t play. law t.played.state play.lawful (at_rest t.played.state play))
+        (λ t play. law t.played.state play.in_run.lawful (at_rest t.played.state play))
         (step_turns jobs script) is.in_play;
   }
 

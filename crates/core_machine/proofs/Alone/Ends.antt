@@ -178,6 +178,30 @@ not_over : (top over : Bool) → (top ≡ true → over ≡ true) → over ≡ f
 not_over true over law e = absurd (true≢false (sym (law refl) ∙ e))
 not_over false over law e = refl
 
+-- where a walk stands
+module _ (w : World) (c : ℕ) (k : Walk) (lawful : IsLawful w) (is : (cpu_of w c).walk ≡ Some k)
+  where
+    seen : (scene_of w).walk c ≡ Some (forget k)
+    seen = ap (option_map forget) is
+
+    there : (k.stage ≡ stages.Finish → ⊥) → (g : ℕ) × (group_at_of w.tree c k.level ≡ Some g)
+    there other = stands_in w.tree (scene_of w) (record {
+      placed = lawful.placed;
+      flags = lawful.flags;
+      walkers = lawful.walkers;
+    }) c (forget k) seen other
+
+    pub fits : (st : Stage) → k.stage ≡ st → (st ≡ stages.Finish → ⊥) →
+        FitsStage w.tree c k.kind k.level st
+    fits st at other = elim (stage_fits w.tree (scene_of w) (record {
+      placed = lawful.placed;
+      flags = lawful.flags;
+      walkers = lawful.walkers;
+    }) c (forget k) seen) [
+      | inl fit ↦ subst (FitsStage w.tree c k.kind k.level) at fit
+      | inr finish ↦ absurd (other (sym at ∙ finish))
+    ]
+
 -- A STEP of a walk leaves it fewer steps
 module _ (w : World) (c : ℕ) (k : Walk) (low : c < length w.cpus) (lawful : IsLawful w)
     (paths : PathLaws w.tree) (is : (cpu_of w c).walk ≡ Some k) where
@@ -189,36 +213,15 @@ module _ (w : World) (c : ℕ) (k : Walk) (low : c < length w.cpus) (lawful : Is
   written g x y r n less = subst (λ (z : CpuRecord). Falls levels n z.walk)
       (sym (cpu_same w g x c y r low)) less
 
-  seen : (scene_of w).walk c ≡ Some (forget k)
-  seen = ap (option_map forget) is
-
-  there : (k.stage ≡ stages.Finish → ⊥) → (g : ℕ) × (group_at_of w.tree c k.level ≡ Some g)
-  there other = stands_in w.tree (scene_of w) (record {
-    placed = lawful.placed;
-    flags = lawful.flags;
-    walkers = lawful.walkers;
-  }) c (forget k) seen other
-
-  fits : (st : Stage) → k.stage ≡ st → (st ≡ stages.Finish → ⊥) →
-      FitsStage w.tree c k.kind k.level st
-  fits st at other = elim (stage_fits w.tree (scene_of w) (record {
-    placed = lawful.placed;
-    flags = lawful.flags;
-    walkers = lawful.walkers;
-  }) c (forget k) seen) [
-    | inl fit ↦ subst (FitsStage w.tree c k.kind k.level) at fit
-    | inr finish ↦ absurd (other (sym at ∙ finish))
-  ]
-
   deeper : (g : ℕ) → group_at_of w.tree c (suc k.level) ≡ Some g → suc k.level < levels
   deeper g at = below_count w.tree paths c (suc k.level) g at
 
   flags : (st : Stage) → k.stage ≡ st → (st ≡ stages.Finish → ⊥) →
       FlagsAt (at_top w.tree c k.level) k.on k.over st
   flags st at other =
-      let g = there (λ e. other (sym at ∙ e)) in
+      let g = there w c k lawful is (λ e. other (sym at ∙ e)) in
       subst (FlagsAt (at_top w.tree c k.level) k.on k.over) at
-      (lawful.flags c (forget k) seen (has k.level g.0 g.1))
+      (lawful.flags c (forget k) (seen w c k lawful is) (has k.level g.0 g.1))
     where
       has : (l g : ℕ) → group_at_of w.tree c l ≡ Some g →
           (h : ℕ) × (group_at_of w.tree c 0 ≡ Some h)
@@ -243,7 +246,7 @@ module _ (w : World) (c : ℕ) (k : Walk) (low : c < length w.cpus) (lawful : Is
   falls stages.Own at on = written 0 no_group _ false _ (omega arith)
   falls stages.Up at on = written (here w c k) no_group _ true _ (up_falls levels k _ _)
   falls (stages.Mark more) at on =
-      let fit = fits (stages.Mark more) at (λ e. cc) in
+      let fit = fits w c k lawful is (stages.Mark more) at (λ e. cc) in
       written 0 no_group _ false _ (mark_falls levels k more (deeper fit.1.0 fit.1.1))
   falls stages.Read at on = written 0 no_group _ false _ (omega arith)
   falls stages.Child at on = written 0 no_group _ false _ (child_falls levels k k.fresh)
@@ -255,11 +258,11 @@ module _ (w : World) (c : ℕ) (k : Walk) (low : c < length w.cpus) (lawful : Is
   falls stages.SeeGroup at on = written 0 no_group _ false _
       (after_falls levels k.level k.level k.fresh)
   falls (stages.Scan j) at on =
-      let fit = fits (stages.Scan j) at (λ e. cc) in
+      let fit = fits w c k lawful is (stages.Scan j) at (λ e. cc) in
       written 0 no_group _ false _ (scan_falls levels k j (j == 7) fit.2)
   falls stages.Store at on = written 0 no_group _ false _ (store_falls levels k _)
   falls (stages.First j) at on =
-      let fit = fits (stages.First j) at (λ e. cc) in
+      let fit = fits w c k lawful is (stages.First j) at (λ e. cc) in
       written 0 no_group _ false _ (find_falls levels k j (j == 7) fit.2)
   falls stages.FreeGroup at on = written 0 no_group _ false _
       (free_falls levels k k.level (goes_higher (flags stages.FreeGroup at (λ e. cc))))

@@ -1,40 +1,40 @@
 -- what the calls of an interrupt leave
-use Rattle.std.proofs.Common.{◌≡◌, ℕ, ◌<◌, Bool, true, false, Some, None, length, length-set}
-use Rattle.std.proofs.Common.{refl, sym, ap, ◌∙◌, subst, arith, inl, inr}
-use Rattle.std.specs.Prelude.{◌&&◌, ◌==◌, if◌then◌else◌}
-use Rattle.std.proofs.lemmas.Bool.{and_parts, cases_Bool, cond-false, cond-true, eq-eqb, ne_eqb}
-use Rattle.tm_base.specs.declared.names.TheConstants.{NEVER}
+use Rattle.std.proofs.Common.{◌≡◌, ℕ, ◌<◌, true, false, Some, None, length}
+use Rattle.std.proofs.Common.{refl, sym, ap, ◌∙◌, subst, inl, inr}
+use Rattle.std.specs.Prelude.{◌&&◌, ◌==◌}
+use Rattle.std.proofs.lemmas.Bool.{cases_Bool, cond-false, cond-true, eq-eqb, ne_eqb}
 use Rattle.tree_plan.specs.Paths.{is_placed_in}
+use Rattle.walk_rules.specs.declared.walk.WalkKind.{WalkKind}
+use Rattle.walk_rules.specs.declared.walk.WalkKind.TheVariants as kinds
+use Rattle.walk_rules.specs.declared.walk.Stage.TheVariants as stages
 use Rattle.play_rules.specs.Interrupts.{cpu_id}
-use Rattle.play_rules.specs.Hierarchy.{next_of, reevaluated, told_again}
-use Rattle.play_rules.specs.Play.{ended}
-use Rattle.play_rules.specs.State.{Cpu, State, cpu_at, cpu_count, has_group}
-use Rattle.play_laws.proofs.Answered.States.{written_alike}
 use Rattle.core_laws.specs.Laws.{StepsStayLawful}
 use Rattle.core_world.specs.declared.step.Step.TheVariants as steps
 use Rattle.core_world.specs.Enabled.{MayRelease}
-use Rattle.core_world.specs.Steps.{stepped}
-use Rattle.core_world.specs.World.{World, cpu_of}
-use Rattle.step_play.specs.Rules.Alike.{EndsAlike, LetsGoAlike, Plays}
-use Rattle.step_play.specs.Rules.Seen.{InPlay, inside, resting, serving, state_of}
-use Rattle.step_play.specs.Rules.StepRules.{can_be_taken, ended_by_steps, let_go_by_steps, step_rules}
-use Rattle.step_play.proofs.Queues.Sights.{count_seen}
-use Rattle.step_play.proofs.Interrupted.{of_either}
-use Rattle.step_play.proofs.Takes.{enter_plays, take_plays}
+use Rattle.core_world.specs.Steps.{begins, marker_of, stepped, with_walk}
+use Rattle.core_world.specs.World.{CpuRecord, World, cpu_of}
+use Rattle.step_play.specs.Rules.Alike.{EndsAlike, LetsGoAlike}
+use Rattle.step_play.specs.Rules.Alone.{goes_on, walked_out}
+use Rattle.step_play.specs.Rules.Seen.{InPlay, InRun, inside, resting, serving}
+use Rattle.step_play.specs.Rules.StepRules.{can_be_taken, step_rules}
+use Rattle.step_play.proofs.Lone.{run_lone}
+use Rattle.step_play.proofs.Takes as turns
+use Rattle.step_play.proofs.Takes.{enter_plays, take_plays, takeable, there}
+use Rattle.step_play.proofs.Telling.Letting.{may_carry}
+use Rattle.step_play.proofs.Telling.Reevaluating.{leaves_run, may_reevaluate}
 use Rattle.step_play.proofs.Worlds.{Bare, Fits, bare, dressed, free_in, own_is, put_bare}
-use Rattle.step_play.proofs.Worlds.{put_hidden, walk_by}
-use Rattle.core_machine.proofs.Calls.Leaves.{LeavesOnline, leaves_online}
+use Rattle.step_play.proofs.Worlds.{put_plays, walk_by}
+use Rattle.core_machine.proofs.Alone.Kinds.{IsWalked, begins_so, is_walked}
+use Rattle.core_machine.proofs.Calls.Leaves.{LeavesOnline, own_online, own_same, walk_gone}
+use Rattle.core_machine.proofs.Calls.Leaves.{walked_online, walked_runs, walked_same}
 
 module _ (w : World) where
-  abbrev s : State
-  s = state_of w
-
   -- RELEASE: a CPU that doesn't sleep any more
-  module _ (r d : ℕ) (i : InPlay (serving r d) w) (low : d < length w.cpus)
+  module _ (r d : ℕ) (i : InRun (serving r d) w) (low : d < length w.cpus)
       (awake : ((cpu_of w d).online && (cpu_of w d).idle) ≡ false) where
     pub may_release : MayRelease w d
     may_release = record {
-      is_free = free_in (serving r d) w d (bare (serving r d) w i) refl low;
+      is_free = free_in (serving r d) w d i refl low;
       marked = (r, i.marks d ∙ cond-true (d == d) (Some r) None (eq-eqb d d refl));
       awake = elim (cases_Bool (cpu_of w d).online) [
         | inl on ↦ inr (sym (ap (λ b. b && (cpu_of w d).idle) on) ∙ awake)
@@ -42,15 +42,15 @@ module _ (w : World) where
       ];
     }
 
-    release_plays : StepsStayLawful →
-        Plays (inside r) (stepped w (steps.Release (cpu_id d))) (state_of w)
-    release_plays law =
-        let y = record (cpu_of w d) { mark = None } in
-        let v = stepped w (steps.Release (cpu_id d)) in
-        let lawful = law w (steps.Release (cpu_id d)) i.lawful may_release in
-        let fits : Fits (serving r d) (inside r) w d y = record {
-          online = refl;
-          idle = refl;
+    abbrev unmarked : CpuRecord
+    unmarked = record (cpu_of w d) { mark = None }
+
+    abbrev pub released : World
+    released = stepped w (steps.Release (cpu_id d))
+
+    release_runs : StepsStayLawful → InRun (inside r) released
+    release_runs law =
+        let fits : Fits (serving r d) (inside r) w d unmarked = record {
           whole = i.whole d;
           inside = i.inside d;
           mark = refl;
@@ -59,77 +59,123 @@ module _ (w : World) where
           others_marks = λ e ne. sym (cond-false (e == d) (Some r) None (ne_eqb e d ne));
           others_hand = λ e ne. refl;
         } in
-        record {
-          in_play = dressed (inside r) v (subst (Bare (inside r)) (sym (own_is w d y))
-              (put_bare (serving r d) (inside r) w d y low (bare (serving r d) w i) fits)) lawful;
-          state = ap state_of (own_is w d y) ∙ put_hidden w d y low refl;
-        }
+        dressed (inside r) released
+        (subst (Bare (inside r)) (sym (own_is w d unmarked))
+        (put_bare (serving r d) (inside r) w d unmarked low (bare (serving r d) w i) fits))
+        (law w (steps.Release (cpu_id d)) i.lawful may_release)
+
+    pub releases : StepsStayLawful → LeavesOnline (serving r d) (inside r) w released
+    releases law = record {
+      fit = release_runs law;
+      play = λ p. put_plays (serving r d) (inside r) w d unmarked released low refl refl
+          (own_is w d unmarked) p (release_runs law);
+      same = own_same w d unmarked low;
+      online = own_online w d unmarked low refl;
+    }
 
   -- WHAT IS LEFT
   module _ (law : StepsStayLawful) where
-    pub enters : (c : ℕ) → InPlay resting w → (cpu_of w c).online ≡ true →
-        LeavesOnline (inside c) w (step_rules.entered w c)
+    pub enters : (c : ℕ) → InRun resting w → (cpu_of w c).online ≡ true →
+        LeavesOnline resting (inside c) w (step_rules.entered w c)
     enters c i online =
-        leaves_online (inside c) w (step_rules.entered w c) s (enter_plays law w c i online) refl
-        refl refl refl (λ e. refl)
+        let low = there w c online in
+        let y = record (cpu_of w c) { inside = true } in
+        record {
+          fit = turns.enters law w c i online;
+          play = λ p. (enter_plays law w c p online).in_play;
+          same = own_same w c y low;
+          online = own_online w c y low refl;
+        }
 
-    pub takes : (c d : ℕ) → InPlay (inside c) w → is_placed_in w.tree c ≡ true →
+    pub takes : (c d : ℕ) → InRun (inside c) w → is_placed_in w.tree c ≡ true →
         c < length w.cpus → can_be_taken w d ≡ true →
-        LeavesOnline (serving c d) w (step_rules.taken w c d)
+        LeavesOnline (inside c) (serving c d) w (step_rules.taken w c d)
     takes c d i placed low can =
-        leaves_online (serving c d) w (step_rules.taken w c d) s
-        (take_plays law w c d i placed low can) refl refl refl refl (λ e. refl)
+        let here = there w d (takeable w d can).online in
+        let y = record (cpu_of w d) { mark = Some c } in
+        record {
+          fit = turns.takes law w c d i placed low can;
+          play = λ p. (take_plays law w c d p placed low can).in_play;
+          same = own_same w d y here;
+          online = own_online w d y here refl;
+        }
 
-    module _ (r d : ℕ) (i : InPlay (serving r d) w) (low : d < length w.cpus) where
-      here : d < cpu_count s
-      here = let count = count_seen w in omega (arith, low, count)
+    -- A CPU IS LET GO
+    module _ (r d : ℕ) (i : InRun (serving r d) w) (low : d < length w.cpus) where
+      abbrev kind : WalkKind
+      kind = kinds.Remote (marker_of (cpu_of w d))
 
-      teller : Cpu
-      teller = record (cpu_at s d) { told = if has_group s d then next_of s d else NEVER }
+      abbrev told : CpuRecord
+      told = with_walk (cpu_of w d) (begins w d kind stages.LockGroup)
 
-      lets : LetsGoAlike → (b : Bool) → ((cpu_of w d).online && (cpu_of w d).idle) ≡ b →
-          LeavesOnline (inside r) w (let_go_by_steps w d)
-      lets lets_go true sleeps =
-          let parts = and_parts (cpu_of w d).online (cpu_of w d).idle sleeps in
-          leaves_online (inside r) w (let_go_by_steps w d) (told_again s d)
-          (lets_go w r d i parts.0 parts.1) refl refl refl (length-set s.cpus d _)
-          (λ e. written_alike s d _ here (λ (x : Cpu). x.online) refl e)
-      lets lets_go false awake =
-          subst (LeavesOnline (inside r) w) (sym (cond-false
-          ((cpu_of w d).online && (cpu_of w d).idle) _ (stepped w (steps.Release (cpu_id d)))
-          awake))
-          (leaves_online (inside r) w (stepped w (steps.Release (cpu_id d))) s
-          (release_plays r d i low awake law) refl refl refl refl (λ e. refl))
+      abbrev pub carried : World
+      carried = walked_out d (stepped w (steps.Carry (cpu_id d)))
 
-      pub lets_go : LetsGoAlike → LeavesOnline (inside r) w (let_go_by_steps w d)
-      lets_go alike = lets alike ((cpu_of w d).online && (cpu_of w d).idle) refl
+      pub carries : LetsGoAlike → (cpu_of w d).online ≡ true → (cpu_of w d).idle ≡ true →
+          goes_on (cpu_of carried d).walk ≡ false → LeavesOnline (serving r d) (inside r) w carried
+      carries alike online idle stop =
+          let began = law w (steps.Carry (cpu_id d)) i.lawful (may_carry w r d i online idle) in
+          let e : IsWalked w d kind told carried =
+          is_walked law w d low (run_lone (serving r d) w d i) kind told began
+          (begins_so _ kind stages.LockGroup _ _ told refl) stop in
+          let is = cond-true ((cpu_of w d).online && (cpu_of w d).idle) carried
+          (stepped w (steps.Release (cpu_id d))) (λ j. online j && idle j) in
+          record {
+            fit = walked_runs e (serving r d) (inside r) i (record {
+              bases = refl;
+              inside = i.inside d;
+              mark = refl;
+              insides = λ n ne. refl;
+              marks = λ n ne. sym (cond-false (n == d) (Some r) None (ne_eqb n d ne));
+              hands = λ n ne. refl;
+            }) (walk_gone (inside r) d kind (λ off. cc) refl (cpu_of carried d).walk e.walk);
+            play = λ p. subst (InPlay (inside r)) is (alike w r d p online idle).in_play;
+            same = walked_same e;
+            online = walked_online e refl;
+          }
 
-  module _ (r : ℕ) (i : InPlay (inside r) w) (low : r < length w.cpus) where
-    at : r < cpu_count s
-    at = let count = count_seen w in omega (arith, low, count)
+    -- THE END
+    module _ (c : ℕ) (i : InRun (inside c) w) (low : c < length w.cpus) where
+      abbrev again : CpuRecord
+      again = with_walk (cpu_of w c) (begins w c kinds.Reeval stages.LockGroup)
 
-    abbrev told : State
-    told = told_again s r
+      abbrev pub told_again : World
+      told_again = walked_out c (stepped w (steps.Reeval (cpu_id c)))
 
-    told_count : cpu_count told ≡ cpu_count s
-    told_count = length-set s.cpus r _
+      abbrev pub left : World
+      left = stepped w (steps.Leave (cpu_id c))
 
-    seen_count : cpu_count (reevaluated s r) ≡ cpu_count s
-    seen_count = length-set told.cpus r _ ∙ told_count
+      pub reevaluates : EndsAlike → (cpu_of w c).idle ≡ true →
+          goes_on (cpu_of told_again c).walk ≡ false →
+          LeavesOnline (inside c) resting w told_again
+      reevaluates alike idle stop =
+          let began = law w (steps.Reeval (cpu_id c)) i.lawful (may_reevaluate w c i idle) in
+          let e : IsWalked w c kinds.Reeval again told_again =
+          is_walked law w c low (run_lone (inside c) w c i) kinds.Reeval again began
+          (begins_so _ kinds.Reeval stages.LockGroup _ _ again refl) stop in
+          record {
+            fit = walked_runs e (inside c) resting i (record {
+              bases = refl;
+              inside = refl;
+              mark = i.marks c;
+              insides = λ n ne. sym (ne_eqb n c ne);
+              marks = λ n ne. refl;
+              hands = λ n ne. refl;
+            }) (walk_gone resting c kinds.Reeval (λ off. cc) refl (cpu_of told_again c).walk
+                e.walk);
+            play = λ p. subst (InPlay resting) (cond-true (cpu_of w c).idle told_again left idle)
+                (alike w c p).in_play;
+            same = walked_same e;
+            online = walked_online e refl;
+          }
 
-    stays : (e : ℕ) → (cpu_at (reevaluated s r) e).online ≡ (cpu_at s e).online
-    stays e =
-        written_alike told r (record (cpu_at told r) { wakeup = _ })
-        (let low = at in let count = told_count in omega (arith, low, count))
-        (λ (x : Cpu). x.online) refl e
-        ∙ written_alike s r _ at (λ (x : Cpu). x.online) refl e
-
-    pub ends : EndsAlike → LeavesOnline resting w (ended_by_steps w r)
-    ends alike =
-        let b = (cpu_at s r).idle in
-        leaves_online resting w (ended_by_steps w r) (ended s r) (alike w r i)
-        (of_either (λ (x : State). x.tree) b (reevaluated s r) s refl)
-        (of_either (λ (x : State). x.clock) b (reevaluated s r) s refl)
-        (of_either (λ (x : State). x.timers) b (reevaluated s r) s refl)
-        (of_either cpu_count b (reevaluated s r) s seen_count)
-        (λ e. of_either (λ (x : State). (cpu_at x e).online) b (reevaluated s r) s (stays e))
+      pub leaves : EndsAlike → (cpu_of w c).idle ≡ false → LeavesOnline (inside c) resting w left
+      leaves alike busy =
+          let y = record (cpu_of w c) { inside = false } in
+          record {
+            fit = leaves_run law w c i busy;
+            play = λ p. subst (InPlay resting) (cond-false (cpu_of w c).idle told_again left busy)
+                (alike w c p).in_play;
+            same = own_same w c y low;
+            online = own_online w c y low refl;
+          }

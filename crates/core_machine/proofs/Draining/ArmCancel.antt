@@ -1,4 +1,4 @@
--- a timer that is armed or cancelled in a core in play
+-- a timer that is armed or cancelled in a core in a run, or in play
 use Rattle.std.proofs.Common.{◌≡◌, ℕ, ◌+◌, ◌^◌, ◌<◌, length, Option, Some, None, refl, sym, ap, ◌∙◌}
 use Rattle.std.proofs.Common.{subst}
 use Rattle.std.specs.Prelude.{option_map}
@@ -18,20 +18,20 @@ use Rattle.core_world.specs.declared.step.Step.TheVariants as steps
 use Rattle.core_world.specs.Steps.{stepped}
 use Rattle.core_world.specs.World.{World, cpu_of}
 use Rattle.core_laws.specs.Laws.{StepsStayLawful}
-use Rattle.step_play.specs.Rules.Seen.{InPlay, resting, state_of}
+use Rattle.step_play.specs.Rules.Seen.{InPlay, InRun, resting, state_of}
 use Rattle.step_play.specs.Rules.StepRules.{armed_by_steps, cancelled_by_steps, step_rules}
-use Rattle.step_play.proofs.Acts.{arm_is, arm_plays, cancel_is, cancel_plays, filled}
-use Rattle.step_play.proofs.Acts.{may_arm, may_cancel}
+use Rattle.step_play.proofs.Acts.{arm_is, arm_plays, arm_stays, cancel_is, cancel_plays}
+use Rattle.step_play.proofs.Acts.{cancel_stays, filled, may_arm, may_cancel}
 use Rattle.step_play.proofs.Drains.{Rebases}
 use Rattle.step_play.proofs.Held.{bases_seen}
-use Rattle.step_play.proofs.Worlds.{bare, free_in}
+use Rattle.step_play.proofs.Worlds.{free_in}
 use Rattle.core_machine.proofs.Draining.Enabling.{Arms, arms_in}
 use Rattle.core_machine.proofs.Draining.Sames.{rebased_online, rebased_same}
 
 module _ (law : StepsStayLawful) (w : World) (c : ℕ) (a : Arming) (low : c < length w.cpus)
     (known : a.timer.0 < w.timers) (short : a.delay < 2 ^ 32)
     (early : w.clock < SCRIPT_TIME_LIMIT) (none : queued_on (state_of w) a.timer.0 ≡ None)
-    (fits : FitsSome InPlay (λ ph. MayArmIn step_rules w ph c) w)
+    (fits : FitsSome InRun (λ ph. MayArmIn step_rules w ph c) w)
     (n : ℕ) (at : n ≡ w.clock + a.delay) where
   here : Arms w c
   here = arms_in w c low fits.phase fits.allowed fits.fit
@@ -65,8 +65,13 @@ module _ (law : StepsStayLawful) (w : World) (c : ℕ) (a : Arming) (low : c < l
     pub arm_state : v ≡ (armed_by_steps w c a).state
     arm_state = made ∙ ap (λ e. stepped w (arming_at e)) at
 
-    pub arm_fits : StaysFit InPlay (λ ph. MayArmIn step_rules w ph c) w v
+    pub arm_fits : StaysFit InRun (λ ph. MayArmIn step_rules w ph c) w v
     arm_fits ph allowed i =
+        subst (InRun ph) (sym arm_state)
+        (arm_stays law ph w i c a here.free here.online here.may known short early none)
+
+    pub arm_in_play : StaysFit InPlay (λ ph. MayArmIn step_rules w ph c) w v
+    arm_in_play ph allowed i =
         subst (InPlay ph) (sym arm_state)
         (arm_plays law ph w i c a here.free here.online here.may known short early none).in_play
 
@@ -86,9 +91,9 @@ module _ (law : StepsStayLawful) (w : World) (home : CpuId) (a : Cancelling)
     (low : home.0 < length w.cpus) (by : a.by.0 < length w.cpus)
     (queued : option_map (λ (held : Queued). held.cpu) (queued_on (state_of w) a.timer.0)
     ≡ Some home)
-    (i : InPlay resting w) where
+    (i : InRun resting w) where
   abbrev free : (c : ℕ) → c < length w.cpus → IsFree w c
-  free c at = free_in resting w c (bare resting w i) refl at
+  free c at = free_in resting w c i refl at
 
   cancels : (X : CpuId → Type 0) → ((held : Queued) → queued_on (state_of w) a.timer.0 ≡ Some held →
       IsFree w held.cpu.0 → X held.cpu) → X home
@@ -102,10 +107,15 @@ module _ (law : StepsStayLawful) (w : World) (home : CpuId) (a : Cancelling)
       cancels (λ c. MayCancel w c.0 a.timer.0) (λ held is at.
       may_cancel law resting w i a held is at by)
 
-  pub cancel_fits : InPlay resting (cancelled_by_steps w home.0 a)
+  pub cancel_fits : InRun resting (cancelled_by_steps w home.0 a)
   cancel_fits =
+      cancels (λ c. InRun resting (cancelled_by_steps w c.0 a)) (λ held is at.
+      cancel_stays law resting w i a held is at by)
+
+  pub cancel_in_play : InPlay resting w → InPlay resting (cancelled_by_steps w home.0 a)
+  cancel_in_play p =
       cancels (λ c. InPlay resting (cancelled_by_steps w c.0 a)) (λ held is at.
-      (cancel_plays law resting w i a held is at by).in_play)
+      (cancel_plays law resting w p a held is at by).in_play)
 
   pub cancel_same : Same step_rules w (cancelled_by_steps w home.0 a)
   cancel_same =

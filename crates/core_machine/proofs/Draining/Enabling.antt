@@ -8,14 +8,14 @@ use Rattle.play_rules.specs.Phases.{MayArmIn, MayDrain, Phase, handing, inside, 
 use Rattle.play_rules.specs.Phases.{serving}
 use Rattle.core_world.specs.Enabled.{IsFree}
 use Rattle.core_world.specs.World.{World, cpu_of, is_active}
-use Rattle.step_play.specs.Rules.Seen.{InPlay}
+use Rattle.step_play.specs.Rules.Seen.{InRun}
 use Rattle.step_play.specs.Rules.StepRules.{step_rules}
 use Rattle.step_play.proofs.Hotplug.{runs}
-use Rattle.step_play.proofs.Worlds.{bare, free_in}
+use Rattle.step_play.proofs.Worlds.{free_in}
 use Rattle.core_machine.specs.Draining.Turns.{Drains}
 
 -- whoever is in its interrupt is online
-pub inside_online : (ph : Phase) (w : World) (c : ℕ) → InPlay ph w → (cpu_of w c).inside ≡ true →
+pub inside_online : (ph : Phase) (w : World) (c : ℕ) → InRun ph w → (cpu_of w c).inside ≡ true →
     (cpu_of w c).online ≡ true
 inside_online ph w c i within = elim (cases_Bool (cpu_of w c).online) [
   | inl online ↦ online
@@ -30,38 +30,38 @@ pub record Arms (w : World) (c : ℕ) : Type 0 where
   pub may : (is_active (cpu_of w c) ≡ true) ⊎ ((cpu_of w c).inside ≡ true)
 
 module _ (w : World) (c : ℕ) (low : c < length w.cpus) where
-  arms_inside : (ph : Phase) → InPlay ph w → IsFree w c → (cpu_of w c).inside ≡ true → Arms w c
+  arms_inside : (ph : Phase) → InRun ph w → IsFree w c → (cpu_of w c).inside ≡ true → Arms w c
   arms_inside ph i free within = record {
     free = free;
     online = inside_online ph w c i within;
     may = inr within;
   }
 
-  pub arms_in : (ph : Phase) → MayArmIn step_rules w ph c → InPlay ph w → Arms w c
+  pub arms_in : (ph : Phase) → MayArmIn step_rules w ph c → InRun ph w → Arms w c
   arms_in resting up i = record {
-    free = free_in resting w c (bare resting w i) refl low;
+    free = free_in resting w c i refl low;
     online = up.online;
     may = inl (runs w c up.online up.idles);
   }
   arms_in (inside r) same i =
-      arms_inside (inside r) i (free_in (inside r) w c (bare (inside r) w i) refl low)
+      arms_inside (inside r) i (free_in (inside r) w c i refl low)
       (i.inside c ∙ eq-eqb c r same)
   arms_in (serving r d) same i =
-      arms_inside (serving r d) i (free_in (serving r d) w c (bare (serving r d) w i) refl low)
+      arms_inside (serving r d) i (free_in (serving r d) w c i refl low)
       (i.inside c ∙ eq-eqb c r same)
   arms_in (handing h) none i = absurd none
 
 -- WHO DRAINS
 module _ (w : World) (home : ℕ) (class : Class) (runner : ℕ) (low : home < length w.cpus) where
-  pub drains_in : (ph : Phase) → MayDrain ph home class runner → InPlay ph w →
+  pub drains_in : (ph : Phase) → MayDrain ph home class runner → InRun ph w →
       Drains w home class runner
   drains_in resting none i = absurd none
   drains_in (inside r) own i = record {
-    free = free_in (inside r) w home (bare (inside r) w i) refl low;
+    free = free_in (inside r) w home i refl low;
     may = inl (own.1 ∙ sym own.0, i.inside home ∙ eq-eqb home r own.0);
   }
   drains_in (serving r d) other i = record {
-    free = free_in (serving r d) w home (bare (serving r d) w i) refl low;
+    free = free_in (serving r d) w home i refl low;
     may = inr (
       other.1,
       i.marks home ∙ (cond-true (home == d) (Some r) None

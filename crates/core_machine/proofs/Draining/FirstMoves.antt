@@ -17,11 +17,11 @@ use Rattle.core_world.specs.Steps.{first_moved, stepped}
 use Rattle.core_world.specs.World.{World, cpu_of, is_active}
 use Rattle.core_laws.specs.Laws.{StepsStayLawful}
 use Rattle.core_state.specs.Moves.{wheel_in, wheel_moved}
-use Rattle.step_play.specs.Rules.Seen.{InPlay, resting}
+use Rattle.step_play.specs.Rules.Seen.{InPlay, InRun, resting}
 use Rattle.step_play.specs.Rules.StepRules.{moved_by_steps, step_rules}
 use Rattle.step_play.proofs.Hotplug.{runs}
 use Rattle.step_play.proofs.Moves.{first_alike, may_move, move_idle, move_online, move_plays}
-use Rattle.step_play.proofs.Moves.{move_wheel}
+use Rattle.step_play.proofs.Moves.{move_stays, move_wheel}
 use Rattle.core_machine.specs.Draining.Turns.{mover_at, timer_of}
 use Rattle.core_machine.proofs.Draining.Sames.{moved_same}
 
@@ -44,7 +44,7 @@ module _ (w : World) (from : ℕ) (t : TimerId) where
   pub found_first : Some t ≡ option_map timer_of (first_to_move (cpu_of w from).bases) → Found
   found_first is = found_by (first_to_move (cpu_of w from).bases) refl is
 
-module _ (law : StepsStayLawful) (w : World) (i : InPlay resting w) (from to : ℕ)
+module _ (law : StepsStayLawful) (w : World) (i : InRun resting w) (from to : ℕ)
     (low : from < length w.cpus) (offline : (cpu_of w from).online ≡ false)
     (placed : is_placed_in w.tree to ≡ true) (up : IsUp step_rules w to false) (t : TimerId)
     (is : Some t ≡ option_map timer_of (first_to_move (cpu_of w from).bases)) where
@@ -62,9 +62,12 @@ module _ (law : StepsStayLawful) (w : World) (i : InPlay resting w) (from to : �
   abbrev v : World
   v = stepped w (steps.Move (record { 0 = from }) (record { 0 = to }) t)
 
-  pub move_fits : InPlay resting v
-  move_fits =
-      (move_plays law w i from to low offline placed active f.found.0 f.found.1 f.first).in_play
+  pub move_fits : InRun resting v
+  move_fits = move_stays law w i from to low offline placed active f.found.0 f.found.1 f.first
+
+  pub move_in_play : InPlay resting w → InPlay resting v
+  move_in_play p =
+      (move_plays law w p from to low offline placed active f.found.0 f.found.1 f.first).in_play
 
   pub move_same : Same step_rules w v
   move_same = moved_same w from to (first_moved (cpu_of w from).bases)

@@ -4,7 +4,7 @@ ghost use Rattle.std.specs.Prelude.{◌≡◌, ◌<◌, IfOk, None, OnErr, OnOk,
 ghost use Rattle.tm_base.specs.declared.limits.TheConstants.{SCRIPT_TIME_LIMIT};
 ghost use Rattle.play_rules.specs.Machines.{Same, SameOnline};
 ghost use Rattle.play_rules.specs.Phases.{FitsSome, MayArmIn, StaysFit};
-ghost use Rattle.step_play.specs.Rules.Seen.{InPlay, resting};
+ghost use Rattle.step_play.specs.Rules.Seen.{InPlay, InRun, resting};
 ghost use Rattle.step_play.specs.Rules.StepRules.{step_rules};
 
 use core_laws::law_step;
@@ -20,8 +20,10 @@ pub fn arm<B: TimerBase>(core: &mut Core<B>, cpu: CpuId, arming: Arming) -> Resu
     requires timer { arming.timer.0 < step_rules.timers core.old }
     requires not_queued { step_rules.queued core.old arming.timer.0 ≡ None }
     requires in_time { step_rules.clock core.old < SCRIPT_TIME_LIMIT }
-    requires fit { FitsSome InPlay (λ ph. MayArmIn step_rules core.old ph cpu.0) core.old }
+    requires fit { FitsSome InRun (λ ph. MayArmIn step_rules core.old ph cpu.0) core.old }
     ensures fit { OnOk result
+        (StaysFit InRun (λ ph. MayArmIn step_rules core.old ph cpu.0) core.old core.new) }
+    ensures play { OnOk result
         (StaysFit InPlay (λ ph. MayArmIn step_rules core.old ph cpu.0) core.old core.new) }
     ensures wheel { IfOk result
         (λ wheel. wheel ≡ (step_rules.armed core.old cpu.0 arming).wheel) }
@@ -55,8 +57,9 @@ pub fn cancel<B: TimerBase>(
     requires by { cancelling.by.0 < step_rules.cpus core.old }
     requires queued { option_map (λ held. held.cpu)
         (step_rules.queued core.old cancelling.timer.0) ≡ Some home }
-    requires fit { InPlay resting core.old }
-    ensures fit { OnOk result (InPlay resting core.new) }
+    requires fit { InRun resting core.old }
+    ensures fit { OnOk result (InRun resting core.new) }
+    ensures play { OnOk result (InPlay resting core.old → InPlay resting core.new) }
     ensures state { OnOk result (core.new ≡ step_rules.cancelled core.old home.0 cancelling) }
     ensures same { OnOk result (Same step_rules core.old core.new) }
     ensures err { OnErr result (core.new ≡ core.old) }

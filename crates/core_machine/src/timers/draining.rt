@@ -9,7 +9,7 @@ ghost use Rattle.core_world.specs.World.{cpu_of};
 ghost use Rattle.play_rules.specs.Machines.{IsTimerOf, Same, SameOnline};
 ghost use Rattle.play_rules.specs.Phases.{FitsSome, MayDrain, StaysFit};
 ghost use Rattle.play_rules.specs.Timers.{item_then};
-ghost use Rattle.step_play.specs.Rules.Seen.{InPlay};
+ghost use Rattle.step_play.specs.Rules.Seen.{InPlay, InRun};
 ghost use Rattle.step_play.specs.Rules.StepRules.{items_due, step_rules};
 ghost use Rattle.core_machine.specs.Draining.Turns.{DrainedSome, Drains, handed_next};
 
@@ -87,8 +87,10 @@ pub fn drain<B: TimerBase>(
 ) -> Result<Vec<Item>, NoMemory>
     requires home { home.0 < step_rules.cpus core.old }
     requires runner { runner.0 < step_rules.cpus core.old }
-    requires fit { FitsSome InPlay (λ ph. MayDrain ph home.0 class runner.0) core.old }
+    requires fit { FitsSome InRun (λ ph. MayDrain ph home.0 class runner.0) core.old }
     ensures fit { OnOk result
+        (StaysFit InRun (λ ph. MayDrain ph home.0 class runner.0) core.old core.new) }
+    ensures play { OnOk result
         (StaysFit InPlay (λ ph. MayDrain ph home.0 class runner.0) core.old core.new) }
     ensures items { IfOk result
         (λ out. out.items ≡ (step_rules.drained core.old home.0 class runner.0).items) }

@@ -7,7 +7,7 @@ ghost use Rattle.play_rules.specs.Machines.{Same, SameFlags, after_move};
 ghost use Rattle.play_rules.specs.Phases.{IsUp};
 ghost use Rattle.play_rules.specs.Timers.{first_to_move};
 ghost use Rattle.core_world.specs.World.{cpu_of};
-ghost use Rattle.step_play.specs.Rules.Seen.{InPlay, resting};
+ghost use Rattle.step_play.specs.Rules.Seen.{InPlay, InRun, resting};
 ghost use Rattle.step_play.specs.Rules.StepRules.{step_rules};
 ghost use Rattle.core_machine.specs.Draining.Turns.{mover_at, timer_of};
 
@@ -53,8 +53,9 @@ pub fn move_first<B: TimerBase>(
     requires offline { step_rules.is_online core.old from.0 ≡ false }
     requires placed { step_rules.is_placed core.old to.0 ≡ true }
     requires active { IsUp step_rules core.old to.0 false }
-    requires fit { InPlay resting core.old }
-    ensures fit { OnOk result (InPlay resting core.new) }
+    requires fit { InRun resting core.old }
+    ensures fit { OnOk result (InRun resting core.new) }
+    ensures play { OnOk result (InPlay resting core.old → InPlay resting core.new) }
     ensures moved { IfOk result (λ mover. mover
         ≡ option_map (λ m. m.mover) (step_rules.moved core.old from.0 to.0)) }
     ensures state { OnOk result

@@ -3,7 +3,7 @@
 ghost use Rattle.std.specs.Prelude.{◌≡◌, ◌<◌, ◌&&◌, length, true};
 ghost use Rattle.core_world.specs.World.{cpu_of};
 ghost use Rattle.play_rules.specs.Machines.{Same, SameOnline};
-ghost use Rattle.step_play.specs.Rules.Seen.{InPlay, inside, resting, serving};
+ghost use Rattle.step_play.specs.Rules.Seen.{InPlay, InRun, inside, resting, serving};
 ghost use Rattle.step_play.specs.Rules.StepRules.{step_rules};
 
 use crate::walks::{carry, make, reevaluate};
@@ -35,8 +35,9 @@ fn is_idle<B: TimerBase>(core: &Core<B>, cpu: CpuId) -> bool
 pub fn enter<B: TimerBase>(core: &mut Core<B>, cpu: CpuId)
     requires cpu { cpu.0 < step_rules.cpus core.old }
     requires online { step_rules.is_online core.old cpu.0 ≡ true }
-    requires fit { InPlay resting core.old }
-    ensures fit { InPlay (inside cpu.0) core.new }
+    requires fit { InRun resting core.old }
+    ensures fit { InRun (inside cpu.0) core.new }
+    ensures play { InPlay resting core.old → InPlay (inside cpu.0) core.new }
     ensures state { core.new ≡ step_rules.entered core.old cpu.0 }
     ensures same { Same step_rules core.old core.new }
     ensures online { SameOnline step_rules core.old core.new }
@@ -51,8 +52,9 @@ pub fn take<B: TimerBase>(core: &mut Core<B>, cpu: CpuId, other: CpuId)
     requires other { other.0 < step_rules.cpus core.old }
     requires placed { step_rules.is_placed core.old cpu.0 ≡ true }
     requires takes { step_rules.takes core.old cpu.0 other.0 ≡ true }
-    requires fit { InPlay (inside cpu.0) core.old }
-    ensures fit { InPlay (serving cpu.0 other.0) core.new }
+    requires fit { InRun (inside cpu.0) core.old }
+    ensures fit { InRun (serving cpu.0 other.0) core.new }
+    ensures play { InPlay (inside cpu.0) core.old → InPlay (serving cpu.0 other.0) core.new }
     ensures state { core.new ≡ step_rules.taken core.old cpu.0 other.0 }
     ensures same { Same step_rules core.old core.new }
     ensures online { SameOnline step_rules core.old core.new }
@@ -72,8 +74,9 @@ pub fn take<B: TimerBase>(core: &mut Core<B>, cpu: CpuId, other: CpuId)
 pub fn let_go<B: TimerBase>(core: &mut Core<B>, cpu: CpuId, other: CpuId)
     requires cpu { cpu.0 < step_rules.cpus core.old }
     requires other { other.0 < step_rules.cpus core.old }
-    requires fit { InPlay (serving cpu.0 other.0) core.old }
-    ensures fit { InPlay (inside cpu.0) core.new }
+    requires fit { InRun (serving cpu.0 other.0) core.old }
+    ensures fit { InRun (inside cpu.0) core.new }
+    ensures play { InPlay (serving cpu.0 other.0) core.old → InPlay (inside cpu.0) core.new }
     ensures state { core.new ≡ step_rules.let_go core.old cpu.0 other.0 }
     ensures same { Same step_rules core.old core.new }
     ensures online { SameOnline step_rules core.old core.new }
@@ -90,8 +93,9 @@ pub fn let_go<B: TimerBase>(core: &mut Core<B>, cpu: CpuId, other: CpuId)
 /// A CPU ends its interrupt; where it is idle it re-evaluates before.
 pub fn end<B: TimerBase>(core: &mut Core<B>, cpu: CpuId)
     requires cpu { cpu.0 < step_rules.cpus core.old }
-    requires fit { InPlay (inside cpu.0) core.old }
-    ensures fit { InPlay resting core.new }
+    requires fit { InRun (inside cpu.0) core.old }
+    ensures fit { InRun resting core.new }
+    ensures play { InPlay (inside cpu.0) core.old → InPlay resting core.new }
     ensures state { core.new ≡ step_rules.ended core.old cpu.0 }
     ensures same { Same step_rules core.old core.new }
     ensures online { SameOnline step_rules core.old core.new }

@@ -27,7 +27,7 @@ use Rattle.core_facts.specs.Cover.Rest.{HasActive, LeadsDown}
 use Rattle.core_facts.proofs.Cover.Climbing.{parent_next}
 use Rattle.core_facts.proofs.Cover.Leading.{leads, some_of, taken_care_of}
 use Rattle.step_play.specs.Rules.Alone.{goes_on, is_handing}
-use Rattle.step_play.specs.Rules.Seen.{InPlay, Phase, WalkFits}
+use Rattle.step_play.specs.Rules.Seen.{InRun, Phase, WalkFits}
 
 handing_is : (st : Stage) → is_handing st ≡ true → st ≡ stages.Handing
 handing_is stages.Handing e = refl
@@ -64,8 +64,8 @@ still ph c (Some k) fits = ap (λ st. cond (is_handing st) false true) fits.1
 abbrev pub IsCalm : World → Type 0
 IsCalm w = (d : ℕ) → goes_on (cpu_of w d).walk ≡ false
 
-pub play_calm : (ph : Phase) (w : World) → InPlay ph w → IsCalm w
-play_calm ph w i d = still ph d (cpu_of w d).walk (i.walks d)
+pub run_calm : (ph : Phase) (w : World) → InRun ph w → IsCalm w
+run_calm ph w i d = still ph d (cpu_of w d).walk (i.walks d)
 
 no_edge : (m : Option Walk) → goes_on m ≡ false → edge_of (option_map forget m) ≡ None
 no_edge None e = refl

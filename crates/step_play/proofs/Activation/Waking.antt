@@ -19,7 +19,7 @@ use Rattle.step_play.specs.Rules.Alike.{ComesAlike, Plays, WakesAlike}
 use Rattle.step_play.specs.Rules.Seen.{InPlay, Phase, cpu_seen, resting, state_of}
 use Rattle.step_play.specs.Rules.StepRules.{come_by_steps, woken_by_steps}
 use Rattle.step_play.proofs.Activation.Ascents.{Arrived}
-use Rattle.step_play.proofs.Activation.Calm.{play_calm}
+use Rattle.step_play.proofs.Activation.Calm.{run_calm}
 use Rattle.step_play.proofs.Activation.Seeing.{cpus_seen, seen_at, with_else, with_same}
 use Rattle.step_play.proofs.Activation.Starting.{arrives}
 use Rattle.step_play.proofs.Activation.Woken.{IsAwake, sees_woken, stays_in_play}
@@ -37,9 +37,10 @@ module _ (law : StepsStayLawful) (all_paths : (t : Shape) → IsPlanned t → Pa
     }
 
     wake_arrives : Arrived w c (with_walk woken_cpu None) (woken_by_steps w c)
-    wake_arrives = arrives law w c woken_cpu may.is_free.in_range i.lawful
-        (all_paths w.tree i.planned)
-        (play_calm ph w i) i.exact refl (law w (steps.Wake (record { 0 = c })) i.lawful may)
+    wake_arrives = arrives law w c woken_cpu may.is_free.in_range i.in_run.lawful
+        (all_paths w.tree i.in_run.planned)
+        (run_calm ph w i.in_run) i.exact refl
+        (law w (steps.Wake (record { 0 = c })) i.in_run.lawful may)
 
     wakes_up : IsAwake w c (with_walk woken_cpu None)
     wakes_up = record {
@@ -60,7 +61,8 @@ module _ (law : StepsStayLawful) (all_paths : (t : Shape) → IsPlanned t → Pa
           i;
       state = sees_woken w c (with_walk woken_cpu None) (woken_by_steps w c) wake_arrives
           wakes_up ph i
-          (all_paths w.tree i.planned) (all_below w.tree i.planned) (state_of w).cpus (cpus_seen w)
+          (all_paths w.tree i.in_run.planned) (all_below w.tree i.in_run.planned)
+          (state_of w).cpus (cpus_seen w)
           (λ d low. ap (λ (v : Cpu). v.online && not v.idle) (seen_at w d low))
           (λ d ne low. seen_at w d low)
           (ap (λ (v : Cpu). v.online) (seen_at w c may.is_free.in_range) ∙ may.online)
@@ -78,9 +80,10 @@ module _ (law : StepsStayLawful) (all_paths : (t : Shape) → IsPlanned t → Pa
     }
 
     comes_arrives : Arrived w c (with_walk new_cpu None) (come_by_steps w c)
-    comes_arrives = arrives law w c new_cpu may.is_free.in_range i.lawful
-        (all_paths w.tree i.planned)
-        (play_calm resting w i) i.exact refl (law w (steps.Online (record { 0 = c })) i.lawful may)
+    comes_arrives = arrives law w c new_cpu may.is_free.in_range i.in_run.lawful
+        (all_paths w.tree i.in_run.planned)
+        (run_calm resting w i.in_run) i.exact refl
+        (law w (steps.Online (record { 0 = c })) i.in_run.lawful may)
 
     comes_up : IsAwake w c (with_walk new_cpu None)
     comes_up = record {
@@ -88,7 +91,7 @@ module _ (law : StepsStayLawful) (all_paths : (t : Shape) → IsPlanned t → Pa
       free = may.is_free.free;
       online = refl;
       idle = refl;
-      wakeup = i.lawful.no_wakeup c (inl may.offline);
+      wakeup = i.in_run.lawful.no_wakeup c (inl may.offline);
       bases = refl;
       inside = refl;
       mark = refl;
@@ -115,7 +118,7 @@ module _ (law : StepsStayLawful) (all_paths : (t : Shape) → IsPlanned t → Pa
     -- as long as it is idle it isn't active
     idle_yet : made_online.idle ≡ true
     idle_yet = ap (λ (v : Cpu). v.idle) (seen_at w c may.is_free.in_range)
-        ∙ (i.lawful.off_at_rest c may.offline).idle
+        ∙ (i.in_run.lawful.off_at_rest c may.offline).idle
 
     active : (d : ℕ) → d < length w.cpus → play.is_active s d ≡ is_active (cpu_of w d)
     active d low = elim (cases_eq d c) [
@@ -133,7 +136,8 @@ module _ (law : StepsStayLawful) (all_paths : (t : Shape) → IsPlanned t → Pa
           resting i;
       state = sees_woken w c (with_walk new_cpu None) (come_by_steps w c) comes_arrives
           comes_up resting i
-          (all_paths w.tree i.planned) (all_below w.tree i.planned) s.cpus count active others
+          (all_paths w.tree i.in_run.planned) (all_below w.tree i.in_run.planned)
+          s.cpus count active others
           (ap (λ (v : Cpu). v.online) itself)
           (ap (λ (v : Cpu). v.bases) itself
           ∙ ap (λ (v : Cpu). v.bases) (seen_at w c may.is_free.in_range));

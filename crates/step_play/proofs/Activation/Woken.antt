@@ -23,7 +23,7 @@ use Rattle.step_play.specs.Rules.Seen.{InPlay, Phase, WalkFits, cpu_seen, state_
 use Rattle.step_play.proofs.Activation.Actives.{group_from, group_to}
 use Rattle.step_play.proofs.Activation.Alongside.{role}
 use Rattle.step_play.proofs.Activation.Ascents.{Arrived}
-use Rattle.step_play.proofs.Activation.Calm.{active_below, play_calm}
+use Rattle.step_play.proofs.Activation.Calm.{active_below, run_calm}
 use Rattle.step_play.proofs.Activation.Seeing.{migrator_seen, rule_at, rule_count, seen_as, with_count}
 use Rattle.step_play.proofs.Activation.Seeing.{with_else, with_same}
 
@@ -51,23 +51,25 @@ module _ (old : World) (c : ℕ) (y : CpuRecord) (w : World) (e : Arrived old c 
 
   pub stays_in_play : InPlay ph w
   stays_in_play = record {
-    lawful = e.along.lawful;
-    planned = subst IsPlanned (sym e.along.tree) i.planned;
+    in_run = record {
+      lawful = e.along.lawful;
+      planned = subst IsPlanned (sym e.along.tree) i.in_run.planned;
+      whole = λ d class. subst (λ b. NoneBehind (base_of class b))
+          (sym (each (λ v. v.bases) (λ v. refl) z.bases d)) (i.in_run.whole d class);
+      inside = λ d. each (λ v. v.inside) (λ v. refl) z.inside d ∙ i.in_run.inside d;
+      marks = λ d. each (λ v. v.mark) (λ v. refl) z.mark d ∙ i.in_run.marks d;
+      walks = λ d. elim (cases_eq d c) [
+        | inl is ↦ subst (λ n. WalkFits ph n (cpu_of w n).walk) (sym is)
+            (subst (WalkFits ph c) (z.free ∙ sym e.stops) (i.in_run.walks c))
+        | inr ne ↦ subst (λ (v : CpuRecord). WalkFits ph d v.walk) (sym (e.along.others d ne))
+            (i.in_run.walks d)
+      ];
+    };
     exact = e.exact;
     told = λ d awake. elim (cases_eq d c) [
       | inl is ↦ subst (λ n. told_by w n ≡ NEVER) (sym is) e.own
       | inr ne ↦ e.along.told d ne ∙ i.told d
           (sym (ap (λ (v : CpuRecord). v.online && v.idle) (e.along.others d ne)) ∙ awake)
-    ];
-    whole = λ d class. subst (λ b. NoneBehind (base_of class b))
-        (sym (each (λ v. v.bases) (λ v. refl) z.bases d)) (i.whole d class);
-    inside = λ d. each (λ v. v.inside) (λ v. refl) z.inside d ∙ i.inside d;
-    marks = λ d. each (λ v. v.mark) (λ v. refl) z.mark d ∙ i.marks d;
-    walks = λ d. elim (cases_eq d c) [
-      | inl is ↦ subst (λ n. WalkFits ph n (cpu_of w n).walk) (sym is)
-          (subst (WalkFits ph c) (z.free ∙ sym e.stops) (i.walks c))
-      | inr ne ↦ subst (λ (v : CpuRecord). WalkFits ph d v.walk) (sym (e.along.others d ne))
-          (i.walks d)
     ];
   }
 
@@ -103,7 +105,7 @@ module _ (old : World) (c : ℕ) (y : CpuRecord) (w : World) (e : Arrived old c 
       woken_role g false a apart is = migrator_seen old g ∙ sym (off_path g (λ j low at.
           true≢false (sym ((below.tested_below c g).1 (j, at)) ∙ apart)))
       woken_role g true true under is =
-          let on = (active_below old i.lawful (play_calm ph old i) c g
+          let on = (active_below old i.in_run.lawful (run_calm ph old i.in_run) c g
           ((below.tested_below c g).0 under)).1 (group_from old below cpus count active g is) in
           migrator_seen old g ∙ sym (off_path g (λ j low at.
           true≢false (sym on ∙ ap is_some (e.made.was j g low (on_path j g at)))))
@@ -115,7 +117,8 @@ module _ (old : World) (c : ℕ) (y : CpuRecord) (w : World) (e : Arrived old c 
                 ∙ ap (λ t. Some (side t c l)) e.along.tree)
             | inr high ↦
                 let on = e.over l g (omega arith) (on_path l g at) in
-                let some = (active_below old i.lawful (play_calm ph old i) c g (l, at)).0 on in
+                let some =
+                (active_below old i.in_run.lawful (run_calm ph old i.in_run) c g (l, at)).0 on in
                 absurd (true≢false (sym (group_to old below cpus count active g some) ∙ is))
           ]
 
@@ -167,7 +170,7 @@ module _ (old : World) (c : ℕ) (y : CpuRecord) (w : World) (e : Arrived old c 
 
         pub sees_woken : state_of w ≡ woken s c
         sees_woken =
-            let sized = i.lawful.sized.groups in
+            let sized = i.in_run.lawful.sized.groups in
             let all = e.along.groups in
             seen_as w (woken s c) (sym e.along.clock) (sym e.along.timers) (sym e.along.tree)
             (with_count rising c awake ∙ (count ∙ sym e.along.cpus))

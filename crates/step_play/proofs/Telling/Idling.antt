@@ -36,7 +36,7 @@ module _ (laws : StepsStayLawful) (w : World) (c : ℕ) (i : InPlay resting w) (
     e : IsDone w c z kinds.Deactivate v
     e =
         let events = events_of (cpu_of w c).bases in
-        let began = laws w (steps.Idle (record { 0 = c })) i.lawful may in
+        let began = laws w (steps.Idle (record { 0 = c })) i.in_run.lawful may in
         done i (λ d. refl) laws c may.is_free.in_range z began kinds.Deactivate
         (λ act. cc) stages.Read
         (inl refl) events.pin events.next refl
@@ -48,8 +48,8 @@ module _ (laws : StepsStayLawful) (w : World) (c : ℕ) (i : InPlay resting w) (
     in_play = stays_in_play i (λ d. refl) e resting (record {
       told = λ off. absurd (true≢false (sym (ap (λ b. b && true) online) ∙ off));
       bases = refl;
-      inside = i.inside c;
-      mark = i.marks c;
+      inside = i.in_run.inside c;
+      mark = i.in_run.marks c;
       walk = refl;
       insides = λ d ne. refl;
       marks = λ d ne. refl;

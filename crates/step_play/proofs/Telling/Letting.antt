@@ -19,14 +19,15 @@ use Rattle.core_world.specs.Steps.{begins, marker_of, stepped, with_walk}
 use Rattle.core_world.specs.World.{CpuRecord, World, cpu_of, no_cpu, own}
 use Rattle.step_play.specs.Rules.Alike.{LetsGoAlike, Plays}
 use Rattle.step_play.specs.Rules.Alone.{walked_out}
-use Rattle.step_play.specs.Rules.Seen.{InPlay, inside, serving, state_of}
+use Rattle.step_play.specs.Rules.Seen.{InPlay, InRun, inside, serving, state_of}
 use Rattle.step_play.specs.Rules.StepRules.{let_go_by_steps}
 use Rattle.step_play.proofs.Activation.Seeing.{cpus_seen, seen_at, with_same}
 use Rattle.step_play.proofs.Telling.Ending.{IsDone}
 use Rattle.step_play.proofs.Telling.Playing.{done, made_once, no_walk, seen_kept, stays_in_play, told_is}
 use Rattle.step_play.proofs.Telling.Seeing.{IsMade}
 
-module _ (laws : StepsStayLawful) (w : World) (r c : ℕ) (i : InPlay (serving r c) w)
+-- who may carry
+module _ (w : World) (r c : ℕ) (i : InRun (serving r c) w)
     (online : (cpu_of w c).online ≡ true) (idle : (cpu_of w c).idle ≡ true) where
   low : c < length w.cpus
   low = elim (cases_lt c (length w.cpus)) [
@@ -34,15 +35,6 @@ module _ (laws : StepsStayLawful) (w : World) (r c : ℕ) (i : InPlay (serving r
     | inr past ↦ absurd (true≢false (sym online
         ∙ ap (λ (x : CpuRecord). x.online) (get_or_past w.cpus c no_cpu past)))
   ]
-
-  abbrev kind : WalkKind
-  kind = kinds.Remote (marker_of (cpu_of w c))
-
-  abbrev z : CpuRecord
-  z = with_walk (cpu_of w c) (begins w c kind stages.LockGroup)
-
-  abbrev v : World
-  v = walked_out c (own w c z)
 
   pub may_carry : MayCarry w c
   may_carry = record {
@@ -55,18 +47,33 @@ module _ (laws : StepsStayLawful) (w : World) (r c : ℕ) (i : InPlay (serving r
     idle = idle;
   }
 
+module _ (laws : StepsStayLawful) (w : World) (r c : ℕ) (i : InPlay (serving r c) w)
+    (online : (cpu_of w c).online ≡ true) (idle : (cpu_of w c).idle ≡ true) where
+  abbrev kind : WalkKind
+  kind = kinds.Remote (marker_of (cpu_of w c))
+
+  abbrev z : CpuRecord
+  z = with_walk (cpu_of w c) (begins w c kind stages.LockGroup)
+
+  abbrev v : World
+  v = walked_out c (own w c z)
+
+  there : c < length w.cpus
+  there = low w r c i.in_run online idle
+
   e : IsDone w c z kind v
   e =
       let events = events_of (cpu_of w c).bases in
-      let began = laws w (steps.Carry (record { 0 = c })) i.lawful may_carry in
-      done i (λ d. refl) laws c low z began kind (λ act. cc) stages.LockGroup (inr refl) events.pin
-      events.next refl
+      let may = may_carry w r c i.in_run online idle in
+      let began = laws w (steps.Carry (record { 0 = c })) i.in_run.lawful may in
+      done i (λ d. refl) laws c there z began kind (λ act. cc) stages.LockGroup (inr refl)
+      events.pin events.next refl
 
   in_play : InPlay (inside r) v
   in_play = stays_in_play i (λ d. refl) e (inside r) (record {
     told = λ off. absurd (true≢false (sym (λ j. online j && idle j) ∙ off));
     bases = refl;
-    inside = i.inside c;
+    inside = i.in_run.inside c;
     mark = refl;
     walk = refl;
     insides = λ d ne. refl;
@@ -85,7 +92,7 @@ module _ (laws : StepsStayLawful) (w : World) (r c : ℕ) (i : InPlay (serving r
 
   made : IsMade w v c s
   made =
-      let is = seen_at w c low in
+      let is = seen_at w c there in
       let next = ap (λ (x : Cpu). (events_of x.bases).next) is ∙ sym e.next in
       made_once e y (record {
         online = ap (λ (x : Cpu). x.online) is;
@@ -97,8 +104,9 @@ module _ (laws : StepsStayLawful) (w : World) (r c : ℕ) (i : InPlay (serving r
   wakeup_is : (cpu_at s c).wakeup ≡ (cpu_of w c).wakeup
   wakeup_is =
       let count = cpus_seen w in
+      let low = there in
       ap (λ (x : Cpu). x.wakeup) (with_same (state_of w) c y (omega (arith, low, count)))
-      ∙ ap (λ (x : Cpu). x.wakeup) (seen_at w c low)
+      ∙ ap (λ (x : Cpu). x.wakeup) (seen_at w c there)
 
   let_go : Plays (inside r) v s
   let_go = record { in_play = in_play; state = seen_kept e made refl wakeup_is }

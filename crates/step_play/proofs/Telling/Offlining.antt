@@ -82,7 +82,7 @@ module _ (laws : StepsStayLawful) (w : World) (c : ℕ) (i : InPlay resting w)
 
   e : IsDone w c z kinds.Offline v
   e =
-      let began = laws w (steps.Offline (record { 0 = c })) i.lawful may in
+      let began = laws w (steps.Offline (record { 0 = c })) i.in_run.lawful may in
       done i (λ d. refl) laws c low z began kinds.Offline (λ act. cc) stages.Read (inl refl)
       (events_of (cpu_of w c).bases).pin NEVER refl
 
@@ -132,8 +132,8 @@ module _ (laws : StepsStayLawful) (w : World) (c : ℕ) (i : InPlay resting w)
   in_play = stays_in_play i (λ d. refl) e (now (is_waiting v c)) (record {
     told = λ off. told_none;
     bases = refl;
-    inside = i.inside c ∙ still_inside (is_waiting v c) c;
-    mark = i.marks c ∙ still_marked (is_waiting v c) c;
+    inside = i.in_run.inside c ∙ still_inside (is_waiting v c) c;
+    mark = i.in_run.marks c ∙ still_marked (is_waiting v c) c;
     walk = subst (λ b. WalkFits (now b) c (left none)) (sym waiting) (fits none);
     insides = λ d ne. still_inside (is_waiting v c) d;
     marks = λ d ne. still_marked (is_waiting v c) d;
@@ -173,7 +173,7 @@ module _ (laws : StepsStayLawful) (w : World) (c : ℕ) (i : InPlay resting w)
       let count = cpus_seen w in
       let more = with_count (state_of w) c x in
       ap (λ (u : Cpu). u.wakeup) (with_same off c y (omega (arith, low, count, more)))
-      ∙ (ap (λ (u : Cpu). u.wakeup) off_is ∙ sym (i.lawful.no_wakeup c (inr may.active)))
+      ∙ (ap (λ (u : Cpu). u.wakeup) off_is ∙ sym (i.in_run.lawful.no_wakeup c (inr may.active)))
 
   plays : Plays (now (is_waiting v c)) v (gone_offline (state_of w) c)
   plays = record { in_play = in_play; state = seen_rested e made rest wakeup_is }

@@ -51,11 +51,11 @@ waits ph d (Some j) k is fits = ap (λ (x : Walk). x.stage) (sym (same_Some _ _ 
 
 pub at_rest : (ph : Phase) (w : World) → InPlay ph w → AtRest w
 at_rest ph w i = record {
-  lawful = i.lawful;
-  planned = i.planned;
+  lawful = i.in_run.lawful;
+  planned = i.in_run.planned;
   exact = i.exact;
   told = i.told;
-  walks = λ d k is. waits ph d (cpu_of w d).walk k is (i.walks d);
+  walks = λ d k is. waits ph d (cpu_of w d).walk k is (i.in_run.walks d);
 }
 
 pub fits_none : (ph : Phase) (c : ℕ) (m : Option Walk) → m ≡ None → hands_in ph c ≡ false →
@@ -88,7 +88,7 @@ with_itself s c = λ i. record s { cpus = set-get_or s.cpus c new_cpu i }
 
 module _ {ph : Phase} {w : World} (i : InPlay ph w) (none : (d : ℕ) → hands_in ph d ≡ false) where
   free : (d : ℕ) → (cpu_of w d).walk ≡ None
-  free d = no_walk ph d (cpu_of w d).walk (none d) (i.walks d)
+  free d = no_walk ph d (cpu_of w d).walk (none d) (i.in_run.walks d)
 
   -- THE WALK, from the step that began it to its end
   pub done : StepsStayLawful → (c : ℕ) → c < length w.cpus → (z : CpuRecord) →
@@ -103,7 +103,7 @@ module _ {ph : Phase} {w : World} (i : InPlay ph w) (none : (d : ℕ) → hands_
       subst (λ n. IsDone w c z n (walked_out c (own w c z))) is
       (is_done laws w c z low made (λ act. tells (sym is ∙ act)) (walked_out c (own w c z))
       (ends laws w c z low began i.exact (λ d ne. free d) kind tells stage start pin next walk
-      (λ l g at. below_count w.tree (paths w.tree i.planned) c l g at)))
+      (λ l g at. below_count w.tree (paths w.tree i.in_run.planned) c l g at)))
 
   -- what CPU c, that is y now and told this time, is in the phase that it is now
   pub record IsNow (now : Phase) (c : ℕ) (y : CpuRecord) (time : ℕ) : Type 0 where
@@ -130,19 +130,22 @@ module _ {ph : Phase} {w : World} (i : InPlay ph w) (none : (d : ℕ) → hands_
     pub stays_in_play : (now : Phase) → IsNow now c (finished z e.last kind) (told_by v c) →
         InPlay now v
     stays_in_play now n = record {
-      lawful = e.lawful;
-      planned = subst IsPlanned (sym e.tree) i.planned;
+      in_run = record {
+        lawful = e.lawful;
+        planned = subst IsPlanned (sym e.tree) i.in_run.planned;
+        whole = λ d class. of_all (λ d y. NoneBehind (base_of class y.bases))
+            (subst (λ b. NoneBehind (base_of class b)) (sym n.bases) (i.in_run.whole c class))
+            (λ d ne. i.in_run.whole d class) d;
+        inside = of_all (λ d y. y.inside ≡ is_inside now d) n.inside
+            (λ d ne. i.in_run.inside d ∙ n.insides d ne);
+        marks = of_all (λ d y. y.mark ≡ marker_in now d) n.mark
+            (λ d ne. i.in_run.marks d ∙ n.marks d ne);
+        walks = of_all (λ d y. WalkFits now d y.walk) n.walk
+            (λ d ne. fits_none now d (cpu_of w d).walk (free d) (n.hands d ne));
+      };
       exact = e.exact;
       told = λ d. of_all (λ d y. (y.online && y.idle) ≡ false → told_by v d ≡ NEVER) n.told
           (λ d ne awake. e.told d ne ∙ i.told d awake) d;
-      whole = λ d class. of_all (λ d y. NoneBehind (base_of class y.bases))
-          (subst (λ b. NoneBehind (base_of class b)) (sym n.bases) (i.whole c class))
-          (λ d ne. i.whole d class) d;
-      inside = of_all (λ d y. y.inside ≡ is_inside now d) n.inside
-          (λ d ne. i.inside d ∙ n.insides d ne);
-      marks = of_all (λ d y. y.mark ≡ marker_in now d) n.mark (λ d ne. i.marks d ∙ n.marks d ne);
-      walks = of_all (λ d y. WalkFits now d y.walk) n.walk
-          (λ d ne. fits_none now d (cpu_of w d).walk (free d) (n.hands d ne));
     }
 
 module _ {w : World} {c : ℕ} {z : CpuRecord} {kind : WalkKind} {v : World}

@@ -61,15 +61,20 @@ abbrev pub WalkFits : Phase → ℕ → Option Walk → Type 0
 WalkFits ph c None = hands_in ph c ≡ false
 WalkFits ph c (Some k) = (hands_in ph c ≡ true) × (k.stage ≡ stages.Handing)
 
--- A CORE IN PLAY: lawful, its tree planned, each group's event exact, nothing told by a CPU that is
--- active or offline, nothing behind a base's clock, and no walk, interrupt or mark but those of the
--- phase
-pub record InPlay (ph : Phase) (w : World) : Type 0 where
+-- A CORE IN A RUN: lawful, its tree planned, nothing behind a base's clock, and no walk, interrupt
+-- or mark but those of the phase. What its groups were told needn't be exact: walks beside one
+-- another may have left it so
+pub record InRun (ph : Phase) (w : World) : Type 0 where
   pub lawful : IsLawful w
   pub planned : IsPlanned w.tree
-  pub exact : Exact w
-  pub told : (c : ℕ) → ((cpu_of w c).online && (cpu_of w c).idle) ≡ false → told_by w c ≡ NEVER
   pub whole : (c : ℕ) (class : Class) → NoneBehind (base_of class (cpu_of w c).bases)
   pub inside : (c : ℕ) → (cpu_of w c).inside ≡ is_inside ph c
   pub marks : (c : ℕ) → (cpu_of w c).mark ≡ marker_in ph c
   pub walks : (c : ℕ) → WalkFits ph c (cpu_of w c).walk
+
+-- A CORE IN PLAY: one in a run, each group's event exact, and nothing told by a CPU that is active
+-- or offline
+pub record InPlay (ph : Phase) (w : World) : Type 0 where
+  pub in_run : InRun ph w
+  pub exact : Exact w
+  pub told : (c : ℕ) → ((cpu_of w c).online && (cpu_of w c).idle) ≡ false → told_by w c ≡ NEVER

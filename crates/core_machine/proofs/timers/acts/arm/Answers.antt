@@ -1,5 +1,5 @@
 use Rattle.std.proofs.Common.{◌+◌, ◌^◌, ◌<◌, rules}
-use Rattle.core_machine.proofs.Draining.ArmCancel.{arm_enabled, arm_fits, arm_online, arm_wheel}
+use Rattle.core_machine.proofs.Draining.ArmCancel.{arm_enabled, arm_fits, arm_in_play, arm_online, arm_wheel}
 use Rattle.core_machine.proofs.timers.acts.arm.Goals as goal
 
 pub arm-requires : goal.arm-requires
@@ -13,6 +13,14 @@ pub returns-clause-fit : goal.returns-clause-fit
 returns-clause-fit g c =
     let short : c.args.arming.delay < 2 ^ 32 = search rules in
     arm_fits c.law_step.ensures c.args.core.now c.args.cpu.0 c.args.arming c.requires.cpu
+    c.requires.timer short c.requires.in_time c.requires.not_queued c.requires.fit
+    (c.now.result + c.from.result) (λ j. c.now.ensures j + c.from.ensures j)
+    c.arm.new.self c.in_ok-wheel.ensures.ok
+
+pub returns-clause-play : goal.returns-clause-play
+returns-clause-play g c =
+    let short : c.args.arming.delay < 2 ^ 32 = search rules in
+    arm_in_play c.law_step.ensures c.args.core.now c.args.cpu.0 c.args.arming c.requires.cpu
     c.requires.timer short c.requires.in_time c.requires.not_queued c.requires.fit
     (c.now.result + c.from.result) (λ j. c.now.ensures j + c.from.ensures j)
     c.arm.new.self c.in_ok-wheel.ensures.ok

@@ -1,8 +1,9 @@
 use Rattle.std.proofs.Common.{◌∙◌, subst, sym}
 use Rattle.play_rules.specs.Machines.{Same, SameFlags}
-use Rattle.step_play.specs.Rules.Seen.{InPlay, resting}
+use Rattle.step_play.specs.Rules.Seen.{InPlay, InRun, resting}
 use Rattle.step_play.specs.Rules.StepRules.{step_rules}
-use Rattle.core_machine.proofs.Draining.FirstMoves.{move_enabled, move_fits, move_flags, move_same, move_told}
+use Rattle.core_machine.proofs.Draining.FirstMoves.{move_enabled, move_fits, move_flags, move_in_play}
+use Rattle.core_machine.proofs.Draining.FirstMoves.{move_same, move_told}
 use Rattle.core_machine.proofs.timers.moving.move_first.Goals as goal
 
 pub move_timer-requires : goal.move_timer-requires
@@ -13,10 +14,17 @@ move_timer-requires g c =
 
 pub returns-clause-fit : goal.returns-clause-fit
 returns-clause-fit g c =
-    subst (InPlay resting) (sym c.in_ok-wheel.ensures.ok)
+    subst (InRun resting) (sym c.in_ok-wheel.ensures.ok)
     (move_fits c.law_step.ensures c.args.core.now c.requires.fit c.args.from.0 c.args.to.0
     c.requires.from c.requires.offline c.requires.placed c.requires.active c.in-Some.timer
     c.in-Some.ensures)
+
+pub returns-clause-play : goal.returns-clause-play
+returns-clause-play g c = λ p.
+    subst (InPlay resting) (sym c.in_ok-wheel.ensures.ok)
+    (move_in_play c.law_step.ensures c.args.core.now c.requires.fit c.args.from.0 c.args.to.0
+    c.requires.from c.requires.offline c.requires.placed c.requires.active c.in-Some.timer
+    c.in-Some.ensures p)
 
 pub returns-clause-moved : goal.returns-clause-moved
 returns-clause-moved g c =

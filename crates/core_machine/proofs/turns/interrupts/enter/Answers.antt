@@ -1,5 +1,5 @@
 use Rattle.std.proofs.Common.{subst, sym}
-use Rattle.step_play.specs.Rules.Seen.{inside}
+use Rattle.step_play.specs.Rules.Seen.{inside, resting}
 use Rattle.step_play.proofs.Takes.{may_enter}
 use Rattle.core_machine.proofs.Calls.Insides.{enters}
 use Rattle.core_machine.proofs.Calls.Leaves.{LeavesOnline}
@@ -12,6 +12,12 @@ make-requires-clause-enabled g c =
 pub returns : goal.returns
 returns g c =
     let w = c.args.core.now in
-    let left = subst (LeavesOnline (inside c.args.cpu.0) w) (sym c.make.ensures.made)
+    let left = subst (LeavesOnline resting (inside c.args.cpu.0) w) (sym c.make.ensures.made)
     (enters w c.law_step.ensures c.args.cpu.0 c.requires.fit c.requires.online) in
-    record { fit = left.fit; state = c.make.ensures.made; same = left.same; online = left.online }
+    record {
+      fit = left.fit;
+      play = left.play;
+      state = c.make.ensures.made;
+      same = left.same;
+      online = left.online;
+    }

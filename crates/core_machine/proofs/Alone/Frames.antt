@@ -1,5 +1,5 @@
--- what a walk leaves of the world, besides groups
-use Rattle.std.proofs.Common.{ℕ, zero, suc, ◌<◌, Bool, true, false, Option, Some, None}
+-- for crates above: what a walk that is made alone leaves of the world, besides groups
+use Rattle.std.proofs.Common.{◌≡◌, ◌≢◌, ℕ, zero, suc, ◌<◌, Bool, true, false, Option, Some, None}
 use Rattle.std.proofs.Common.{length, refl, sym, ◌∙◌, subst, arith, inl, inr}
 use Rattle.std.proofs.lemmas.Bool.{cases_Bool}
 use Rattle.walk_rules.specs.declared.walk.Walk.{Walk}
@@ -16,7 +16,22 @@ use Rattle.step_play.proofs.Activation.Alongside.{beside_still}
 use Rattle.step_play.proofs.Activation.Walking.{goes, onwards, stays}
 use Rattle.step_play.specs.Rules.Lone.{IsLone}
 use Rattle.step_play.proofs.Lone.{lone_made, lone_moved}
-use Rattle.hotplug.specs.Frames.{Framed, Own}
+
+-- a CPU before and after steps of its walk
+pub record Own (y z : CpuRecord) : Type 0 where
+  pub online : z.online ≡ y.online
+  pub idle : z.idle ≡ y.idle
+  pub bases : z.bases ≡ y.bases
+  pub outside : y.inside ≡ false → z.inside ≡ false
+
+-- world w comes of the old one with record y for CPU c, by steps of CPU c's walk alone
+pub record Framed (old : World) (c : ℕ) (y : CpuRecord) (w : World) : Type 0 where
+  pub tree : w.tree ≡ old.tree
+  pub timers : w.timers ≡ old.timers
+  pub clock : w.clock ≡ old.clock
+  pub cpus : length w.cpus ≡ length old.cpus
+  pub others : (d : ℕ) → d ≢ c → cpu_of w d ≡ cpu_of old d
+  pub itself : Own y (cpu_of w c)
 
 pub own_same : (y : CpuRecord) → Own y y
 own_same y = record { online = refl; idle = refl; bases = refl; outside = λ out. out }
@@ -45,6 +60,7 @@ own_finished y k (kinds.Remote by) =
 pub framed_same : (w : World) (c : ℕ) → Framed w c (cpu_of w c) w
 framed_same w c = record {
   tree = refl;
+  timers = refl;
   clock = refl;
   cpus = refl;
   others = λ d ne. refl;
@@ -55,6 +71,7 @@ framed_then : (old : World) (c : ℕ) (y : CpuRecord) (w v : World) → Framed o
     Framed w c (cpu_of w c) v → Framed old c y v
 framed_then old c y w v a b = record {
   tree = b.tree ∙ a.tree;
+  timers = b.timers ∙ a.timers;
   clock = b.clock ∙ a.clock;
   cpus = b.cpus ∙ a.cpus;
   others = λ d ne. b.others d ne ∙ a.others d ne;
@@ -67,6 +84,7 @@ module _ (w : World) (c : ℕ) (low : c < length w.cpus) (lone : IsLone w c) whe
       Framed w c y (moved w g x c z r)
   moved_framed g x z y r same = record {
     tree = refl;
+    timers = refl;
     clock = refl;
     cpus = (moved_laws w g x c z r).cpus;
     others = λ d ne.

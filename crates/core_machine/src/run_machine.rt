@@ -1,0 +1,164 @@
+//! The same calls on a core of a run, whose events needn't be exact.
+
+use crate::player::RunPlayer;
+use play_rules::{Answerer, Arming, Cancelling, Machine, Mover, Queued};
+use tm_base::{Class, CpuId, CpuSet, Jiffy, NoMemory, TimerId};
+use wheel_core::{Item, TimerBase};
+
+impl<B: TimerBase> Machine for RunPlayer<B> {
+    ghost use Rattle.core_world.specs.World as core;
+    ghost use Rattle.step_play.specs.Rules.Seen.{InRun};
+    ghost use Rattle.step_play.specs.Rules.StepRules.{step_rules};
+
+    ghost World = { core.World };
+
+    ghost rules = { step_rules };
+
+    ghost world = { λ w. w };
+
+    ghost Fit = { InRun };
+
+    fn clock(&self) -> Jiffy {
+        self.core.now()
+    }
+
+    fn timers(&self) -> u16 {
+        self.core.timers()
+    }
+
+    fn cpus(&self) -> u16 {
+        self.core.tree().cpu_count()
+    }
+
+    fn levels(&self) -> u8 {
+        self.core.tree().levels()
+    }
+
+    fn is_online(&self, cpu: CpuId) -> bool {
+        crate::readings::is_online(&self.core, cpu)
+    }
+
+    fn is_idle(&self, cpu: CpuId) -> bool {
+        crate::readings::is_idle(&self.core, cpu)
+    }
+
+    fn is_placed(&self, cpu: CpuId) -> bool {
+        crate::readings::is_placed(&self.core, cpu)
+    }
+
+    fn wakeup(&self, cpu: CpuId) -> Jiffy {
+        crate::readings::wakeup(&self.core, cpu)
+    }
+
+    fn holder(&self, timer: TimerId) -> Option<CpuId> {
+        crate::readings::holder(&self.core, timer)
+    }
+
+    fn queued(&self, timer: TimerId) -> Option<Queued> {
+        crate::readings::queued(&self.core, timer)
+    }
+
+    fn set_clock(&mut self, now: Jiffy) {
+        crate::turns::set_clock(&mut self.core, now);
+    }
+
+    fn has_interrupt(&self, cpu: CpuId) -> bool {
+        crate::readings::has_interrupt(&self.core, cpu)
+    }
+
+    fn next_interrupt(&self) -> Jiffy {
+        crate::readings::next_interrupt(&self.core)
+    }
+
+    fn drain(&mut self, home: CpuId, class: Class, runner: CpuId) -> Result<Vec<Item>, NoMemory> {
+        crate::timers::drain(&mut self.core, self.alloc, home, class, runner)
+    }
+
+    fn arm(&mut self, cpu: CpuId, arming: Arming) -> Result<Jiffy, NoMemory> {
+        crate::timers::arm(&mut self.core, cpu, arming)
+    }
+
+    fn cancel(&mut self, home: CpuId, cancelling: Cancelling) -> Result<(), NoMemory> {
+        crate::timers::cancel(&mut self.core, home, cancelling)
+    }
+
+    fn enter(&mut self, cpu: CpuId) {
+        crate::turns::enter(&mut self.core, cpu);
+    }
+
+    fn looks_after(&self, cpu: CpuId, level: u8) -> bool {
+        crate::readings::looks_after(&self.core, cpu, level)
+    }
+
+    fn named(&self, cpu: CpuId, level: u8, tried: &CpuSet) -> Option<CpuId> {
+        crate::readings::named(&self.core, cpu, level, tried)
+    }
+
+    fn takes(&self, _cpu: CpuId, other: CpuId) -> bool {
+        crate::readings::is_taken(&self.core, other)
+    }
+
+    fn take(&mut self, cpu: CpuId, other: CpuId) {
+        crate::turns::take(&mut self.core, cpu, other);
+    }
+
+    fn let_go(&mut self, cpu: CpuId, other: CpuId) {
+        crate::turns::let_go(&mut self.core, cpu, other);
+    }
+
+    fn end(&mut self, cpu: CpuId) {
+        crate::turns::end(&mut self.core, cpu);
+    }
+
+    fn first_event(&self, cpu: CpuId) -> Jiffy {
+        crate::readings::first_event(&self.core, cpu)
+    }
+
+    fn idle(&mut self, cpu: CpuId) {
+        crate::turns::idle(&mut self.core, cpu);
+    }
+
+    fn wake(&mut self, cpu: CpuId) {
+        crate::turns::wake(&mut self.core, cpu);
+    }
+
+    fn successor(&self, cpu: CpuId) -> Option<CpuId> {
+        crate::readings::successor(&self.core, cpu)
+    }
+
+    fn go_offline(&mut self, cpu: CpuId) {
+        crate::turns::go_offline(&mut self.core, cpu);
+    }
+
+    fn hands_on(&self, cpu: CpuId) -> bool {
+        crate::readings::hands_on(&self.core, cpu)
+    }
+
+    fn hand_on(&mut self, cpu: CpuId, to: CpuId) {
+        crate::turns::hand_on(&mut self.core, cpu, to);
+    }
+
+    fn come_online(&mut self, cpu: CpuId) {
+        crate::turns::come_online(&mut self.core, cpu);
+    }
+
+    fn queued_on(&self, cpu: CpuId) -> usize {
+        crate::readings::queued_on(&self.core, cpu)
+    }
+
+    fn controller(&self) -> Option<CpuId> {
+        crate::readings::controller(&self.core)
+    }
+
+    fn control(&mut self, cpu: CpuId) {
+        crate::turns::control(&mut self.core, cpu);
+    }
+
+    fn move_first(&mut self, from: CpuId, to: CpuId) -> Result<Option<Mover>, NoMemory> {
+        crate::timers::move_first(&mut self.core, from, to)
+    }
+
+    fn cover_of(&self, cpu: CpuId) -> Option<Answerer> {
+        crate::answers::answerer_of(&self.core, cpu)
+    }
+}
