@@ -1,13 +1,13 @@
 ghost use Rattle.job_table.specs.Standard.{one_shot_reply};
 
-use core_machine::Player;
+use core_machine::{Player, RunPlayer};
 use job_table::{Job, JobCall, JobReply, JobTable, OneShot};
 use std::alloc::{AllocError, Global};
 use std::sync::Arc;
 use std::sync::atomic::{AtomicU64, Ordering};
 use std::test::Fail;
 use tm_base::NoMemory;
-use tm_driver::{deep, having_interrupt, play, play_moment, start_core};
+use tm_driver::{deep, having_interrupt, play, play_moment, run_moment, start_core};
 use tm_report::Report;
 use tm_script::read_script;
 
@@ -81,6 +81,32 @@ fn hand_outs(alloc: Global, text: &[u8]) -> Result<Option<(u32, u32, bool)>, NoM
 fn a_moment_is_played_by_itself(rt: HostRuntime) -> Result<(), Fail> {
     let text = b"arm 0 0 0 global 51\nrun 51 0 0 0 51 done\n";
     assert_eq!(rt; hand_outs(rt.alloc(), text)?, Some((0, 1, true)));
+    Ok(())
+}
+
+// The same, where the second moment goes on from the core that the first left, as a run does.
+fn hand_outs_of_run(alloc: Global, text: &[u8]) -> Result<Option<(u32, u32, bool)>, NoMemory> {
+    let jobs = one_job(alloc)?;
+    let mut report = Report::new(alloc);
+    let Ok(script) = read_script(alloc, ONE_TIMER) else {
+        return Ok(None);
+    };
+    if script.end < 51 {
+        return Ok(None);
+    }
+    let mut player = Player::new(alloc, start_core(alloc, &script)?);
+    let due = having_interrupt(&player);
+    let first = play_moment(alloc, &mut player, &script, &jobs, 0, &due, &mut report)?;
+    let mut player = RunPlayer::new(alloc, player.into_core());
+    let due = having_interrupt(&player);
+    let second = run_moment(alloc, &mut player, &script, &jobs, 51, &due, &mut report)?;
+    Ok(Some((first, second, report.text() == text)))
+}
+
+#[test]
+fn a_moment_of_a_run_goes_on_from_the_core_of_the_one_before(rt: HostRuntime) -> Result<(), Fail> {
+    let text = b"arm 0 0 0 global 51\nrun 51 0 0 0 51 done\n";
+    assert_eq!(rt; hand_outs_of_run(rt.alloc(), text)?, Some((0, 1, true)));
     Ok(())
 }
 

@@ -29,5 +29,5 @@ pub use interrupts::having_interrupt;
 pub use numbers::Summary;
 pub use outcomes::{Counts, DriveFault};
 pub use playing::play_on;
-pub use plays::{play, play_moment, summary};
+pub use plays::{play, play_moment, run_moment, summary};
 pub use starting::start_core;

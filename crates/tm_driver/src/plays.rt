@@ -4,7 +4,7 @@ ghost use Rattle.std.specs.Prelude.{◌≡◌, ◌≤◌, IfErr, IfOk, OnErr, On
 ghost use Rattle.tm_script.specs.Grammar.{IsScript};
 ghost use Rattle.play_rules.specs.Moments.{moment};
 ghost use Rattle.play_rules.specs.Play.{plain_rules, play_start};
-ghost use Rattle.step_play.specs.Rules.Seen.{InPlay, resting, state_of};
+ghost use Rattle.step_play.specs.Rules.Seen.{InPlay, InRun, resting, state_of};
 ghost use Rattle.step_play.specs.Rules.StepRules.{step_rules};
 ghost use Rattle.step_play.specs.SamePlay.{core_start};
 ghost use Rattle.tm_driver.specs.Conditions.{AreOnline};
@@ -20,7 +20,7 @@ use crate::outcomes::{Counts, DriveFault};
 use crate::playing::play_on;
 use crate::starting::start_core;
 use core_facts::law_settled as law_core_settled;
-use core_machine::Player;
+use core_machine::{Player, RunPlayer};
 use core_state::Core;
 use job_table::Jobs;
 use play_laws::{
@@ -137,6 +137,36 @@ pub fn play_moment<J: Jobs>(
     ensures clock { OnOk result (player.new.clock ≡ at) }
     ensures machine { OnOk result (HasMachineOf script.now player.new) }
     ensures in_play { OnOk result (InPlay resting player.new) }
+    ensures err { OnErr result (report.new ≡ report.old) }
+{
+    moment_by_itself(alloc, player, script, jobs, at, interrupts, report)
+}
+
+/// Plays one moment of a script on a core in a run, as `play_moment` does on one in play: what the
+/// core's groups were told needn't be exact, so the core may be one that threads left at rest.
+pub fn run_moment<J: Jobs>(
+    alloc: Global,
+    player: &mut RunPlayer<WheelBase>,
+    script: &Script,
+    jobs: &J,
+    at: Jiffy,
+    interrupts: &CpuSet,
+    report: &mut Report,
+) -> Result<u32, NoMemory>
+    requires script { IsScript script.now }
+    requires machine { HasMachineOf script.now player.old }
+    requires not_back { player.old.clock ≤ at }
+    requires by_end { at ≤ script.now.end }
+    requires online { AreOnline step_rules player.old interrupts.now }
+    requires in_run { InRun resting player.old }
+    ensures plays { IfOk result (λ hand_outs.
+        PlaysMoment
+        (moment (J.replies jobs.now) step_rules interrupts.now (moment_of at script.now.moments)
+        (step_rules.at_clock at player.old))
+        report.old report.new hand_outs player.new) }
+    ensures clock { OnOk result (player.new.clock ≡ at) }
+    ensures machine { OnOk result (HasMachineOf script.now player.new) }
+    ensures in_run { OnOk result (InRun resting player.new) }
     ensures err { OnErr result (report.new ≡ report.old) }
 {
     moment_by_itself(alloc, player, script, jobs, at, interrupts, report)
