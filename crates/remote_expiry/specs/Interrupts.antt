@@ -43,8 +43,8 @@ pub record HasGained (p q : PassView) (receipts : List Receipt) (did : List Did)
   pub began : p.walks ≤ q.walks
   pub few : q.walks ≤ p.walks + most_walks
 
--- OK: each base of the CPU was drained; the timers that were handed out are the runs, in order, with
--- what became of their jobs' replies; and the CPU has looked after the others
+-- OK: each base of the CPU was drained; the timers that were handed out are the runs, in order,
+-- with what became of their jobs' replies; and the CPU has looked after the others
 pub record HasInterrupted (o : World) (jobs : ℕ → JobCall → JobReply) (p q : PassView)
     (before after : List Ran) : Type 0 where
   pub receipts : List Receipt

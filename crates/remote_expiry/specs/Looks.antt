@@ -35,13 +35,13 @@ abbrev pub is_for_others : (looker : ℕ) → Option CpuId → Bool
 is_for_others looker None = false
 is_for_others looker (Some by) = not (by.0 == looker)
 
--- whether a CPU in this state is not one for whom this one looks: it is offline or active, or marked
--- by a third
+-- whether a CPU in this state is not one for whom this one looks: it is offline or active, or
+-- marked by a third
 abbrev pub is_let_be : (looker : ℕ) → CpuState → Bool
 is_let_be looker s = not s.online || not s.idle || is_for_others looker s.remote
 
--- LEFT ALONE: what the look saw of a CPU that it tried and didn't take: its word, or its slot in its
--- leaf
+-- LEFT ALONE: what the look saw of a CPU that it tried and didn't take: its word, or its slot in
+-- its leaf
 pub data IsLeft (o : World) (looker d : ℕ) (did : List Deed) : Type 0 where
   by_word : (found : ℕ) (s : CpuState) → Contains did (deeds.Saw (cpu_place o d) found) →
       IsStateOf found s → is_let_be looker s ≡ true → IsLeft o looker d did
@@ -58,8 +58,8 @@ pub data IsClosed (o : World) (d : ℕ) (did : List Deed) : Type 0 where
       ++ deeds.Released d ∷ after →
       IsStateOf found s → (not s.online || not s.idle) ≡ true → IsClosed o d did
 
--- SERVED: the global timers of a CPU that the look took were drained by this pass, and its event was
--- seen to
+-- SERVED: the global timers of a CPU that the look took were drained by this pass, and its event
+-- was seen to
 pub record IsServed (o : World) (looker d : ℕ) (did : List Deed) (receipts : List Receipt) : Type 0
   where
     pub drain : Receipt
