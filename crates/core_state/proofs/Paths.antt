@@ -1,4 +1,4 @@
--- where the path of a CPU goes, by the laws of trees
+-- for crates above: where the path of a CPU goes, by the laws of trees
 use Rattle.std.proofs.Common.{◌≡◌, ℕ, zero, suc, ◌-◌, ◌<◌, true, false, Option, Some, None, ap, sym}
 use Rattle.std.proofs.Common.{◌∙◌, subst, arith, inl, inr}
 use Rattle.std.specs.Prelude.{option_map, unwrap_or}

@@ -10,8 +10,8 @@ use Rattle.core_world.specs.Enabled.{first_event}
 use Rattle.core_world.specs.World.{World}
 use Rattle.shared_rule.specs.declared.parts.PassView.{PassView}
 use Rattle.shared_rule.specs.Plays.{Agree, PartFits}
-use Rattle.shared_parts.specs.Parts.{HeldPart}
-use Rattle.shared_parts.specs.Passes.{HeldPass, IsPassIn, Seated, knowing, with_pass}
+use Rattle.shared_rule.specs.Parts.{HeldPart}
+use Rattle.shared_rule.specs.Passes.{HeldPass, IsPassIn, Seated, knowing, with_pass}
 use Rattle.walk_inactive.specs.Looks.{FindsFirst}
 use Rattle.idle_wakeup.specs.declared.idling.IdleAnswer.{IdleAnswer}
 use Rattle.idle_wakeup.specs.declared.idling.IdleAnswer.TheVariants as answers

@@ -14,9 +14,9 @@ use Rattle.core_state.specs.Shown.{shown_cpu}
 use Rattle.shared_rule.specs.declared.parts.PassView.{PassView}
 use Rattle.shared_rule.specs.Plays.{Agree, PartFits}
 use Rattle.shared_rule.specs.Shows.{BeginsWith}
-use Rattle.shared_parts.specs.Parts.{HeldPart, without_guest}
-use Rattle.shared_parts.specs.Passes.{HeldPass, IsOfRun, IsPassIn, Seated}
-use Rattle.shared_parts.specs.Passes.{knowing, walks_of, with_pass}
+use Rattle.shared_rule.specs.Parts.{HeldPart, without_guest}
+use Rattle.shared_rule.specs.Passes.{HeldPass, IsOfRun, IsPassIn, Seated}
+use Rattle.shared_rule.specs.Passes.{knowing, walks_of, with_pass}
 use Rattle.shared_table.specs.declared.ready.TheConstants.{MOST_MADE}
 use Rattle.walk_active.specs.Activated.{IsOwnPass, activated_pass}
 use Rattle.tm_base.specs.declared.faults.OpFault.{OpFault}

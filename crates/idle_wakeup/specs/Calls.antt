@@ -8,7 +8,7 @@ use Rattle.cpu_bases.specs.declared.entry.Entry.{Entry}
 use Rattle.core_world.specs.World.{cpu_of}
 use Rattle.shared_rule.specs.declared.parts.PassView.{PassView}
 use Rattle.shared_rule.specs.Shows.{BeginsWith}
-use Rattle.shared_parts.specs.Passes.{HeldPass, Seated, knowing, with_pass}
+use Rattle.shared_rule.specs.Passes.{HeldPass, Seated, knowing, with_pass}
 use Rattle.shared_table.specs.declared.ready.TheConstants.{MOST_MADE}
 
 -- too many walks were begun with a pass

@@ -10,7 +10,7 @@ use Rattle.core_world.specs.World.{World}
 use Rattle.shared_rule.specs.declared.parts.BoxView.{BoxView}
 use Rattle.shared_rule.specs.declared.parts.Look.{Look}
 use Rattle.shared_rule.specs.declared.parts.PassView.{PassView}
-use Rattle.shared_parts.specs.Passes.{HeldPass, IsPassIn, knowing, with_pass}
+use Rattle.shared_rule.specs.Passes.{HeldPass, IsPassIn, knowing, with_pass}
 use Rattle.atomic_table.specs.Seated.{TableId}
 use Rattle.walk_inactive.specs.Ends.{leaf_of, next_of, wakeup_of}
 use Rattle.walk_inactive.specs.Looks.{FindsFirst}

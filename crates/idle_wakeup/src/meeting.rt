@@ -3,11 +3,11 @@
 ghost use Rattle.std.specs.Prelude.{◌≡◌};
 ghost use Rattle.shared_rule.specs.declared.parts.PassView.{PassView};
 ghost use Rattle.shared_rule.specs.Plays.{Agree, PartFits};
-ghost use Rattle.shared_parts.specs.Parts.{without_guest};
-ghost use Rattle.shared_parts.specs.Passes.{IsPassIn, knowing, with_pass};
+ghost use Rattle.shared_rule.specs.Parts.{without_guest};
+ghost use Rattle.shared_rule.specs.Passes.{IsPassIn, knowing, with_pass};
 ghost use Rattle.walk_active.specs.Activated.{IsOwnPass};
 
-use shared_parts::{Pass, Run, RunName, visit};
+use shared_rule::{Pass, Run, RunName, visit};
 use shared_table::CpuBox;
 use wheel_core::TimerBase;
 

@@ -1,13 +1,13 @@
 //! A CPU wakes.
 
 ghost use Rattle.std.specs.Prelude.{◌≡◌, ◌<◌, MatchResult, None, OnErr, OnOk, Some, length};
-ghost use Rattle.shared_parts.specs.Passes.{IsOfRun};
+ghost use Rattle.shared_rule.specs.Passes.{IsOfRun};
 ghost use Rattle.walk_active.specs.Activated.{IsOwnPass};
 ghost use Rattle.idle_wakeup.specs.Calls.{Renews, awake, refusal, wake_fault_of};
 
 use crate::meeting::meet_own;
 use cpu_word::CpuState;
-use shared_parts::{Pass, RunName};
+use shared_rule::{Pass, RunName};
 use shared_table::{CpuBox, MOST_MADE, Shared};
 use std::sync::Wait;
 use tm_base::{Gate, OpFault};

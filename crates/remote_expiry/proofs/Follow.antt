@@ -64,7 +64,7 @@ follow o jobs runner seen (r ∷ rs) more owed runs behind h later =
     (λ x y k. follow o jobs runner seen rs more x y behind k later) h
 
 -- MORE SEEN: what was seen is still seen behind further deeds
-abbrev Wider : (seen wider : List Deed) → Type 0
+abbrev pub Wider : (seen wider : List Deed) → Type 0
 Wider seen wider = (d : Deed) → Contains seen d → Contains wider d
 
 again_wider : (o : World) (timer : ℕ) (seen wider : List Deed) (class : Class) (reply : RanReply)
@@ -74,6 +74,7 @@ again_wider o timer seen wider class (ran.Mark m) w h = h
 again_wider o timer seen wider class (ran.Again c wheel) w h = h
 again_wider o timer seen wider class (ran.Skip cpu) w h =
     record {
+      there = h.there;
       found = h.found;
       spot = h.spot;
       saw = w _ h.saw;
@@ -81,8 +82,9 @@ again_wider o timer seen wider class (ran.Skip cpu) w h =
       named = h.named;
     }
 
-told_wider : (o : World) (timer : ℕ) (seen wider : List Deed) (job : JobReply) (reply : RanReply)
-    → Wider seen wider → IsTold o timer seen job reply → IsTold o timer wider job reply
+pub told_wider : (o : World) (timer : ℕ) (seen wider : List Deed) (job : JobReply)
+    (reply : RanReply) → Wider seen wider → IsTold o timer seen job reply
+    → IsTold o timer wider job reply
 told_wider o timer seen wider replies.Done reply w h = h
 told_wider o timer seen wider (replies.Mark m) reply w h = h
 told_wider o timer seen wider (replies.Again class delay) reply w h =

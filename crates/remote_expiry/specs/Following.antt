@@ -1,6 +1,6 @@
 -- how the runs of an interrupt and the receipts of its pass go together: each timer that was handed
 -- out was run once, in that order, and its job's reply was done
-use Rattle.std.specs.Prelude.{◌≡◌, ◌+◌, ℕ, List, [], ◌∷◌, ◌++◌, Some, Contains}
+use Rattle.std.specs.Prelude.{◌≡◌, ◌+◌, ◌<◌, ℕ, ⊤, ◌⊎◌, List, [], ◌∷◌, ◌++◌, Some, Contains}
 use Rattle.tm_base.specs.declared.names.Class.{Class}
 use Rattle.cpu_bases.specs.declared.entry.Act.{Act}
 use Rattle.cpu_bases.specs.declared.entry.Act.TheVariants.{Armed, Cancelled, Handed, MovedIn}
@@ -32,8 +32,9 @@ pub record IsRunOf (r : Receipt) (x : Ran) : Type 0 where
   pub home : x.home ≡ r.cpu
   pub wheel : x.wheel ≡ r.entry.wheel
 
--- the timer's word, as the pass found it, named this CPU
+-- the word of a timer of the run, as the pass found it, named this CPU
 pub record FoundOn (o : World) (timer cpu : ℕ) (seen : List Deed) : Type 0 where
+  pub there : timer < o.timers
   pub found : ℕ
   pub spot : Spot
   pub saw : Contains seen (deeds.Saw (timer_word o timer) found)
@@ -75,7 +76,7 @@ owed_by (replies.Again class delay) (ran.Skip cpu) e = []
 -- delay from now, with the class and the wheel expiry that were told, and with its job and number
 pub record IsOwed (now runner : ℕ) (x : Owed) (r : Receipt) : Type 0 where
   pub cpu : r.cpu.0 ≡ runner
-  pub line : r.line ≡ 0
+  pub line : r.entry.line ≡ 0
   pub timer : r.entry.timer ≡ x.out.timer
   pub expires : r.entry.expires ≡ now + x.delay
   pub class : r.entry.class ≡ x.class
@@ -119,3 +120,10 @@ unfoldable pub Follows : World → (ℕ → JobCall → JobReply) → (runner : 
 Follows o jobs runner seen [] owed runs = (owed ≡ []) × (runs ≡ [])
 Follows o jobs runner seen (r ∷ rs) owed runs =
     FollowsBy o jobs runner seen r.entry.act r (Follows o jobs runner seen rs) owed runs
+
+-- SOME of the hand-outs among these receipts have these runs, in their order
+unfoldable pub RunsOfSome : List Receipt → List Ran → Type 0
+RunsOfSome [] runs = runs ≡ []
+RunsOfSome (r ∷ rs) [] = ⊤
+RunsOfSome (r ∷ rs) (x ∷ xs) =
+    ((r.entry.act ≡ Handed) × IsRunOf r x × RunsOfSome rs xs) ⊎ RunsOfSome rs (x ∷ xs)

@@ -1,17 +1,25 @@
 -- THE INTERRUPT of a CPU, as its pass tells it
-use Rattle.std.specs.Prelude.{◌≡◌, ◌+◌, ◌≤◌, ℕ, false, List, [], ◌++◌, Contains, map}
+use Rattle.std.specs.Prelude.{◌≡◌, ◌+◌, ◌<◌, ◌≤◌, ℕ, Bool, false, not, List, [], ◌++◌}
+use Rattle.std.specs.Prelude.{Contains, MatchResult, Result, length, map, slice_get}
+use Rattle.std.specs.Prelude.{Option, Some, None, nat_le, if◌then◌else◌}
+use Rattle.atomic_table.specs.Seated.{TableId}
+use Rattle.tm_base.specs.declared.faults.OpFault.{OpFault}
+use Rattle.tm_base.specs.declared.faults.OpFault.TheVariants as faults
 use Rattle.tm_base.specs.declared.names.Class.{Class}
 use Rattle.cpu_bases.specs.declared.entry.Act.TheVariants.{Ticked}
+use Rattle.cpu_bases.specs.declared.entry.Entry.{Entry}
 use Rattle.tree_plan.specs.Paths.{level_count_of}
-use Rattle.core_world.specs.World.{World}
+use Rattle.core_world.specs.World.{World, cpu_of}
 use Rattle.job_table.specs.declared.jobs.JobCall.{JobCall}
 use Rattle.job_table.specs.declared.jobs.JobReply.{JobReply}
 use Rattle.shared_rule.specs.declared.parts.Did.{Did}
 use Rattle.shared_rule.specs.declared.parts.PassView.{PassView}
 use Rattle.shared_rule.specs.declared.parts.Receipt.{Receipt}
+use Rattle.shared_rule.specs.Passes.{HeldPass, IsPassIn}
 use Rattle.shared_rule.specs.Shows.{BeginsWith}
 use Rattle.remote_expiry.specs.declared.runs.Ran.{Ran}
-use Rattle.remote_expiry.specs.Following.{Follows}
+use Rattle.shared_table.specs.declared.ready.TheConstants.{MOST_MADE}
+use Rattle.remote_expiry.specs.Following.{Follows, RunsOfSome}
 use Rattle.remote_expiry.specs.Looks.{LooksFrom}
 
 -- the most walks that an interrupt begins: one for each CPU that it tries on three levels, and its
@@ -28,6 +36,11 @@ pub record HasTicked (cpu : ℕ) (class : Class) (receipts : List Receipt) : Typ
   pub act : receipt.entry.act ≡ Ticked
   pub of_class : receipt.entry.class ≡ class
 
+-- the entries of its CPU's own journal for which a pass has receipts are among those that it knows
+abbrev pub KnowsOwn : PassView → Type 0
+KnowsOwn p = (i : ℕ) (r : Receipt) → slice_get p.receipts i ≡ Some r → r.cpu.0 ≡ p.cpu
+    → r.place < length p.journal
+
 -- what a pass has gained in an interrupt, whatever it answers: receipts and deeds at the ends; its
 -- CPU is as idle as before and outside again, no mark is left, and so many walks were begun at most
 pub record HasGained (p q : PassView) (receipts : List Receipt) (did : List Did) : Type 0 where
@@ -40,6 +53,7 @@ pub record HasGained (p q : PassView) (receipts : List Receipt) (did : List Did)
   pub reeval : q.reeval ≡ false
   pub marks : q.marks ≡ []
   pub journal : BeginsWith q.journal p.journal
+  pub known : KnowsOwn p → KnowsOwn q
   pub began : p.walks ≤ q.walks
   pub few : q.walks ≤ p.walks + most_walks
 
@@ -56,3 +70,64 @@ pub record HasInterrupted (o : World) (jobs : ℕ → JobCall → JobReply) (p q
   pub follows : Follows o jobs p.cpu (map (λ (x : Did). x.deed) did) receipts [] runs
   pub looked :
       LooksFrom o p.cpu receipts (level_count_of o.tree) 0 (map (λ (x : Did). x.deed) did)
+
+-- WANT OF MEMORY: the interrupt is closed as after Ok; the runs that are told are of some of the
+-- timers that were handed out, in their order
+pub record HasStopped (p q : PassView) (before after : List Ran) : Type 0 where
+  pub receipts : List Receipt
+  pub did : List Did
+  pub runs : List Ran
+  pub gained : HasGained p q receipts did
+  pub runs_are : after ≡ before ++ runs
+  pub some : RunsOfSome receipts runs
+
+-- AT REST: a pass of the run, whose CPU isn't inside an interrupt, and has set no mark
+pub record IsAtRest (o : World) (p : PassView) : Type 0 where
+  pub opening : p.opening ≡ o
+  pub outside : p.inside ≡ false
+  pub goes_on : p.reeval ≡ false
+  pub marks : p.marks ≡ []
+
+-- why a CPU has no interrupt: it is offline, or too many walks were begun with its pass
+abbrev pub interrupt_fault_of : (online : Bool) (walks : ℕ) → Option OpFault
+interrupt_fault_of online walks =
+    if not online then Some faults.Offline
+    else (if nat_le MOST_MADE walks then Some (faults.Spent walks) else None)
+
+-- the same by its pass, since no CPU goes offline or online in a run
+abbrev pub interrupt_fault : PassView → Option OpFault
+interrupt_fault p = interrupt_fault_of (cpu_of p.opening p.cpu).online p.walks
+
+-- a refusal that came by the pass (no public clause cites it by itself)
+pub record IsRefusedBy (p q : PassView) (before after : List Ran) (fault : OpFault) : Type 0 where
+  pub fault_is : interrupt_fault p ≡ Some fault
+  pub journal : List Entry
+  pub known : BeginsWith journal p.journal
+  pub pass_is : q ≡ record p { journal = journal }
+  pub runs_are : after ≡ before
+
+-- REFUSED, or broken off by want of memory: a refusal comes exactly by the pass, and then what the
+-- pass knows of its CPU's journal is all that has changed
+abbrev pub NotInterrupted : (p q : PassView) (before after : List Ran) → OpFault → Type 0
+NotInterrupted p q before after faults.NoMemory =
+    (interrupt_fault p ≡ None) × HasStopped p q before after
+NotInterrupted p q before after faults.Offline = IsRefusedBy p q before after faults.Offline
+NotInterrupted p q before after (faults.Spent made) =
+    IsRefusedBy p q before after (faults.Spent made)
+NotInterrupted p q before after faults.NotActive = ⊥
+NotInterrupted p q before after faults.NotIdle = ⊥
+NotInterrupted p q before after faults.AlreadyOnline = ⊥
+NotInterrupted p q before after faults.LastOnline = ⊥
+NotInterrupted p q before after (faults.Queued cpu) = ⊥
+
+-- WHAT AN INTERRUPT TELLS, by the pass before and after
+pub record Tells (table : TableId) (o : World) (jobs : ℕ → JobCall → JobReply)
+    (held after : HeldPass) (before now : List Ran) (result : Result (Unit {0}) OpFault) : Type 0
+  where
+    pub old : PassView
+    pub new : PassView
+    pub had : IsPassIn table held old
+    pub has : IsPassIn table after new
+    pub told : MatchResult result
+        (λ done. (interrupt_fault old ≡ None) × HasInterrupted o jobs old new before now)
+        (NotInterrupted old new before now)

@@ -2,6 +2,13 @@
 //! own due timers run, and those of the idle CPUs that it looks after (`tmigr_handle_remote`).
 #![tactic(auto)]
 
+mod draining;
+mod interrupting;
+mod jobs;
+mod looking;
+mod marking;
 mod runs;
+mod serving;
 
+pub use interrupting::interrupt;
 pub use runs::{Ran, RanReply, Runs};

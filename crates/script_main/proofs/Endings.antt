@@ -23,10 +23,10 @@ use Rattle.script_main.specs.declared.replies.Reply.TheVariants.{JobUnknown, Wor
 use Rattle.script_main.specs.declared.replies.Reply.TheVariants.{Made}
 use Rattle.script_main.specs.declared.statuses.TheConstants.{DONE, USAGE, NO_MEMORY, WRITE_FAULT}
 use Rattle.script_main.specs.declared.statuses.TheConstants.{WORK_SPENT, JOB_UNKNOWN}
-use Rattle.script_main.specs.Words.{command_of, form_of, recipe_in, IsPlayer}
+use Rattle.script_main.specs.Words.{command_of, form_of, recipe_in, HasJobsRun}
 use Rattle.script_main.specs.Scripts.{BringsBy, EndsLate, IsOutput, LacksJob, MakesScript}
-use Rattle.script_main.specs.Scripts.{script_by}
-use Rattle.script_main.specs.Replies.{IsReply, IsReplyBy, RepliesToInput, SpendsWork}
+use Rattle.script_main.specs.Scripts.{script_by, SpendsBy, SpendsWork}
+use Rattle.script_main.specs.Replies.{IsReply, IsReplyBy, RepliesToInput}
 use Rattle.script_main.specs.Replies.{reply_text, refused_status, status_written, status_broken}
 use Rattle.script_main.specs.Replies.{ReadsNone}
 use Rattle.script_main.specs.Ends.{EndsAs, EndsUnwritten, EndsWith, WritesAll, WritesFront, Writes}
@@ -94,7 +94,7 @@ module _ (jobs : Replies) (table : ℕ) (words : List (String Global)) (s t : So
     command : Command
     input : Input
     has : HasInput words s t command input
-    plays : IsPlayer command
+    plays : HasJobsRun command
     line : ℕ
     job : ℕ
     lacks : LacksJob table input line job
@@ -104,9 +104,9 @@ module _ (jobs : Replies) (table : ℕ) (words : List (String Global)) (s t : So
     command : Command
     input : Input
     has : HasInput words s t command input
-    plays : IsPlayer command
+    plays : HasJobsRun command
     count : ℕ
-    spends : SpendsWork jobs table input count
+    spends : SpendsBy jobs table command input count
     is : reply ≡ WorkSpent count
 
   has_input : (command : Command) → command_of words ≡ Some command → (reply : Reply)
@@ -414,5 +414,7 @@ module _ {jobs : Replies} {table : ℕ} {words : List (String Global)} {s t : So
       let same = same_Some says.command (Day recipe) (sym says.has.named ∙ named) in
       let By : Command → Type 0 = λ c. BringsBy (recipe_in c) (form_of c) s t says.input in
       let brought : MakesScript recipe s t says.input = subst By same says.has.brought in
-      let limit = day_late recipe (subst EndsLate brought.made says.spends.late) in
+      let Spends : Command → Type 0 = λ c. SpendsBy jobs table c says.input says.count in
+      let spent : SpendsWork jobs table says.input says.count = subst Spends same says.spends in
+      let limit = day_late recipe (subst EndsLate brought.made spent.late) in
       below (5 * (recipe.moments + 1) * (1 + recipe.cpus + recipe.timers)) WORK_LIMIT_V1 short limit

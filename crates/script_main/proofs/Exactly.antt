@@ -27,7 +27,8 @@ use Rattle.script_main.specs.Statuses.{IsEither}
 use Rattle.script_main.specs.Causes.{Asks, HasText, IsFine, IsInputBy, IsJobUnknown}
 use Rattle.script_main.specs.Causes.{IsRefusedAs, IsWorkSpent}
 use Rattle.script_main.proofs.Endings.{Ended}
-use Rattle.script_main.proofs.Known.{all_known, not_both, not_many, out_plays, refuses}
+use Rattle.script_main.proofs.Known.{all_known, ends_know, never_spends, not_both, not_many}
+use Rattle.script_main.proofs.Known.{out_knows, out_plays, refuses, spent_knows}
 
 -- ---- the status of a text, by how it was written
 
@@ -134,11 +135,12 @@ module _ {jobs : Replies} {table : ℕ} {words : List (String Global)} {s t : So
   job_to j (Refused form fault) is ends = absurd is
   job_to j (JobUnknown line job) is ends =
       either (reply_text (JobUnknown line job)) k m status JOB_UNKNOWN ends
-  job_to j (WorkSpent count) is ends = absurd (j.unknown is.1.known)
+  job_to j (WorkSpent count) is ends =
+      absurd (j.unknown (spent_knows jobs table j.command j.input count is.1))
   job_to j (Played text) is ends =
-      absurd (j.unknown (out_plays jobs table j.command j.input text j.plays is).known)
+      absurd (j.unknown (out_knows jobs table j.command j.input text j.plays is))
   job_to j (Made text) is ends =
-      absurd (j.unknown (out_plays jobs table j.command j.input text.items j.plays is).known)
+      absurd (j.unknown (out_knows jobs table j.command j.input text.items j.plays is))
 
   pub job_exactly : status ≢ READ_FAULT → IsJobUnknown table words s.left
       → IsEither status JOB_UNKNOWN NO_MEMORY
@@ -181,9 +183,10 @@ module _ {jobs : Replies} {table : ℕ} {words : List (String Global)} {s t : So
   fine_text f TooLong is ends = absurd is
   fine_text f (Refused form fault) is ends = absurd is
   fine_text f (JobUnknown line job) is ends =
-      absurd (not_both table f.input line job is.1 (f.plays is.0).known)
+      absurd (not_both table f.input line job is.1
+      (ends_know jobs table f.command f.input (f.plays is.0)))
   fine_text f (WorkSpent count) is ends =
-      absurd (let within = (f.plays is.0).within in let spent = is.1.spent in cc (within, spent))
+      absurd (never_spends jobs table f.command f.input count (f.plays is.0) is.1)
   fine_text f (Played text) is ends = ends
   fine_text f (Made text) is ends = ends
 

@@ -1,7 +1,8 @@
 -- what is read of a source that tells its bytes, and what is known of an input's replies
-use Rattle.std.proofs.Common.{◌≡◌, ◌≤◌, ◌+◌, ℕ, List, ◌++◌, Option, Some, None, length, ◌∙◌, ap}
+use Rattle.std.proofs.Common.{◌≡◌, ◌≢◌, ◌≤◌, ◌+◌, ℕ, List, ◌++◌, Option, Some, None, length, ◌∙◌, ap, refl, sym}
 use Rattle.std.proofs.Common.{subst, arith, append-nil, length-append}
 use Rattle.std.specs.Prelude.{option_map}
+use Rattle.std.proofs.lemmas.Option.{none-some}
 use Rattle.std.specs.Io.KnownBytes.{Consumes, IsAtEnd}
 use Rattle.tm_base.specs.declared.limits.TheConstants.{MOST_BYTES}
 use Rattle.tm_io.specs.Seen.{SourceSeen}
@@ -16,8 +17,9 @@ use Rattle.script_main.specs.declared.inputs.Form.TheVariants as forms
 use Rattle.script_main.specs.declared.inputs.Input.{Input}
 use Rattle.script_main.specs.declared.inputs.Input.TheVariants as inputs
 use Rattle.script_main.specs.Inputs.{IsInputRefusalOf, SpellsInput}
-use Rattle.script_main.specs.Words.{IsPlayer}
-use Rattle.script_main.specs.Scripts.{CanEnd, IsOutput, KnowsJobs, LacksJob}
+use Rattle.script_main.specs.Words.{HasJobsRun, IsPlayer}
+use Rattle.script_main.specs.Scripts.{CanEnd, EndsBy, IsOutput, KnowsJobs, LacksJob, SpendsBy}
+use Rattle.script_main.specs.Scripts.{SpendsWork}
 
 -- ---- bytes that a source tells
 
@@ -76,6 +78,7 @@ out_plays jobs table commands.Play (inputs.Script script) text plays out =
     record { known = out.can_play.known; within = ap (option_map counted) out.can_play.within }
 out_plays jobs table commands.Play (inputs.Trace trace) text plays out = absurd out
 out_plays jobs table commands.Play (inputs.Works works) text plays out = absurd out
+out_plays jobs table commands.Run input text plays out = absurd plays
 out_plays jobs table commands.Tree input text plays out = absurd plays
 out_plays jobs table (commands.Generate recipe) input text plays out = absurd plays
 out_plays jobs table (commands.Day recipe) (inputs.Script script) text plays out =
@@ -91,3 +94,96 @@ out_plays jobs table commands.Works (inputs.Script script) text plays out = absu
 out_plays jobs table commands.Works (inputs.Trace trace) text plays out = absurd out
 out_plays jobs table commands.Works (inputs.Works works) text plays out =
     record { known = out.can_play.known; within = out.can_play.unspent }
+
+-- a command that has jobs run, but not by threads, plays
+pub plays_alone : (command : Command) → HasJobsRun command → command ≢ commands.Run
+    → IsPlayer command
+plays_alone commands.Play has other = tt
+plays_alone commands.Run has other = absurd (other refl)
+plays_alone commands.Tree has other = absurd has
+plays_alone (commands.Generate recipe) has other = absurd has
+plays_alone (commands.Day recipe) has other = tt
+plays_alone commands.Check has other = absurd has
+plays_alone commands.Deep has other = tt
+plays_alone commands.Works has other = tt
+
+-- a player's work is its input's
+pub spends_alone : (jobs : Replies) (table : ℕ) (command : Command) (input : Input) (count : ℕ)
+    → command ≢ commands.Run → SpendsBy jobs table command input count
+    → SpendsWork jobs table input count
+spends_alone jobs table commands.Play input count other is = is
+spends_alone jobs table commands.Run input count other is = absurd (other refl)
+spends_alone jobs table commands.Tree input count other is = is
+spends_alone jobs table (commands.Generate recipe) input count other is = is
+spends_alone jobs table (commands.Day recipe) input count other is = is
+spends_alone jobs table commands.Check input count other is = is
+spends_alone jobs table commands.Deep input count other is = is
+spends_alone jobs table commands.Works input count other is = is
+
+module _ (jobs : Replies) (table : ℕ) where
+  -- an output is that of an input whose jobs are in the table
+  pub out_knows : (command : Command) (input : Input) (text : List ℕ) → HasJobsRun command
+      → IsOutput jobs table command input text → KnowsJobs table input
+  out_knows commands.Play input text has out =
+      (out_plays jobs table commands.Play input text tt out).known
+  out_knows commands.Run (inputs.Script script) text has out = out.1.known
+  out_knows commands.Run (inputs.Trace trace) text has out = absurd out
+  out_knows commands.Run (inputs.Works works) text has out = absurd out
+  out_knows commands.Tree input text has out = absurd has
+  out_knows (commands.Generate recipe) input text has out = absurd has
+  out_knows (commands.Day recipe) input text has out =
+      (out_plays jobs table (commands.Day recipe) input text tt out).known
+  out_knows commands.Check input text has out = absurd has
+  out_knows commands.Deep input text has out =
+      (out_plays jobs table commands.Deep input text tt out).known
+  out_knows commands.Works input text has out =
+      (out_plays jobs table commands.Works input text tt out).known
+
+  -- and so is work that was broken off
+  pub spent_knows : (command : Command) (input : Input) (count : ℕ)
+      → SpendsBy jobs table command input count → KnowsJobs table input
+  spent_knows commands.Play input count is = is.known
+  spent_knows commands.Run (inputs.Script script) count is = is.known
+  spent_knows commands.Run (inputs.Trace trace) count is = absurd is
+  spent_knows commands.Run (inputs.Works works) count is = absurd is
+  spent_knows commands.Tree input count is = is.known
+  spent_knows (commands.Generate recipe) input count is = is.known
+  spent_knows (commands.Day recipe) input count is = is.known
+  spent_knows commands.Check input count is = is.known
+  spent_knows commands.Deep input count is = is.known
+  spent_knows commands.Works input count is = is.known
+
+  -- work that stays below its limit
+  pub ends_know : (command : Command) (input : Input) → EndsBy jobs table command input
+      → KnowsJobs table input
+  ends_know commands.Play input is = is.known
+  ends_know commands.Run (inputs.Script script) is = is.known
+  ends_know commands.Run (inputs.Trace trace) is = absurd is
+  ends_know commands.Run (inputs.Works works) is = absurd is
+  ends_know commands.Tree input is = is.known
+  ends_know (commands.Generate recipe) input is = is.known
+  ends_know (commands.Day recipe) input is = is.known
+  ends_know commands.Check input is = is.known
+  ends_know commands.Deep input is = is.known
+  ends_know commands.Works input is = is.known
+
+  stays_below : (input : Input) (count : ℕ) → CanEnd jobs table input
+      → SpendsWork jobs table input count → ⊥
+  stays_below input count ends spends =
+      absurd (none-some count (sym ends.within ∙ spends.spent))
+
+  pub never_spends : (command : Command) (input : Input) (count : ℕ)
+      → EndsBy jobs table command input → SpendsBy jobs table command input count → ⊥
+  never_spends commands.Play input count ends spends = stays_below input count ends spends
+  never_spends commands.Run (inputs.Script script) count ends spends =
+      ends.within count spends.text spends.broken_off
+  never_spends commands.Run (inputs.Trace trace) count ends spends = ends
+  never_spends commands.Run (inputs.Works works) count ends spends = ends
+  never_spends commands.Tree input count ends spends = stays_below input count ends spends
+  never_spends (commands.Generate recipe) input count ends spends =
+      stays_below input count ends spends
+  never_spends (commands.Day recipe) input count ends spends =
+      stays_below input count ends spends
+  never_spends commands.Check input count ends spends = stays_below input count ends spends
+  never_spends commands.Deep input count ends spends = stays_below input count ends spends
+  never_spends commands.Works input count ends spends = stays_below input count ends spends

@@ -25,39 +25,41 @@ use Rattle.script_main.specs.declared.replies.Reply.TheVariants.{Usage, ReadFaul
 use Rattle.script_main.specs.declared.replies.Reply.TheVariants.{JobUnknown, WorkSpent, Played}
 use Rattle.script_main.specs.declared.replies.Reply.TheVariants.{Made}
 use Rattle.script_main.specs.Inputs.{IsInputRefusalOf, SpellsInput}
-use Rattle.script_main.specs.Words.{command_of, form_of, recipe_in, IsPlayer}
-use Rattle.script_main.specs.Scripts.{BringsBy, IsOutput, LacksJob}
+use Rattle.script_main.specs.Words.{command_of, form_of, recipe_in, HasJobsRun}
+use Rattle.script_main.specs.Scripts.{BringsBy, IsOutput, LacksJob, SpendsWork}
 use Rattle.script_main.specs.Replies.{IsReader, IsReply, IsReplyBy, IsReplyOf, IsReplyTo, ReadsNone}
-use Rattle.script_main.specs.Replies.{RepliesToInput, SpendsWork, reply_text}
+use Rattle.script_main.specs.Replies.{RepliesToInput, reply_text}
 use Rattle.script_main.specs.Statuses.{IsAllOfNone, IsOneDue}
-use Rattle.script_main.proofs.Known.{all_known, not_both, not_many, out_plays, refuses}
+use Rattle.script_main.proofs.Known.{all_known, not_both, not_many, out_knows, out_plays}
+use Rattle.script_main.proofs.Known.{plays_alone, refuses, spends_alone}
 
 -- ---- one text of an input
 
--- a command but `check` writes one output
+-- a command but `check` and `run` writes one output
 one_output : (jobs : Replies) (table : ℕ) (command : Command) (input : Input) (xs ys : List ℕ)
-    → command ≢ commands.Check → IsOutput jobs table command input xs
+    → command ≢ commands.Check → command ≢ commands.Run → IsOutput jobs table command input xs
     → IsOutput jobs table command input ys → xs ≡ ys
-one_output jobs table commands.Play (inputs.Script script) xs ys not_check x y = x.played ∙ sym y.played
-one_output jobs table commands.Play (inputs.Trace trace) xs ys not_check x y = absurd x
-one_output jobs table commands.Play (inputs.Works works) xs ys not_check x y = absurd x
-one_output jobs table commands.Tree (inputs.Script script) xs ys not_check x y = x ∙ sym y
-one_output jobs table commands.Tree (inputs.Trace trace) xs ys not_check x y = absurd x
-one_output jobs table commands.Tree (inputs.Works works) xs ys not_check x y = absurd x
-one_output jobs table (commands.Generate recipe) (inputs.Script script) xs ys not_check x y = x ∙ sym y
-one_output jobs table (commands.Generate recipe) (inputs.Trace trace) xs ys not_check x y = absurd x
-one_output jobs table (commands.Generate recipe) (inputs.Works works) xs ys not_check x y = absurd x
-one_output jobs table (commands.Day recipe) (inputs.Script script) xs ys not_check x y =
+one_output jobs table commands.Play (inputs.Script script) xs ys not_check not_run x y = x.played ∙ sym y.played
+one_output jobs table commands.Play (inputs.Trace trace) xs ys not_check not_run x y = absurd x
+one_output jobs table commands.Play (inputs.Works works) xs ys not_check not_run x y = absurd x
+one_output jobs table commands.Run input xs ys not_check not_run x y = absurd (not_run refl)
+one_output jobs table commands.Tree (inputs.Script script) xs ys not_check not_run x y = x ∙ sym y
+one_output jobs table commands.Tree (inputs.Trace trace) xs ys not_check not_run x y = absurd x
+one_output jobs table commands.Tree (inputs.Works works) xs ys not_check not_run x y = absurd x
+one_output jobs table (commands.Generate recipe) (inputs.Script script) xs ys not_check not_run x y = x ∙ sym y
+one_output jobs table (commands.Generate recipe) (inputs.Trace trace) xs ys not_check not_run x y = absurd x
+one_output jobs table (commands.Generate recipe) (inputs.Works works) xs ys not_check not_run x y = absurd x
+one_output jobs table (commands.Day recipe) (inputs.Script script) xs ys not_check not_run x y =
     x.summed ∙ sym y.summed
-one_output jobs table (commands.Day recipe) (inputs.Trace trace) xs ys not_check x y = absurd x
-one_output jobs table (commands.Day recipe) (inputs.Works works) xs ys not_check x y = absurd x
-one_output jobs table commands.Check input xs ys not_check x y = absurd (not_check refl)
-one_output jobs table commands.Deep (inputs.Script script) xs ys not_check x y = x.played ∙ sym y.played
-one_output jobs table commands.Deep (inputs.Trace trace) xs ys not_check x y = absurd x
-one_output jobs table commands.Deep (inputs.Works works) xs ys not_check x y = absurd x
-one_output jobs table commands.Works (inputs.Script script) xs ys not_check x y = absurd x
-one_output jobs table commands.Works (inputs.Trace trace) xs ys not_check x y = absurd x
-one_output jobs table commands.Works (inputs.Works works) xs ys not_check x y = x.played ∙ sym y.played
+one_output jobs table (commands.Day recipe) (inputs.Trace trace) xs ys not_check not_run x y = absurd x
+one_output jobs table (commands.Day recipe) (inputs.Works works) xs ys not_check not_run x y = absurd x
+one_output jobs table commands.Check input xs ys not_check not_run x y = absurd (not_check refl)
+one_output jobs table commands.Deep (inputs.Script script) xs ys not_check not_run x y = x.played ∙ sym y.played
+one_output jobs table commands.Deep (inputs.Trace trace) xs ys not_check not_run x y = absurd x
+one_output jobs table commands.Deep (inputs.Works works) xs ys not_check not_run x y = absurd x
+one_output jobs table commands.Works (inputs.Script script) xs ys not_check not_run x y = absurd x
+one_output jobs table commands.Works (inputs.Trace trace) xs ys not_check not_run x y = absurd x
+one_output jobs table commands.Works (inputs.Works works) xs ys not_check not_run x y = x.played ∙ sym y.played
 
 same_unknown : (a b : UnknownJob) → Some a ≡ Some b → (a.line ≡ b.line) × (a.job ≡ b.job)
 same_unknown a b e =
@@ -82,54 +84,57 @@ one_lack table (inputs.Works works) l j m k x y =
 -- what a reply to an input is
 data Answer (jobs : Replies) (table : ℕ) (command : Command) (input : Input) (reply : Reply)
     : Type 0 where
-  lack : (line job : ℕ) → IsPlayer command → LacksJob table input line job
+  lack : (line job : ℕ) → HasJobsRun command → LacksJob table input line job
       → reply ≡ JobUnknown line job → Answer jobs table command input reply
-  spend : (count : ℕ) → IsPlayer command → SpendsWork jobs table input count
+  spend : (count : ℕ) → HasJobsRun command → SpendsWork jobs table input count
       → reply ≡ WorkSpent count → Answer jobs table command input reply
   output : IsOutput jobs table command input (reply_text reply)
       → Answer jobs table command input reply
 
 module _ (jobs : Replies) (table : ℕ) (command : Command) (no_check : command ≢ commands.Check)
-  where
-    answer : (input : Input) (reply : Reply) → IsReplyTo jobs table command input reply
-        → Answer jobs table command input reply
-    answer input Usage is = absurd is
-    answer input ReadFault is = absurd is
-    answer input TooLong is = absurd is
-    answer input (Refused form fault) is = absurd is
-    answer input (JobUnknown line job) is = lack line job is.0 is.1 refl
-    answer input (WorkSpent count) is = spend count is.0 is.1 refl
-    answer input (Played text) is = output is
-    answer input (Made text) is = output is
+    (no_run : command ≢ commands.Run) where
+  answer : (input : Input) (reply : Reply) → IsReplyTo jobs table command input reply
+      → Answer jobs table command input reply
+  answer input Usage is = absurd is
+  answer input ReadFault is = absurd is
+  answer input TooLong is = absurd is
+  answer input (Refused form fault) is = absurd is
+  answer input (JobUnknown line job) is = lack line job is.0 is.1 refl
+  answer input (WorkSpent count) is =
+      spend count is.0 (spends_alone jobs table command input count no_run is.1) refl
+  answer input (Played text) is = output is
+  answer input (Made text) is = output is
 
-    one_answer : (input : Input) (x y : Reply) → Answer jobs table command input x
-        → Answer jobs table command input y → reply_text x ≡ reply_text y
-    one_answer input x y (lack l j plays lacks is) (lack m k plays2 lacks2 is2) =
-        let same = one_lack table input l j m k lacks lacks2 in
-        let texts : reply_text (JobUnknown l j) ≡ reply_text (JobUnknown m k) =
-        λ i. reply_text (JobUnknown (same.0 i) (same.1 i)) in
-        ap reply_text is ∙ texts ∙ sym (ap reply_text is2)
-    one_answer input x y (lack l j plays lacks is) (spend n plays2 spent is2) =
-        absurd (not_both table input l j lacks spent.known)
-    one_answer input x y (lack l j plays lacks is) (output out) =
-        absurd (not_both table input l j lacks
-        (out_plays jobs table command input (reply_text y) plays out).known)
-    one_answer input x y (spend n plays spent is) (lack l j plays2 lacks is2) =
-        absurd (not_both table input l j lacks spent.known)
-    one_answer input x y (spend n plays spent is) (spend k plays2 spent2 is2) =
-        let same = same_Some n k (sym spent.spent ∙ spent2.spent) in
-        ap reply_text is ∙ ap (λ (c : ℕ). reply_text (WorkSpent c)) same ∙ sym (ap reply_text is2)
-    one_answer input x y (spend n plays spent is) (output out) =
-        let within = (out_plays jobs table command input (reply_text y) plays out).within in
-        absurd (none-some n (sym within ∙ spent.spent))
-    one_answer input x y (output out) (lack l j plays lacks is) =
-        absurd (not_both table input l j lacks
-        (out_plays jobs table command input (reply_text x) plays out).known)
-    one_answer input x y (output out) (spend n plays spent is) =
-        let within = (out_plays jobs table command input (reply_text x) plays out).within in
-        absurd (none-some n (sym within ∙ spent.spent))
-    one_answer input x y (output out) (output out2) =
-        one_output jobs table command input (reply_text x) (reply_text y) no_check out out2
+  one_answer : (input : Input) (x y : Reply) → Answer jobs table command input x
+      → Answer jobs table command input y → reply_text x ≡ reply_text y
+  one_answer input x y (lack l j plays lacks is) (lack m k plays2 lacks2 is2) =
+      let same = one_lack table input l j m k lacks lacks2 in
+      let texts : reply_text (JobUnknown l j) ≡ reply_text (JobUnknown m k) =
+      λ i. reply_text (JobUnknown (same.0 i) (same.1 i)) in
+      ap reply_text is ∙ texts ∙ sym (ap reply_text is2)
+  one_answer input x y (lack l j plays lacks is) (spend n plays2 spent is2) =
+      absurd (not_both table input l j lacks spent.known)
+  one_answer input x y (lack l j plays lacks is) (output out) =
+      absurd (not_both table input l j lacks
+      (out_knows jobs table command input (reply_text y) plays out))
+  one_answer input x y (spend n plays spent is) (lack l j plays2 lacks is2) =
+      absurd (not_both table input l j lacks spent.known)
+  one_answer input x y (spend n plays spent is) (spend k plays2 spent2 is2) =
+      let same = same_Some n k (sym spent.spent ∙ spent2.spent) in
+      ap reply_text is ∙ ap (λ (c : ℕ). reply_text (WorkSpent c)) same ∙ sym (ap reply_text is2)
+  one_answer input x y (spend n plays spent is) (output out) =
+      let alone = plays_alone command plays no_run in
+      let within = (out_plays jobs table command input (reply_text y) alone out).within in
+      absurd (none-some n (sym within ∙ spent.spent))
+  one_answer input x y (output out) (lack l j plays lacks is) =
+      absurd (not_both table input l j lacks
+      (out_knows jobs table command input (reply_text x) plays out))
+  one_answer input x y (output out) (spend n plays spent is) =
+      let alone = plays_alone command plays no_run in
+      let within = (out_plays jobs table command input (reply_text x) alone out).within in
+      absurd (none-some n (sym within ∙ spent.spent))
+  one_answer input x y (output out) (output out2) =
+      one_output jobs table command input (reply_text x) (reply_text y) no_check no_run out out2
 
 -- ---- one text of a source
 
@@ -218,7 +223,8 @@ module _ (s t : SourceSeen) (known : List ℕ) (told : s.left ≡ Some known) wh
         one_fault (form_of command) y.bytes f g
         (subst Is (same_bytes x.bytes y.bytes x.read y.read) x.refusal) y.refusal
 
-    module _ (counts : s.faults ≢ 2 ^ 64 - 1) (no_check : command ≢ commands.Check) where
+    module _ (counts : s.faults ≢ 2 ^ 64 - 1) (no_check : command ≢ commands.Check)
+        (no_run : command ≢ commands.Run) where
       sure : {A : Type 0} → SourceFailed s t → SourceUnbroken s t → A
       sure fell sound = absurd (not_both_ways s t counts fell sound)
 
@@ -228,9 +234,9 @@ module _ (s t : SourceSeen) (known : List ℕ) (told : s.left ≡ Some known) wh
           let To : Input → Type 0 = λ input. IsReplyTo jobs table command input x in
           let same =
           one_input (recipe_in command) (form_of command) a.input b.input a.brought b.brought in
-          one_answer jobs table command no_check b.input x y
-          (answer jobs table command no_check b.input x (subst To same a.reply_is))
-          (answer jobs table command no_check b.input y b.reply_is)
+          one_answer jobs table command no_check no_run b.input x y
+          (answer jobs table command no_check no_run b.input x (subst To same a.reply_is))
+          (answer jobs table command no_check no_run b.input y b.reply_is)
 
       one_due : (x y : Reply) → Due jobs table command s t x → Due jobs table command s t y
           → reply_text x ≡ reply_text y
@@ -267,7 +273,7 @@ module _ (jobs : Replies) (table : ℕ) (words : List (String Global)) (s t : So
   one_by None named x y a b = ap reply_text (a ∙ sym b)
   one_by (Some command) named x y a b =
       one_due s t one.bytes one.told jobs table command one.counts
-      (λ is. one.no_check (named ∙ ap Some is)) x y
+      (λ is. one.no_check (named ∙ ap Some is)) (λ is. one.no_run (named ∙ ap Some is)) x y
       (due s t one.bytes one.told jobs table command x a)
       (due s t one.bytes one.told jobs table command y b)
 

@@ -77,6 +77,7 @@ works_input forms.Works script is = (is, refl)
 -- one command works on traces
 pub checks : (command : Command) → form_of command ≡ forms.Trace → command ≡ commands.Check
 checks commands.Play is = cc
+checks commands.Run is = cc
 checks commands.Tree is = cc
 checks (commands.Generate recipe) is = cc
 checks (commands.Day recipe) is = cc
@@ -87,6 +88,7 @@ checks commands.Works is = cc
 -- .. and one on scripts of works
 pub works : (command : Command) → form_of command ≡ forms.Works → command ≡ commands.Works
 works commands.Play is = cc
+works commands.Run is = cc
 works commands.Tree is = cc
 works (commands.Generate recipe) is = cc
 works (commands.Day recipe) is = cc
@@ -98,6 +100,7 @@ works commands.Works is = refl
 pub makes_script : (command : Command) (recipe : Recipe) → recipe_in command ≡ Some recipe
     → form_of command ≡ forms.Script
 makes_script commands.Play recipe is = cc
+makes_script commands.Run recipe is = cc
 makes_script commands.Tree recipe is = cc
 makes_script (commands.Generate r) recipe is = refl
 makes_script (commands.Day r) recipe is = refl

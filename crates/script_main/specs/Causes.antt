@@ -11,8 +11,9 @@ use Rattle.script_main.specs.declared.inputs.Form.TheVariants as forms
 use Rattle.script_main.specs.declared.inputs.Input.{Input}
 use Rattle.script_main.specs.declared.inputs.Input.TheVariants as inputs
 use Rattle.script_main.specs.Inputs.{SpellsInput}
-use Rattle.script_main.specs.Words.{command_of, form_of, recipe_in, Reads, ReadsAs, IsPlayer}
-use Rattle.script_main.specs.Scripts.{CanEnd, KnowsJobs, script_by, spent_by}
+use Rattle.script_main.specs.Words.{command_of, form_of, recipe_in, Reads, ReadsAs, HasJobsRun}
+use Rattle.script_main.specs.Words.{IsPlayer}
+use Rattle.script_main.specs.Scripts.{EndsBy, KnowsJobs, script_by, spent_by}
 
 -- the source has these bytes left, and they are few enough
 pub record HasFew (left : Option (List ℕ)) (bytes : List ℕ) : Type 0 where
@@ -63,16 +64,17 @@ pub record Asks (words : List (String Global)) (left : Option (List ℕ)) (comma
   pub named : command_of words ≡ Some command
   pub input_is : IsInputBy (recipe_in command) (form_of command) left input
 
--- job unknown: an input that is to be played names a job that the table hasn't
+-- job unknown: an input whose jobs are to be run names a job that the table hasn't
 pub record IsJobUnknown (table : ℕ) (words : List (String Global)) (left : Option (List ℕ))
     : Type 0 where
   pub command : Command
   pub input : Input
   pub asks : Asks words left command input
-  pub plays : IsPlayer command
+  pub plays : HasJobsRun command
   pub unknown : KnowsJobs table input → ⊥
 
--- work spent: an input that is to be played takes more work than the limit allows
+-- work spent: an input that is to be played takes more work than the limit allows. How much work a
+-- run by threads takes isn't said by its input alone
 pub record IsWorkSpent (jobs : Replies) (table : ℕ) (words : List (String Global))
     (left : Option (List ℕ)) : Type 0 where
   pub command : Command
@@ -88,4 +90,4 @@ pub record IsFine (jobs : Replies) (table : ℕ) (words : List (String Global))
   pub command : Command
   pub input : Input
   pub asks : Asks words left command input
-  pub plays : IsPlayer command → CanEnd jobs table input
+  pub plays : HasJobsRun command → EndsBy jobs table command input

@@ -19,11 +19,10 @@ use Rattle.script_main.specs.declared.statuses.TheConstants.{READ_FAULT, WRITE_F
 use Rattle.script_main.specs.declared.statuses.TheConstants.{TOO_LONG, JOB_UNKNOWN}
 use Rattle.script_main.specs.declared.statuses.TheConstants.{TRACE_REFUSED, WORKS_REFUSED}
 use Rattle.script_main.specs.Inputs.{IsInputRefusalOf}
-use Rattle.script_main.specs.Words.{command_of, form_of, recipe_in, IsPlayer}
+use Rattle.script_main.specs.Words.{command_of, form_of, recipe_in, HasJobsRun}
 use Rattle.script_main.specs.Texts.{usage_text, read_fault_text, too_long_text, refused_text}
 use Rattle.script_main.specs.Texts.{job_unknown_text, work_spent_text}
-use Rattle.script_main.specs.Scripts.{Brings, EndsLate, IsOutput, KnowsJobs, LacksJob}
-use Rattle.script_main.specs.Scripts.{spent_by}
+use Rattle.script_main.specs.Scripts.{Brings, IsOutput, LacksJob, SpendsBy}
 
 -- the text of a reply
 abbrev pub reply_text : Reply → List ℕ
@@ -36,19 +35,12 @@ reply_text (WorkSpent count) = work_spent_text count
 reply_text (Played text) = text
 reply_text (Made text) = text.items
 
--- the work of the input's play is broken off at this count, as it is printed; so its end comes late
--- enough for its CPUs and timers, or its works, to come to the limit
-pub record SpendsWork (jobs : Replies) (table : ℕ) (input : Input) (count : ℕ) : Type 0 where
-  pub known : KnowsJobs table input
-  pub spent : spent_by jobs input ≡ Some count
-  pub late : EndsLate input
-
 -- THE REPLY TO AN INPUT, by the command
 abbrev pub IsReplyTo : Replies → (table : ℕ) → Command → Input → Reply → Type 0
 IsReplyTo jobs table command input (JobUnknown line job) =
-    IsPlayer command × LacksJob table input line job
+    HasJobsRun command × LacksJob table input line job
 IsReplyTo jobs table command input (WorkSpent count) =
-    IsPlayer command × SpendsWork jobs table input count
+    HasJobsRun command × SpendsBy jobs table command input count
 IsReplyTo jobs table command input (Played text) = IsOutput jobs table command input text
 IsReplyTo jobs table command input (Made text) = IsOutput jobs table command input text.items
 IsReplyTo jobs table command input _ = ⊥

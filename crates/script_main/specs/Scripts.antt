@@ -1,5 +1,5 @@
 -- the input of a command, and what the command makes of it
-use Rattle.std.specs.Prelude.{◌≡◌, ℕ, ◌+◌, ◌*◌, ◌≤◌, List, Option, Some, None, option_map}
+use Rattle.std.specs.Prelude.{◌≡◌, ℕ, ◌+◌, ◌*◌, ◌≤◌, List, [], Option, Some, None, option_map}
 use Rattle.tm_base.specs.declared.limits.TheConstants.{MOST_BYTES, WORK_LIMIT_V1}
 use Rattle.tm_io.specs.Seen.{SourceSeen}
 use Rattle.tm_io.specs.Sources.{TakesAll}
@@ -8,6 +8,7 @@ use Rattle.tm_script.specs.Texts.{cpu_count, script_text}
 use Rattle.tm_generate.specs.Generated.{generated}
 use Rattle.tree_plan.specs.Shape.{tree_of}
 use Rattle.tm_report.specs.Lines.{report_text}
+use Rattle.core_world.specs.World.{World}
 use Rattle.play_rules.specs.Interrupts.{Replies}
 use Rattle.play_rules.specs.Jobs.{first_unknown_job}
 use Rattle.play_rules.specs.Parts.{counted}
@@ -15,6 +16,7 @@ use Rattle.play_rules.specs.Play.{play_text, play_spent}
 use Rattle.tm_driver.specs.Deep.{deep_lines, deep_text, without_device}
 use Rattle.tm_driver.specs.Outcomes.{work_limit}
 use Rattle.tm_driver.specs.Plays.{CanPlay, LawsHold, summary_of}
+use Rattle.tm_driver.specs.Runs.{BreaksStory, RunsToEnd}
 use Rattle.trace_check.specs.Answers.{IsCheckText}
 use Rattle.work_script.specs.declared.syntax.WorkScript.{WorkScript}
 use Rattle.delayed_work.specs.Play.{CanPlayWorks, first_unknown_work_job, works_spent, works_text}
@@ -22,8 +24,8 @@ use Rattle.script_main.specs.TreeText.Trees.{tree_text}
 use Rattle.script_main.specs.DayText.Days.{day_text}
 use Rattle.script_main.specs.declared.commands.Recipe.{Recipe}
 use Rattle.script_main.specs.declared.commands.Command.{Command}
-use Rattle.script_main.specs.declared.commands.Command.TheVariants.{Play, Tree, Generate, Day}
-use Rattle.script_main.specs.declared.commands.Command.TheVariants.{Check, Deep, Works}
+use Rattle.script_main.specs.declared.commands.Command.TheVariants.{Play, Run, Tree, Generate}
+use Rattle.script_main.specs.declared.commands.Command.TheVariants.{Day, Check, Deep, Works}
 use Rattle.script_main.specs.declared.inputs.Form.{Form}
 use Rattle.script_main.specs.declared.inputs.Input.{Input}
 use Rattle.script_main.specs.declared.inputs.Input.TheVariants as inputs
@@ -86,10 +88,44 @@ EndsLate (inputs.Script script) =
 EndsLate (inputs.Trace trace) = ⊥
 EndsLate (inputs.Works works) = WORK_LIMIT_V1 ≤ works.end * (1 + works.count)
 
+-- the work of the input's play is broken off at this count, as it is printed; so its end comes late
+-- enough for its CPUs and timers, or its works, to come to the limit
+pub record SpendsWork (jobs : Replies) (table : ℕ) (input : Input) (count : ℕ) : Type 0 where
+  pub known : KnowsJobs table input
+  pub spent : spent_by jobs input ≡ Some count
+  pub late : EndsLate input
+
 -- every job of the input is in the table, and its work stays below the limit
 pub record CanEnd (jobs : Replies) (table : ℕ) (input : Input) : Type 0 where
   pub known : KnowsJobs table input
   pub within : spent_by jobs input ≡ None
+
+-- the run of the input is broken off at this count, as it is printed: every job is in the table,
+-- and the text is that of a story that is broken off there
+pub record BreaksRunOff (jobs : Replies) (table count : ℕ) (script : Script) : Type 0 where
+  pub known : first_unknown_job table script.moments ≡ None
+  pub text : List ℕ
+  pub broken_off : BreaksStory jobs script count [] text
+
+-- every job of the script is in the table, and the work of each of its stories stays below the limit
+pub record CanRun (jobs : Replies) (table : ℕ) (script : Script) : Type 0 where
+  pub known : first_unknown_job table script.moments ≡ None
+  pub within : (count : ℕ) (text : List ℕ) → BreaksStory jobs script count [] text → ⊥
+
+-- A COMMAND'S WORK is broken off at this count
+abbrev pub SpendsBy : Replies → (table : ℕ) → Command → Input → (count : ℕ) → Type 0
+SpendsBy jobs table Run input count = OfScript (BreaksRunOff jobs table count) input
+SpendsBy jobs table command input count = SpendsWork jobs table input count
+
+-- .. and stays below its limit
+abbrev pub EndsBy : Replies → (table : ℕ) → Command → Input → Type 0
+EndsBy jobs table Run input = OfScript (CanRun jobs table) input
+EndsBy jobs table command input = CanEnd jobs table input
+
+-- the text is that of a story of the script, which was run to its end; the story's last moment
+-- leaves a core
+abbrev pub IsRunOf : Replies → (table : ℕ) → List ℕ → Script → Type 0
+IsRunOf jobs table text script = (core : World) × RunsToEnd jobs table script [] text core
 
 -- the text is that of the play of the script, which can be played to its end; and the laws hold of
 -- that play, by Play's state and by the core's own groups
@@ -125,6 +161,7 @@ pub record IsWorksOf (jobs : Replies) (table : ℕ) (text : List ℕ) (works : W
 -- WHAT A COMMAND WRITES of its input, where all goes well
 abbrev pub IsOutput : Replies → (table : ℕ) → Command → Input → List ℕ → Type 0
 IsOutput jobs table Play input text = OfScript (IsPlayOf jobs table text) input
+IsOutput jobs table Run input text = OfScript (IsRunOf jobs table text) input
 IsOutput jobs table Tree input text = OfScript (IsTreeOf text) input
 IsOutput jobs table (Generate recipe) input text =
     OfScript (λ script. text ≡ script_text script) input

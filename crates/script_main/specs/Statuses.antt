@@ -11,18 +11,18 @@ use Rattle.tm_script.specs.declared.faults.ScriptFault.{ScriptFault}
 use Rattle.play_rules.specs.Interrupts.{Replies}
 use Rattle.script_main.specs.declared.commands.Recipe.{Recipe}
 use Rattle.script_main.specs.declared.commands.Command.{Command}
-use Rattle.script_main.specs.declared.commands.Command.TheVariants.{Check}
+use Rattle.script_main.specs.declared.commands.Command.TheVariants.{Check, Run}
 use Rattle.script_main.specs.declared.inputs.Form.{Form}
 use Rattle.script_main.specs.declared.inputs.Form.TheVariants as forms
 use Rattle.script_main.specs.declared.inputs.Input.{Input}
 use Rattle.script_main.specs.declared.replies.Reply.{Reply}
 use Rattle.script_main.specs.declared.statuses.TheConstants.{JOB_UNKNOWN, TRACE_REFUSED}
 use Rattle.script_main.specs.declared.statuses.TheConstants.{WORKS_REFUSED}
-use Rattle.script_main.specs.Words.{command_of, Reads, ReadsAs, IsPlayer}
+use Rattle.script_main.specs.Words.{command_of, Reads, ReadsAs, HasJobsRun}
 use Rattle.script_main.specs.Texts.{usage_text, read_fault_text, too_long_text, refused_text}
 use Rattle.script_main.specs.Texts.{job_unknown_text, work_spent_text}
-use Rattle.script_main.specs.Scripts.{Brings, IsOutput, LacksJob}
-use Rattle.script_main.specs.Replies.{IsReply, ReadsNone, SpendsWork, reply_text}
+use Rattle.script_main.specs.Scripts.{Brings, IsOutput, LacksJob, SpendsBy}
+use Rattle.script_main.specs.Replies.{IsReply, ReadsNone, reply_text}
 use Rattle.script_main.specs.Ends.{SinkSound, Writes, WritesAll, WritesFront}
 
 -- the words name a command, it has this input, and the source didn't fail
@@ -80,12 +80,13 @@ pub record SaysWriteFault (jobs : Replies) (table : ℕ) (words : List (String G
   pub writes : WritesFront text k m
 
 -- ONE TEXT IS DUE: the source tells what it has left, and its count of faults isn't at the end of
--- its type; and the words don't name `check`, of whose texts more than one may be allowed
+-- its type; and the words don't name `check` or `run`, of whose texts more than one may be allowed
 pub record IsOneDue (words : List (String Global)) (s : SourceSeen) : Type 0 where
   pub bytes : List ℕ
   pub told : s.left ≡ Some bytes
   pub counts : s.faults ≢ 2 ^ 64 - 1
   pub no_check : command_of words ≢ Some Check
+  pub no_run : command_of words ≢ Some Run
 
 -- these bytes are all of no text of a reply that the words and the source call for
 abbrev pub IsAllOfNone : Replies → (table : ℕ) → List (String Global) → SourceSeen → SourceSeen
@@ -125,15 +126,15 @@ pub record SaysNoMemory (jobs : Replies) (table : ℕ) (words : List (String Glo
   pub sound : SinkSound k m
   pub written : WritesNothing words s t k m ⊎ WritesReplyFront jobs table words s t k m
 
--- 6: the work of the input's play reached its limit before the end
+-- 6: the work of the input's play, or of its run, reached its limit before the end
 pub record SaysWorkSpent (jobs : Replies) (table : ℕ) (words : List (String Global))
     (s t : SourceSeen) (k m : SinkSeen) : Type 0 where
   pub command : Command
   pub input : Input
   pub has : HasInput words s t command input
-  pub plays : IsPlayer command
+  pub plays : HasJobsRun command
   pub count : ℕ
-  pub spends : SpendsWork jobs table input count
+  pub spends : SpendsBy jobs table command input count
   pub writes : Writes (work_spent_text count) k m
 
 -- the recipe's script ends so early that its CPUs and timers can't come to the limit of work
@@ -148,13 +149,13 @@ pub record SaysTooLong (words : List (String Global)) (s t : SourceSeen) (k m : 
   pub read : TakesCount s t (MOST_BYTES + 1)
   pub writes : Writes too_long_text k m
 
--- 8: a line of the input names a job that the table hasn't; nothing was played
+-- 8: a line of the input names a job that the table hasn't; nothing was played or run
 pub record SaysJobUnknown (table : ℕ) (words : List (String Global))
     (s t : SourceSeen) (k m : SinkSeen) : Type 0 where
   pub command : Command
   pub input : Input
   pub has : HasInput words s t command input
-  pub plays : IsPlayer command
+  pub plays : HasJobsRun command
   pub line : ℕ
   pub job : ℕ
   pub lacks : LacksJob table input line job

@@ -11,7 +11,7 @@ use Rattle.script_main.specs.declared.inputs.Form.TheVariants as forms
 -- the text of status 2
 abbrev pub usage_text : List ℕ
 usage_text =
-    codes "usage: tmig play | tree | generate NUMBER CPUS TIMERS MOMENTS"
+    codes "usage: tmig play | run | tree | generate NUMBER CPUS TIMERS MOMENTS"
     ++ codes " | day NUMBER CPUS TIMERS MOMENTS | check | deep | works\n"
 
 -- the text of status 3

@@ -9,8 +9,8 @@ use Rattle.tm_generate.specs.declared.generated.TheConstants.{MOST_MOMENTS}
 use Rattle.script_main.specs.declared.commands.TheConstants.{MOST_NUMBER}
 use Rattle.script_main.specs.declared.commands.Recipe.{Recipe}
 use Rattle.script_main.specs.declared.commands.Command.{Command}
-use Rattle.script_main.specs.declared.commands.Command.TheVariants.{Play, Tree, Generate, Day}
-use Rattle.script_main.specs.declared.commands.Command.TheVariants.{Check, Deep, Works}
+use Rattle.script_main.specs.declared.commands.Command.TheVariants.{Play, Run, Tree, Generate}
+use Rattle.script_main.specs.declared.commands.Command.TheVariants.{Day, Check, Deep, Works}
 use Rattle.script_main.specs.declared.inputs.Form.{Form}
 use Rattle.script_main.specs.declared.inputs.Form.TheVariants as forms
 
@@ -40,6 +40,7 @@ recipe_of number cpus timers moments = do
 abbrev pub lone_command : List ℕ → Option Command
 lone_command word =
     if bytes_eq word (codes "play") then Some Play
+    else if bytes_eq word (codes "run") then Some Run
     else if bytes_eq word (codes "tree") then Some Tree
     else if bytes_eq word (codes "check") then Some Check
     else if bytes_eq word (codes "deep") then Some Deep
@@ -73,6 +74,7 @@ pub record IsRecipe (r : Recipe) : Type 0 where
 -- the recipe of a command that generates its script; the others read their input from the source
 abbrev pub recipe_in : Command → Option Recipe
 recipe_in Play = None
+recipe_in Run = None
 recipe_in Tree = None
 recipe_in (Generate recipe) = Some recipe
 recipe_in (Day recipe) = Some recipe
@@ -83,6 +85,7 @@ recipe_in Works = None
 -- what a command works on
 abbrev pub form_of : Command → Form
 form_of Play = forms.Script
+form_of Run = forms.Script
 form_of Tree = forms.Script
 form_of (Generate recipe) = forms.Script
 form_of (Day recipe) = forms.Script
@@ -100,9 +103,21 @@ ReadsAs form words =
     (command : Command) × (command_of words ≡ Some command) × (recipe_in command ≡ None)
     × (form_of command ≡ form)
 
--- the command plays its input
+-- the command has the jobs of its input run: it plays it, or runs it by threads
+abbrev pub HasJobsRun : Command → Type 0
+HasJobsRun Play = Unit {0}
+HasJobsRun Run = Unit {0}
+HasJobsRun Tree = ⊥
+HasJobsRun (Generate recipe) = ⊥
+HasJobsRun (Day recipe) = Unit {0}
+HasJobsRun Check = ⊥
+HasJobsRun Deep = Unit {0}
+HasJobsRun Works = Unit {0}
+
+-- the command plays its input without threads, so that the input alone says what comes of it
 abbrev pub IsPlayer : Command → Type 0
 IsPlayer Play = Unit {0}
+IsPlayer Run = ⊥
 IsPlayer Tree = ⊥
 IsPlayer (Generate recipe) = ⊥
 IsPlayer (Day recipe) = Unit {0}

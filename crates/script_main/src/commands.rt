@@ -30,6 +30,8 @@ pub(crate) struct Recipe {
 pub(crate) enum Command {
     /// Writes the report of the play of a script that is read.
     Play,
+    /// Writes the report of a run by threads of a script that is read.
+    Run,
     /// Writes the tree of the machine of a script that is read.
     Tree,
     /// Writes a generated script.
@@ -50,8 +52,8 @@ impl Command {
         ensures { result ≡ recipe_in self }
     {
         match self {
-            Command::Play | Command::Tree | Command::Check => None,
-            Command::Deep | Command::Works => None,
+            Command::Play | Command::Run | Command::Tree => None,
+            Command::Check | Command::Deep | Command::Works => None,
             Command::Generate(recipe) | Command::Day(recipe) => Some(recipe),
         }
     }
@@ -61,7 +63,7 @@ impl Command {
         ensures { result ≡ form_of self }
     {
         match self {
-            Command::Play | Command::Tree | Command::Deep => Form::Script,
+            Command::Play | Command::Run | Command::Tree | Command::Deep => Form::Script,
             Command::Generate(_) | Command::Day(_) => Form::Script,
             Command::Check => Form::Trace,
             Command::Works => Form::Works,
@@ -109,6 +111,8 @@ fn lone_command(word: &[u8]) -> Option<Command>
 {
     if word == b"play".as_slice() {
         Some(Command::Play)
+    } else if word == b"run".as_slice() {
+        Some(Command::Run)
     } else if word == b"tree".as_slice() {
         Some(Command::Tree)
     } else if word == b"check".as_slice() {

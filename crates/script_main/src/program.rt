@@ -23,7 +23,9 @@ use crate::{
 };
 use job_table::Jobs;
 use std::alloc::Global;
-use tm_base::NoMemory;
+use std::sync::Wait;
+use std::thread::Threads;
+use tm_base::{Gate, NoMemory};
 use tm_io::{Sink, Source, WriteCause, write_all};
 
 /// Writes a text, and answers one status where all of it was written, and another where the sink
@@ -84,20 +86,25 @@ fn write_reply<K: Sink>(alloc: Global, reply: &Reply, sink: &mut K) -> u8
 /// of the play, a fault of the sink. Want of memory may come at any place. Everything is written at
 /// the end, by one `write_all`.
 ///
-/// The words are `play`, `tree`, `generate NUMBER CPUS TIMERS MOMENTS`,
-/// `day NUMBER CPUS TIMERS MOMENTS`, `check`, `deep` or `works`; of these `play`, `tree` and `deep`
-/// read a script from the source, `check` a trace, and `works` a script of works.
+/// The words are `play`, `run`, `tree`, `generate NUMBER CPUS TIMERS MOMENTS`,
+/// `day NUMBER CPUS TIMERS MOMENTS`, `check`, `deep` or `works`; of these `play`, `run`, `tree` and
+/// `deep` read a script from the source, `check` a trace, and `works` a script of works.
+///
+/// With `run` threads take part, which meet as the gate lets them go on: what is written is the text
+/// of one of the script's stories, and which one is free. The others need no thread and no gate.
 ///
 /// Want of memory with nothing written may come as the input is read, or made, or worked on, or as
 /// the sink takes its first bytes. Words that are no command, a source that failed, and one that has
 /// too many bytes want no memory for what is told of them: there it is the sink's alone. A front
 /// that was written is never all that was due.
-pub fn run_program<S: Source, K: Sink, J: Jobs>(
+pub fn run_program<S: Source, K: Sink, J: Jobs + Sync, G: Gate + Sync, R: Threads + Wait + Sync>(
+    rt: &R,
     alloc: Global,
     words: &[String],
     source: &mut S,
     sink: &mut K,
     jobs: &J,
+    gate: &G,
 ) -> Status
     // What each status says.
     ensures done { result.0 ≡ DONE → SaysDone (J.replies jobs.now) (J.count jobs.now) words.now
@@ -159,7 +166,7 @@ pub fn run_program<S: Source, K: Sink, J: Jobs>(
         → IsFine (J.replies jobs.now) (J.count jobs.now) words.now (S.seen source.old).left
         → IsEither result.0 DONE NO_MEMORY }
 {
-    match reply_to(alloc, words, source, jobs) {
+    match reply_to(rt, alloc, words, source, jobs, gate) {
         Ok(reply) => Status(write_reply(alloc, &reply, sink)),
         Err(_) => Status(NO_MEMORY),
     }

@@ -24,8 +24,10 @@ use delayed_work::{WorksFault, play_works};
 use job_table::Jobs;
 use play_laws::law_work;
 use std::alloc::Global;
-use tm_base::{MOST_BYTES, NoMemory};
-use tm_driver::{DriveFault, deep, play, summary};
+use std::sync::Wait;
+use std::thread::Threads;
+use tm_base::{Gate, MOST_BYTES, NoMemory};
+use tm_driver::{DriveFault, deep, play, run, summary};
 use tm_generate::generate;
 use tm_io::{ReadFault, Source, read_all};
 use tm_report::Report;
@@ -47,9 +49,9 @@ pub(crate) enum Reply {
     Refused { form: Form, fault: ScriptFault },
     /// A line of the input names a job that there isn't.
     JobUnknown { line: u32, job: u8 },
-    /// The work of the play reached its limit.
+    /// The work of the play or run reached its limit.
     WorkSpent { count: u32 },
-    /// The report of a play or of a check.
+    /// The report of a play, a run or a check.
     Played(Report),
     /// Another output: a tree, a script, the numbers of a day, or what comes of works.
     Made(Vec<u8>),
@@ -126,12 +128,36 @@ fn draw_tree(alloc: Global, script: &Script) -> Result<Reply, NoMemory>
     Ok(Reply::Made(print_tree(alloc, &tree)?))
 }
 
+/// Runs a script by threads.
+fn run_script<J: Jobs + Sync, G: Gate + Sync, R: Threads + Wait + Sync>(
+    rt: &R,
+    alloc: Global,
+    script: &Script,
+    jobs: &J,
+    gate: &G,
+) -> Result<Reply, NoMemory>
+    requires { IsScript script.now }
+    ensures { IfOk result
+        (IsReplyTo (J.replies jobs.now) (J.count jobs.now) Command.Run
+        (Input.Script script.now)) }
+{
+    let mut report = Report::new(alloc);
+    match run(rt, alloc, script, jobs, gate, &mut report) {
+        Ok(_core) => Ok(Reply::Played(report)),
+        Err(DriveFault::BadJob { line, job }) => Ok(Reply::JobUnknown { line, job }),
+        Err(DriveFault::WorkSpent { count }) => Ok(Reply::WorkSpent { count }),
+        Err(DriveFault::NoMemory) => Err(NoMemory),
+    }
+}
+
 /// Does with its script what the command says.
-fn reply_to_script<J: Jobs>(
+fn reply_to_script<J: Jobs + Sync, G: Gate + Sync, R: Threads + Wait + Sync>(
+    rt: &R,
     alloc: Global,
     command: Command,
     script: &Script,
     jobs: &J,
+    gate: &G,
 ) -> Result<Reply, NoMemory>
     requires grammar { IsScript script.now }
     requires form { form_of command ≡ Form.Script }
@@ -140,6 +166,7 @@ fn reply_to_script<J: Jobs>(
 {
     match command {
         Command::Play => play_script(alloc, script, jobs),
+        Command::Run => run_script(rt, alloc, script, jobs, gate),
         Command::Tree => draw_tree(alloc, script),
         Command::Generate(_) => Ok(Reply::Made(print_script(alloc, script)?)),
         Command::Day(_) => sum_up(alloc, script, jobs),
@@ -174,47 +201,53 @@ fn play_delayed<J: Jobs>(alloc: Global, works: &WorkScript, jobs: &J) -> Result<
 }
 
 /// Does with its input what the command says.
-fn reply_to_input<J: Jobs>(
+fn reply_to_input<J: Jobs + Sync, G: Gate + Sync, R: Threads + Wait + Sync>(
+    rt: &R,
     alloc: Global,
     command: Command,
     input: &Input,
     jobs: &J,
+    gate: &G,
 ) -> Result<Reply, NoMemory>
     requires { IsInput (form_of command) input.now }
     ensures { IfOk result
         (IsReplyTo (J.replies jobs.now) (J.count jobs.now) command input.now) }
 {
     match input {
-        Input::Script(script) => reply_to_script(alloc, command, script, jobs),
+        Input::Script(script) => reply_to_script(rt, alloc, command, script, jobs, gate),
         Input::Trace(trace) => check_trace(alloc, trace),
         Input::Works(works) => play_delayed(alloc, works, jobs),
     }
 }
 
 /// Does with the input that the bytes spell what the command says.
-fn reply_to_bytes<J: Jobs>(
+fn reply_to_bytes<J: Jobs + Sync, G: Gate + Sync, R: Threads + Wait + Sync>(
+    rt: &R,
     alloc: Global,
     command: Command,
     bytes: &[u8],
     jobs: &J,
+    gate: &G,
 ) -> Result<Reply, NoMemory>
     ensures { IfOk result
         (IsReplyToBytes (J.replies jobs.now) (J.count jobs.now) command bytes.now) }
 {
     let form = command.form();
     match read_input(alloc, form, bytes) {
-        Ok(input) => reply_to_input(alloc, command, &input, jobs),
+        Ok(input) => reply_to_input(rt, alloc, command, &input, jobs, gate),
         Err(ReadScript::Refused(fault)) => Ok(Reply::Refused { form, fault }),
         Err(ReadScript::NoMemory) => Err(NoMemory),
     }
 }
 
 /// Reads the input from the source, and does with it what the command says.
-fn reply_to_source<S: Source, J: Jobs>(
+fn reply_to_source<S: Source, J: Jobs + Sync, G: Gate + Sync, R: Threads + Wait + Sync>(
+    rt: &R,
     alloc: Global,
     command: Command,
     source: &mut S,
     jobs: &J,
+    gate: &G,
 ) -> Result<Reply, NoMemory>
     requires { recipe_in command ≡ None }
     ensures reply { IfOk result (IsReplyOf (J.replies jobs.now) (J.count jobs.now) command
@@ -223,7 +256,7 @@ fn reply_to_source<S: Source, J: Jobs>(
     ensures read { OnErr result (TakesUpTo (S.seen source.old) (S.seen source.new) MOST_BYTES) }
 {
     match read_all(alloc, source, MOST_BYTES) {
-        Ok(bytes) => reply_to_bytes(alloc, command, &bytes, jobs),
+        Ok(bytes) => reply_to_bytes(rt, alloc, command, &bytes, jobs, gate),
         Err(ReadFault::Read) => Ok(Reply::ReadFault),
         Err(ReadFault::TooLong) => Ok(Reply::TooLong),
         Err(ReadFault::NoMemory) => Err(NoMemory),
@@ -231,11 +264,13 @@ fn reply_to_source<S: Source, J: Jobs>(
 }
 
 /// Generates the script, and does with it what the command says.
-fn reply_to_recipe<J: Jobs>(
+fn reply_to_recipe<J: Jobs + Sync, G: Gate + Sync, R: Threads + Wait + Sync>(
+    rt: &R,
     alloc: Global,
     command: Command,
     recipe: Recipe,
     jobs: &J,
+    gate: &G,
 ) -> Result<Reply, NoMemory>
     requires recipe { IsRecipe recipe }
     requires form { form_of command ≡ Form.Script }
@@ -249,16 +284,18 @@ fn reply_to_recipe<J: Jobs>(
         moments,
     } = recipe;
     let script = generate(alloc, number, cpus, timers, moments)?;
-    reply_to_script(alloc, command, &script, jobs)
+    reply_to_script(rt, alloc, command, &script, jobs, gate)
 }
 
 /// Does what the words say, up to what is to be written. It reads the source only where the command
 /// has no recipe.
-pub(crate) fn reply_to<S: Source, J: Jobs>(
+pub(crate) fn reply_to<S: Source, J: Jobs + Sync, G: Gate + Sync, R: Threads + Wait + Sync>(
+    rt: &R,
     alloc: Global,
     words: &[String],
     source: &mut S,
     jobs: &J,
+    gate: &G,
 ) -> Result<Reply, NoMemory>
     ensures reply { IfOk result (IsReply (J.replies jobs.now) (J.count jobs.now) words.now
         (S.seen source.old) (S.seen source.new)) }
@@ -270,7 +307,7 @@ pub(crate) fn reply_to<S: Source, J: Jobs>(
         return Ok(Reply::Usage);
     };
     match command.recipe() {
-        Some(recipe) => reply_to_recipe(alloc, command, recipe, jobs),
-        None => reply_to_source(alloc, command, source, jobs),
+        Some(recipe) => reply_to_recipe(rt, alloc, command, recipe, jobs, gate),
+        None => reply_to_source(rt, alloc, command, source, jobs, gate),
     }
 }

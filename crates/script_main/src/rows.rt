@@ -14,8 +14,8 @@ pub(crate) struct Row {
     pub text: &'static [u8],
 }
 
-/// The rows of scripts that are played or drawn, and of words.
-pub(crate) fn rows() -> [Row; 23] {
+/// The rows of scripts of which `play` and `run` make the same, whichever thread comes first.
+pub(crate) fn rows_of_one_story() -> [Row; 7] {
     [
         // plain
         Row {
@@ -23,25 +23,6 @@ pub(crate) fn rows() -> [Row; 23] {
             input: b"tmig 1\nnodes 1\ncpus 1\ntimers 1\nat 10\narm 0 0 global 50 0 0\nend 100\n",
             status: DONE,
             text: b"arm 10 0 0 global 61\nrun 61 0 0 0 61 done\nend 100\n",
-        },
-        // jobs
-        Row {
-            words: "play",
-            input: b"tmig 1\nnodes 1\ncpus 2\ntimers 2\nat 10\narm 1 0 global 50 2 100\n\
-              arm 0 1 pinned 50 3 7\nidle 1\nend 200\n",
-            status: DONE,
-            text: b"arm 10 1 0 global 61\narm 10 0 1 pinned 61\nidle 10 1 never\n\
-              cover 10 1 61 migrator 0:0 0\nrun 61 0 1 0 61 mark 7\n\
-              run 61 0 0 1 61 again pinned 168\nrun 168 0 0 0 168 again pinned 272\n\
-              left 0 0 pinned 272\nend 200\n",
-        },
-        // hotplug
-        Row {
-            words: "play",
-            input: b"tmig 1\nnodes 1\ncpus 2\ntimers 1\nat 10\noffline 1\nat 20\n\
-              arm 1 0 global 5 0 0\noffline 1\nat 30\nonline 1\nend 40\n",
-            status: DONE,
-            text: b"offline 10 1\nrefused 20 1 8 3\nrefused 20 1 9 3\nonline 30 1\nend 40\n",
         },
         // last-active-offline
         Row {
@@ -53,24 +34,6 @@ pub(crate) fn rows() -> [Row; 23] {
               arm 10 2 2 pinned 31\ncover 10 0 61 migrator 0:0 2\noffline 20 2\nhanded 20 2 0\n\
               control 20 0\nmoved 20 2 2 0 31\nmoved 20 1 2 0 312\nrun 31 0 2 0 31 done\n\
               run 61 0 0 0 61 done\nleft 1 0 global 312\nend 100\n",
-        },
-        // last-online
-        Row {
-            words: "play",
-            input: b"tmig 1\nnodes 1\ncpus 1\ntimers 1\nat 10\noffline 0\nend 20\n",
-            status: DONE,
-            text: b"refused 10 0 6 5\nend 20\n",
-        },
-        // refusals
-        Row {
-            words: "play",
-            input: b"tmig 1\nnodes 1\ncpus 2\ntimers 2\nat 10\nwake 0\narm 0 0 global 50 0 0\n\
-              arm 1 0 pinned 5 0 0\ncancel 1 1\nidle 1\nidle 1\narm 1 1 global 5 0 0\nonline 0\n\
-              at 20\noffline 1\nend 30\n",
-            status: DONE,
-            text: b"refused 10 0 6 2\narm 10 0 0 global 61\nrefused 10 1 8 6 0\nnone 10 1 1\n\
-              idle 10 1 never\nrefused 10 1 11 1\nrefused 10 1 12 1\nrefused 10 0 13 4\n\
-              refused 20 1 15 1\nleft 0 0 global 61\nend 30\n",
         },
         // isolated-last
         Row {
@@ -108,15 +71,6 @@ pub(crate) fn rows() -> [Row; 23] {
             text: b"arm 10 1 0 global 61\narm 10 1 1 pinned 216\nidle 10 1 216\n\
               cover 10 1 61 migrator 0:0 0\nrun 61 0 0 1 61 done\nleft 1 1 pinned 216\nend 100\n",
         },
-        // two-levels-a
-        Row {
-            words: "play",
-            input: b"tmig 1\nnodes 1\ncpus 9\ntimers 1\nat 10\narm 8 0 global 50 0 0\nidle 8\n\
-              at 20\nidle 0\nend 100\n",
-            status: DONE,
-            text: b"arm 10 8 0 global 61\nidle 10 8 never\ncover 10 8 61 migrator 1:0 0\n\
-              idle 20 0 never\ncover 20 8 61 migrator 1:0 1\nrun 61 1 0 8 61 done\nend 100\n",
-        },
         // cancelled-event
         Row {
             words: "play",
@@ -125,6 +79,58 @@ pub(crate) fn rows() -> [Row; 23] {
             status: DONE,
             text: b"arm 10 1 0 global 61\nidle 10 1 never\ncover 10 1 61 migrator 0:0 0\n\
               cancel 20 0 0 1\nidle 30 0 61\nend 100\n",
+        },
+    ]
+}
+
+/// The rows of scripts that are played or drawn, and of words.
+pub(crate) fn rows() -> [Row; 16] {
+    [
+        // jobs
+        Row {
+            words: "play",
+            input: b"tmig 1\nnodes 1\ncpus 2\ntimers 2\nat 10\narm 1 0 global 50 2 100\n\
+              arm 0 1 pinned 50 3 7\nidle 1\nend 200\n",
+            status: DONE,
+            text: b"arm 10 1 0 global 61\narm 10 0 1 pinned 61\nidle 10 1 never\n\
+              cover 10 1 61 migrator 0:0 0\nrun 61 0 1 0 61 mark 7\n\
+              run 61 0 0 1 61 again pinned 168\nrun 168 0 0 0 168 again pinned 272\n\
+              left 0 0 pinned 272\nend 200\n",
+        },
+        // hotplug
+        Row {
+            words: "play",
+            input: b"tmig 1\nnodes 1\ncpus 2\ntimers 1\nat 10\noffline 1\nat 20\n\
+              arm 1 0 global 5 0 0\noffline 1\nat 30\nonline 1\nend 40\n",
+            status: DONE,
+            text: b"offline 10 1\nrefused 20 1 8 3\nrefused 20 1 9 3\nonline 30 1\nend 40\n",
+        },
+        // last-online
+        Row {
+            words: "play",
+            input: b"tmig 1\nnodes 1\ncpus 1\ntimers 1\nat 10\noffline 0\nend 20\n",
+            status: DONE,
+            text: b"refused 10 0 6 5\nend 20\n",
+        },
+        // refusals
+        Row {
+            words: "play",
+            input: b"tmig 1\nnodes 1\ncpus 2\ntimers 2\nat 10\nwake 0\narm 0 0 global 50 0 0\n\
+              arm 1 0 pinned 5 0 0\ncancel 1 1\nidle 1\nidle 1\narm 1 1 global 5 0 0\nonline 0\n\
+              at 20\noffline 1\nend 30\n",
+            status: DONE,
+            text: b"refused 10 0 6 2\narm 10 0 0 global 61\nrefused 10 1 8 6 0\nnone 10 1 1\n\
+              idle 10 1 never\nrefused 10 1 11 1\nrefused 10 1 12 1\nrefused 10 0 13 4\n\
+              refused 20 1 15 1\nleft 0 0 global 61\nend 30\n",
+        },
+        // two-levels-a
+        Row {
+            words: "play",
+            input: b"tmig 1\nnodes 1\ncpus 9\ntimers 1\nat 10\narm 8 0 global 50 0 0\nidle 8\n\
+              at 20\nidle 0\nend 100\n",
+            status: DONE,
+            text: b"arm 10 8 0 global 61\nidle 10 8 never\ncover 10 8 61 migrator 1:0 0\n\
+              idle 20 0 never\ncover 20 8 61 migrator 1:0 1\nrun 61 1 0 8 61 done\nend 100\n",
         },
         // refused-scripts-a
         Row {
@@ -181,7 +187,7 @@ pub(crate) fn rows() -> [Row; 23] {
             words: "generate 1 65 1 1",
             input: b"",
             status: USAGE,
-            text: b"usage: tmig play | tree | generate NUMBER CPUS TIMERS MOMENTS \
+            text: b"usage: tmig play | run | tree | generate NUMBER CPUS TIMERS MOMENTS \
               | day NUMBER CPUS TIMERS MOMENTS | check | deep | works\n",
         },
         // words-table-d
@@ -189,7 +195,7 @@ pub(crate) fn rows() -> [Row; 23] {
             words: "generate 01 1 1 1",
             input: b"",
             status: USAGE,
-            text: b"usage: tmig play | tree | generate NUMBER CPUS TIMERS MOMENTS \
+            text: b"usage: tmig play | run | tree | generate NUMBER CPUS TIMERS MOMENTS \
               | day NUMBER CPUS TIMERS MOMENTS | check | deep | works\n",
         },
         // words-table-f
@@ -197,7 +203,7 @@ pub(crate) fn rows() -> [Row; 23] {
             words: "play play",
             input: b"",
             status: USAGE,
-            text: b"usage: tmig play | tree | generate NUMBER CPUS TIMERS MOMENTS \
+            text: b"usage: tmig play | run | tree | generate NUMBER CPUS TIMERS MOMENTS \
               | day NUMBER CPUS TIMERS MOMENTS | check | deep | works\n",
         },
         // statuses-b
@@ -205,7 +211,7 @@ pub(crate) fn rows() -> [Row; 23] {
             words: "paly",
             input: b"",
             status: USAGE,
-            text: b"usage: tmig play | tree | generate NUMBER CPUS TIMERS MOMENTS \
+            text: b"usage: tmig play | run | tree | generate NUMBER CPUS TIMERS MOMENTS \
               | day NUMBER CPUS TIMERS MOMENTS | check | deep | works\n",
         },
     ]

@@ -1,9 +1,11 @@
 use super::*;
-use crate::rows::{Row, further_rows, rows};
+use crate::rows::{Row, further_rows, rows, rows_of_one_story};
 use job_table::{Job, JobTable, Marker, OneShot, Periodic};
 use std::alloc::{AllocError, Global};
+use std::sync::Wait;
 use std::test::Fail;
-use tm_base::{Class, MOST_BYTES};
+use std::thread::Threads;
+use tm_base::{Class, FreeGate, MOST_BYTES};
 use tm_io::{FullSink, MemorySink, MemorySource, PlainSink, PlainSource, Sink, Source};
 
 // The first of the worked rows.
@@ -35,7 +37,8 @@ fn four_jobs(alloc: Global) -> Result<JobTable, AllocError> {
 }
 
 // Runs the program on the words of a line.
-fn ended<S: Source, K: Sink>(
+fn ended<S: Source, K: Sink, R: Threads + Wait + Sync>(
+    rt: &R,
     alloc: Global,
     line: &str,
     source: &mut S,
@@ -43,28 +46,48 @@ fn ended<S: Source, K: Sink>(
 ) -> Result<Status, AllocError> {
     let words = split(alloc, line)?;
     let jobs = four_jobs(alloc)?;
-    Ok(run_program(alloc, &words, source, sink, &jobs))
+    Ok(run_program(rt, alloc, &words, source, sink, &jobs, &FreeGate))
 }
 
 // The status and the text that words and an input come to, where no end fails.
-fn come_to(alloc: Global, line: &str, input: &[u8]) -> Result<(Status, Vec<u8>), AllocError> {
+fn come_to<R: Threads + Wait + Sync>(
+    rt: &R,
+    alloc: Global,
+    line: &str,
+    input: &[u8],
+) -> Result<(Status, Vec<u8>), AllocError> {
     let mut source = PlainSource::new(input.to_vec(alloc)?);
     let mut sink = PlainSink::new(alloc);
-    let status = ended(alloc, line, &mut source, &mut sink)?;
+    let status = ended(rt, alloc, line, &mut source, &mut sink)?;
     Ok((status, sink.held().to_vec(alloc)?))
 }
 
 // Whether a row comes to its status and text.
-fn holds(alloc: Global, row: &Row) -> Result<bool, AllocError> {
-    let (status, text) = come_to(alloc, row.words, row.input)?;
+fn holds<R: Threads + Wait + Sync>(rt: &R, alloc: Global, row: &Row) -> Result<bool, AllocError> {
+    let (status, text) = come_to(rt, alloc, row.words, row.input)?;
     Ok(status.0 == row.status && text.as_slice() == row.text)
 }
 
 #[test]
 fn each_worked_row_comes_to_its_status_and_text(rt: HostRuntime) -> Result<(), Fail> {
     for (i, row) in rows().iter().enumerate() {
-        let holds = holds(rt.alloc(), row)?;
+        let holds = holds(&rt, rt.alloc(), row)?;
         assert!(rt; holds, "row {i}");
+    }
+    Ok(())
+}
+
+#[test]
+fn each_row_of_one_story_comes_to_the_same_played_and_run(rt: HostRuntime) -> Result<(), Fail> {
+    for (i, row) in rows_of_one_story().iter().enumerate() {
+        let played = holds(&rt, rt.alloc(), row)?;
+        assert!(rt; played, "row {i}");
+        let row = Row {
+            words: "run",
+            ..*row
+        };
+        let ran = holds(&rt, rt.alloc(), &row)?;
+        assert!(rt; ran, "row {i} by threads");
     }
     Ok(())
 }
@@ -74,7 +97,7 @@ fn each_row_of_traces_devices_and_works_comes_to_its_status_and_text(
     rt: HostRuntime,
 ) -> Result<(), Fail> {
     for (i, row) in further_rows().iter().enumerate() {
-        let holds = holds(rt.alloc(), row)?;
+        let holds = holds(&rt, rt.alloc(), row)?;
         assert!(rt; holds, "row {i}");
     }
     Ok(())
@@ -85,13 +108,13 @@ fn each_row_of_traces_devices_and_works_comes_to_its_status_and_text(
 // and what it is to do at 5 and 10 is refused.
 #[test]
 fn a_generated_script_is_written_and_its_day_is_summed_up(rt: HostRuntime) -> Result<(), Fail> {
-    let (status, text) = come_to(rt.alloc(), "generate 5 2 1 2", b"")?;
+    let (status, text) = come_to(&rt, rt.alloc(), "generate 5 2 1 2", b"")?;
     assert_eq!(rt; status, Status(DONE));
     let script = b"tmig 1\nnodes 1\ncpus 2\ntimers 1\nat 0\narm 0 0 pinned 433 2 84\nat 1\nidle 1\n\
       at 5\nidle 1\nat 10\ncancel 1 0\nend 15\n";
     assert_eq!(rt; text.as_slice(), script.as_slice());
 
-    let (status, text) = come_to(rt.alloc(), "day 5 2 1 2", b"")?;
+    let (status, text) = come_to(&rt, rt.alloc(), "day 5 2 1 2", b"")?;
     assert_eq!(rt; status, Status(DONE));
     let day = b"moments 16\nruns 0\nremote 0\narmed 1\ncancels 0\nidles 1\nstays 0\nwakes 0\n\
       refused 2\nleft 1\nend 15\n";
@@ -104,7 +127,7 @@ fn one_byte_too_many_is_too_long(rt: HostRuntime) -> Result<(), Fail> {
     let alloc = rt.alloc();
     let mut source = PlainSource::new(vec![in alloc; 0; MOST_BYTES + 1]?);
     let mut sink = PlainSink::new(alloc);
-    let status = ended(alloc, "play", &mut source, &mut sink)?;
+    let status = ended(&rt, alloc, "play", &mut source, &mut sink)?;
     assert_eq!(rt; status, Status(TOO_LONG));
     assert_eq!(rt; sink.held(), b"input too long\n".as_slice());
     Ok(())
@@ -115,7 +138,7 @@ fn a_source_that_fails_is_a_read_fault(rt: HostRuntime) -> Result<(), Fail> {
     let alloc = rt.alloc();
     let mut source = MemorySource::new(PLAIN.to_vec(alloc)?, 16, [2].to_vec(alloc)?);
     let mut sink = PlainSink::new(alloc);
-    let status = ended(alloc, "play", &mut source, &mut sink)?;
+    let status = ended(&rt, alloc, "play", &mut source, &mut sink)?;
     assert_eq!(rt; status, Status(READ_FAULT));
     assert_eq!(rt; sink.held(), b"read fault\n".as_slice());
     Ok(())
@@ -128,13 +151,13 @@ fn a_sink_that_fails_or_is_full_is_a_write_fault(rt: HostRuntime) -> Result<(), 
     let front = b"arm 10 0 0 global 61\nrun 61 0 0 ".as_slice();
     let mut source = PlainSource::new(PLAIN.to_vec(alloc)?);
     let mut failing = MemorySink::new(alloc, 16, [3].to_vec(alloc)?);
-    let status = ended(alloc, "play", &mut source, &mut failing)?;
+    let status = ended(&rt, alloc, "play", &mut source, &mut failing)?;
     assert_eq!(rt; status, Status(WRITE_FAULT));
     assert_eq!(rt; failing.held(), front);
 
     let mut source = PlainSource::new(PLAIN.to_vec(alloc)?);
     let mut full = FullSink::new(alloc, 32);
-    let status = ended(alloc, "play", &mut source, &mut full)?;
+    let status = ended(&rt, alloc, "play", &mut source, &mut full)?;
     assert_eq!(rt; status, Status(WRITE_FAULT));
     assert_eq!(rt; full.held(), front);
     Ok(())
@@ -145,7 +168,7 @@ fn an_earlier_cause_stays_where_the_sink_is_full(rt: HostRuntime) -> Result<(), 
     let alloc = rt.alloc();
     let mut source = PlainSource::new(Vec::new(alloc));
     let mut full = FullSink::new(alloc, 6);
-    let status = ended(alloc, "play", &mut source, &mut full)?;
+    let status = ended(&rt, alloc, "play", &mut source, &mut full)?;
     assert_eq!(rt; status, Status(SCRIPT_REFUSED));
     assert_eq!(rt; full.held(), b"script".as_slice());
     Ok(())

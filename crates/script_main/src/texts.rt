@@ -14,7 +14,7 @@ use tm_script::{Kind, ScriptFault};
 pub(crate) fn usage_text() -> &'static [u8]
     ensures { result.now ≡ usage_text }
 {
-    b"usage: tmig play | tree | generate NUMBER CPUS TIMERS MOMENTS \
+    b"usage: tmig play | run | tree | generate NUMBER CPUS TIMERS MOMENTS \
       | day NUMBER CPUS TIMERS MOMENTS | check | deep | works\n"
 }
 

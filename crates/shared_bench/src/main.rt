@@ -9,8 +9,8 @@ ghost use Rattle.core_world.specs.Covered.{IsSettled};
 ghost use Rattle.shared_table.specs.Ended.{HasNoBaseBehind};
 
 use core_state::Core;
-use shared_parts::RunName;
 use shared_rows::{no_base_behind, start, stir};
+use shared_rule::RunName;
 use shared_table::{Ready, Shared};
 use std::env;
 use std::marker::Brand;

@@ -14,9 +14,9 @@ use Rattle.cpu_word.specs.declared.state.TheConstants.{MARKER_LIMIT}
 use Rattle.core_world.specs.World.{World}
 use Rattle.shared_words.specs.declared.layout.Layout.{Layout}
 use Rattle.shared_rule.specs.declared.parts.PassView.{PassView}
-use Rattle.shared_parts.specs.declared.box_part.Guest.{Guest}
-use Rattle.shared_parts.specs.Runs.{RunFits}
-use Rattle.shared_parts.specs.Parts.{Hosts, IsGuest, guest_room}
+use Rattle.shared_rule.specs.declared.box_part.Guest.{Guest}
+use Rattle.shared_rule.specs.Runs.{RunFits}
+use Rattle.shared_rule.specs.Parts.{Hosts, IsGuest, guest_room}
 use Rattle.shared_cpus.specs.Guests.{guest_cpu, one_more}
 
 -- two passes with the same bytes

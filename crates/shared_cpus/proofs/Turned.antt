@@ -16,9 +16,9 @@ use Rattle.shared_rule.specs.Plays.{PartFits, Sound, head_pass}
 use Rattle.shared_rule.specs.Rule.{Me, seat_of}
 use Rattle.shared_rule.specs.TurnLaws.{IsOwnTurn}
 use Rattle.shared_rule.specs.Whole.{own_word}
-use Rattle.shared_parts.specs.declared.box_part.Guest.{Guest}
-use Rattle.shared_parts.specs.Parts.{HeldPart, Hosts, PartHolds, box_held, guest_room, looked_of}
-use Rattle.shared_parts.proofs.Holding.{holds}
+use Rattle.shared_rule.specs.declared.box_part.Guest.{Guest}
+use Rattle.shared_rule.specs.Parts.{HeldPart, Hosts, PartHolds, box_held, guest_room, looked_of}
+use Rattle.shared_rule.proofs.Holding.{holds}
 use Rattle.shared_cpus.specs.Conditions.{IsTurn}
 use Rattle.shared_cpus.specs.Pairs.{box_by, by_pair}
 

@@ -12,7 +12,7 @@ use Rattle.core_world.specs.Enabled.{first_event}
 use Rattle.core_state.specs.Shown.{as_cpu}
 use Rattle.shared_rule.specs.declared.parts.BoxView.{BoxView}
 use Rattle.shared_rule.specs.declared.parts.PassView.{PassView}
-use Rattle.shared_parts.specs.Parts.{HasGuest, HeldPart}
+use Rattle.shared_rule.specs.Parts.{HasGuest, HeldPart}
 use Rattle.shared_cpus.specs.Pairs.{HasOwn}
 
 -- ITS OWN TURN: the own pass of the part's CPU is brought, the CPU has no walk and is online

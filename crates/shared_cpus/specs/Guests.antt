@@ -1,7 +1,7 @@
 -- the bytes of a pass that is brought (no public clause cites this)
 use Rattle.std.specs.Prelude.{◌+◌}
 use Rattle.tm_base.specs.declared.names.CpuId.{CpuId}
-use Rattle.shared_parts.specs.declared.box_part.Guest.{Guest}
+use Rattle.shared_rule.specs.declared.box_part.Guest.{Guest}
 
 -- the CPU of the pass
 abbrev pub guest_cpu : Guest → CpuId

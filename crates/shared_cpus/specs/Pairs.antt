@@ -7,7 +7,7 @@ use Rattle.shared_rule.specs.declared.parts.BoxView.{BoxView}
 use Rattle.shared_rule.specs.declared.parts.PassView.{PassView}
 use Rattle.shared_rule.specs.Whole.{cpu_at, layout_of, slot_at}
 use Rattle.shared_rule.specs.Plays.{head_pass, seen_pass}
-use Rattle.shared_parts.specs.Parts.{HasGuest, HeldPart}
+use Rattle.shared_rule.specs.Parts.{HasGuest, HeldPart}
 
 -- a box that changes by what the first pass is
 abbrev pub box_by : (BoxView → PassView → BoxView) → BoxView → List PassView → BoxView

@@ -13,7 +13,7 @@ use Rattle.shared_rule.specs.Turns.{entered_box, entered_pass, finished_box, idl
 use Rattle.shared_rule.specs.Turns.{outside_box, outside_pass, reevaluated_pass, released_box}
 use Rattle.shared_rule.specs.Turns.{released_pass, rested_pass, retold_box, retold_pass, taken_box}
 use Rattle.shared_rule.specs.Turns.{taken_pass}
-use Rattle.shared_parts.specs.Parts.{HeldPart}
+use Rattle.shared_rule.specs.Parts.{HeldPart}
 use Rattle.shared_cpus.specs.Conditions.{CanCarry, CanEnter, CanIdle, CanLeave, CanRelease}
 use Rattle.shared_cpus.specs.Conditions.{CanRetell, CanTake, CanWake}
 use Rattle.shared_cpus.specs.Pairs.{by_pair, of_box}

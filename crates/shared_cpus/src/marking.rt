@@ -11,8 +11,7 @@ ghost use Rattle.shared_cpus.specs.Pairs.{by_pair};
 
 use crate::status::{begun, count_walk, guest_cpu, status_word};
 use core_state::CpuStatus;
-use shared_parts::{BoxPart, Run, RunName};
-use shared_rule::{Carries, Releases, Takes, law_carry, law_take};
+use shared_rule::{BoxPart, Carries, Releases, Run, RunName, Takes, law_carry, law_take};
 use shared_words::SharedWord;
 use walk_rules::{Stage, WalkKind};
 use wheel_core::TimerBase;

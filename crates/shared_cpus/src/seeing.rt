@@ -8,8 +8,7 @@ ghost use Rattle.walk_rules.specs.Hierarchy.{HasGroup, group_on, side};
 ghost use Rattle.shared_rule.specs.Whole.{own_word};
 ghost use Rattle.shared_cpus.specs.Pairs.{HasOne, cpu_place, leaf_place, with_seen};
 
-use shared_parts::{BoxPart, Run, RunName};
-use shared_rule::{SeesCpu, SeesLeaf, law_notice};
+use shared_rule::{BoxPart, Run, RunName, SeesCpu, SeesLeaf, law_notice};
 use shared_words::SharedWord;
 use tm_base::{CpuId, GroupId};
 use tree_plan::{Tree, law_edges, law_paths};

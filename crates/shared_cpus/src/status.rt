@@ -18,7 +18,7 @@ ghost use Rattle.shared_cpus.specs.Guests.{guest_cpu, one_more};
 
 use core_state::CpuStatus;
 use cpu_word::{CpuState, pack_cpu};
-use shared_parts::{BoxPart, Guest, Run, RunName};
+use shared_rule::{BoxPart, Guest, Run, RunName};
 use tm_base::{CpuId, Jiffy, NEVER};
 use walk_rules::{Stage, Walk, WalkKind};
 use wheel_core::TimerBase;

@@ -8,7 +8,7 @@ use crate::ending::{carried_step, reevaluated_step, rest_step};
 use crate::marking::{carry_step, release_step, take_step};
 use crate::turns::{enter_step, idle_step, leave_step, retell_step, wake_step};
 use core_world::Step;
-use shared_parts::{BoxPart, Run, RunName};
+use shared_rule::{BoxPart, Run, RunName};
 use walk_rules::WalkKind;
 use wheel_core::TimerBase;
 

@@ -10,8 +10,9 @@ ghost use Rattle.shared_cpus.specs.Pairs.{by_pair, of_box};
 
 use crate::status::{begun, count_walk, status_word};
 use core_state::CpuStatus;
-use shared_parts::{BoxPart, Run, RunName};
-use shared_rule::{Enters, Exits, Idles, Retells, Wakes, law_turn, law_wake};
+use shared_rule::{
+    BoxPart, Enters, Exits, Idles, Retells, Run, RunName, Wakes, law_turn, law_wake,
+};
 use shared_words::SharedWord;
 use tm_base::NEVER;
 use walk_rules::{Stage, WalkKind};

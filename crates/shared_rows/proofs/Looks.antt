@@ -5,7 +5,7 @@ use Rattle.std.proofs.lemmas.Option.{slice_get_read}
 use Rattle.atomic_table.specs.Seated.{TableId}
 use Rattle.shared_rule.specs.declared.parts.PassView.{PassView}
 use Rattle.shared_rule.specs.Plays.{seen_pass}
-use Rattle.shared_parts.specs.Passes.{HeldPass, IsOfRun, Seated, with_pass}
+use Rattle.shared_rule.specs.Passes.{HeldPass, IsOfRun, Seated, with_pass}
 use Rattle.shared_table.specs.Ended.{IsPassAt, PassesFrom}
 use Rattle.shared_table.proofs.Passes.{one_changed, one_of}
 use Rattle.shared_rows.specs.Looks.{StaysAt}

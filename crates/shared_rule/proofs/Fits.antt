@@ -1,4 +1,4 @@
--- what a box and a pass say, read from the rule
+-- for crates above: what a box and a pass say, read from the rule
 use Rattle.std.proofs.Common.{◌≡◌, ◌↔◌, ℕ, ◌*◌, ◌^◌, ◌<◌, ◌≤◌, List, [], ◌∷◌, ◌++◌, length}
 use Rattle.std.proofs.Common.{Option, Some, None, refl, sym, ap, ◌∙◌, subst, arith, mul-le-mul}
 use Rattle.std.specs.Prelude.{option_map, Contains}
@@ -7,6 +7,7 @@ use Rattle.std.proofs.lemmas.Option.{none-some, same_Some}
 use Rattle.group_word.specs.State.{IsStateOf}
 use Rattle.event_queue.specs.declared.event.Event.{Event}
 use Rattle.event_queue.specs.EventMap as events
+use Rattle.cpu_bases.specs.CpuBases.{NotAhead, base_of}
 use Rattle.tree_plan.specs.Shape.{IsPlanned}
 use Rattle.tree_plan.specs.Paths.{group_at_of}
 use Rattle.walk_rules.specs.declared.walk.Walk.{Walk}
@@ -28,6 +29,7 @@ use Rattle.shared_rule.specs.Whole.{Whole, box_of, quiet, group_word, group_stat
 use Rattle.shared_rule.specs.Shows.{IsShown, reevaluates}
 use Rattle.shared_rule.specs.Rule.{Each, seat_of}
 use Rattle.shared_rule.specs.Plays.{PartFits, WalkFits, Agree, Sound}
+use Rattle.shared_rule.proofs.Ahead.{not_ahead}
 use Rattle.shared_rule.proofs.Sums.{sum_below}
 
 walker_quiet : (kind : WalkKind) (y : CpuRecord) → WalkerIs kind y → WalkerIs kind (quiet y)
@@ -159,6 +161,10 @@ module _ (law : CoreLaws) (o : World) (s : Whole) (h : IsShown o s) where
             omega (arith, q.1, q.2.timer, h.same.timers);
         played = h.fits.played c;
         replayed = h.replayed c;
+        ahead = λ class.
+            subst (λ n. NotAhead n (base_of class (cpu_of s.world c).bases)) h.clock
+            (not_ahead s.world.clock c (cpu_of s.world c).bases (h.fits.played c)
+            (h.fits.lawful.timers.legal c) class);
         leaf = leaf_fits c (group_at_of s.world.tree c 0);
         walk = λ k e.
             let w = shown_walk (cpu_of s.world c).walk k e in

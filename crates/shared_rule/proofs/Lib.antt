@@ -1,4 +1,5 @@
 pub mod Sums
+pub mod Ahead
 pub mod Fits
 pub mod Going
 pub mod Parting
@@ -43,3 +44,9 @@ pub mod Outgoing
 pub mod Cancelling
 pub mod Handing
 pub mod Arming
+pub mod Told
+pub mod Calls
+pub mod Seated
+pub mod Holding
+mod Slots
+pub mod Visits

@@ -9,3 +9,8 @@ pub mod Turns
 pub mod TurnLaws
 pub mod Timers
 pub mod TimerLaws
+pub mod Runs
+pub mod Receipts
+pub mod Parts
+pub mod Passes
+pub mod Slots

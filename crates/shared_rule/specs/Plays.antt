@@ -8,7 +8,7 @@ use Rattle.tm_base.specs.declared.names.Class.{Class}
 use Rattle.event_queue.specs.declared.event.Event.{Event}
 use Rattle.event_queue.specs.EventMap as events
 use Rattle.event_queue.specs.Word.{slot_of}
-use Rattle.cpu_bases.specs.CpuBases.{IsConsistent, class_in, events_of}
+use Rattle.cpu_bases.specs.CpuBases.{IsConsistent, NotAhead, base_of, class_in, events_of}
 use Rattle.cpu_bases.specs.Replay.{AddsReplay, IsPlayed}
 use Rattle.tree_plan.specs.Shape.{IsPlanned}
 use Rattle.tree_plan.specs.Paths.{group_at_of}
@@ -69,6 +69,8 @@ pub record PartFits (b : BoxView) : Type 0 where
       → t < b.opening.timers
   pub played : IsPlayed b.own.bases
   pub replayed : AddsReplay (cpu_of b.opening b.cpu).bases b.own.bases
+  -- no base's clock is past the jiffy after the run's
+  pub ahead : (class : Class) → NotAhead b.opening.clock (base_of class b.own.bases)
   pub leaf : ForSome b.leaf events.FitsWord
   pub walk : (k : Walk) → b.own.walk ≡ Some k → WalkFits b.opening b k
 

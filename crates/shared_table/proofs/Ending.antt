@@ -8,9 +8,9 @@ use Rattle.shared_rule.specs.declared.parts.BoxView.{BoxView}
 use Rattle.shared_rule.specs.declared.parts.PassView.{PassView}
 use Rattle.shared_rule.specs.declared.parts.View.{View}
 use Rattle.shared_rule.specs.Rule.{Each, Me, box_cpu, pass_cpu, seat_of, seen}
-use Rattle.shared_end.specs.Endings.{HasAllParts, own_of}
-use Rattle.shared_parts.specs.Parts.{HeldPart}
-use Rattle.shared_parts.specs.Passes.{HeldPass, IsOfRun, passes_of}
+use Rattle.shared_table.specs.Endings.{HasAllParts, own_of}
+use Rattle.shared_rule.specs.Parts.{HeldPart}
+use Rattle.shared_rule.specs.Passes.{HeldPass, IsOfRun, passes_of}
 use Rattle.shared_rule.specs.Starts.{IsFull}
 use Rattle.shared_table.specs.Begun.{IsFree}
 use Rattle.shared_table.specs.Ended.{AreAllPasses, AreCpusWhole, PassesFrom}

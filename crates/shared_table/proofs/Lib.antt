@@ -8,3 +8,6 @@ pub mod Rows
 pub mod Spelling
 pub mod Spots
 pub mod Together
+pub mod Spellings
+pub mod Queued
+pub mod Finished

@@ -8,7 +8,7 @@ use Rattle.core_world.specs.World.{World}
 use Rattle.shared_rule.specs.declared.parts.BoxView.{BoxView}
 use Rattle.shared_rule.specs.Rule.{Apart, Each, box_cpu}
 use Rattle.shared_rule.specs.Starts.{IsFull}
-use Rattle.shared_parts.specs.Parts.{HeldPart}
+use Rattle.shared_rule.specs.Parts.{HeldPart}
 use Rattle.shared_table.specs.Ended.{AreApart, BeganWith, number_of}
 use Rattle.shared_table.specs.Joined.{boxes_of}
 

@@ -10,7 +10,7 @@ use Rattle.atomic_table.specs.Seated.{TableId}
 use Rattle.core_world.specs.Covered.{IsSettled}
 use Rattle.core_world.specs.World.{World}
 use Rattle.shared_rule.specs.Starts.{first_pass_of}
-use Rattle.shared_parts.specs.Passes.{HeldPass}
+use Rattle.shared_rule.specs.Passes.{HeldPass}
 use Rattle.shared_table.specs.Begun.{begun_pass, begun_passes}
 use Rattle.shared_table.specs.Ended.{AreAllPasses, IsPassAt, PassesFrom}
 

@@ -6,8 +6,8 @@ use Rattle.shared_rule.specs.declared.parts.BoxView.{BoxView}
 use Rattle.shared_rule.specs.declared.parts.PassView.{PassView}
 use Rattle.shared_rule.specs.declared.parts.View.{View}
 use Rattle.shared_rule.specs.Rule.{Each, Me, seen, together}
-use Rattle.shared_parts.specs.Parts.{HeldPart}
-use Rattle.shared_parts.specs.Passes.{HeldPass, passes_of}
+use Rattle.shared_rule.specs.Parts.{HeldPart}
+use Rattle.shared_rule.specs.Passes.{HeldPass, passes_of}
 use Rattle.shared_table.specs.Joined.{boxes_of, own_in, owns_of, parts_of, with_boxes, with_passes}
 
 -- nothing is joined

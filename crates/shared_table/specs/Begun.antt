@@ -8,8 +8,8 @@ use Rattle.shared_rule.specs.declared.parts.PassView.{PassView}
 use Rattle.shared_rule.specs.Rule.{Me, seat_of}
 use Rattle.shared_rule.specs.Starts.{first_pass_of, first_whole}
 use Rattle.shared_rule.specs.Whole.{box_of}
-use Rattle.shared_parts.specs.Parts.{HeldPart}
-use Rattle.shared_parts.specs.Passes.{HeldPass}
+use Rattle.shared_rule.specs.Parts.{HeldPart}
+use Rattle.shared_rule.specs.Passes.{HeldPass}
 use Rattle.shared_table.specs.Readied.{HasNoneBehind, IsRoomFor}
 
 -- FREE: a part that lies behind its CPU's lock has no walk and no pass, and no base is behind

@@ -6,8 +6,8 @@ use Rattle.core_world.specs.World.{CpuRecord, World, cpu_of, no_cpu}
 use Rattle.shared_rule.specs.declared.parts.BoxView.{BoxView}
 use Rattle.shared_rule.specs.declared.parts.PassView.{PassView}
 use Rattle.shared_rule.specs.Rule.{Apart, Each, Me, Step, box_cpu}
-use Rattle.shared_parts.specs.Parts.{HeldPart}
-use Rattle.shared_parts.specs.Passes.{HeldPass, IsPassIn}
+use Rattle.shared_rule.specs.Parts.{HeldPart}
+use Rattle.shared_rule.specs.Passes.{HeldPass, IsPassIn}
 use Rattle.shared_table.specs.Readied.{HasNoneBehind}
 
 -- the pass is that of CPU i of a run: it has its seat, which knows that the CPU isn't inside an

@@ -5,8 +5,8 @@ use Rattle.core_world.specs.World.{CpuRecord, World}
 use Rattle.shared_rule.specs.declared.parts.BoxView.{BoxView}
 use Rattle.shared_rule.specs.declared.parts.PassView.{PassView}
 use Rattle.shared_rule.specs.Rule.{Each, Me, seen, together}
-use Rattle.shared_parts.specs.Parts.{HeldPart}
-use Rattle.shared_parts.specs.Passes.{HeldPass, IsOfRun, passes_of}
+use Rattle.shared_rule.specs.Parts.{HeldPart}
+use Rattle.shared_rule.specs.Passes.{HeldPass, IsOfRun, passes_of}
 use Rattle.shared_table.specs.Begun.{IsFree}
 use Rattle.shared_table.specs.Ended.{BeganWith}
 

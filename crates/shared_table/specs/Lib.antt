@@ -3,3 +3,4 @@ pub mod Ended
 pub mod Joined
 pub mod Readied
 pub mod Spelled
+pub mod Endings

@@ -4,8 +4,7 @@ ghost use Rattle.std.specs.Prelude.{◌≡◌};
 ghost use Rattle.shared_table.specs.Ended as ended;
 
 use atomic_table::Play;
-use shared_parts::{Run, RunName};
-use shared_rule::{Said, Seat, View};
+use shared_rule::{Run, RunName, Said, Seat, View};
 use wheel_core::TimerBase;
 
 /// The number of a word that each table has.

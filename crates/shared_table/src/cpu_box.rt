@@ -6,7 +6,7 @@ ghost use Rattle.shared_table.specs.Begun.{IsFree};
 
 use cpu_bases::Bases;
 use cpu_word::CpuState;
-use shared_parts::{BoxPart, RunName};
+use shared_rule::{BoxPart, RunName};
 use std::marker::Model;
 use tm_base::CpuId;
 use wheel_core::TimerBase;
@@ -21,7 +21,7 @@ pub struct CpuBox<N: RunName, B: TimerBase> {
 impl<N: RunName, B: TimerBase> Model for CpuBox<N, B> {
     ghost use Rattle.std.specs.Coded.{codes};
     ghost use Rattle.tree_plan.specs.Codes.{shape_code};
-    ghost use Rattle.shared_parts.specs.Parts.{HeldPart};
+    ghost use Rattle.shared_rule.specs.Parts.{HeldPart};
 
     ghost Value = { HeldPart };
 

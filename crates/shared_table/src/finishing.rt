@@ -3,7 +3,7 @@
 ghost use Rattle.std.specs.Prelude.{◌≡◌, ◌+◌, ◌≤◌, [], length, vec_capacity, vec_len};
 ghost use Rattle.std.specs.List.Sorted.{IsNonDecreasingBy};
 ghost use Rattle.shared_rule.specs.Rule.{seat_of};
-ghost use Rattle.shared_end.specs.Endings.{HasAllParts, IsEnd};
+ghost use Rattle.shared_table.specs.Endings.{HasAllParts, IsEnd};
 ghost use Rattle.shared_table.specs.Begun.{IsBoxRoom};
 ghost use Rattle.shared_table.specs.Ended.{AreAllPasses, AreCpusWhole, HasNoBaseBehind, number_of};
 ghost use Rattle.shared_table.specs.Joined.{parts_of};
@@ -11,12 +11,11 @@ ghost use Rattle.shared_table.specs.Readied.{IsRoomFor};
 
 use crate::apart::find_apart;
 use crate::cpu_box::CpuBox;
+use crate::ended;
 use crate::joining::{join_boxes, join_passes};
 use crate::shared::{Rooms, Shared};
 use core_state::{Core, CoreCpu, CoreParts};
-use shared_end::ended;
-use shared_parts::{Pass, Run, RunName};
-use shared_rule::Seat;
+use shared_rule::{Pass, Run, RunName, Seat};
 use std::sync::Mutex;
 use wheel_core::TimerBase;
 

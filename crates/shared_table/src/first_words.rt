@@ -6,14 +6,16 @@ ghost use Rattle.shared_words.specs.Layout.{index_of};
 ghost use Rattle.shared_rule.specs.Starts.{first_whole, spot_in};
 ghost use Rattle.shared_rule.specs.Whole.{Spell, cpu_at, layout_of, lock_at, slot_at, state_at};
 ghost use Rattle.shared_rule.specs.Whole.{timer_at};
-ghost use Rattle.shared_table.specs.Spelled.{SpelledTo};
+ghost use Rattle.shared_table.specs.Spelled.{SpelledBelow, SpelledTo};
 
 use core_facts::{law_bounds, law_rest};
 use core_state::Core;
 use cpu_word::pack_cpu;
 use event_queue::pack_event;
 use group_word::{GroupState, pack};
-use shared_words::{Layout, Spot, law_words_apart, pack_lock, pack_spot};
+use shared_words::{
+    Layout, Spot, WORDS_OF_GROUP, WORDS_OF_LINE, law_words_apart, pack_lock, pack_spot,
+};
 use std::alloc::Global;
 use tm_base::{CpuId, GroupId, NoMemory, TimerId};
 use wheel_core::TimerBase;
@@ -42,11 +44,20 @@ pub(crate) fn first_words<B: TimerBase>(alloc: Global, core: &Core<B>) -> Result
     let layout = layout(core);
     let mut words = Vec::new(alloc);
     words.reserve(layout.count())?;
-    words.push(0)?;
+    fill(&mut words, core, WORDS_OF_GROUP)?;
     push_groups(&mut words, core, layout.groups)?;
     push_cpus(&mut words, core, layout.cpus)?;
     push_timers(&mut words, core, layout.timers)?;
     Ok(words)
+}
+
+/// Adds words that say nothing, up to an index. The core's words below it are written.
+fn fill<B: TimerBase>(words: &mut Vec<u64>, core: &Core<B>, index: usize) -> Result<(), NoMemory>
+    requires { SpelledBelow core.now index words.old.items }
+    ensures { OnOk result (SpelledTo core.now index words.new.items) }
+{
+    words.resize(index, 0)?;
+    Ok(())
 }
 
 /// Adds the words of all groups.
@@ -56,7 +67,8 @@ fn push_groups<B: TimerBase>(
     groups: u16,
 ) -> Result<(), NoMemory>
     requires count { groups ≡ length core.now.groups }
-    requires before { SpelledTo core.now 1 words.old.items }
+    requires before { SpelledTo core.now (index_of (layout_of core.now) (state_at 0))
+        words.old.items }
     ensures { OnOk result
         (SpelledTo core.now (index_of (layout_of core.now) (cpu_at 0)) words.new.items) }
 {
@@ -66,7 +78,7 @@ fn push_groups<B: TimerBase>(
     Ok(())
 }
 
-/// Adds the words of a group.
+/// Adds the words of a group, with those that say nothing.
 fn push_group<B: TimerBase>(
     words: &mut Vec<u64>,
     core: &Core<B>,
@@ -78,12 +90,13 @@ fn push_group<B: TimerBase>(
     ensures { OnOk result (SpelledTo core.now
         (index_of (layout_of core.now) (state_at (group.0 + 1))) words.new.items) }
 {
+    let index = words.len();
     push_state(words, core, group)?;
     push_lock(words, core, group)?;
     for child in 0..CHILDREN {
         push_slot(words, core, group, child)?;
     }
-    Ok(())
+    fill(words, core, index + WORDS_OF_GROUP)
 }
 
 /// Adds the word of a group's state, of which no exchange has been made.
@@ -159,7 +172,8 @@ fn push_cpus<B: TimerBase>(words: &mut Vec<u64>, core: &Core<B>, cpus: u16) -> R
     Ok(())
 }
 
-/// Adds the word of a CPU, which nobody has marked.
+/// Adds the words of a CPU's line: its own, which says that nobody has marked it, and those that say
+/// nothing.
 fn push_cpu<B: TimerBase>(words: &mut Vec<u64>, core: &Core<B>, cpu: CpuId) -> Result<(), NoMemory>
     requires rest { IsSettled core.now }
     requires low { cpu.0 < length core.now.cpus }
@@ -172,8 +186,9 @@ fn push_cpu<B: TimerBase>(words: &mut Vec<u64>, core: &Core<B>, cpu: CpuId) -> R
     law_bounds();
     law_rest();
     core.tree();
+    let index = words.len();
     words.push(pack_cpu(core.cpu(cpu)))?;
-    Ok(())
+    fill(words, core, index + WORDS_OF_LINE)
 }
 
 /// Adds the words of all timers.

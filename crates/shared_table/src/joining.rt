@@ -2,15 +2,14 @@
 
 ghost use Rattle.std.specs.Prelude.{◌≡◌, [], ◌∷◌, ◌++◌, ◌+◌, ◌≤◌, length, vec_capacity};
 ghost use Rattle.shared_rule.specs.Rule.{Each, seen, together};
-ghost use Rattle.shared_parts.specs.Passes.{IsOfRun, passes_of};
+ghost use Rattle.shared_rule.specs.Passes.{IsOfRun, passes_of};
 ghost use Rattle.shared_table.specs.Begun.{IsFree};
 ghost use Rattle.shared_table.specs.Ended.{BeganWith};
 ghost use Rattle.shared_table.specs.Joined.{owns_of, with_boxes, with_passes};
 
 use crate::cpu_box::CpuBox;
 use core_state::CoreCpu;
-use shared_parts::{BoxPart, Pass, Run, RunName};
-use shared_rule::{Seat, Together, law_seats};
+use shared_rule::{BoxPart, Pass, Run, RunName, Seat, Together, law_seats};
 use wheel_core::TimerBase;
 
 /// A seat takes another in.

@@ -16,7 +16,7 @@ use Rattle.shared_rule.specs.declared.parts.PassView.{PassView}
 use Rattle.shared_rule.specs.Rule.{Me, seat_of}
 use Rattle.shared_rule.specs.TimerLaws.{MayExchangeCancel}
 use Rattle.shared_rule.specs.Timers.{cancel_noted, cancelled_pass, noted_at}
-use Rattle.shared_parts.specs.Parts.{HeldPart}
+use Rattle.shared_rule.specs.Parts.{HeldPart}
 use Rattle.shared_timers.specs.Exchanging.{MayTakeOut}
 use Rattle.shared_timers.specs.Queueing.{MayCancel}
 

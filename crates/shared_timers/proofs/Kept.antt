@@ -17,9 +17,9 @@ use Rattle.shared_rule.specs.Plays.{Sound}
 use Rattle.shared_rule.specs.Shows.{receipt_of}
 use Rattle.shared_rule.specs.Timers.{noted_at, with_box_bases}
 use Rattle.shared_rule.proofs.Fronts.{get_end}
-use Rattle.shared_parts.specs.declared.box_part.Guest.{Guest}
-use Rattle.shared_parts.specs.Parts.{HeldPart, Hosts, IsGuest, PartHolds, box_held, looked_of}
-use Rattle.shared_parts.proofs.Holding.{holds}
+use Rattle.shared_rule.specs.declared.box_part.Guest.{Guest}
+use Rattle.shared_rule.specs.Parts.{HeldPart, Hosts, IsGuest, PartHolds, box_held, looked_of}
+use Rattle.shared_rule.proofs.Holding.{holds}
 use Rattle.shared_timers.specs.Entries.{on_both_of, with_receipt}
 
 -- a part, of its bytes and its seat

@@ -19,7 +19,7 @@ use Rattle.shared_rule.specs.declared.parts.PassView.{PassView}
 use Rattle.shared_rule.specs.Rule.{Me, seat_of}
 use Rattle.shared_rule.specs.Plays.{PartFits}
 use Rattle.shared_rule.specs.Timers.{noted_at}
-use Rattle.shared_parts.specs.Parts.{HeldPart}
+use Rattle.shared_rule.specs.Parts.{HeldPart}
 use Rattle.shared_timers.specs.Draining.{MayDrain, drained_pass, out_noted}
 use Rattle.shared_timers.specs.Exchanging.{IsNext, MayTryDrain}
 

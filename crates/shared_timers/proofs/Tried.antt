@@ -14,8 +14,8 @@ use Rattle.shared_words.specs.Words.{class_of, spot_of}
 use Rattle.shared_rule.specs.declared.parts.PassView.{PassView}
 use Rattle.shared_rule.specs.Plays.{seen_pass}
 use Rattle.shared_rule.specs.Rule.{Me, seat_of}
-use Rattle.shared_parts.specs.declared.box_part.Guest.{Guest}
-use Rattle.shared_parts.specs.Parts.{HeldPart, Hosts}
+use Rattle.shared_rule.specs.declared.box_part.Guest.{Guest}
+use Rattle.shared_rule.specs.Parts.{HeldPart, Hosts}
 use Rattle.shared_timers.specs.declared.arming.Arming.{Arming}
 use Rattle.shared_timers.specs.Exchanging.{MayTryArm}
 use Rattle.shared_timers.specs.Queueing.{MayArm}

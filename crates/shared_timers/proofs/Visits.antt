@@ -15,8 +15,8 @@ use Rattle.shared_rule.specs.declared.parts.PassView.{PassView}
 use Rattle.shared_rule.specs.Plays.{head_pass, seen_pass}
 use Rattle.shared_rule.specs.Timers.{armed_box, armed_pass, cancel_noted, cancelled_box}
 use Rattle.shared_rule.specs.Timers.{cancelled_pass, handed_box}
-use Rattle.shared_parts.specs.Parts.{HasGuest, HeldPart, pass_parted, with_guest, without_guest}
-use Rattle.shared_parts.specs.Passes.{HeldPass, IsPassIn, passes_of}
+use Rattle.shared_rule.specs.Parts.{HasGuest, HeldPart, pass_parted, with_guest, without_guest}
+use Rattle.shared_rule.specs.Passes.{HeldPass, IsPassIn, passes_of}
 use Rattle.shared_timers.specs.declared.arming.Arming.{Arming}
 use Rattle.shared_timers.specs.Draining.{drained_part, drained_pass}
 use Rattle.shared_timers.specs.Entries.{on_both_of, pair_changed}

@@ -8,7 +8,7 @@ use Rattle.shared_rule.specs.declared.parts.BoxView.{BoxView}
 use Rattle.shared_rule.specs.declared.parts.PassView.{PassView}
 use Rattle.shared_rule.specs.Timers.{hand_noted, handed_box}
 use Rattle.shared_rule.specs.Turns.{MayRunOf, ticked_pass}
-use Rattle.shared_parts.specs.Parts.{HeldPart}
+use Rattle.shared_rule.specs.Parts.{HeldPart}
 use Rattle.shared_timers.specs.Entries.{HasEntryRoom, on_both_of}
 
 -- the pass has the receipt of what went out, or of the base's being drained where none is due

@@ -14,8 +14,8 @@ use Rattle.shared_rule.specs.declared.parts.PassView.{PassView}
 use Rattle.shared_rule.specs.Plays.{head_pass, seen_pass}
 use Rattle.shared_rule.specs.Timers.{armed_box, armed_pass, cancelled_box, cancelled_pass}
 use Rattle.shared_rule.specs.TimerLaws.{MayExchangeArm, MayExchangeCancel}
-use Rattle.shared_parts.specs.Parts.{HeldPart, pass_parted, with_guest, without_guest}
-use Rattle.shared_parts.specs.Passes.{HeldPass}
+use Rattle.shared_rule.specs.Parts.{HeldPart, pass_parted, with_guest, without_guest}
+use Rattle.shared_rule.specs.Passes.{HeldPass}
 use Rattle.shared_timers.specs.declared.arming.Arming.{Arming}
 use Rattle.shared_timers.specs.Entries.{HasEntryRoom, on_both_of}
 use Rattle.shared_timers.specs.Exchanging.{timer_word}

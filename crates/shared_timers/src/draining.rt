@@ -2,7 +2,7 @@
 
 ghost use Rattle.std.specs.Prelude.{◌≡◌, ◌<◌, ◌^◌, ◌∷◌, [], IfNone, OnSome};
 ghost use Rattle.wheel_core.specs.PlainBase.{NoneBehind, OneFewer, OutIsDue, next_out};
-ghost use Rattle.cpu_bases.specs.CpuBases.{NotAhead, base_of};
+ghost use Rattle.cpu_bases.specs.CpuBases.{base_of};
 ghost use Rattle.cpu_bases.specs.Laws.{HandsOut};
 ghost use Rattle.shared_rule.specs.declared.parts.PassView.{PassView};
 ghost use Rattle.shared_timers.specs.Draining.{MayDrain, drained_part};
@@ -10,7 +10,7 @@ ghost use Rattle.shared_timers.specs.Exchanging.{IsNext};
 
 use crate::exchanges::drain;
 use crate::noting::note;
-use shared_parts::{BoxPart, Run, RunName};
+use shared_rule::{BoxPart, Run, RunName};
 use tm_base::{Class, Jiffy, TimerId};
 use wheel_core::{Item, TimerBase};
 
@@ -53,8 +53,7 @@ pub fn drain_step<N: RunName, B: TimerBase>(
     ensures due { OutIsDue now (base_of class part.old.box.own.bases).items result }
     ensures one_fewer { OnSome result (OneFewer (base_of class part.old.box.own.bases)
         (base_of class part.new.box.own.bases)) }
-    ensures none_behind { IfNone result (NotAhead now (base_of class part.old.box.own.bases)
-        → NoneBehind (base_of class part.new.box.own.bases)) }
+    ensures none_behind { IfNone result (NoneBehind (base_of class part.new.box.own.bases)) }
     ensures keeps { (p : PassView) → part.old.brought ≡ p ∷ []
         → HandsOut now class p.cpu part.old.box.own.bases part.new.box.own.bases }
 {

@@ -13,10 +13,9 @@ ghost use Rattle.shared_timers.specs.Exchanging.{MayTakeOut, MayTryArm, MayTryDr
 ghost use Rattle.shared_timers.specs.Exchanging.{MayTryTick, timer_word};
 
 use crate::arming::Arming;
-use shared_parts::{Run, RunName};
 use shared_rule::{
-    Arms, Cancels, Hands, Said, Seat, TicksDeferrable, TicksGlobal, TicksPinned, law_arm,
-    law_cancel, law_hand, law_tick,
+    Arms, Cancels, Hands, Run, RunName, Said, Seat, TicksDeferrable, TicksGlobal, TicksPinned,
+    law_arm, law_cancel, law_hand, law_tick,
 };
 use shared_words::{SharedWord, Spot, pack_spot};
 use tm_base::{Class, CpuId, TimerId};

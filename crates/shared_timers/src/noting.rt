@@ -6,8 +6,7 @@ ghost use Rattle.shared_rule.specs.Shows.{receipt_of};
 ghost use Rattle.shared_timers.specs.Entries.{with_receipt};
 
 use cpu_bases::Bases;
-use shared_parts::Guest;
-use shared_rule::Receipt;
+use shared_rule::{Guest, Receipt};
 use tm_base::CpuId;
 use wheel_core::TimerBase;
 

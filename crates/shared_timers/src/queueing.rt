@@ -9,7 +9,7 @@ ghost use Rattle.shared_timers.specs.Queueing.{cancelled_part};
 use crate::arming::Arming;
 use crate::exchanges::{take_out, try_arm};
 use crate::noting::note;
-use shared_parts::{BoxPart, Run, RunName};
+use shared_rule::{BoxPart, Run, RunName};
 use shared_words::unpack_spot;
 use tm_base::{Jiffy, OpFault, TimerId};
 use wheel_core::TimerBase;

@@ -2,10 +2,12 @@
 
 ghost use Rattle.std.specs.Prelude.{◌≡◌, [], IfNone, MatchResult, OnSome};
 ghost use Rattle.wheel_core.specs.PlainBase.{NoneBehind, OneFewer, OutIsDue, next_out};
-ghost use Rattle.cpu_bases.specs.CpuBases.{NotAhead, base_of};
+ghost use Rattle.cpu_bases.specs.CpuBases.{base_of};
 ghost use Rattle.cpu_bases.specs.Laws.{HandsOut, Keeps};
-ghost use Rattle.shared_parts.specs.Parts.{pass_parted, with_guest, without_guest};
-ghost use Rattle.shared_parts.specs.Passes.{IsOfRun};
+ghost use Rattle.shared_rule.specs.declared.parts.PassView.{PassView};
+ghost use Rattle.shared_rule.specs.Plays.{Agree};
+ghost use Rattle.shared_rule.specs.Parts.{pass_parted, with_guest, without_guest};
+ghost use Rattle.shared_rule.specs.Passes.{IsOfRun, IsPassIn};
 ghost use Rattle.shared_timers.specs.Draining.{MayDrain, drained_part};
 ghost use Rattle.shared_timers.specs.Queueing.{ArmedWith, FoundWith, MayArm, MayCancel};
 ghost use Rattle.shared_timers.specs.Queueing.{cancelled_part};
@@ -13,7 +15,7 @@ ghost use Rattle.shared_timers.specs.Queueing.{cancelled_part};
 use crate::arming::Arming;
 use crate::draining::drain_step;
 use crate::queueing::{arm_step, cancel_step};
-use shared_parts::{BoxPart, Pass, Run, RunName, bring, part_off};
+use shared_rule::{BoxPart, Pass, Run, RunName, bring, part_off};
 use tm_base::{Class, Jiffy, OpFault, TimerId};
 use wheel_core::{Item, TimerBase};
 
@@ -42,7 +44,7 @@ pub fn arm_with<N: RunName, B: TimerBase>(
 }
 
 /// A timer that is queued in the part of a CPU is cancelled at `now`, in jiffies, as `cancel_step`
-/// does it, with a pass that is brought into the part for it.
+/// does it, with a pass that is brought into the part for it. So the two agreed.
 pub fn cancel_with<N: RunName, B: TimerBase>(
     run: &Run<N, B>,
     part: &mut BoxPart<N, B>,
@@ -59,6 +61,7 @@ pub fn cancel_with<N: RunName, B: TimerBase>(
         ≡ without_guest (cancelled_part timer.0 line (with_guest part.old pass.old)) }
     ensures pass { pass.new ≡ pass_parted N.table pass.old.cpu
         (cancelled_part timer.0 line (with_guest part.old pass.old)) }
+    ensures agree { (p : PassView) → IsPassIn N.table pass.old p → Agree part.old.box p }
     ensures keeps { Keeps now part.old.box.own.bases part.new.box.own.bases }
 {
     pass.law();
@@ -88,8 +91,7 @@ pub fn hand_with<N: RunName, B: TimerBase>(
     ensures due { OutIsDue now (base_of class part.old.box.own.bases).items result }
     ensures one_fewer { OnSome result (OneFewer (base_of class part.old.box.own.bases)
         (base_of class part.new.box.own.bases)) }
-    ensures none_behind { IfNone result (NotAhead now (base_of class part.old.box.own.bases)
-        → NoneBehind (base_of class part.new.box.own.bases)) }
+    ensures none_behind { IfNone result (NoneBehind (base_of class part.new.box.own.bases)) }
     ensures keeps { HandsOut now class pass.old.cpu part.old.box.own.bases
         part.new.box.own.bases }
 {

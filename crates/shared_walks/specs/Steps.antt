@@ -8,7 +8,7 @@ use Rattle.shared_words.specs.Layout.{index_of}
 use Rattle.shared_rule.specs.declared.parts.BoxView.{BoxView}
 use Rattle.shared_rule.specs.Whole.{layout_of, slot_at, state_at}
 use Rattle.shared_rule.specs.Plays.{by_walk, group_sight, looking, top_sight, up_box}
-use Rattle.shared_parts.specs.Parts.{HeldPart}
+use Rattle.shared_rule.specs.Parts.{HeldPart}
 
 -- a part after a change of its box
 abbrev pub on_part : (BoxView → BoxView) → HeldPart → HeldPart

@@ -9,7 +9,7 @@ use Rattle.shared_rule.specs.Plays.{by_walk, child_freed_walk, child_locked_walk
 use Rattle.shared_rule.specs.Plays.{child_sight, group_freed_walk, lock_box, locked_walk}
 use Rattle.shared_rule.specs.Plays.{marked_walk, own_marked_box, own_read_walk, read_walk, reading}
 use Rattle.shared_rule.specs.Plays.{scan_sight, stored_box, swap_box}
-use Rattle.shared_parts.specs.Parts.{HeldPart}
+use Rattle.shared_rule.specs.Parts.{HeldPart}
 use Rattle.shared_walks.specs.Steps.{HasRisen, group_seen, on_part, top_seen}
 
 -- the box of the part has changed so

@@ -10,9 +10,9 @@ ghost use Rattle.shared_walks.specs.Steps.{WalkStands, on_part};
 use crate::path::{group_below, group_on};
 use crate::stages::{at_stage, first_sight, free_group_next, freed_next};
 use core_state::CpuStatus;
-use shared_parts::{BoxPart, Run, RunName};
 use shared_rule::{
-    FreesChild, FreesGroup, Locks, LocksChild, law_free, law_lock_child, law_lock_group,
+    BoxPart, FreesChild, FreesGroup, Locks, LocksChild, Run, RunName, law_free, law_lock_child,
+    law_lock_group,
 };
 use shared_words::{SharedWord, pack_lock};
 use walk_rules::{Stage, Walk, law_hierarchy};

@@ -7,7 +7,7 @@ ghost use Rattle.walk_rules.specs.Hierarchy.{at_top, group_on, side};
 ghost use Rattle.core_state.specs.Kept.{HasLevel};
 ghost use Rattle.shared_walks.specs.Steps.{slot_place, state_place};
 
-use shared_parts::{Run, RunName};
+use shared_rule::{Run, RunName};
 use shared_words::SharedWord;
 use tm_base::{CpuId, GroupId};
 use tree_plan::{Tree, law_edges, law_paths};

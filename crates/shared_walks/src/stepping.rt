@@ -11,7 +11,7 @@ use crate::leaving::{child_step, own_child_step, read_step, swap_step};
 use crate::locking::{free_child_step, free_group_step, lock_child_step, lock_group_step};
 use crate::sight::{first_step, scan_step, see_child_step, see_group_step};
 use crate::telling::store_step;
-use shared_parts::{BoxPart, Run, RunName};
+use shared_rule::{BoxPart, Run, RunName};
 use std::sync::Wait;
 use walk_rules::{Stage, Walk};
 use wheel_core::TimerBase;

@@ -5,11 +5,18 @@ ghost use Rattle.shared_words.specs.Layout.{count_of, index_of};
 
 use tm_base::{CpuId, GroupId, TimerId};
 
-/// The words of one group: its state, its lock, and a slot for each of its eight children.
-pub const WORDS_OF_GROUP: usize = 10;
+/// The words of one line of the cache, of 64 bytes. Where two processors write to words of one
+/// line, each of them takes the line from the other.
+pub const WORDS_OF_LINE: usize = 8;
+
+/// The words set apart for one group, which are two lines: its state, its lock, a slot for each of
+/// its eight children, and six that say nothing.
+pub const WORDS_OF_GROUP: usize = 16;
 
 /// How many groups, CPUs and timers have words. The words stand in this order: word 0, which says
-/// nothing; the words of each group; a word for each CPU; a word for each timer.
+/// nothing, with as many words to itself as a group; the words of each group; a line for each CPU,
+/// of which it has the first word; a word for each timer. So a write to a word of a group or a CPU
+/// takes no word of another group or CPU, and not word 0, out of a processor's cache.
 #[derive(Clone, Copy, Debug, PartialEq, Eq)]
 pub struct Layout {
     pub groups: u16,
@@ -38,8 +45,8 @@ impl Layout {
     pub fn count(self) -> usize
         ensures { result ≡ count_of self }
     {
-        1 + WORDS_OF_GROUP * usize::from(self.groups)
-            + usize::from(self.cpus)
+        WORDS_OF_GROUP * (1 + usize::from(self.groups))
+            + WORDS_OF_LINE * usize::from(self.cpus)
             + usize::from(self.timers)
     }
 
@@ -48,16 +55,16 @@ impl Layout {
     pub fn index(self, word: SharedWord) -> usize
         ensures { result ≡ index_of self word }
     {
-        let after_groups = 1 + WORDS_OF_GROUP * usize::from(self.groups);
+        let after_groups = WORDS_OF_GROUP * (1 + usize::from(self.groups));
         match word {
-            SharedWord::State(group) => 1 + WORDS_OF_GROUP * usize::from(group.0),
-            SharedWord::Lock(group) => 2 + WORDS_OF_GROUP * usize::from(group.0),
+            SharedWord::State(group) => WORDS_OF_GROUP * (1 + usize::from(group.0)),
+            SharedWord::Lock(group) => WORDS_OF_GROUP * (1 + usize::from(group.0)) + 1,
             SharedWord::Slot(group, child) => {
-                3 + WORDS_OF_GROUP * usize::from(group.0) + usize::from(child)
+                WORDS_OF_GROUP * (1 + usize::from(group.0)) + 2 + usize::from(child)
             },
-            SharedWord::Cpu(cpu) => after_groups + usize::from(cpu.0),
+            SharedWord::Cpu(cpu) => after_groups + WORDS_OF_LINE * usize::from(cpu.0),
             SharedWord::Timer(timer) => {
-                after_groups + usize::from(self.cpus) + usize::from(timer.0)
+                after_groups + WORDS_OF_LINE * usize::from(self.cpus) + usize::from(timer.0)
             },
         }
     }

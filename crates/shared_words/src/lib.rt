@@ -9,7 +9,7 @@ mod spot;
 
 pub use exchange::{has_migrator, joined_word, swapped_word};
 pub use laws::{law_ways_back, law_words_apart};
-pub use layout::{Layout, SharedWord, WORDS_OF_GROUP};
+pub use layout::{Layout, SharedWord, WORDS_OF_GROUP, WORDS_OF_LINE};
 pub use lock::{pack_lock, unpack_lock};
 pub use spot::{CLASSES, Spot, pack_spot, unpack_spot};
 

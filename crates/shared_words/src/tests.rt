@@ -53,7 +53,7 @@ fn a_timers_word_is_one_more_than_the_number_of_its_base(rt: HostRuntime) -> Res
     Ok(())
 }
 
-// By hand: two groups of ten words each from 1 on, then three CPUs, then two timers.
+// By hand: two groups of 16 words each from 16 on, then three CPUs, 8 words apart, then two timers.
 #[test]
 fn the_words_stand_group_by_group_then_cpus_then_timers(rt: HostRuntime) -> Result<(), Fail> {
     let layout = Layout {
@@ -62,21 +62,21 @@ fn the_words_stand_group_by_group_then_cpus_then_timers(rt: HostRuntime) -> Resu
         timers: 2,
     };
     let cases = [
-        (SharedWord::State(GroupId(0)), 1),
-        (SharedWord::Lock(GroupId(0)), 2),
-        (SharedWord::Slot(GroupId(0), 0), 3),
-        (SharedWord::Slot(GroupId(0), 7), 10),
-        (SharedWord::State(GroupId(1)), 11),
-        (SharedWord::Slot(GroupId(1), 7), 20),
-        (SharedWord::Cpu(CpuId(0)), 21),
-        (SharedWord::Cpu(CpuId(2)), 23),
-        (SharedWord::Timer(TimerId(0)), 24),
-        (SharedWord::Timer(TimerId(1)), 25),
+        (SharedWord::State(GroupId(0)), 16),
+        (SharedWord::Lock(GroupId(0)), 17),
+        (SharedWord::Slot(GroupId(0), 0), 18),
+        (SharedWord::Slot(GroupId(0), 7), 25),
+        (SharedWord::State(GroupId(1)), 32),
+        (SharedWord::Slot(GroupId(1), 7), 41),
+        (SharedWord::Cpu(CpuId(0)), 48),
+        (SharedWord::Cpu(CpuId(2)), 64),
+        (SharedWord::Timer(TimerId(0)), 72),
+        (SharedWord::Timer(TimerId(1)), 73),
     ];
     for (word, want) in cases {
         assert_eq!(rt; layout.index(word), want, "at {want}");
     }
-    assert_eq!(rt; layout.count(), 26);
+    assert_eq!(rt; layout.count(), 74);
     Ok(())
 }
 

@@ -13,13 +13,13 @@ use Rattle.shared_rule.specs.declared.parts.BoxView.{BoxView}
 use Rattle.shared_rule.specs.declared.parts.PassView.{PassView}
 use Rattle.shared_rule.specs.Plays.{Agree, PartFits}
 use Rattle.shared_rule.specs.TimerLaws.{MayExchangeArm}
-use Rattle.shared_parts.specs.Parts.{HeldPart, without_guest}
-use Rattle.shared_parts.specs.Passes.{HeldPass, IsPassIn, knowing}
+use Rattle.shared_rule.specs.Parts.{HeldPart, without_guest}
+use Rattle.shared_rule.specs.Passes.{HeldPass, IsPassIn, knowing}
 use Rattle.shared_table.specs.Begun.{IsFree}
 use Rattle.shared_timers.specs.declared.arming.Arming.{Arming}
 use Rattle.timer_calls.specs.Arms.{HasArmed, HasFailed, HasLeft, IsArmable, IsArmed, IsRefused}
 use Rattle.timer_calls.specs.Arms.{MayArmIn, NotArmed, arm_fault_of, fault_by, met}
-use Rattle.shared_parts.proofs.Visits.{knows}
+use Rattle.shared_rule.proofs.Visits.{knows}
 
 -- a CPU that isn't refused is online, and active or inside
 bits : (online idle inside : Bool) → None ≡ arm_fault_of online idle inside

@@ -12,9 +12,9 @@ use Rattle.core_world.specs.World.{World, cpu_of}
 use Rattle.core_state.specs.Shown.{shown_cpu}
 use Rattle.shared_rule.specs.declared.parts.PassView.{PassView}
 use Rattle.shared_rule.specs.Plays.{Agree, PartFits}
-use Rattle.shared_parts.specs.Parts.{HeldPart, without_guest}
-use Rattle.shared_parts.specs.Passes.{HeldPass, IsPassIn, knowing}
-use Rattle.shared_parts.proofs.Visits.{knows}
+use Rattle.shared_rule.specs.Parts.{HeldPart, without_guest}
+use Rattle.shared_rule.specs.Passes.{HeldPass, IsPassIn, knowing}
+use Rattle.shared_rule.proofs.Visits.{knows}
 use Rattle.timer_calls.specs.Arms.{IsRefused, met}
 use Rattle.timer_calls.specs.Cancels.{CameTo, HasCancelled, HasFallenShort, HasStayed, IsAsked}
 use Rattle.timer_calls.specs.Cancels.{NotCancelled, cancel_fault_by, cancel_fault_of}

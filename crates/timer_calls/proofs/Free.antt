@@ -15,9 +15,9 @@ use Rattle.core_world.specs.World.{World}
 use Rattle.shared_rule.specs.declared.parts.BoxView.{BoxView}
 use Rattle.shared_rule.specs.declared.parts.PassView.{PassView}
 use Rattle.shared_rule.specs.Timers.{armed_box, armed_pass}
-use Rattle.shared_parts.specs.Parts.{HeldPart, with_guest, without_guest}
-use Rattle.shared_parts.specs.Passes.{HeldPass, passes_of, receipts_of}
-use Rattle.shared_parts.specs.Passes.{with_receipts_room}
+use Rattle.shared_rule.specs.Parts.{HeldPart, with_guest, without_guest}
+use Rattle.shared_rule.specs.Passes.{HeldPass, passes_of, receipts_of}
+use Rattle.shared_rule.specs.Passes.{with_receipts_room}
 use Rattle.shared_table.specs.Begun.{IsFree}
 use Rattle.shared_timers.specs.declared.arming.Arming.{Arming}
 use Rattle.shared_timers.specs.Entries.{pair_changed}

@@ -7,7 +7,7 @@ use Rattle.shared_rule.specs.declared.parts.Look.{Look}
 use Rattle.shared_rule.specs.declared.parts.PassView.{PassView}
 use Rattle.shared_rule.specs.Plays.{seen_pass}
 use Rattle.shared_rule.specs.Rule.{Each}
-use Rattle.shared_parts.specs.Passes.{HeldPass, IsOfRun, Seated, with_pass}
+use Rattle.shared_rule.specs.Passes.{HeldPass, IsOfRun, Seated, with_pass}
 use Rattle.timer_calls.specs.Looks.{IsPassOf, seen_all}
 
 -- a seat whose pass changes

@@ -14,7 +14,7 @@ use Rattle.shared_rule.specs.declared.parts.BoxView.{BoxView}
 use Rattle.shared_rule.specs.declared.parts.PassView.{PassView}
 use Rattle.shared_rule.specs.Plays.{head_pass, seen_pass}
 use Rattle.shared_rule.specs.Whole.{own_word}
-use Rattle.shared_parts.specs.Parts.{HasGuest, HeldPart, without_guest}
+use Rattle.shared_rule.specs.Parts.{HasGuest, HeldPart, without_guest}
 use Rattle.shared_cpus.specs.Conditions.{IsDueThere}
 use Rattle.shared_cpus.specs.Pairs.{HasOne, box_by, cpu_place, leaf_place, with_seen}
 use Rattle.timer_calls.specs.Marks.{IsNoticed, cpu_seen, leaf_seen}

@@ -15,7 +15,8 @@ use Rattle.core_world.specs.World.{World}
 use Rattle.shared_rule.specs.declared.parts.Look.{Look}
 use Rattle.shared_rule.specs.declared.parts.PassView.{PassView}
 use Rattle.shared_rule.specs.Plays.{seen_pass}
-use Rattle.shared_parts.specs.Passes.{HeldPass, IsOfRun, IsPassIn, Seated, with_pass}
+use Rattle.shared_rule.specs.Slots.{IsGrouped}
+use Rattle.shared_rule.specs.Passes.{HeldPass, IsOfRun, IsPassIn, Seated, with_pass}
 use Rattle.timer_calls.specs.Looks.{seen_all}
 use Rattle.timer_calls.specs.Sights.{HasSeenGroup, HasSeenSlot, HasSeenSlots, LooksBy}
 use Rattle.timer_calls.specs.Sights.{NothingBelow, ShowsDue, ShowsNothing, events_in, slot_look}
@@ -109,7 +110,7 @@ one_more_seen table o g count held mid after old new was one =
       ];
       named = λ p k e is at. elim (cases_eq k count) [
         | inl here ↦
-            subst (λ (w : World). e.cpu.0 < length w.cpus)
+            subst (λ (w : World). IsGrouped w e.cpu.0)
             (opening_after (slot_looks o g 0 founds) p)
             (one.named (seen_all (slot_looks o g 0 founds) p) e
             (pass_after table held mid (slot_looks o g 0 founds) p is was.pass_is)

@@ -9,14 +9,15 @@ use Rattle.cpu_bases.specs.CpuBases.{class_in}
 use Rattle.cpu_bases.specs.Laws.{Keeps}
 use Rattle.core_world.specs.World.{World}
 use Rattle.shared_rule.specs.declared.parts.PassView.{PassView}
-use Rattle.shared_rule.specs.Plays.{PartFits}
+use Rattle.shared_rule.specs.Plays.{Agree, PartFits}
 use Rattle.shared_rule.specs.Timers.{cancelled_box, cancelled_pass}
-use Rattle.shared_parts.specs.Parts.{HeldPart, with_guest, without_guest}
-use Rattle.shared_parts.specs.Passes.{HeldPass, IsPassIn, passes_of, receipts_of}
-use Rattle.shared_parts.specs.Passes.{with_receipts_room}
+use Rattle.shared_rule.specs.Parts.{HeldPart, pass_parted, with_guest, without_guest}
+use Rattle.shared_rule.specs.Passes.{HeldPass, IsPassIn, passes_of, receipts_of}
+use Rattle.shared_rule.specs.Passes.{with_receipts_room}
 use Rattle.shared_table.specs.Begun.{IsFree}
 use Rattle.shared_timers.specs.Entries.{pair_changed}
 use Rattle.shared_timers.specs.Queueing.{MayCancel, cancelled_part}
+use Rattle.timer_calls.specs.Cancels.{IsTakenOut}
 use Rattle.timer_calls.specs.Rooms.{with_more_room}
 use Rattle.timer_calls.proofs.Free.{within}
 
@@ -50,6 +51,26 @@ may_cancel table o part held p timer class is opening fits free known queued = r
         (ap (λ s. length (receipts_of s)) (sym is))
         (within (length p.receipts) (length p.receipts) held.room (omega arith));
   };
+}
+
+-- and it is taken out there
+pub taken_out : (table : TableId) (timer line : ℕ) (part mid : HeldPart)
+    (held roomy after : HeldPass) (class : Class) → class_in timer part.box.own.bases ≡ Some class
+    → mid ≡ with_more_room 0 1 part → roomy ≡ with_receipts_room 1 held
+    → ((p : PassView) → IsPassIn table roomy p → Agree mid.box p)
+    → after ≡ pass_parted table roomy.cpu (cancelled_part timer line (with_guest mid roomy))
+    → IsTakenOut table timer line part held after
+taken_out table timer line part mid held roomy after class queued more room agree is = record {
+  class = class;
+  queued = queued;
+  agree = λ p seated. subst (λ (z : HeldPart). Agree z.box p) more
+      (agree p (ap (λ (z : HeldPass). z.seated) room ∙ seated));
+  pass_is =
+      is
+      ∙ ap (λ (z : HeldPass). pass_parted table z.cpu
+      (cancelled_part timer line (with_guest mid z))) room
+      ∙ ap (λ (z : HeldPart). pass_parted table held.cpu
+      (cancelled_part timer line (with_guest z (with_receipts_room 1 held)))) more;
 }
 
 -- afterwards it is free

@@ -6,8 +6,8 @@ use Rattle.core_world.specs.World.{World}
 use Rattle.shared_words.specs.declared.spot.Spot.{Spot}
 use Rattle.shared_words.specs.Words.{spot_of}
 use Rattle.shared_rule.specs.Plays.{seen_pass}
-use Rattle.shared_parts.specs.Parts.{HeldPart}
-use Rattle.shared_parts.specs.Passes.{HeldPass, with_pass}
+use Rattle.shared_rule.specs.Parts.{HeldPart}
+use Rattle.shared_rule.specs.Passes.{HeldPass, with_pass}
 use Rattle.shared_timers.specs.Exchanging.{timer_word}
 use Rattle.timer_calls.specs.Cancels.{FellShort, HasTried, IsElsewhere, IsPartOf, IsTakenOut}
 use Rattle.timer_calls.specs.Cancels.{TookOut, tried_of}

@@ -12,8 +12,8 @@ use Rattle.core_world.specs.World.{World, cpu_of}
 use Rattle.shared_rule.specs.declared.parts.PassView.{PassView}
 use Rattle.shared_rule.specs.Plays.{Agree, PartFits}
 use Rattle.shared_rule.specs.TimerLaws.{MayExchangeArm}
-use Rattle.shared_parts.specs.Parts.{HeldPart, pass_parted, with_guest}
-use Rattle.shared_parts.specs.Passes.{HeldPass, IsPassIn, knowing, with_pass, with_receipts_room}
+use Rattle.shared_rule.specs.Parts.{HeldPart, pass_parted, with_guest}
+use Rattle.shared_rule.specs.Passes.{HeldPass, IsPassIn, knowing, with_pass, with_receipts_room}
 use Rattle.shared_timers.specs.declared.arming.Arming.{Arming}
 use Rattle.shared_timers.specs.Queueing.{FoundQueued, armed_part}
 use Rattle.timer_calls.specs.Rooms.{with_more_room}

@@ -12,10 +12,10 @@ use Rattle.shared_words.specs.declared.spot.Spot.{Spot}
 use Rattle.shared_words.specs.Words.{spot_of}
 use Rattle.shared_rule.specs.declared.parts.Look.{Look}
 use Rattle.shared_rule.specs.declared.parts.PassView.{PassView}
-use Rattle.shared_rule.specs.Plays.{PartFits, seen_pass}
+use Rattle.shared_rule.specs.Plays.{Agree, PartFits, seen_pass}
 use Rattle.shared_rule.specs.Rule.{Each}
-use Rattle.shared_parts.specs.Parts.{HeldPart, pass_parted, with_guest}
-use Rattle.shared_parts.specs.Passes.{HeldPass, IsPassIn, with_pass, with_receipts_room}
+use Rattle.shared_rule.specs.Parts.{HeldPart, pass_parted, with_guest}
+use Rattle.shared_rule.specs.Passes.{HeldPass, IsPassIn, with_pass, with_receipts_room}
 use Rattle.shared_timers.specs.Exchanging.{timer_word}
 use Rattle.shared_timers.specs.Queueing.{cancelled_part}
 use Rattle.timer_calls.specs.declared.cancelling.Tried.{Tried}
@@ -48,11 +48,13 @@ pub record IsPartOf (o : World) (cpu : ℕ) (part : HeldPart) : Type 0 where
   pub opening : part.box.opening ≡ o
   pub fits : PartFits part.box
 
--- TAKEN OUT of a part: the timer was queued there, and the pass has the receipt
+-- TAKEN OUT of a part: the timer was queued there, part and pass agreed, and the pass has the
+-- receipt
 pub record IsTakenOut (table : TableId) (timer line : ℕ) (part : HeldPart)
     (held after : HeldPass) : Type 0 where
   pub class : Class
   pub queued : class_in timer part.box.own.bases ≡ Some class
+  pub agree : (p : PassView) → IsPassIn table held p → Agree part.box p
   pub pass_is :
       after
       ≡ pass_parted table held.cpu

@@ -7,7 +7,7 @@ use Rattle.shared_words.specs.Words.{spot_of}
 use Rattle.shared_rule.specs.declared.parts.Look.{Look}
 use Rattle.shared_rule.specs.declared.parts.PassView.{PassView}
 use Rattle.shared_rule.specs.Plays.{seen_pass}
-use Rattle.shared_parts.specs.Passes.{HeldPass, IsPassIn}
+use Rattle.shared_rule.specs.Passes.{HeldPass, IsPassIn}
 use Rattle.shared_timers.specs.Exchanging.{timer_word}
 
 -- a pass of the run, which began with this core

@@ -1,5 +1,5 @@
 -- what a pass sees of the groups that its CPU looks after
-use Rattle.std.specs.Prelude.{◌≡◌, ◌⊎◌, ℕ, zero, suc, ◌<◌, ◌≤◌, List, [], ◌∷◌, Some, None, length}
+use Rattle.std.specs.Prelude.{◌≡◌, ◌⊎◌, ℕ, zero, suc, ◌≤◌, List, [], ◌∷◌, Some, None, length}
 use Rattle.std.specs.Prelude.{Bool, true, false, map}
 use Rattle.atomic_table.specs.Seated.{TableId}
 use Rattle.tm_base.specs.declared.names.CpuId.{CpuId}
@@ -18,8 +18,9 @@ use Rattle.shared_words.specs.Layout.{index_of}
 use Rattle.shared_rule.specs.declared.parts.Look as loads
 use Rattle.shared_rule.specs.declared.parts.PassView.{PassView}
 use Rattle.shared_rule.specs.Plays.{seen_pass}
+use Rattle.shared_rule.specs.Slots.{IsGrouped}
 use Rattle.shared_rule.specs.Whole.{layout_of, slot_at, state_at}
-use Rattle.shared_parts.specs.Passes.{HeldPass, IsPassIn, with_pass}
+use Rattle.shared_rule.specs.Passes.{HeldPass, IsPassIn, with_pass}
 use Rattle.timer_calls.specs.declared.sight.Look.{Look}
 use Rattle.timer_calls.specs.declared.sight.Look.TheVariants as answers
 use Rattle.timer_calls.specs.Looks.{seen_all}
@@ -51,15 +52,15 @@ slot_looks o g child (found ∷ founds) =
 abbrev pub events_in : List ℕ → EventMap
 events_in founds = map slot_of founds
 
--- ONE SLOT: its word is loaded, and its event is put into a map; it is of a CPU of the run (no
--- public clause cites it)
+-- ONE SLOT: its word is loaded, and its event is put into a map; it is of a CPU of the run that
+-- has a group (no public clause cites it)
 pub record HasSeenSlot (table : TableId) (o : World) (g child : ℕ) (held after : HeldPass)
     (old new : EventMap) : Type 0 where
   pub found : ℕ
   pub pass_is : after ≡ with_pass (seen_pass (slot_look o g child found).word found) held
   pub changes : ChangesOnly old new child (slot_of found)
   pub named : (p : PassView) (e : Event) → IsPassIn table held p → slot_of found ≡ Some e →
-      e.cpu.0 < length p.opening.cpus
+      IsGrouped p.opening e.cpu.0
 
 -- SO MANY SLOTS of a group, from that of child 0 on: their words are loaded, and their events put
 -- into a map (no public clause cites it)
@@ -70,7 +71,7 @@ pub record HasSeenSlots (table : TableId) (o : World) (g count : ℕ) (held afte
   pub pass_is : after ≡ with_pass (seen_all (slot_looks o g 0 founds)) held
   pub events_are : (k : ℕ) → event_at events k ≡ event_at (events_in founds) k
   pub named : (p : PassView) (k : ℕ) (e : Event) → IsPassIn table held p →
-      event_at (events_in founds) k ≡ Some e → e.cpu.0 < length p.opening.cpus
+      event_at (events_in founds) k ≡ Some e → IsGrouped p.opening e.cpu.0
 
 -- LOOKED AT, the group of a CPU's path at a level: its word, by which the CPU's side looks after it,
 -- and then its eight slots
@@ -98,7 +99,8 @@ pub record ShowsNothing (o : World) (now : ℕ) (tried : Cpus) (cpu level : ℕ)
   pub seen : HasSeenGroup o cpu level held after
   pub none : NoneFits (IsDue now tried) (events_in seen.founds)
 
--- the first event that they showed due and untried is that of a CPU, which is one of the run
+-- the first event that they showed due and untried is that of a CPU, which is one of the run and has
+-- a group
 pub record ShowsDue (table : TableId) (o : World) (now : ℕ) (tried : Cpus) (cpu level : ℕ)
     (held after : HeldPass) (due : CpuId) : Type 0 where
   pub seen : HasSeenGroup o cpu level held after
@@ -106,7 +108,7 @@ pub record ShowsDue (table : TableId) (o : World) (now : ℕ) (tried : Cpus) (cp
   pub event : Event
   pub first : IsFirst (IsDue now tried) (events_in seen.founds) child event
   pub cpu_is : event.cpu ≡ due
-  pub of_run : (p : PassView) → IsPassIn table held p → due.0 < length p.opening.cpus
+  pub of_run : (p : PassView) → IsPassIn table held p → IsGrouped p.opening due.0
 
 -- LOOK: what a look of a CPU at its group at a level answers, by what it loaded
 abbrev pub HasLooked : TableId → World → (now : ℕ) → Cpus → (cpu level : ℕ)

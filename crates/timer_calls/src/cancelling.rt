@@ -1,8 +1,8 @@
 //! A CPU's thread cancels a timer.
 
 ghost use Rattle.std.specs.Prelude.{◌≡◌, ◌<◌, MatchResult, length};
-ghost use Rattle.shared_parts.specs.Parts.{HeldPart, without_guest};
-ghost use Rattle.shared_parts.specs.Passes.{IsOfRun};
+ghost use Rattle.shared_rule.specs.Parts.{HeldPart, without_guest};
+ghost use Rattle.shared_rule.specs.Passes.{IsOfRun};
 ghost use Rattle.shared_table.specs.Begun.{IsFree};
 ghost use Rattle.timer_calls.specs.Arms.{MetBy};
 ghost use Rattle.timer_calls.specs.Cancels.{CameTo, HasCancelled, HasFallenShort, HasTried, IsAsked};
@@ -12,7 +12,7 @@ ghost use Rattle.timer_calls.specs.Looks.{IsPassOf};
 
 use crate::room::take_room;
 use cpu_word::CpuState;
-use shared_parts::{BoxPart, Pass, Run, RunName, visit};
+use shared_rule::{BoxPart, Pass, Run, RunName, visit};
 use shared_table::{CpuBox, Shared};
 use shared_timers::cancel_with;
 use shared_words::unpack_spot;

@@ -2,14 +2,14 @@
 
 ghost use Rattle.std.specs.Prelude.{◌≡◌, ◌<◌, true, false, length};
 ghost use Rattle.shared_words.specs.Exchanges.{HasRoom};
-ghost use Rattle.shared_parts.specs.Passes.{IsOfRun};
+ghost use Rattle.shared_rule.specs.Passes.{IsOfRun};
 ghost use Rattle.timer_calls.specs.Sights.{HasLooked, LooksBy, NeedsRemote, OtherBy};
 
 use crate::path::{group_at, side_on};
 use crate::sight::Look;
 use crate::slots::see_events;
 use group_word::{looks, unpack};
-use shared_parts::{Pass, Run, RunName};
+use shared_rule::{Pass, Run, RunName};
 use tm_base::{CpuSet, Jiffy};
 use wheel_core::TimerBase;
 
@@ -30,7 +30,8 @@ fn looks_after(word: u64, child: u8) -> bool
 /// (`tmigr_handle_remote_up`). `NoGroup` comes exactly where the CPU has no group there, `Other`
 /// exactly where the group has another migrator, `Nothing` exactly where neither comes and no event
 /// that was loaded is due and of a CPU that isn't in `tried`; `Due` has the CPU of the first such
-/// event, which is one of the run. What was loaded is remembered. It takes no lock and no memory.
+/// event, which is one of the run and has a group. What was loaded is remembered. It takes no lock
+/// and no memory.
 pub fn look<N: RunName, B: TimerBase>(
     run: &Run<N, B>,
     pass: &mut Pass,

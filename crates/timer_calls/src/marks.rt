@@ -3,15 +3,17 @@
 ghost use Rattle.std.specs.Prelude.{◌≡◌, ◌≤◌, Some, [], length, true};
 ghost use Rattle.event_queue.specs.declared.event.Event.{Event};
 ghost use Rattle.event_queue.specs.EventMap.{Counts};
-ghost use Rattle.shared_parts.specs.Parts.{without_guest};
-ghost use Rattle.shared_parts.specs.Passes.{IsOfRun};
+ghost use Rattle.shared_rule.specs.declared.parts.PassView.{PassView};
+ghost use Rattle.shared_rule.specs.Plays.{Agree};
+ghost use Rattle.shared_rule.specs.Parts.{without_guest};
+ghost use Rattle.shared_rule.specs.Passes.{IsOfRun, IsPassIn};
 ghost use Rattle.shared_cpus.specs.Pairs.{HasOne};
 ghost use Rattle.timer_calls.specs.Marks.{HasNoticed, IsNoticed, IsTakable};
 
 use crate::path::group_at;
 use event_queue::Event;
 use shared_cpus::{see_cpu, see_leaf};
-use shared_parts::{BoxPart, Pass, Run, RunName, bring, part_off};
+use shared_rule::{BoxPart, Pass, Run, RunName, bring, part_off};
 use tm_base::Jiffy;
 use wheel_core::TimerBase;
 
@@ -61,8 +63,8 @@ fn is_takable<N: RunName, B: TimerBase>(run: &Run<N, B>, part: &BoxPart<N, B>, n
 /// Whether the CPU of a part may be marked by that of a pass at `now`, the time of the run in
 /// jiffies (`tmigr_handle_remote_cpu`): exactly where the words of the CPU show it online, idle and
 /// without a mark, and its event in its leaf as there, not ignored and not past `now`. The words are
-/// loaded by the pass, which is brought for it and remembers them, and are those of the part. It
-/// takes no memory.
+/// loaded by the pass, which is brought for it and remembers them, and are those of the part, and the
+/// two agree. It takes no memory.
 pub fn may_take<N: RunName, B: TimerBase>(
     run: &Run<N, B>,
     part: &mut BoxPart<N, B>,
@@ -75,6 +77,7 @@ pub fn may_take<N: RunName, B: TimerBase>(
     ensures yes { result ≡ true → IsTakable part.old.box }
     ensures no { IsTakable part.old.box → result ≡ true }
     ensures part { part.new ≡ without_guest part.old }
+    ensures agree { (p : PassView) → IsPassIn N.table pass.old p → Agree part.old.box p }
     ensures seen { HasNoticed N.table part.old pass.old pass.new }
 {
     pass.law();

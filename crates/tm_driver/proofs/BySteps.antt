@@ -16,7 +16,7 @@ use Rattle.play_rules.specs.Tallies.{no_lines, tallied_all}
 use Rattle.core_world.specs.Covered.{IsSettled}
 use Rattle.core_world.specs.World.{World, cpu_of}
 use Rattle.core_facts.specs.Cover.Headline.{EachSettled}
-use Rattle.step_play.specs.Rules.Seen.{InPlay, WalkFits, resting, state_of}
+use Rattle.step_play.specs.Rules.Seen.{InPlay, InRun, WalkFits, resting, state_of}
 use Rattle.step_play.specs.Rules.StepRules.{step_rules}
 use Rattle.step_play.specs.SamePlay.{IsPlayOfSteps, core_start, step_turns, turn_seen}
 use Rattle.tm_driver.specs.declared.outcomes.Counts.{Counts}
@@ -41,15 +41,15 @@ finished_seen limit work (t ∷ ts) =
       | false ↦ ap (λ ls. t.played.lines ++ ls) (finished_seen limit more ts)
     ]
 
--- AT REST a core in play is settled, so its own law answers for each of its timers
+-- AT REST a core in a run is settled, so its own law answers for each of its timers
 no_walk : (c : ℕ) (o : Option Walk) → WalkFits resting c o → o ≡ None
 no_walk c None fits = refl
 no_walk c (Some k) fits = absurd (both_ways false refl fits.0)
 
-at_rest : (w : World) → InPlay resting w → IsSettled w
-at_rest w play = record {
-  free = λ c. no_walk c (cpu_of w c).walk (play.in_run.walks c);
-  outside = play.in_run.inside;
+pub at_rest : (w : World) → InRun resting w → IsSettled w
+at_rest w run = record {
+  free = λ c. no_walk c (cpu_of w c).walk (run.walks c);
+  outside = run.inside;
 }
 
 module _ (jobs : Replies) (script : Script) (is : IsPlayOfSteps jobs script) where
@@ -59,7 +59,7 @@ module _ (jobs : Replies) (script : Script) (is : IsPlayOfSteps jobs script) whe
     answered =
         All-weaker (λ (t : Turn World). InPlay resting t.played.state)
         (λ t. EachIsAnsweredFor t.played.state)
-        (λ t play. law t.played.state play.in_run.lawful (at_rest t.played.state play))
+        (λ t play. law t.played.state play.in_run.lawful (at_rest t.played.state play.in_run))
         (step_turns jobs script) is.in_play;
   }
 

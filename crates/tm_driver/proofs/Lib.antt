@@ -7,6 +7,12 @@ mod NoDevice
 mod Onlines
 mod Playable
 mod Scripts
+mod StoryTurns
+mod Threaded
 mod Turns
 mod Unknown
 mod Wholes
+mod Tellers
+mod Spreading
+mod Gathered
+mod PlainMoments

@@ -57,11 +57,11 @@ module _ {S : Type 0} (limit w : ℕ) (t : Turn S) where
   pub finished_here : (rest : List (Turn S)) → nat_le limit (w + t.played.work) ≡ true → finished limit w (t ∷ rest) ≡ t ∷ []
   finished_here rest reached = rw reached refl
 
-last_push : {S : Type 0} (start : S) (ts : List (Turn S)) (t : Turn S) → last_state start (ts ++ t ∷ []) ≡ t.played.state
+pub last_push : {S : Type 0} (start : S) (ts : List (Turn S)) (t : Turn S) → last_state start (ts ++ t ∷ []) ≡ t.played.state
 last_push start [] t = refl
 last_push start (u ∷ ts) t = last_push u.played.state ts t
 
-turn_lines_push : {S : Type 0} (ts : List (Turn S)) (t : Turn S) → turn_lines (ts ++ t ∷ []) ≡ turn_lines ts ++ t.played.lines
+pub turn_lines_push : {S : Type 0} (ts : List (Turn S)) (t : Turn S) → turn_lines (ts ++ t ∷ []) ≡ turn_lines ts ++ t.played.lines
 turn_lines_push ts t =
     flat_map-append (λ u. u.played.lines) ts (t ∷ []) ∙ ap (λ ls. turn_lines ts ++ ls) (append-nil t.played.lines)
 

@@ -4,4 +4,7 @@ pub mod Following
 pub mod OnCore
 pub mod Outcomes
 pub mod Plays
+pub mod Runs
 pub mod Sleepers
+pub mod Apart
+pub mod Plain

@@ -155,7 +155,7 @@ fn interrupt<M: Machine, J: Jobs>(
 }
 
 /// The interrupt of a CPU, where it is due one.
-fn interrupt_if_due<M: Machine, J: Jobs>(
+pub(crate) fn interrupt_if_due<M: Machine, J: Jobs>(
     machine: &mut M,
     jobs: &J,
     due: &CpuSet,

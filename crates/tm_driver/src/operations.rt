@@ -321,7 +321,11 @@ fn done<M: Machine>(machine: &mut M, op: &Op, telling: &mut Telling) -> Result<(
 }
 
 /// One operation of a script: it is done, or refused.
-fn operation<M: Machine>(machine: &mut M, op: &Op, telling: &mut Telling) -> Result<(), NoMemory>
+pub(crate) fn operation<M: Machine>(
+    machine: &mut M,
+    op: &Op,
+    telling: &mut Telling,
+) -> Result<(), NoMemory>
     requires in_range { IsOpInRange
         (M.rules.cpus (M.world machine.old)) (M.rules.timers (M.world machine.old)) op.now }
     requires fit { M.Fit resting (M.world machine.old) }

@@ -131,6 +131,20 @@ impl Telling {
         Ok(())
     }
 
+    /// Tells the lines of another report, with its work; they aren't tallied. Want of memory leaves
+    /// all as it was.
+    pub(crate) fn append(&mut self, other: &Telling) -> Result<(), NoMemory>
+        ensures text { OnOk result (self.new.text ≡ self.old.text ++ other.now.text) }
+        ensures tally { self.new.tally ≡ self.old.tally }
+        ensures work { OnOk result
+            (self.new.work ≡ counted (self.old.work + other.now.work)) }
+        ensures err { OnErr result (self.new ≡ self.old) }
+    {
+        self.report.append(&other.report)?;
+        self.work = self.work.saturating_add(other.work);
+        Ok(())
+    }
+
     /// Counts a piece of work.
     pub(crate) fn count(&mut self)
         ensures text { self.new.text ≡ self.old.text }
@@ -138,6 +152,15 @@ impl Telling {
         ensures work { self.new.work ≡ counted (self.old.work + 1) }
     {
         self.work = self.work.saturating_add(1);
+    }
+
+    /// Counts so many pieces of work.
+    pub(crate) fn count_all(&mut self, more: u32)
+        ensures text { self.new.text ≡ self.old.text }
+        ensures tally { self.new.tally ≡ self.old.tally }
+        ensures work { self.new.work ≡ counted (self.old.work + more) }
+    {
+        self.work = self.work.saturating_add(more);
     }
 
     /// The work so far.

@@ -3,11 +3,11 @@
 #![tactic(auto)]
 
 use job_table::{Job, JobTable, Marker, OneShot, Periodic};
-use script_main::{NO_MEMORY, Status, run_program};
-use std::alloc::AllocError;
+use script_main::{NO_MEMORY, run_program};
+use std::alloc::{AllocError, Global};
 use std::process::ExitCode;
 use std::{env, io};
-use tm_base::Class;
+use tm_base::{Class, FreeGate};
 use tm_io::{StdSink, StdSource};
 
 /// The words after the program's name. Words that aren't UTF-8 are no command, and neither are no
@@ -20,11 +20,8 @@ fn words(rt: &HostRuntime) -> Result<Vec<String>, AllocError> {
     }
 }
 
-/// Runs the program with its four jobs. By their numbers: 0 is done, 1 and 2 arm again, 3 leaves
-/// a mark.
-fn run(rt: &HostRuntime) -> Result<Status, AllocError> {
-    let alloc = rt.alloc();
-    let words = words(rt)?;
+/// The four jobs. By their numbers: 0 is done, 1 and 2 arm again, 3 leaves a mark.
+fn four_jobs(alloc: Global) -> Result<JobTable, AllocError> {
     let mut jobs: Vec<Box<dyn Job + Send + Sync>> = Vec::new(alloc);
     jobs.push(Box::new(alloc, OneShot)?)?;
     jobs.push(Box::new(
@@ -40,15 +37,19 @@ fn run(rt: &HostRuntime) -> Result<Status, AllocError> {
         },
     )?)?;
     jobs.push(Box::new(alloc, Marker)?)?;
-    let jobs = JobTable::new(jobs);
-    let mut source = StdSource::new(rt.reader());
-    let mut sink = StdSink::new(io::writer(rt));
-    Ok(run_program(alloc, &words, &mut source, &mut sink, &jobs))
+    Ok(JobTable::new(jobs))
 }
 
 fn main(rt: HostRuntime) -> ExitCode {
-    match run(&rt) {
-        Ok(status) => ExitCode::from(status.0),
-        Err(AllocError) => ExitCode::from(NO_MEMORY),
-    }
+    let alloc = rt.alloc();
+    let Ok(words) = words(&rt) else {
+        return ExitCode::from(NO_MEMORY);
+    };
+    let Ok(jobs) = four_jobs(alloc) else {
+        return ExitCode::from(NO_MEMORY);
+    };
+    let mut source = StdSource::new(rt.reader());
+    let mut sink = StdSink::new(io::writer(&rt));
+    let status = run_program(&rt, alloc, &words, &mut source, &mut sink, &jobs, &FreeGate);
+    ExitCode::from(status.0)
 }

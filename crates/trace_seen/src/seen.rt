@@ -1,6 +1,7 @@
 //! What was seen of a machine so far. Each answer may be unknown.
 
-ghost use Rattle.std.specs.Prelude.{◌≡◌, ◌==◌, ◌<◌, [], length, position, find, IfSome, None, OnOk};
+ghost use Rattle.std.specs.Prelude.{◌≡◌, ◌==◌, ◌<◌, [], length, position, find, IfSome, None};
+ghost use Rattle.std.specs.Prelude.{OnErr, OnOk};
 ghost use Rattle.trace_seen.specs.Seen.{cpu_at, group_at, later, put_cpu, put_group, timed};
 ghost use Rattle.trace_seen.specs.Seen.{unknown_cpu, unknown_group};
 
@@ -223,7 +224,8 @@ fn place_of_cpu(cpus: &[CpuSeen], cpu: CpuId) -> Option<usize>
 }
 
 fn put_group(groups: &mut Vec<GroupSeen>, group: GroupSeen) -> Result<(), NoMemory>
-    ensures { OnOk result (groups.new.items ≡ put_group groups.old.items group) }
+    ensures ok { OnOk result (groups.new.items ≡ put_group groups.old.items group) }
+    ensures err { OnErr result (groups.new.items ≡ groups.old.items) }
 {
     match place_of_group(groups.as_slice(), group.pointer) {
         Some(at) => groups[at] = group,
@@ -233,7 +235,8 @@ fn put_group(groups: &mut Vec<GroupSeen>, group: GroupSeen) -> Result<(), NoMemo
 }
 
 fn put_cpu(cpus: &mut Vec<CpuSeen>, cpu: CpuSeen) -> Result<(), NoMemory>
-    ensures { OnOk result (cpus.new.items ≡ put_cpu cpus.old.items cpu) }
+    ensures ok { OnOk result (cpus.new.items ≡ put_cpu cpus.old.items cpu) }
+    ensures err { OnErr result (cpus.new.items ≡ cpus.old.items) }
 {
     match place_of_cpu(cpus.as_slice(), cpu.cpu) {
         Some(at) => cpus[at] = cpu,
@@ -305,17 +308,22 @@ impl Seen {
         }
     }
 
-    /// Keeps what was seen of a group in place of what was known of it.
+    /// Keeps what was seen of a group in place of what was known of it. Want of memory leaves all
+    /// as before.
     pub fn put_group(&mut self, group: GroupSeen) -> Result<(), NoMemory>
-        ensures { OnOk result
+        ensures ok { OnOk result
             (self.new ≡ record self.old { groups = put_group self.old.groups group }) }
+        ensures err { OnErr result (self.new ≡ self.old) }
     {
         put_group(&mut self.groups, group)
     }
 
-    /// Keeps what was seen of a CPU in place of what was known of it.
+    /// Keeps what was seen of a CPU in place of what was known of it. Want of memory leaves all as
+    /// before.
     pub fn put_cpu(&mut self, cpu: CpuSeen) -> Result<(), NoMemory>
-        ensures { OnOk result (self.new ≡ record self.old { cpus = put_cpu self.old.cpus cpu }) }
+        ensures ok { OnOk result
+            (self.new ≡ record self.old { cpus = put_cpu self.old.cpus cpu }) }
+        ensures err { OnErr result (self.new ≡ self.old) }
     {
         put_cpu(&mut self.cpus, cpu)
     }

@@ -14,9 +14,9 @@ use Rattle.shared_rule.specs.declared.parts.BoxView.{BoxView}
 use Rattle.shared_rule.specs.declared.parts.PassView.{PassView}
 use Rattle.shared_rule.specs.Rule.{renewed}
 use Rattle.shared_rule.specs.Plays.{head_pass, woken_box, woken_pass}
-use Rattle.shared_parts.specs.Parts.{HeldPart, HasGuest, pass_parted, with_guest, without_guest}
-use Rattle.shared_parts.specs.Passes.{HeldPass, IsPassIn, Seated, passes_of, seated_of}
-use Rattle.shared_parts.specs.Passes.{walks_of, with_pass}
+use Rattle.shared_rule.specs.Parts.{HeldPart, HasGuest, pass_parted, with_guest, without_guest}
+use Rattle.shared_rule.specs.Passes.{HeldPass, IsPassIn, Seated, passes_of, seated_of}
+use Rattle.shared_rule.specs.Passes.{walks_of, with_pass}
 use Rattle.shared_walks.specs.Steps.{on_part}
 use Rattle.shared_cpus.specs.Conditions.{CanWake, IsTurn}
 use Rattle.shared_cpus.specs.Pairs.{box_by, by_pair, of_box}

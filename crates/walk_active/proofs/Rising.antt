@@ -19,7 +19,7 @@ use Rattle.shared_words.specs.Exchanges.{shows_migrator}
 use Rattle.shared_rule.specs.declared.parts.BoxView.{BoxView}
 use Rattle.shared_rule.specs.Plays.{PartFits, WalkFits, bound_walk, by_walk, marked_walk}
 use Rattle.shared_rule.specs.Plays.{marks_more, own_marked_walk, up_walk}
-use Rattle.shared_parts.specs.Parts.{HeldPart}
+use Rattle.shared_rule.specs.Parts.{HeldPart}
 use Rattle.shared_walks.specs.Steps.{on_part}
 use Rattle.shared_walks.specs.Walks.{GoesOn, HasStepped, StepOf, is_under_way}
 use Rattle.walk_active.specs.Climbing.{Climbs, HasClimbed, begins_at, arrived, left_at, leaf_left}

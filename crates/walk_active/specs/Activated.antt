@@ -9,8 +9,8 @@ use Rattle.core_world.specs.World.{CpuRecord}
 use Rattle.shared_rule.specs.declared.parts.BoxView.{BoxView}
 use Rattle.shared_rule.specs.declared.parts.PassView.{PassView}
 use Rattle.shared_rule.specs.Plays.{woken_pass}
-use Rattle.shared_parts.specs.Parts.{HeldPart, without_guest}
-use Rattle.shared_parts.specs.Passes.{HeldPass, IsOfRun, IsPassIn}
+use Rattle.shared_rule.specs.Parts.{HeldPart, without_guest}
+use Rattle.shared_rule.specs.Passes.{HeldPass, IsOfRun, IsPassIn}
 use Rattle.shared_walks.specs.Steps.{on_part}
 
 -- THE CPU, awake: it isn't idle, has nothing to be woken for, and no walk is under way

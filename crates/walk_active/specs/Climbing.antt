@@ -8,7 +8,7 @@ use Rattle.walk_rules.specs.declared.walk.WalkKind.TheVariants as kinds
 use Rattle.walk_rules.specs.declared.walk.Stage.{Stage}
 use Rattle.walk_rules.specs.declared.walk.Stage.TheVariants as stages
 use Rattle.shared_rule.specs.declared.parts.BoxView.{BoxView}
-use Rattle.shared_parts.specs.Parts.{HeldPart}
+use Rattle.shared_rule.specs.Parts.{HeldPart}
 use Rattle.shared_walks.specs.Steps.{on_part}
 use Rattle.walk_active.specs.Activated.{ignored_where}
 

@@ -4,7 +4,7 @@ ghost use Rattle.std.specs.Prelude.{◌≡◌, Some};
 ghost use Rattle.walk_rules.specs.declared.walk.WalkKind.TheVariants as kinds;
 ghost use Rattle.walk_active.specs.Climbing.{Climbs, HasClimbed, arrived, point_at};
 
-use shared_parts::{BoxPart, Run, RunName};
+use shared_rule::{BoxPart, Run, RunName};
 use shared_walks::make_step;
 use std::sync::Wait;
 use tm_base::{Gate, Point};

@@ -21,7 +21,7 @@ use Rattle.shared_rule.specs.Plays.{locked_walk, marked_walk, marks_more, own_ma
 use Rattle.shared_rule.specs.Plays.{own_read_walk, read_walk, reading, scan_sight, stored_box}
 use Rattle.shared_rule.specs.Plays.{group_sight, own_marked_walk, stored_walk, swap_box}
 use Rattle.shared_rule.specs.Plays.{swapped_walk, top_sight, up_box, up_walk}
-use Rattle.shared_parts.specs.Parts.{HeldPart}
+use Rattle.shared_rule.specs.Parts.{HeldPart}
 use Rattle.walk_inactive.specs.Frames.{IsFramed, IsSameErrand, box_with}
 use Rattle.shared_walks.specs.Steps.{group_seen, on_part, top_seen}
 use Rattle.shared_walks.specs.Walks.{HasReadChild, StepOf}

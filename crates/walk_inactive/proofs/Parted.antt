@@ -8,9 +8,9 @@ use Rattle.core_world.specs.Enabled.{first_event}
 use Rattle.shared_rule.specs.declared.parts.PassView.{PassView}
 use Rattle.shared_rule.specs.Plays.{head_pass}
 use Rattle.shared_rule.specs.Rule.{renewed}
-use Rattle.shared_parts.specs.Parts.{HasGuest, HeldPart, pass_parted, with_guest, without_guest}
-use Rattle.shared_parts.specs.Passes.{HeldPass, IsPassIn, Seated, passes_of, seated_of, walks_of}
-use Rattle.shared_parts.specs.Passes.{with_pass}
+use Rattle.shared_rule.specs.Parts.{HasGuest, HeldPart, pass_parted, with_guest, without_guest}
+use Rattle.shared_rule.specs.Passes.{HeldPass, IsPassIn, Seated, passes_of, seated_of, walks_of}
+use Rattle.shared_rule.specs.Passes.{with_pass}
 use Rattle.shared_cpus.specs.Conditions.{CanIdle}
 use Rattle.shared_table.specs.Begun.{IsFree}
 use Rattle.shared_table.specs.Readied.{HasNoneBehind}

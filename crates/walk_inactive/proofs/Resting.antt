@@ -22,7 +22,7 @@ use Rattle.shared_rule.specs.declared.parts.Look.{Look}
 use Rattle.shared_rule.specs.declared.parts.PassView.{PassView}
 use Rattle.shared_rule.specs.Plays.{head_pass}
 use Rattle.shared_rule.specs.Turns.{begun, idled, idled_box, idled_pass}
-use Rattle.shared_parts.specs.Parts.{HeldPart}
+use Rattle.shared_rule.specs.Parts.{HeldPart}
 use Rattle.shared_cpus.specs.Conditions.{CanFinish, CanIdle, HasPassFor}
 use Rattle.shared_cpus.specs.Pairs.{HasOwn, box_by, by_pair, of_box}
 use Rattle.shared_cpus.specs.Steps.{ended, ended_as}

@@ -17,7 +17,7 @@ use Rattle.shared_rule.specs.Plays.{head_pass}
 use Rattle.shared_rule.specs.Turns.{carried, carried_box, carried_pass, marks_without, retold_box}
 use Rattle.shared_rule.specs.Turns.{retold_pass}
 use Rattle.shared_rule.specs.Turns as turns
-use Rattle.shared_parts.specs.Parts.{HeldPart}
+use Rattle.shared_rule.specs.Parts.{HeldPart}
 use Rattle.shared_cpus.specs.Conditions.{CanCarry, CanFinish, CanRetell, HasPassFor}
 use Rattle.shared_cpus.specs.Pairs.{HasOwn, by_pair, of_box}
 use Rattle.shared_cpus.specs.Steps.{ended}

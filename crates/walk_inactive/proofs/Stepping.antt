@@ -24,7 +24,7 @@ use Rattle.shared_rule.specs.Plays.{child_read_walk, child_sight, group_freed_wa
 use Rattle.shared_rule.specs.Plays.{locked_walk, own_read_walk, read_walk, reading, scan_sight}
 use Rattle.shared_rule.specs.Plays.{WalkFits, group_sight, slot_number, stored_box, stored_walk}
 use Rattle.shared_rule.specs.Plays.{swap_box, top_sight}
-use Rattle.shared_parts.specs.Parts.{HeldPart}
+use Rattle.shared_rule.specs.Parts.{HeldPart}
 use Rattle.walk_inactive.specs.Frames.{IsFramed, box_with}
 use Rattle.shared_walks.specs.Steps.{group_seen, on_part, slot_place, state_place, top_seen}
 use Rattle.shared_walks.specs.Walks.{HasReadChild, StepOf, is_under_way}

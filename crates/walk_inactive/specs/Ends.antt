@@ -14,7 +14,7 @@ use Rattle.shared_rule.specs.declared.parts.Deed.TheVariants as deeds
 use Rattle.shared_rule.specs.declared.parts.PassView.{PassView}
 use Rattle.shared_rule.specs.Plays.{head_pass}
 use Rattle.shared_rule.specs.Turns.{marks_without}
-use Rattle.shared_parts.specs.Parts.{HeldPart}
+use Rattle.shared_rule.specs.Parts.{HeldPart}
 use Rattle.walk_inactive.specs.Looks.{FindsFirst}
 
 -- the leaf of a box's CPU, where it has one

@@ -5,7 +5,7 @@ use Rattle.walk_rules.specs.declared.walk.Walk.{Walk}
 use Rattle.core_world.specs.Steps.{with_walk}
 use Rattle.shared_rule.specs.declared.parts.BoxView.{BoxView}
 use Rattle.shared_rule.specs.declared.parts.Look.{Look}
-use Rattle.shared_parts.specs.Parts.{HeldPart}
+use Rattle.shared_rule.specs.Parts.{HeldPart}
 use Rattle.shared_walks.specs.Steps.{on_part}
 
 -- a box with this walk, or none, and with what else a step of a walk changes

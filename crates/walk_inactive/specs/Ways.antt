@@ -14,7 +14,7 @@ use Rattle.core_world.specs.World.{World}
 use Rattle.shared_words.specs.Exchanges.{shows_migrator}
 use Rattle.shared_rule.specs.declared.parts.Look.{Look}
 use Rattle.shared_rule.specs.Plays.{PartFits}
-use Rattle.shared_parts.specs.Parts.{HeldPart}
+use Rattle.shared_rule.specs.Parts.{HeldPart}
 use Rattle.walk_inactive.specs.Frames.{IsSameErrand, box_with}
 use Rattle.shared_walks.specs.Steps.{on_part}
 use Rattle.shared_walks.specs.Walks.{StepOf, is_under_way}

@@ -21,11 +21,11 @@ use Rattle.core_state.specs.contracts.status.CpuStatus as CpuStatus
 use Rattle.core_state.specs.contracts.group.CoreGroup as CoreGroup
 use Rattle.core_state.specs.contracts.tally.Tally as Tally
 use Rattle.tree_plan.specs.contracts.hierarchy.Tree as Tree
-use Rattle.shared_parts.specs.declared.run.RunName as name
-use Rattle.shared_parts.specs.contracts.pass.Pass as Pass
-use Rattle.shared_parts.specs.contracts.run.Run as Run
-use Rattle.shared_parts.specs.contracts.box_part.BoxPart as BoxPart
-use Rattle.shared_parts.specs.contracts.box_part.Guest as Guest
+use Rattle.shared_rule.specs.declared.run.RunName as name
+use Rattle.shared_rule.specs.contracts.pass.Pass as Pass
+use Rattle.shared_rule.specs.contracts.run.Run as Run
+use Rattle.shared_rule.specs.contracts.box_part.BoxPart as BoxPart
+use Rattle.shared_rule.specs.contracts.box_part.Guest as Guest
 use Rattle.shared_table.specs.contracts.cpu_box.CpuBox as CpuBox
 use Rattle.shared_table.specs.contracts.shared.Rooms as Rooms
 use Rattle.shared_table.specs.contracts.shared.Shared as Shared

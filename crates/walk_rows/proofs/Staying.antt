@@ -7,7 +7,7 @@ use Rattle.atomic_table.specs.Seated.{TableId}
 use Rattle.tm_base.specs.declared.faults.OpFault.{OpFault}
 use Rattle.core_world.specs.World.{World}
 use Rattle.shared_rule.specs.declared.parts.PassView.{PassView}
-use Rattle.shared_parts.specs.Passes.{HeldPass, Seated, knowing, with_pass}
+use Rattle.shared_rule.specs.Passes.{HeldPass, Seated, knowing, with_pass}
 use Rattle.shared_table.specs.Ended.{IsPassAt, PassesFrom}
 use Rattle.shared_table.proofs.Passes.{one_changed, one_of}
 use Rattle.shared_rows.specs.Looks.{StaysAt}

@@ -2,7 +2,7 @@
 use Rattle.std.specs.Prelude.{ℕ, ◌<◌, length}
 use Rattle.atomic_table.specs.Seated.{TableId}
 use Rattle.core_world.specs.World.{World}
-use Rattle.shared_parts.specs.Passes.{HeldPass}
+use Rattle.shared_rule.specs.Passes.{HeldPass}
 use Rattle.shared_table.specs.Ended.{IsPassAt}
 
 -- the pass is that of one of the run's CPUs (no public clause cites it)

@@ -8,7 +8,7 @@ use crate::gates::Watch;
 use crate::runs::{Crew, Plan};
 use crate::tally::Tally;
 use crate::turns::take_rounds;
-use shared_parts::{Pass, RunName};
+use shared_rule::{Pass, RunName};
 use shared_table::Shared;
 use std::sync::Wait;
 use std::thread;

@@ -9,7 +9,7 @@ use crate::gates::Watch;
 use crate::tally::Tally;
 use crate::turns::Turn;
 use core_state::Core;
-use shared_parts::{Pass, RunName};
+use shared_rule::{Pass, RunName};
 use shared_table::{Ready, Shared};
 use std::alloc::Global;
 use std::marker::Brand;

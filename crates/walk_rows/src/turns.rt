@@ -9,7 +9,7 @@ use crate::gates::Watch;
 use crate::runs::Plan;
 use crate::tally::Tally;
 use idle_wakeup::{IdleAnswer, go_idle, wake};
-use shared_parts::{Pass, RunName};
+use shared_rule::{Pass, RunName};
 use shared_table::Shared;
 use std::sync::Wait;
 use tm_base::{CpuId, Gate, Jiffy, OpFault};

@@ -1,7 +1,7 @@
 use Rattle.std.proofs.Common.{◌∙◌, ap, refl, subst, sym}
 use Rattle.shared_rule.specs.Plays.{Agree, PartFits}
-use Rattle.shared_parts.specs.Parts.{HeldPart, without_guest}
-use Rattle.shared_parts.specs.Passes.{knowing, with_pass}
+use Rattle.shared_rule.specs.Parts.{HeldPart, without_guest}
+use Rattle.shared_rule.specs.Passes.{knowing, with_pass}
 use Rattle.shared_table.specs.Begun.{IsFree}
 use Rattle.idle_wakeup.proofs.meeting.meet_own.Goals as goal
 

@@ -10,12 +10,17 @@ use Rattle.script_main.proofs.Reading.{checks, script_input, trace_input, works}
 use Rattle.script_main.proofs.Reading.{works_input}
 use Rattle.script_main.proofs.replies.reply_to_input.Goals as goal
 
-pub reply_to_script-requires : goal.reply_to_script-requires
-reply_to_script-requires g c =
+pub reply_to_script-requires-clause-grammar : goal.reply_to_script-requires-clause-grammar
+reply_to_script-requires-clause-grammar g c κs within =
     let form = form_of c.args.command in
     let Is : Input → Type 0 = λ input. IsInput form input in
-    let is = script_input form c.in-Script.script (subst Is c.in-Script.is c.requires) in
-    record { grammar = is.0; form = is.1 }
+    (script_input form c.in-Script.script (subst Is c.in-Script.is c.requires)).0
+
+pub reply_to_script-requires-clause-form : goal.reply_to_script-requires-clause-form
+reply_to_script-requires-clause-form g c κs within =
+    let form = form_of c.args.command in
+    let Is : Input → Type 0 = λ input. IsInput form input in
+    (script_input form c.in-Script.script (subst Is c.in-Script.is c.requires)).1
 
 pub check_trace-requires : goal.check_trace-requires
 check_trace-requires g c =

@@ -5,8 +5,8 @@ use Rattle.core_world.specs.World.{World}
 use Rattle.shared_rule.specs.Turns as turns
 use Rattle.shared_rule.specs.Rule.{seat_of}
 use Rattle.shared_rule.specs.Whole.{cpu_at}
-use Rattle.shared_parts.specs.Parts.{Hosts, box_held, guest_room, looked_of}
-use Rattle.shared_parts.proofs.Calls.{asks}
+use Rattle.shared_rule.specs.Parts.{Hosts, box_held, guest_room, looked_of}
+use Rattle.shared_rule.proofs.Calls.{asks}
 use Rattle.shared_cpus.specs.Conditions.{CanRelease}
 use Rattle.shared_cpus.specs.Pairs.{by_pair}
 use Rattle.shared_cpus.proofs.Guesting.{same_hosts}

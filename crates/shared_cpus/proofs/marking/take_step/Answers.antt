@@ -7,8 +7,8 @@ use Rattle.core_world.specs.World.{World}
 use Rattle.shared_rule.specs.Turns as turns
 use Rattle.shared_rule.specs.Rule.{seat_of}
 use Rattle.shared_rule.specs.Whole.{cpu_at}
-use Rattle.shared_parts.specs.Parts.{HeldPart, Hosts, box_held, guest_room, looked_of}
-use Rattle.shared_parts.proofs.Calls.{asks}
+use Rattle.shared_rule.specs.Parts.{HeldPart, Hosts, box_held, guest_room, looked_of}
+use Rattle.shared_rule.proofs.Calls.{asks}
 use Rattle.shared_cpus.specs.Conditions.{CanTake}
 use Rattle.shared_cpus.specs.Pairs.{by_pair}
 use Rattle.shared_cpus.proofs.Guesting.{guest_is, has_guest, marker_low, same_hosts}

@@ -8,8 +8,8 @@ use Rattle.shared_rule.specs.Plays as plays
 use Rattle.shared_rule.specs.Turns as turns
 use Rattle.shared_rule.specs.Rule.{Me, seat_of}
 use Rattle.shared_rule.specs.Whole.{cpu_at, own_word}
-use Rattle.shared_parts.specs.Parts.{HeldPart, Hosts, box_held, guest_room, looked_of}
-use Rattle.shared_parts.proofs.Calls.{asks, place}
+use Rattle.shared_rule.specs.Parts.{HeldPart, Hosts, box_held, guest_room, looked_of}
+use Rattle.shared_rule.proofs.Calls.{asks, place}
 use Rattle.shared_cpus.specs.Pairs.{HasOne, cpu_place, with_seen}
 use Rattle.shared_cpus.proofs.Guesting.{same_hosts}
 use Rattle.shared_cpus.proofs.Turned.{keeps, shows}

@@ -9,9 +9,9 @@ use Rattle.shared_rule.specs.Plays as plays
 use Rattle.shared_rule.specs.Turns as turns
 use Rattle.shared_rule.specs.Rule.{seat_of}
 use Rattle.shared_rule.specs.Whole.{cpu_at}
-use Rattle.shared_parts.specs.declared.box_part.Guest.{Guest}
-use Rattle.shared_parts.specs.Parts.{HeldPart, Hosts, box_held, guest_room, looked_of}
-use Rattle.shared_parts.proofs.Calls.{asks}
+use Rattle.shared_rule.specs.declared.box_part.Guest.{Guest}
+use Rattle.shared_rule.specs.Parts.{HeldPart, Hosts, box_held, guest_room, looked_of}
+use Rattle.shared_rule.proofs.Calls.{asks}
 use Rattle.shared_cpus.specs.Conditions.{CanRetell}
 use Rattle.shared_cpus.specs.Pairs.{by_pair, of_box}
 use Rattle.shared_cpus.proofs.Guesting.{few_walks, more_hosts, same_room}

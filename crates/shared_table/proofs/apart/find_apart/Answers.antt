@@ -1,6 +1,6 @@
 use Rattle.std.proofs.Common.{sym, ◌∙◌}
 use Rattle.core_world.specs.World.{World}
-use Rattle.shared_parts.proofs.Calls.{some_word}
+use Rattle.shared_rule.proofs.Calls.{some_word}
 use Rattle.shared_table.proofs.Counting.{finds_apart}
 use Rattle.shared_table.proofs.apart.find_apart.Goals as goal
 

@@ -1,7 +1,7 @@
 use Rattle.std.proofs.Common.{sym, ap, ◌∙◌}
 use Rattle.core_world.specs.World.{World}
 use Rattle.shared_rule.specs.Rule.{Me}
-use Rattle.shared_parts.proofs.Calls.{some_word}
+use Rattle.shared_rule.proofs.Calls.{some_word}
 use Rattle.shared_table.proofs.Rows.{first_box_alone}
 use Rattle.shared_table.proofs.cutting.box_off.Goals as goal
 

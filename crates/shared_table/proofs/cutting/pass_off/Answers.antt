@@ -2,7 +2,7 @@ use Rattle.std.proofs.Common.{[], sym, ap, ◌∙◌, refl}
 use Rattle.core_world.specs.World.{World}
 use Rattle.shared_rule.specs.Rule.{Me, first_pass}
 use Rattle.shared_rule.specs.Starts.{first_pass_of}
-use Rattle.shared_parts.proofs.Calls.{some_word}
+use Rattle.shared_rule.proofs.Calls.{some_word}
 use Rattle.shared_table.proofs.Rows.{first_pass_alone}
 use Rattle.shared_table.proofs.cutting.pass_off.Goals as goal
 

@@ -1,7 +1,7 @@
 use Rattle.std.proofs.Common.{rules, ◌≡◌, ◌+◌, ◌++◌, ◌∷◌, [], List, length, refl, sym, ap, ◌∙◌, subst, arith}
 use Rattle.std.proofs.lemmas.List.{append-nil, nil_from_length}
 use Rattle.shared_rule.specs.Rule.{Each}
-use Rattle.shared_parts.specs.Parts.{HeldPart}
+use Rattle.shared_rule.specs.Parts.{HeldPart}
 use Rattle.shared_table.specs.Begun.{IsFree}
 use Rattle.shared_table.specs.Ended.{BeganWith}
 use Rattle.shared_table.specs.Joined.{owns_of, with_boxes}

@@ -1,4 +1,4 @@
-use Rattle.shared_parts.specs.Passes.{IsOfRun}
+use Rattle.shared_rule.specs.Passes.{IsOfRun}
 use Rattle.shared_table.proofs.Together.{each_first, each_later, one_pass}
 use Rattle.shared_table.proofs.joining.join_passes.Goals as goal
 

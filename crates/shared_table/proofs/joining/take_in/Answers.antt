@@ -1,6 +1,6 @@
 use Rattle.std.proofs.Common.{sym, ◌∙◌}
 use Rattle.core_world.specs.World.{World}
-use Rattle.shared_parts.proofs.Calls.{some_word}
+use Rattle.shared_rule.proofs.Calls.{some_word}
 use Rattle.shared_table.proofs.joining.take_in.Goals as goal
 
 pub join_seat-requires : goal.join_seat-requires

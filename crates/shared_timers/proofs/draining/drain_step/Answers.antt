@@ -1,15 +1,17 @@
-use Rattle.std.proofs.Common.{◌≡◌, ◌∷◌, [], List, Option, Some, refl, sym, ap, ◌∙◌, subst}
+use Rattle.std.proofs.Common.{◌≡◌, ℕ, ◌∷◌, [], List, Option, Some, None, refl, sym, ap}
+use Rattle.std.proofs.Common.{◌∙◌, subst}
 use Rattle.std.specs.Prelude.{IfNone, length}
 use Rattle.std.specs.Option.{option_copied_mut}
 use Rattle.core_world.specs.World.{World}
 use Rattle.tm_base.specs.declared.names.CpuId.{CpuId}
 use Rattle.cpu_bases.specs.declared.entry.Entry.{Entry}
-use Rattle.wheel_core.specs.PlainBase.{NoneBehind}
+use Rattle.wheel_core.specs.declared.item.Item.{Item}
+use Rattle.wheel_core.specs.PlainBase.{NoneBehind, PlainBase}
 use Rattle.cpu_bases.specs.CpuBases.{CpuBases, NotAhead, base_of, handed_out}
 use Rattle.shared_rule.specs.declared.parts.BoxView.{BoxView}
 use Rattle.shared_rule.specs.Timers.{handed_box}
-use Rattle.shared_parts.specs.declared.box_part.Guest.{Guest}
-use Rattle.shared_parts.specs.Parts.{HeldPart, Hosts, box_held, guest_room, looked_of}
+use Rattle.shared_rule.specs.declared.box_part.Guest.{Guest}
+use Rattle.shared_rule.specs.Parts.{HeldPart, Hosts, box_held, guest_room, looked_of}
 use Rattle.shared_rule.specs.Rule.{seat_of}
 use Rattle.shared_rule.specs.Shows.{receipt_of}
 use Rattle.shared_timers.specs.Draining.{MayDrain, drained_pass}
@@ -124,9 +126,16 @@ returns-clause-part g c =
     ∙ ap guest_room (sym there))
     ∙ ap (on_both_of (handed_box class) (drained_pass class)) c.part.view_is
 
+-- where nothing is due, nothing is behind a clock that isn't ahead
+met : (now : ℕ) (base new : PlainBase) (out : Option Item) → NotAhead now base
+    → IfNone out (NotAhead now base → NoneBehind new) → IfNone out (NoneBehind new)
+met now base new None near then = then near
+met now base new (Some item) near then = tt
+
 pub returns-clause-none_behind : goal.returns-clause-none_behind
 returns-clause-none_behind g c =
-    subst (λ (z : HeldPart). IfNone c.take_due-item.result
-    (NotAhead c.args.now (base_of c.args.class z.box.own.bases)
-    → NoneBehind (base_of c.args.class c.take_due-item.new.self.plain))) c.part.view_is
-    c.take_due-item.ensures.none_behind
+    let bases = c.part.inside.bases.plain in
+    met c.args.now (base_of c.args.class bases)
+    (base_of c.args.class c.take_due-item.new.self.plain) c.take_due-item.result
+    (subst (λ n. NotAhead n (base_of c.args.class bases)) (sym c.requires.now)
+    (c.part.invariant.fits.ahead c.args.class)) c.take_due-item.ensures.none_behind

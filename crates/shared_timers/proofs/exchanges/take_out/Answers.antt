@@ -10,7 +10,7 @@ use Rattle.shared_rule.specs.Rule.{seat_of}
 use Rattle.shared_rule.specs.TimerLaws.{queued_word}
 use Rattle.shared_rule.specs.Timers as timers
 use Rattle.shared_rule.specs.Whole.{layout_of, timer_at}
-use Rattle.shared_parts.proofs.Calls.{asks}
+use Rattle.shared_rule.proofs.Calls.{asks}
 use Rattle.shared_timers.proofs.exchanges.take_out.Goals as goal
 
 pub compare_exchange_with-requires : goal.compare_exchange_with-requires

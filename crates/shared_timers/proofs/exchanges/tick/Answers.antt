@@ -8,7 +8,7 @@ use Rattle.shared_rule.specs.TurnLaws.{MayStoreTick}
 use Rattle.shared_rule.specs.Turns as turns
 use Rattle.shared_rule.specs.Whole.{cpu_at}
 use Rattle.shared_words.specs.Layout.{index_of}
-use Rattle.shared_parts.proofs.Calls.{asks}
+use Rattle.shared_rule.proofs.Calls.{asks}
 use Rattle.shared_timers.proofs.exchanges.tick.Goals as goal
 
 pub load-requires : goal.load-requires

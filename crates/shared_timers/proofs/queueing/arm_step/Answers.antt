@@ -9,9 +9,9 @@ use Rattle.shared_rule.specs.Plays.{seen_pass}
 use Rattle.shared_rule.specs.Rule.{seat_of}
 use Rattle.shared_rule.specs.Shows.{receipt_of}
 use Rattle.shared_rule.specs.Timers.{armed_box, armed_pass}
-use Rattle.shared_parts.proofs.Holding.{holds}
-use Rattle.shared_parts.specs.declared.box_part.Guest.{Guest}
-use Rattle.shared_parts.specs.Parts.{HeldPart, Hosts, box_held, guest_room, looked_of}
+use Rattle.shared_rule.proofs.Holding.{holds}
+use Rattle.shared_rule.specs.declared.box_part.Guest.{Guest}
+use Rattle.shared_rule.specs.Parts.{HeldPart, Hosts, box_held, guest_room, looked_of}
 use Rattle.shared_timers.specs.Entries.{on_both_of, with_receipt}
 use Rattle.shared_timers.specs.Exchanging.{timer_word}
 use Rattle.shared_timers.specs.Queueing.{MayArm}

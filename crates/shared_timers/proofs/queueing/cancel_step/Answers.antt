@@ -8,8 +8,8 @@ use Rattle.cpu_bases.specs.CpuBases.{CpuBases, cancelled}
 use Rattle.cpu_bases.specs.Laws.{Keeps}
 use Rattle.shared_rule.specs.declared.parts.BoxView.{BoxView}
 use Rattle.shared_rule.specs.Timers.{cancelled_box, cancelled_pass}
-use Rattle.shared_parts.specs.declared.box_part.Guest.{Guest}
-use Rattle.shared_parts.specs.Parts.{HeldPart, Hosts, box_held, guest_room, looked_of}
+use Rattle.shared_rule.specs.declared.box_part.Guest.{Guest}
+use Rattle.shared_rule.specs.Parts.{HeldPart, Hosts, box_held, guest_room, looked_of}
 use Rattle.shared_rule.specs.Rule.{seat_of}
 use Rattle.shared_rule.specs.Shows.{receipt_of}
 use Rattle.shared_timers.specs.Entries.{on_both_of, with_receipt}

@@ -1,6 +1,6 @@
 use Rattle.std.proofs.Common.{sym, ap, ◌∙◌, subst}
-use Rattle.shared_parts.specs.Parts.{HasGuest, HeldPart, pass_parted}
-use Rattle.shared_parts.specs.Passes.{HeldPass}
+use Rattle.shared_rule.specs.Parts.{HasGuest, HeldPart, pass_parted}
+use Rattle.shared_rule.specs.Passes.{HeldPass}
 use Rattle.shared_timers.specs.Queueing.{MayArm}
 use Rattle.shared_timers.proofs.Visits.{armed_guest, went_off}
 use Rattle.shared_timers.proofs.together.arm_with.Goals as goal

@@ -1,7 +1,10 @@
 use Rattle.std.proofs.Common.{sym, ap, ◌∙◌, subst}
 use Rattle.cpu_bases.specs.Laws.{Keeps}
-use Rattle.shared_parts.specs.Parts.{HasGuest, HeldPart, pass_parted, without_guest}
-use Rattle.shared_parts.specs.Passes.{HeldPass}
+use Rattle.shared_rule.specs.Rule.{Each}
+use Rattle.shared_rule.specs.Plays.{Agree}
+use Rattle.shared_rule.specs.Parts.{HasGuest, HeldPart, pass_parted, without_guest}
+use Rattle.shared_rule.specs.Passes.{HeldPass}
+use Rattle.shared_rule.proofs.Visits.{agrees}
 use Rattle.shared_timers.specs.Queueing.{MayCancel, cancelled_part}
 use Rattle.shared_timers.proofs.Visits.{cancelled_guest}
 use Rattle.shared_timers.proofs.together.cancel_with.Goals as goal
@@ -37,6 +40,12 @@ returns-clause-pass g c =
     ∙ ap (pass_parted table c.args.pass.now.cpu)
     (c.cancel_step.ensures.part
     ∙ ap (cancelled_part c.args.timer.0 c.args.line) c.bring.ensures.part))
+
+pub returns-clause-agree : goal.returns-clause-agree
+returns-clause-agree g c p is =
+    agrees c.args.part.now c.args.pass.now g.N.RunName.table p is
+    (subst (λ (z : HeldPart). Each (Agree z.box) z.brought) c.bring.ensures.part
+    c.bring.ensures.agrees)
 
 pub returns-clause-keeps : goal.returns-clause-keeps
 returns-clause-keeps g c =

@@ -1,10 +1,10 @@
 use Rattle.std.proofs.Common.{sym, ap, ◌∙◌, subst}
 use Rattle.std.specs.Prelude.{IfNone, OnSome}
 use Rattle.wheel_core.specs.PlainBase.{NoneBehind, OneFewer, OutIsDue, next_out}
-use Rattle.cpu_bases.specs.CpuBases.{NotAhead, base_of}
+use Rattle.cpu_bases.specs.CpuBases.{base_of}
 use Rattle.cpu_bases.specs.Laws.{HandsOut}
-use Rattle.shared_parts.specs.Parts.{HasGuest, HeldPart, pass_parted, without_guest}
-use Rattle.shared_parts.specs.Passes.{HeldPass, passes_of}
+use Rattle.shared_rule.specs.Parts.{HasGuest, HeldPart, pass_parted, without_guest}
+use Rattle.shared_rule.specs.Passes.{HeldPass, passes_of}
 use Rattle.shared_timers.specs.Draining.{MayDrain, drained_part}
 use Rattle.shared_timers.proofs.Visits.{drained_guest}
 use Rattle.shared_timers.proofs.together.hand_with.Goals as goal
@@ -62,14 +62,9 @@ returns-clause-one_fewer g c =
 
 pub returns-clause-none_behind : goal.returns-clause-none_behind
 returns-clause-none_behind g c =
-    let class = c.args.class in
     subst (λ (z : HeldPart). IfNone c.drain_step-item.result
-    (NotAhead c.args.now (base_of class c.args.part.now.box.own.bases)
-    → NoneBehind (base_of class z.box.own.bases))) (sym c.part_off.ensures.part)
-    (subst (λ (z : HeldPart). IfNone c.drain_step-item.result
-    (NotAhead c.args.now (base_of class z.box.own.bases)
-    → NoneBehind (base_of class c.drain_step-item.new.part.box.own.bases)))
-    c.bring.ensures.part c.drain_step-item.ensures.none_behind)
+    (NoneBehind (base_of c.args.class z.box.own.bases))) (sym c.part_off.ensures.part)
+    c.drain_step-item.ensures.none_behind
 
 pub returns-clause-keeps : goal.returns-clause-keeps
 returns-clause-keeps g c =

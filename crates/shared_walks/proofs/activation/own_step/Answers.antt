@@ -9,8 +9,8 @@ use Rattle.core_world.specs.World.{World}
 use Rattle.shared_words.specs.Layout.{index_of}
 use Rattle.shared_rule.specs.Plays as plays
 use Rattle.shared_rule.specs.Whole.{slot_at}
-use Rattle.shared_parts.specs.Parts.{box_held, looked_of}
-use Rattle.shared_parts.proofs.Calls.{asks}
+use Rattle.shared_rule.specs.Parts.{box_held, looked_of}
+use Rattle.shared_rule.proofs.Calls.{asks}
 use Rattle.shared_walks.proofs.Standing.{has_group}
 use Rattle.shared_walks.proofs.activation.own_step.Goals as goal
 

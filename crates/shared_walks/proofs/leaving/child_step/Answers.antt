@@ -6,8 +6,8 @@ use Rattle.walk_rules.specs.declared.walk.Stage.TheVariants as stages
 use Rattle.core_world.specs.World.{World}
 use Rattle.shared_rule.specs.Plays as plays
 use Rattle.shared_rule.specs.Whole.{state_at}
-use Rattle.shared_parts.specs.Parts.{box_held, looked_of}
-use Rattle.shared_parts.proofs.Calls.{asks}
+use Rattle.shared_rule.specs.Parts.{box_held, looked_of}
+use Rattle.shared_rule.proofs.Calls.{asks}
 use Rattle.shared_walks.proofs.Standing.{stands_over}
 use Rattle.shared_walks.proofs.leaving.child_step.Goals as goal
 

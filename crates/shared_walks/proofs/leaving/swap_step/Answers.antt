@@ -9,8 +9,8 @@ use Rattle.core_world.specs.World.{World, is_reading}
 use Rattle.shared_words.specs.Exchanges.{IsSwapOf}
 use Rattle.shared_rule.specs.Plays as plays
 use Rattle.shared_rule.specs.Whole.{state_at}
-use Rattle.shared_parts.specs.Parts.{box_held, looked_of}
-use Rattle.shared_parts.proofs.Calls.{asks}
+use Rattle.shared_rule.specs.Parts.{box_held, looked_of}
+use Rattle.shared_rule.proofs.Calls.{asks}
 use Rattle.shared_walks.proofs.Standing.{stands}
 use Rattle.shared_walks.proofs.leaving.swap_step.Goals as goal
 

@@ -11,8 +11,8 @@ use Rattle.shared_rule.specs.Plays as plays
 use Rattle.shared_rule.specs.Laws.{Stays}
 use Rattle.shared_rule.specs.Rule.{seat_of}
 use Rattle.shared_rule.specs.Whole.{layout_of, lock_at}
-use Rattle.shared_parts.specs.Parts.{box_held, looked_of}
-use Rattle.shared_parts.proofs.Calls.{asks}
+use Rattle.shared_rule.specs.Parts.{box_held, looked_of}
+use Rattle.shared_rule.proofs.Calls.{asks}
 use Rattle.shared_walks.proofs.Standing.{stands}
 use Rattle.shared_walks.proofs.locking.lock_group_step.Goals as goal
 

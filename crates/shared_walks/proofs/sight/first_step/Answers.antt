@@ -7,8 +7,8 @@ use Rattle.walk_rules.specs.Hierarchy.{group_on}
 use Rattle.core_world.specs.World.{World}
 use Rattle.shared_rule.specs.Plays as plays
 use Rattle.shared_rule.specs.Whole.{slot_at}
-use Rattle.shared_parts.specs.Parts.{box_held, looked_of}
-use Rattle.shared_parts.proofs.Calls.{asks, place}
+use Rattle.shared_rule.specs.Parts.{box_held, looked_of}
+use Rattle.shared_rule.proofs.Calls.{asks, place}
 use Rattle.shared_walks.specs.Steps.{slot_place}
 use Rattle.shared_walks.proofs.Standing.{fits_at, path_to, stands}
 use Rattle.shared_walks.proofs.sight.first_step.Goals as goal

@@ -13,8 +13,8 @@ use Rattle.event_queue.specs.Word.{slot_word}
 use Rattle.shared_words.specs.Layout.{index_of}
 use Rattle.shared_rule.specs.Plays as plays
 use Rattle.shared_rule.specs.Whole.{slot_at}
-use Rattle.shared_parts.specs.Parts.{box_held, looked_of}
-use Rattle.shared_parts.proofs.Calls.{asks}
+use Rattle.shared_rule.specs.Parts.{box_held, looked_of}
+use Rattle.shared_rule.proofs.Calls.{asks}
 use Rattle.shared_walks.proofs.Fitting.{stored_fits}
 use Rattle.shared_walks.proofs.Standing.{stands}
 use Rattle.shared_walks.proofs.telling.store_step.Goals as goal

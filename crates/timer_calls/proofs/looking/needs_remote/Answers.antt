@@ -1,7 +1,7 @@
 use Rattle.std.proofs.Common.{◌+◌, ◌∷◌, ap, ◌∙◌, subst, arith}
 use Rattle.std.specs.FinSet.{empty}
 use Rattle.tm_base.specs.CpuSet.{Cpus}
-use Rattle.shared_parts.specs.Passes.{HeldPass}
+use Rattle.shared_rule.specs.Passes.{HeldPass}
 use Rattle.timer_calls.specs.Sights.{ShowsNothing, slot_looks, state_look}
 use Rattle.timer_calls.proofs.Sighted.{nothing_more, still_run_all}
 use Rattle.timer_calls.proofs.looking.needs_remote.Goals as goal

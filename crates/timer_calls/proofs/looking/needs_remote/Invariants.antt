@@ -1,5 +1,5 @@
 use Rattle.std.proofs.Common.{◌≡◌}
-use Rattle.shared_parts.specs.Passes.{IsOfRun}
+use Rattle.shared_rule.specs.Passes.{IsOfRun}
 use Rattle.timer_calls.specs.Sights.{NothingBelow}
 use Rattle.timer_calls.proofs.looking.needs_remote.Given as goal
 

@@ -4,7 +4,7 @@ use Rattle.cpu_word.specs.declared.state.CpuState.{CpuState}
 use Rattle.tree_plan.specs.Paths.{group_at_of}
 use Rattle.core_world.specs.World.{World}
 use Rattle.shared_rule.specs.declared.parts.BoxView.{BoxView}
-use Rattle.shared_parts.specs.Parts.{HeldPart}
+use Rattle.shared_rule.specs.Parts.{HeldPart}
 use Rattle.timer_calls.proofs.Marked.{due_there, has_some_group, unmarked}
 use Rattle.timer_calls.proofs.marks.is_takable.Goals as goal
 

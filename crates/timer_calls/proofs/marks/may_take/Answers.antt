@@ -1,6 +1,9 @@
 use Rattle.std.proofs.Common.{sym, ap, ◌∙◌, subst}
-use Rattle.shared_parts.specs.Parts.{HeldPart, pass_parted}
-use Rattle.shared_parts.specs.Passes.{HeldPass, passes_of}
+use Rattle.shared_rule.specs.Rule.{Each}
+use Rattle.shared_rule.specs.Plays.{Agree}
+use Rattle.shared_rule.specs.Parts.{HeldPart, pass_parted}
+use Rattle.shared_rule.specs.Passes.{HeldPass, passes_of}
+use Rattle.shared_rule.proofs.Visits as visits
 use Rattle.timer_calls.specs.Marks.{IsNoticed}
 use Rattle.timer_calls.proofs.Marked.{noticed_guest}
 use Rattle.timer_calls.proofs.marks.may_take.Goals as goal
@@ -31,3 +34,9 @@ returns-clause-seen g c = record {
       ∙ ap (λ n. pass_parted g.N.RunName.table n c.notice.new.part)
       (ap (λ (z : HeldPass). z.cpu) c.bring.ensures.pass);
 }
+
+pub returns-clause-agree : goal.returns-clause-agree
+returns-clause-agree g c p is =
+    visits.agrees c.args.part.now c.args.pass.now g.N.RunName.table p is
+    (subst (λ (z : HeldPart). Each (Agree z.box) z.brought) c.bring.ensures.part
+    c.bring.ensures.agrees)

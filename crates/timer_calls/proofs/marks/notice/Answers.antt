@@ -3,7 +3,7 @@ use Rattle.tree_plan.specs.Paths.{group_at_of}
 use Rattle.walk_rules.specs.Hierarchy.{HasGroup}
 use Rattle.core_world.specs.World.{World}
 use Rattle.shared_rule.specs.declared.parts.BoxView.{BoxView}
-use Rattle.shared_parts.specs.Parts.{HeldPart}
+use Rattle.shared_rule.specs.Parts.{HeldPart}
 use Rattle.shared_cpus.specs.Pairs.{HasOne, cpu_place}
 use Rattle.timer_calls.proofs.Marked.{box_after, has_group, one_after}
 use Rattle.timer_calls.proofs.marks.notice.Goals as goal

@@ -1,4 +1,4 @@
-use Rattle.shared_parts.specs.Passes.{IsOfRun}
+use Rattle.shared_rule.specs.Passes.{IsOfRun}
 use Rattle.timer_calls.specs.Sights.{HasSeenSlots}
 use Rattle.timer_calls.proofs.slots.see_events.Given as goal
 

@@ -7,7 +7,7 @@ use Rattle.tm_script.proofs.print.push_isolated.Goals as goal
 use Rattle.tm_script.proofs.print.push_isolated.Goals.{then-has+in_ok-push_next, else-has}
 
 pub loop-cpu-init : goal.loop-cpu-init
-loop-cpu-init c = c.in_ok-push_bytes.ensures ∙ ap (λ r. c.args.text.now.items ++ (codes "isolated" ++ r)) (sym (printed_none c.args.cpus.now))
+loop-cpu-init c = c.in_ok-push_bytes.ensures.ok ∙ ap (λ r. c.args.text.now.items ++ (codes "isolated" ++ r)) (sym (printed_none c.args.cpus.now))
 
 pub loop-cpu-preserved : goal.loop-cpu-preserved
 loop-cpu-preserved c =
@@ -23,4 +23,4 @@ loop-cpu-preserved c =
 
 pub returns : goal.returns
 returns c =
-    isolated_done c.args.text.now.items c.loop-cpu.text.items _ c.loop-cpu.cpu c.args.count c.args.cpus.now (omega arith) c.loop-cpu.invariant c.in_ok-push_bytes-2.ensures
+    isolated_done c.args.text.now.items c.loop-cpu.text.items _ c.loop-cpu.cpu c.args.count c.args.cpus.now (omega arith) c.loop-cpu.invariant c.in_ok-push_bytes-2.ensures.ok

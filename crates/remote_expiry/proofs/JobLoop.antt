@@ -1,0 +1,199 @@
+-- the jobs of timers that went out, one after the other
+use Rattle.std.proofs.Common.{◌≡◌, ℕ, List, [], ◌∷◌, ◌++◌, Contains, refl, sym, ap, ◌∙◌}
+use Rattle.std.proofs.Common.{subst, append-nil, append_assoc, Result, Ok, Err, ◌≤◌}
+use Rattle.std.proofs.Common.{length, length-append, length-take-le, arith, take, ◌+◌, ◌<◌}
+use Rattle.std.specs.Prelude.{MatchResult, OnOk}
+use Rattle.std.specs.Result.{result_and}
+use Rattle.std.proofs.lemmas.List.{length_push, map-append}
+use Rattle.std.proofs.lemmas.List.Elements.{Contains-append_left, Contains-append_right}
+use Rattle.atomic_table.specs.Seated.{TableId}
+use Rattle.tm_base.specs.declared.faults.NoMemory.{NoMemory}
+use Rattle.wheel_core.specs.declared.item.Item.{Item}
+use Rattle.core_world.specs.World.{World}
+use Rattle.job_table.specs.declared.jobs.JobCall.{JobCall}
+use Rattle.job_table.specs.declared.jobs.JobReply.{JobReply}
+use Rattle.shared_rule.specs.declared.parts.Did.{Did}
+use Rattle.shared_rule.specs.declared.parts.PassView.{PassView}
+use Rattle.shared_rule.specs.declared.parts.Receipt.{Receipt}
+use Rattle.shared_rule.specs.Passes.{HeldPass, IsPassIn}
+use Rattle.remote_expiry.specs.declared.runs.Ran.{Ran}
+use Rattle.remote_expiry.specs.Following.{Follows}
+use Rattle.remote_expiry.specs.Pieces.{Piece, RanAll, RanSome}
+use Rattle.remote_expiry.specs.Pieces.{deeds_of}
+use Rattle.remote_expiry.specs.Running.{Arms, HasRun, HasToldNone, HasToldRun, IsRan}
+use Rattle.remote_expiry.specs.Running.{call_to}
+use Rattle.remote_expiry.proofs.Follow.{Wider, told_wider}
+use Rattle.remote_expiry.proofs.Gaining.{no_piece, piece_then}
+use Rattle.remote_expiry.proofs.Running.{AllOf, SomeOf, all_more, all_run, all_wider, some_more}
+use Rattle.remote_expiry.proofs.Running.{some_run, some_skip}
+
+-- THE JOBS SO FAR, of these timers: what the pass gained, and what is told
+pub record RunsSoFar (table : TableId) (o : World) (jobs : ℕ → JobCall → JobReply) (home : ℕ)
+    (items : List Item) (held now : HeldPass) (before runs : List Ran)
+    (ended : Result Unit NoMemory) : Type 0 where
+  pub receipts : List Receipt
+  pub did : List Did
+  pub told : List Ran
+  pub piece : Piece table held now receipts did 0
+  pub runs_are : runs ≡ before ++ told
+  pub some : SomeOf home items told
+  pub all : OnOk ended (AllOf o jobs home held.cpu (deeds_of did) items told receipts)
+  pub few : length told ≤ length items
+
+module _ (table : TableId) (o : World) (jobs : ℕ → JobCall → JobReply) (home : ℕ)
+    (held : HeldPass) (before : List Ran) where
+  -- none yet
+  pub no_runs : (p : PassView) → IsPassIn table held p → (done : Unit)
+      → RunsSoFar table o jobs home [] held held before before (Ok done)
+  unfolding SomeOf AllOf
+  no_runs p is done = record {
+    receipts = [];
+    did = [];
+    told = [];
+    piece = no_piece table held p is;
+    runs_are = sym (append-nil before);
+    some = refl;
+    all = (refl, refl);
+    few = omega arith;
+  }
+
+  module _ (items : List Item) (i : Item) (now next : HeldPass) (runs : List Ran)
+      (ended : Result Unit NoMemory)
+      (h : RunsSoFar table o jobs home items held now before runs ended) where
+    -- the deeds of both
+    deeds_more : (later : List Did) → deeds_of (h.did ++ later) ≡ deeds_of h.did ++ deeds_of later
+    deeds_more later = map-append (λ (x : Did). x.deed) h.did later
+
+    wider_left : (later : List Did) → Wider (deeds_of h.did) (deeds_of (h.did ++ later))
+    wider_left later d has =
+        subst (λ ds. Contains ds d) (sym (deeds_more later))
+        (Contains-append_left (deeds_of h.did) (deeds_of later) d has)
+
+    wider_right : (later : List Did) → Wider (deeds_of later) (deeds_of (h.did ++ later))
+    wider_right later d has =
+        subst (λ ds. Contains ds d) (sym (deeds_more later))
+        (Contains-append_right (deeds_of h.did) (deeds_of later) d has)
+
+    -- one more that is told, after an answer so far
+    all_told : (ended : Result Unit NoMemory) (x : Ran) (r : HasRun table o jobs home i now next x)
+        → OnOk ended (AllOf o jobs home held.cpu (deeds_of h.did) items h.told h.receipts)
+        → OnOk ended (AllOf o jobs home held.cpu (deeds_of (h.did ++ r.did)) (items ++ i ∷ [])
+        (h.told ++ x ∷ []) (h.receipts ++ r.receipts))
+    all_told (Err e) x r was = tt
+    all_told (Ok done) x r was =
+        let wide = deeds_of (h.did ++ r.did) in
+        let is : IsRan o jobs home held.cpu (deeds_of r.did) i x =
+        subst (λ n. IsRan o jobs home n (deeds_of r.did) i x) h.piece.cpu r.is in
+        let arms =
+        subst (λ n. Arms o.clock n i (jobs i.job (call_to o.clock n i)) x.reply r.receipts)
+        h.piece.cpu r.arms in
+        all_more o jobs home held.cpu wide items i h.told x h.receipts r.receipts
+        (all_wider o jobs home held.cpu (deeds_of h.did) wide items h.told h.receipts
+        (wider_left r.did) was)
+        (record {
+          is = is.is;
+          told =
+              told_wider o i.id (deeds_of r.did) wide (jobs i.job (call_to o.clock held.cpu i))
+              x.reply
+              (wider_right r.did) is.told;
+        })
+        arms
+
+    one_told : (x : Ran) (more : List Ran) → HasRun table o jobs home i now next x
+        → more ≡ runs ++ x ∷ []
+        → RunsSoFar table o jobs home (items ++ i ∷ []) held next before more ended
+    one_told x more r is = record {
+      receipts = h.receipts ++ r.receipts;
+      did = h.did ++ r.did;
+      told = h.told ++ x ∷ [];
+      piece =
+          piece_then table held now next h.receipts r.receipts h.did r.did 0 0 h.piece r.piece;
+      runs_are =
+          is
+          ∙ (ap (λ (xs : List Ran). xs ++ x ∷ []) h.runs_are ∙ append_assoc before h.told (x ∷ []));
+      some = some_more home items i h.told x h.some r.is.is;
+      all = all_told ended x r h.all;
+      few = (let a = length_push h.told x in let b = length_push items i in let c = h.few in
+          omega (arith, a, b, c));
+    }
+
+    -- and one that isn't
+    none_told : (e : NoMemory) (same : List Ran) → Piece table now next [] [] 0 → same ≡ runs
+        → RunsSoFar table o jobs home (items ++ i ∷ []) held next before same (Err e)
+    none_told e same piece is = record {
+      receipts = h.receipts ++ [];
+      did = h.did ++ [];
+      told = h.told;
+      piece = piece_then table held now next h.receipts [] h.did [] 0 0 h.piece piece;
+      runs_are = is ∙ h.runs_are;
+      some = some_skip home items i h.told h.some;
+      all = tt;
+      few = (let b = length_push items i in let c = h.few in omega (arith, b, c));
+    }
+
+  -- ONE MORE
+  pub runs_more : (items more : List Item) (i : Item) (now next : HeldPass) (runs later : List Ran)
+      (ended told new : Result Unit NoMemory)
+      → RunsSoFar table o jobs home items held now before runs ended
+      → MatchResult told (λ done. HasToldRun table o jobs home i now next runs later)
+      (λ e. HasToldNone table now next runs later)
+      → new ≡ result_and ended told → more ≡ items ++ i ∷ []
+      → RunsSoFar table o jobs home more held next before later new
+  runs_more items more i now next runs later ended told new h has is grown =
+      subst (λ (xs : List Item). RunsSoFar table o jobs home xs held next before later new)
+      (sym grown)
+      (subst (RunsSoFar table o jobs home (items ++ i ∷ []) held next before later) (sym is)
+      (both ended told h has))
+    where
+      both : (ended told : Result Unit NoMemory)
+          → RunsSoFar table o jobs home items held now before runs ended
+          → MatchResult told (λ done. HasToldRun table o jobs home i now next runs later)
+          (λ e. HasToldNone table now next runs later)
+          → RunsSoFar table o jobs home (items ++ i ∷ []) held next before later
+          (result_and ended told)
+      both (Ok a) (Ok b) h has =
+          one_told items i now next runs (Ok a) h has.run later has.has has.runs_are
+      both (Ok a) (Err e) h has =
+          none_told items i now next runs (Ok a) h e later has.piece has.runs_are
+      both (Err e) (Ok b) h has =
+          one_told items i now next runs (Err e) h has.run later has.has has.runs_are
+      both (Err e) (Err f) h has =
+          none_told items i now next runs (Err e) h e later has.piece has.runs_are
+
+  -- there is room for the next
+  pub has_room : (items : List Item) (index capacity : ℕ) (now : HeldPass) (runs : List Ran)
+      (ended : Result Unit NoMemory) → index < length items
+      → RunsSoFar table o jobs home (take index items) held now before runs ended
+      → length before + length items ≤ capacity → length runs < capacity
+  has_room items index capacity now runs ended low h room =
+      let long = ap length h.runs_are in let both = length-append before h.told in
+      let few = h.few in let front = length-take-le index items (omega (arith, low)) in
+      omega (arith, low, long, both, few, front, room)
+
+  -- ALL OF THEM
+  pub all_runs : (items : List Item) (after : HeldPass) (runs : List Ran)
+      (ended : Result Unit NoMemory)
+      → RunsSoFar table o jobs home items held after before runs ended
+      → MatchResult ended (λ done. RanAll table o jobs home items held after before runs)
+      (λ e. RanSome table home items held after before runs)
+  unfolding AllOf Follows
+  all_runs items after runs (Ok done) h = record {
+    receipts = h.receipts;
+    did = h.did;
+    told = h.told;
+    piece = h.piece;
+    runs_are = h.runs_are;
+    follows = λ class outs hands.
+        all_run o jobs home held.cpu class (deeds_of h.did) items outs [] h.receipts h.told []
+        hands h.all
+        refl;
+  }
+  all_runs items after runs (Err e) h = record {
+    receipts = h.receipts;
+    did = h.did;
+    told = h.told;
+    piece = h.piece;
+    runs_are = h.runs_are;
+    some = λ class outs hands.
+        some_run o jobs home held.cpu class items outs h.receipts h.told hands h.some;
+  }

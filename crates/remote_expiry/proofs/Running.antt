@@ -1,0 +1,234 @@
+-- the jobs of timers that went out of a CPU's base: what is told and written of them, item by item
+use Rattle.std.proofs.Common.{◌≡◌, ◌⊎◌, ℕ, List, [], ◌∷◌, ◌++◌, refl, sym, ap, ◌∙◌}
+use Rattle.std.proofs.Common.{subst, inl, inr, append-nil, append_assoc}
+use Rattle.std.specs.Prelude.{⊤}
+use Rattle.tm_base.specs.declared.names.Class.{Class}
+use Rattle.wheel_core.specs.declared.item.Item.{Item}
+use Rattle.cpu_bases.specs.declared.entry.Act.{Act}
+use Rattle.cpu_bases.specs.declared.entry.Act.TheVariants.{Armed}
+use Rattle.core_world.specs.World.{World}
+use Rattle.core_state.specs.Shown.{as_cpu}
+use Rattle.job_table.specs.declared.jobs.JobCall.{JobCall}
+use Rattle.job_table.specs.declared.jobs.JobReply.{JobReply}
+use Rattle.job_table.specs.declared.jobs.JobReply.TheVariants as replies
+use Rattle.shared_rule.specs.declared.parts.Deed.{Deed}
+use Rattle.shared_rule.specs.declared.parts.Receipt.{Receipt}
+use Rattle.remote_expiry.specs.declared.runs.Ran.{Ran}
+use Rattle.remote_expiry.specs.declared.runs.RanReply.{RanReply}
+use Rattle.remote_expiry.specs.declared.runs.RanReply.TheVariants as ran
+use Rattle.remote_expiry.specs.Following.{Follows, FollowsBy, IsOwed, IsRunOf}
+use Rattle.remote_expiry.specs.Following.{IsTold, Owed, RunsOfSome, call_of, owed_by}
+use Rattle.remote_expiry.specs.Pieces.{HandsOut, IsHandOut}
+use Rattle.remote_expiry.specs.Running.{Arms, IsOf, IsRan}
+use Rattle.remote_expiry.specs.Running.{call_to}
+use Rattle.remote_expiry.proofs.Follow.{Wider, told_wider}
+
+-- SOME of these timers are told, in their order
+unfoldable pub SomeOf : (home : ℕ) → List Item → List Ran → Type 0
+SomeOf home [] told = told ≡ []
+SomeOf home (i ∷ is) [] = ⊤
+SomeOf home (i ∷ is) (x ∷ xs) = (IsOf home i x × SomeOf home is xs) ⊎ SomeOf home is (x ∷ xs)
+
+-- one more, which isn't told
+pub some_skip : (home : ℕ) (is : List Item) (i : Item) (told : List Ran) → SomeOf home is told
+    → SomeOf home (is ++ i ∷ []) told
+unfolding SomeOf
+some_skip home [] i [] h = tt
+some_skip home [] i (x ∷ xs) h = inr h
+some_skip home (j ∷ is) i [] h = tt
+some_skip home (j ∷ is) i (x ∷ xs) (inl h) = inl (h.0, some_skip home is i xs h.1)
+some_skip home (j ∷ is) i (x ∷ xs) (inr h) = inr (some_skip home is i (x ∷ xs) h)
+
+-- one more, which is
+pub some_more : (home : ℕ) (is : List Item) (i : Item) (told : List Ran) (x : Ran)
+    → SomeOf home is told → IsOf home i x → SomeOf home (is ++ i ∷ []) (told ++ x ∷ [])
+unfolding SomeOf
+some_more home [] i told x h new =
+    subst (λ xs. SomeOf home (i ∷ []) (xs ++ x ∷ [])) (sym h) (inl (new, refl))
+some_more home (j ∷ is) i [] x h new = inr (some_all home is i x new)
+  where
+    some_all : (home : ℕ) (is : List Item) (i : Item) (x : Ran) → IsOf home i x
+        → SomeOf home (is ++ i ∷ []) (x ∷ [])
+    some_all home [] i x new = inl (new, refl)
+    some_all home (j ∷ is) i x new = inr (some_all home is i x new)
+some_more home (j ∷ is) i (y ∷ ys) x (inl h) new = inl (h.0, some_more home is i ys x h.1 new)
+some_more home (j ∷ is) i (y ∷ ys) x (inr h) new = inr (some_more home is i (y ∷ ys) x h new)
+
+-- ALL of these timers are told, in their order, and written is what their jobs asked for
+unfoldable pub AllOf : World → (ℕ → JobCall → JobReply) → (home runner : ℕ) → List Deed
+    → List Item → List Ran → List Receipt → Type 0
+AllOf o jobs home runner seen [] told rs = (told ≡ []) × (rs ≡ [])
+AllOf o jobs home runner seen (i ∷ is) [] rs = ⊥
+AllOf o jobs home runner seen (i ∷ is) (x ∷ xs) rs =
+    (mine : List Receipt) × (later : List Receipt) × (rs ≡ mine ++ later)
+    × IsRan o jobs home runner seen i x
+    × Arms o.clock runner i (jobs i.job (call_to o.clock runner i)) x.reply mine
+    × AllOf o jobs home runner seen is xs later
+
+module _ (o : World) (jobs : ℕ → JobCall → JobReply) (home runner : ℕ) where
+  -- what a job replied
+  abbrev said : Item → JobReply
+  said i = jobs i.job (call_to o.clock runner i)
+
+  -- one more
+  pub all_more : (seen : List Deed) (is : List Item) (i : Item) (told : List Ran) (x : Ran)
+      (rs mine : List Receipt) → AllOf o jobs home runner seen is told rs
+      → IsRan o jobs home runner seen i x → Arms o.clock runner i (said i) x.reply mine
+      → AllOf o jobs home runner seen (is ++ i ∷ []) (told ++ x ∷ []) (rs ++ mine)
+  unfolding AllOf
+  all_more seen [] i told x rs mine h new arms =
+      subst (λ xs. AllOf o jobs home runner seen (i ∷ []) (xs ++ x ∷ []) (rs ++ mine)) (sym h.0)
+      (subst (λ ys. AllOf o jobs home runner seen (i ∷ []) (x ∷ []) (ys ++ mine)) (sym h.1)
+      (mine, [], sym (append-nil mine), new, arms, (refl, refl)))
+  all_more seen (j ∷ is) i [] x rs mine h new arms = absurd h
+  all_more seen (j ∷ is) i (y ∷ ys) x rs mine h new arms = (
+    h.0,
+    h.1 ++ mine,
+    ap (λ (zs : List Receipt). zs ++ mine) h.2 ∙ append_assoc h.0 h.1 mine,
+    h.3,
+    h.4,
+    all_more seen is i ys x h.1 mine h.5 new arms,
+  )
+
+  -- where more was seen
+  pub all_wider : (seen wider : List Deed) (is : List Item) (told : List Ran)
+      (rs : List Receipt) → Wider seen wider → AllOf o jobs home runner seen is told rs
+      → AllOf o jobs home runner wider is told rs
+  unfolding AllOf
+  all_wider seen wider [] told rs w h = h
+  all_wider seen wider (j ∷ is) [] rs w h = absurd h
+  all_wider seen wider (j ∷ is) (y ∷ ys) rs w h = (
+    h.0,
+    h.1,
+    h.2,
+    record {
+      is = h.3.is;
+      told = told_wider o j.id seen wider (said j) y.reply w h.3.told;
+    },
+    h.4,
+    all_wider seen wider is ys h.1 w h.5,
+  )
+
+  -- the receipt of a hand-out, and the item
+  run_of : (class : Class) (i : Item) (r : Receipt) (x : Ran)
+      → IsHandOut home runner class i r → IsOf home i x → IsRunOf r x
+  run_of class i r x out is = record {
+    timer = ap (λ n. record { 0 = n }) (is.timer ∙ sym out.timer);
+    home = ap (λ n. record { 0 = n }) (is.at ∙ sym out.cpu);
+    wheel = is.wheel ∙ sym out.wheel;
+  }
+
+  same_call : (class : Class) (i : Item) (r : Receipt) → IsHandOut home runner class i r
+      → jobs r.entry.job (call_of o.clock runner r.entry) ≡ said i
+  same_call class i r out = λ k. jobs (out.job k) (record {
+    timer = record { 0 = out.timer k };
+    arg = out.arg k;
+    now = o.clock;
+    runner = as_cpu runner;
+  })
+
+  -- RUNS OF SOME
+  none_left : (rs : List Receipt) → RunsOfSome rs []
+  unfolding RunsOfSome
+  none_left [] = refl
+  none_left (r ∷ rs) = tt
+
+  pub some_run : (class : Class) (is : List Item) (outs more : List Receipt) (told : List Ran)
+      → HandsOut home runner class is outs → SomeOf home is told
+      → RunsOfSome (outs ++ more) told
+  unfolding HandsOut SomeOf RunsOfSome
+  some_run class [] outs more told hands h =
+      subst (RunsOfSome (outs ++ more)) (sym h) (none_left (outs ++ more))
+  some_run class (i ∷ is) [] more told hands h = absurd hands
+  some_run class (i ∷ is) (r ∷ outs) more [] hands h = tt
+  some_run class (i ∷ is) (r ∷ outs) more (x ∷ xs) hands (inl h) =
+      inl (hands.0.act, run_of class i r x hands.0 h.0, some_run class is outs more xs hands.1 h.1)
+  some_run class (i ∷ is) (r ∷ outs) more (x ∷ xs) hands (inr h) =
+      inr (some_run class is outs more (x ∷ xs) hands.1 h)
+
+  -- WHAT IS OWED, and the receipts that meet it
+  abbrev pub ArePaid : List Owed → List Receipt → Type 0
+  ArePaid [] rs = rs ≡ []
+  ArePaid (x ∷ owed) [] = ⊥
+  ArePaid (x ∷ owed) (r ∷ rs) =
+      ((r.entry.act ≡ Armed) × IsOwed o.clock runner x r) × ArePaid owed rs
+
+  paid_more : (owed more : List Owed) (rs ss : List Receipt) → ArePaid owed rs
+      → ArePaid more ss → ArePaid (owed ++ more) (rs ++ ss)
+  paid_more [] more rs ss h k = subst (λ x. ArePaid more (x ++ ss)) (sym h) k
+  paid_more (x ∷ owed) more [] ss h k = absurd h
+  paid_more (x ∷ owed) more (r ∷ rs) ss h k = (h.0, paid_more owed more rs ss h.1 k)
+
+  -- what a hand-out leaves to be armed is what its item does
+  paid_by : (class : Class) (i : Item) (r : Receipt) (reply : JobReply) (told : RanReply)
+      (mine : List Receipt) → IsHandOut home runner class i r
+      → Arms o.clock runner i reply told mine → ArePaid (owed_by reply told r.entry) mine
+  paid_by class i r replies.Done told mine out arms = arms
+  paid_by class i r (replies.Mark m) told mine out arms = arms
+  paid_by class i r (replies.Again c delay) ran.Done mine out arms = arms
+  paid_by class i r (replies.Again c delay) (ran.Mark m) mine out arms = arms
+  paid_by class i r (replies.Again c delay) (ran.Again d wheel) mine out arms =
+      subst (ArePaid (owed_by (replies.Again c delay) (ran.Again d wheel) r.entry)) (sym arms.1) (
+        (
+          arms.2.act,
+          record {
+            cpu = arms.2.cpu;
+            line = arms.2.line;
+            timer = ap (λ n. record { 0 = n }) (arms.2.timer ∙ sym out.timer);
+            expires = arms.2.expires;
+            class = arms.2.of_class;
+            wheel = arms.2.told;
+            job = arms.2.job ∙ sym out.job;
+            arg = arms.2.arg ∙ sym out.arg;
+          },
+        ),
+        refl,
+      )
+  paid_by class i r (replies.Again c delay) (ran.Skip cpu) mine out arms = arms
+
+  -- the armings come in the order in which they are owed
+  paid_up : (seen : List Deed) (owed : List Owed) (rs : List Receipt) → ArePaid owed rs
+      → Follows o jobs runner seen rs owed []
+  unfolding Follows
+  paid_up seen [] rs h =
+      subst (λ x. Follows o jobs runner seen x [] []) (sym h) (refl, refl)
+  paid_up seen (x ∷ owed) [] h = absurd h
+  paid_up seen (x ∷ owed) (r ∷ rs) h =
+      subst (λ (act : Act). FollowsBy o jobs runner seen act r (Follows o jobs runner seen rs)
+      (x ∷ owed) []) (sym h.0.0) (h.0.1, paid_up seen owed rs h.1)
+
+  -- ALL RUN: behind the hand-outs and the tick come the armings
+  pub all_run : (class : Class) (seen : List Deed) (is : List Item) (outs pre rs : List Receipt)
+      (told : List Ran) (owed : List Owed) → HandsOut home runner class is outs
+      → AllOf o jobs home runner seen is told rs → ArePaid owed pre
+      → Follows o jobs runner seen (outs ++ (pre ++ rs)) owed told
+  unfolding HandsOut AllOf Follows
+  all_run class seen [] outs pre rs told owed hands h paid =
+      let tick = hands.0 in
+      let armings : Follows o jobs runner seen (pre ++ rs) owed told =
+      subst (λ x. Follows o jobs runner seen (pre ++ x) owed told) (sym h.1)
+      (subst (λ x. Follows o jobs runner seen x owed told) (sym (append-nil pre))
+      (subst (Follows o jobs runner seen pre owed) (sym h.0) (paid_up seen owed pre paid))) in
+      subst (λ x. Follows o jobs runner seen (x ++ (pre ++ rs)) owed told) (sym hands.1)
+      (subst (λ (act : Act). FollowsBy o jobs runner seen act tick
+      (Follows o jobs runner seen (pre ++ rs)) owed told) (sym hands.2.act) armings)
+  all_run class seen (i ∷ is) [] pre rs told owed hands h paid = absurd hands
+  all_run class seen (i ∷ is) (r ∷ outs) pre rs [] owed hands h paid = absurd h
+  all_run class seen (i ∷ is) (r ∷ outs) pre rs (x ∷ xs) owed hands h paid =
+      let reply = jobs r.entry.job (call_of o.clock runner r.entry) in
+      let same : reply ≡ said i = same_call class i r hands.0 in
+      let more = owed_by reply x.reply r.entry in
+      let told : IsTold o r.entry.timer.0 seen reply x.reply =
+      subst (λ n. IsTold o n seen reply x.reply) (sym hands.0.timer)
+      (subst (λ (y : JobReply). IsTold o i.id seen y x.reply) (sym same) h.3.told) in
+      let arms : ArePaid more h.0 =
+      paid_by class i r reply x.reply h.0 hands.0
+      (subst (λ (y : JobReply). Arms o.clock runner i y x.reply h.0) (sym same) h.4) in
+      let rest : Follows o jobs runner seen (outs ++ (pre ++ rs)) (owed ++ more) xs =
+      subst (λ (y : List Receipt). Follows o jobs runner seen (outs ++ y) (owed ++ more) xs)
+      (append_assoc pre h.0 h.1 ∙ ap (λ (y : List Receipt). pre ++ y) (sym h.2))
+      (all_run class seen is outs (pre ++ h.0) h.1 xs (owed ++ more) hands.1 h.5
+      (paid_more owed more pre h.0 paid arms)) in
+      subst (λ (act : Act). FollowsBy o jobs runner seen act r
+      (Follows o jobs runner seen (outs ++ (pre ++ rs))) owed (x ∷ xs)) (sym hands.0.act)
+      (run_of class i r x hands.0 h.3.is, told, rest)

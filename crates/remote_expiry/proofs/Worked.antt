@@ -1,0 +1,142 @@
+-- the drains of an interrupt, and the looks behind them
+use Rattle.std.proofs.Common.{◌≡◌, ℕ, ◌+◌, List, ◌++◌, Result, Ok, Err, sym, subst, arith}
+use Rattle.std.specs.Prelude.{MatchResult}
+use Rattle.atomic_table.specs.Seated.{TableId}
+use Rattle.tm_base.specs.declared.names.Class.{Class}
+use Rattle.tm_base.specs.declared.names.Class.TheVariants.{Deferrable, Global, Pinned}
+use Rattle.tm_base.specs.declared.faults.NoMemory.{NoMemory}
+use Rattle.tree_plan.specs.Paths.{level_count_of}
+use Rattle.core_world.specs.World.{World}
+use Rattle.job_table.specs.declared.jobs.JobCall.{JobCall}
+use Rattle.job_table.specs.declared.jobs.JobReply.{JobReply}
+use Rattle.shared_rule.specs.declared.parts.Receipt.{Receipt}
+use Rattle.shared_rule.specs.Passes.{HeldPass}
+use Rattle.remote_expiry.specs.declared.runs.Ran.{Ran}
+use Rattle.remote_expiry.specs.Interrupts.{HasTicked}
+use Rattle.remote_expiry.specs.Looks.{LooksFrom}
+use Rattle.remote_expiry.specs.Pieces.{Breaks, HasDrained, deeds_of}
+use Rattle.remote_expiry.specs.Trying.{BreaksOff, HasClimbed, HasDrainedAll, HasWorked}
+use Rattle.remote_expiry.proofs.Levels.{Within, looks_behind, within_left, within_right}
+use Rattle.remote_expiry.proofs.Served.{deeds_behind, works_break, works_then}
+
+-- a drain is among more receipts
+ticked_among : (cpu : ℕ) (class : Class) (rs more : List Receipt) → Within rs more
+    → HasTicked cpu class rs → HasTicked cpu class more
+ticked_among cpu class rs more within t = record {
+  receipt = t.receipt;
+  has = within t.receipt t.has;
+  home = t.home;
+  by = t.by;
+  act = t.act;
+  of_class = t.of_class;
+}
+
+-- broken off in a drain
+pub drain_off : (table : TableId) (held after : HeldPass) (first last : List Ran)
+    → Breaks table held after first last 0 → BreaksOff table 0 held after first last
+drain_off table held after first last breaks =
+    record { walks = 0; few = omega arith; breaks = breaks }
+
+-- THE DRAINS one behind the other
+module _ (table : TableId) (o : World) (jobs : ℕ → JobCall → JobReply) (held a : HeldPass)
+    (first second : List Ran) (pinned : HasDrained table o jobs Pinned held a first second) where
+  pub second_off : (after : HeldPass) (last : List Ran) → Breaks table a after second last 0
+      → BreaksOff table 0 held after first last
+  second_off after last breaks =
+      works_break table o jobs held a after first second last 0 0 0 pinned.receipts pinned.did
+      pinned.works (drain_off table a after second last breaks) (omega arith)
+
+  module _ (b : HeldPass) (third : List Ran)
+      (global : HasDrained table o jobs Global a b second third) where
+    pub all_three : (after : HeldPass) (last : List Ran)
+        → HasDrained table o jobs Deferrable b after third last
+        → HasDrainedAll table o jobs held after first last
+    all_three after last deferrable =
+        let rest = global.receipts ++ deferrable.receipts in
+        let rs = pinned.receipts ++ rest in
+        let of_a : a.cpu ≡ held.cpu = pinned.works.piece.cpu in
+        let of_b : b.cpu ≡ a.cpu = global.works.piece.cpu in
+        let one = ticked_among held.cpu Pinned pinned.receipts rs (within_left pinned.receipts rest)
+        pinned.ticked in
+        let two = subst (λ n. HasTicked n Global rs) of_a
+        (ticked_among a.cpu Global global.receipts rs
+        (λ r has. within_right pinned.receipts rest r
+        (within_left global.receipts deferrable.receipts r has)) global.ticked) in
+        let three = subst (λ n. HasTicked n Deferrable rs) of_a
+        (subst (λ n. HasTicked n Deferrable rs) of_b
+        (ticked_among b.cpu Deferrable deferrable.receipts rs
+        (λ r has. within_right pinned.receipts rest r
+        (within_right global.receipts deferrable.receipts r has)) deferrable.ticked)) in
+        record {
+          receipts = rs;
+          did = pinned.did ++ (global.did ++ deferrable.did);
+          works =
+              works_then table o jobs held a after first second last 0 0 pinned.receipts rest pinned.did
+              (global.did ++ deferrable.did) pinned.works
+              (works_then table o jobs a b after second third last 0 0 global.receipts
+              deferrable.receipts global.did deferrable.did global.works deferrable.works);
+          drained = by_class rs one two three;
+        }
+      where
+        by_class : (rs : List Receipt) → HasTicked held.cpu Pinned rs
+            → HasTicked held.cpu Global rs → HasTicked held.cpu Deferrable rs → (class : Class)
+            → HasTicked held.cpu class rs
+        by_class rs one two three Pinned = one
+        by_class rs one two three Global = two
+        by_class rs one two three Deferrable = three
+
+    pub third_off : (after : HeldPass) (last : List Ran) → Breaks table b after third last 0
+        → BreaksOff table 0 held after first last
+    third_off after last breaks =
+        second_then after last
+        (works_break table o jobs a b after second third last 0 0 0 global.receipts global.did
+        global.works (drain_off table b after third last breaks) (omega arith))
+      where
+        second_then : (after : HeldPass) (last : List Ran) → BreaksOff table 0 a after second last
+            → BreaksOff table 0 held after first last
+        second_then after last off =
+            works_break table o jobs held a after first second last 0 0 0 pinned.receipts pinned.did
+            pinned.works off (omega arith)
+
+    pub drained_last : (after : HeldPass) (last : List Ran) (result : Result (Unit {0}) NoMemory)
+        → MatchResult result (λ done. HasDrained table o jobs Deferrable b after third last)
+        (λ e. Breaks table b after third last 0)
+        → MatchResult result (λ done. HasDrainedAll table o jobs held after first last)
+        (λ e. BreaksOff table 0 held after first last)
+    drained_last after last (Ok done) deferrable = all_three after last deferrable
+    drained_last after last (Err e) breaks = third_off after last breaks
+
+-- THE LOOKS behind the drains
+pub worked_last : (table : TableId) (o : World) (jobs : ℕ → JobCall → JobReply)
+    (held mid after : HeldPass) (first now last : List Ran)
+    (result : Result (Unit {0}) NoMemory) → HasDrainedAll table o jobs held mid first now
+    → MatchResult result (λ done. HasClimbed table o jobs mid after now last)
+    (λ e. BreaksOff table 1536 mid after now last)
+    → MatchResult result (λ done. HasWorked table o jobs held after first last)
+    (λ e. BreaksOff table 1536 held after first last)
+worked_last table o jobs held mid after first now last (Ok done) drains climbed =
+    let same : mid.cpu ≡ held.cpu = drains.works.piece.cpu in
+    let rs = drains.receipts ++ climbed.receipts in
+    record {
+      walks = 0 + climbed.walks;
+      receipts = rs;
+      did = drains.did ++ climbed.did;
+      few = (let few = climbed.few in omega (arith, few));
+      works =
+          works_then table o jobs held mid after first now last 0 climbed.walks drains.receipts
+          climbed.receipts drains.did climbed.did drains.works climbed.works;
+      drained = λ class.
+          ticked_among held.cpu class drains.receipts rs
+          (within_left drains.receipts climbed.receipts) (drains.drained class);
+      looked =
+          subst (LooksFrom o held.cpu rs (level_count_of o.tree) 0)
+          (sym (deeds_behind drains.did climbed.did))
+          (looks_behind o held.cpu climbed.receipts rs (level_count_of o.tree) 0
+          (deeds_of drains.did) (deeds_of climbed.did)
+          (within_right drains.receipts climbed.receipts)
+          (subst (λ n. LooksFrom o n climbed.receipts (level_count_of o.tree) 0
+          (deeds_of climbed.did)) same climbed.looked));
+    }
+worked_last table o jobs held mid after first now last (Err e) drains off =
+    works_break table o jobs held mid after first now last 0 1536 1536 drains.receipts drains.did
+    drains.works off (omega arith)

@@ -1,0 +1,51 @@
+use Rattle.std.proofs.Common.{◌∙◌, List, [], subst}
+use Rattle.std.specs.Prelude.{MatchResult}
+use Rattle.std.proofs.lemmas.Result.{err_from_is_err_and}
+use Rattle.wheel_core.specs.declared.item.Item.{Item}
+use Rattle.remote_expiry.specs.declared.runs.Ran.{Ran}
+use Rattle.remote_expiry.specs.Pieces.{Breaks, HasDrained, RanAll, RanSome}
+use Rattle.remote_expiry.proofs.Gaining.{still_inside}
+use Rattle.remote_expiry.proofs.OwnDrains.{drained, err_as, none_out}
+use Rattle.remote_expiry.proofs.draining.drain_own.Goals as goal
+
+pub returns-in_err-hand_own : goal.returns-in_err-hand_own
+returns-in_err-hand_own g c =
+    let table = g.N.RunName.table in
+    let held = c.args.pass.now in
+    let mid = c.hand_own.new.pass in
+    let before = c.args.runs.now.runs in
+    let now = c.hand_own.new.runs.runs in
+    let e = err_from_is_err_and c.from_residual.result c.from_residual.ensures.1 in
+    err_as c.from_residual.result
+    (λ done. HasDrained table g.N.RunName.opening (g.J.Jobs.replies c.args.jobs.now) c.args.class
+    held mid before now) (Breaks table held mid before now 0) e.0 e.1
+    (none_out table held mid before now c.in_err-hand_own.ensures.done
+    c.in_err-hand_own.ensures.runs)
+
+pub run_all-requires-clause-inside : goal.run_all-requires-clause-inside
+run_all-requires-clause-inside g c =
+    let out = c.in_ok-hand_own.ensures.done in
+    still_inside g.N.RunName.table g.N.RunName.opening c.args.pass.now c.hand_own.new.pass
+    out.receipts [] 0 c.requires.inside out.piece
+
+pub returns : goal.returns
+returns g c =
+    let table = g.N.RunName.table in
+    let o = g.N.RunName.opening in
+    let jobs = g.J.Jobs.replies c.args.jobs.now in
+    let held = c.args.pass.now in
+    let mid = c.hand_own.new.pass in
+    let after = c.run_all.new.pass in
+    let home = c.cpu.result.0 in
+    let now = c.run_all.new.runs.runs in
+    let out = c.in_ok-hand_own.ensures.done in
+    drained table o jobs c.args.class held mid after c.hand_own.new.items.items
+    c.hand_own.new.runs.capacity c.args.runs.now.runs now out home c.run_all.result
+    (c.cpu.ensures ∙ out.piece.cpu)
+    (subst (λ (xs : List Item). MatchResult c.run_all.result
+    (λ done. RanAll table o jobs home xs mid after c.args.runs.now.runs now)
+    (λ e. RanSome table home xs mid after c.args.runs.now.runs now)) c.deref.ensures.value
+    (subst (λ (before : List Ran). MatchResult c.run_all.result
+    (λ done. RanAll table o jobs home c.deref.result.now mid after before now)
+    (λ e. RanSome table home c.deref.result.now mid after before now)) c.hand_own.ensures.runs
+    c.run_all.ensures))

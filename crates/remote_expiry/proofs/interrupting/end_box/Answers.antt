@@ -1,0 +1,13 @@
+use Rattle.std.proofs.Common.{sym, ap, ◌∙◌}
+use Rattle.shared_rule.specs.Parts.{HeldPart}
+use Rattle.remote_expiry.proofs.interrupting.end_box.Goals as goal
+
+pub end_part-requires-clause-own : goal.end_part-requires-clause-own
+end_part-requires-clause-own g c =
+    c.requires.own ∙ sym (ap (λ (z : HeldPart). z.box.cpu) c.cpu_box.view_is)
+
+pub end_part-requires-clause-free : goal.end_part-requires-clause-free
+end_part-requires-clause-free g c = c.cpu_box.invariant
+
+pub invariant_of-cpu_box : goal.invariant_of-cpu_box
+invariant_of-cpu_box g c = c.end_part.ensures.free

@@ -1,0 +1,34 @@
+use Rattle.std.proofs.Common.{[], arith}
+use Rattle.std.proofs.lemmas.Result.{err_from_is_err_and}
+use Rattle.remote_expiry.specs.Trying.{BreaksOff, HasWorked}
+use Rattle.remote_expiry.proofs.OwnDrains.{err_as}
+use Rattle.remote_expiry.proofs.Served.{more_off, still_at_work}
+use Rattle.remote_expiry.proofs.Worked.{worked_last}
+use Rattle.remote_expiry.proofs.interrupting.work.Goals as goal
+
+pub returns-in_err-drain_all : goal.returns-in_err-drain_all
+returns-in_err-drain_all g c =
+    let table = g.N.RunName.table in
+    let held = c.args.pass.now in
+    let after = c.drain_all.new.pass in
+    let first = c.args.runs.now.runs in
+    let last = c.drain_all.new.runs.runs in
+    let e = err_from_is_err_and c.from_residual.result c.from_residual.ensures.1 in
+    err_as c.from_residual.result
+    (λ done. HasWorked table g.N.RunName.opening (g.J.Jobs.replies c.args.jobs.now) held after first
+    last) (BreaksOff table 1536 held after first last) e.0 e.1
+    (more_off table held after first last 0 1536 (omega arith) c.in_err-drain_all.ensures)
+
+pub look_up-requires-clause-at_work : goal.look_up-requires-clause-at_work
+look_up-requires-clause-at_work g c =
+    let drains = c.in_ok-drain_all.ensures in
+    still_at_work g.N.RunName.table g.N.RunName.opening [] 1537 1537 c.args.pass.now
+    c.drain_all.new.pass drains.receipts drains.did 0 c.requires.at_work drains.works.piece
+    (omega arith)
+
+pub returns : goal.returns
+returns g c =
+    worked_last g.N.RunName.table g.N.RunName.opening (g.J.Jobs.replies c.args.jobs.now)
+    c.args.pass.now c.drain_all.new.pass c.look_up.new.pass c.args.runs.now.runs
+    c.drain_all.new.runs.runs c.look_up.new.runs.runs c.look_up.result c.in_ok-drain_all.ensures
+    c.look_up.ensures

@@ -1,0 +1,23 @@
+use Rattle.std.proofs.Common.{subst, sym}
+use Rattle.job_table.specs.declared.jobs.JobReply.{JobReply}
+use Rattle.remote_expiry.specs.declared.runs.RanReply.TheVariants as ran
+use Rattle.remote_expiry.specs.Running.{HasAnswered}
+use Rattle.remote_expiry.proofs.Again.{done, marked}
+use Rattle.remote_expiry.proofs.jobs.answer.Goals as goal
+
+pub returns-in-Done : goal.returns-in-Done
+returns-in-Done g c =
+    let table = g.N.RunName.table in
+    let o = g.N.RunName.opening in
+    let held = c.args.pass.now in
+    subst (λ (r : JobReply). HasAnswered table o c.args.item.now r held held ran.Done)
+    (sym c.in-Done.is) (done table o c.args.item.now held c.requires.inside)
+
+pub returns-in-Mark : goal.returns-in-Mark
+returns-in-Mark g c =
+    let table = g.N.RunName.table in
+    let o = g.N.RunName.opening in
+    let held = c.args.pass.now in
+    let m = c.in-Mark.mark in
+    subst (λ (r : JobReply). HasAnswered table o c.args.item.now r held held (ran.Mark m))
+    (sym c.in-Mark.is) (marked table o c.args.item.now held c.requires.inside m)

@@ -1,0 +1,107 @@
+-- one timer whose job is run, and what is written as it is armed again (no public clause cites it)
+use Rattle.std.specs.Prelude.{◌≡◌, ℕ, ◌+◌, List, [], ◌∷◌, ◌++◌, Option, Some, None}
+use Rattle.atomic_table.specs.Seated.{TableId}
+use Rattle.tm_base.specs.declared.faults.OpFault.{OpFault}
+use Rattle.tm_base.specs.declared.faults.OpFault.TheVariants as faults
+use Rattle.tm_base.specs.declared.names.Class.{Class}
+use Rattle.tm_base.specs.declared.names.CpuId.{CpuId}
+use Rattle.wheel_core.specs.declared.item.Item.{Item}
+use Rattle.cpu_bases.specs.declared.entry.Act.TheVariants.{Armed}
+use Rattle.core_world.specs.World.{World}
+use Rattle.core_state.specs.Shown.{as_cpu}
+use Rattle.job_table.specs.declared.jobs.JobCall.{JobCall}
+use Rattle.job_table.specs.declared.jobs.JobReply.{JobReply}
+use Rattle.job_table.specs.declared.jobs.JobReply.TheVariants as replies
+use Rattle.shared_rule.specs.declared.parts.Deed.{Deed}
+use Rattle.shared_rule.specs.declared.parts.Did.{Did}
+use Rattle.shared_rule.specs.declared.parts.Receipt.{Receipt}
+use Rattle.shared_rule.specs.Passes.{HeldPass}
+use Rattle.remote_expiry.specs.declared.runs.Ran.{Ran}
+use Rattle.remote_expiry.specs.declared.runs.RanReply.{RanReply}
+use Rattle.remote_expiry.specs.declared.runs.RanReply.TheVariants as ran
+use Rattle.remote_expiry.specs.Following.{IsTold}
+use Rattle.remote_expiry.specs.Pieces.{Piece, deeds_of}
+
+-- the CPU that a refusal to arm names
+abbrev pub queued_on : OpFault → Option CpuId
+queued_on (faults.Queued cpu) = Some cpu
+queued_on faults.NoMemory = None
+queued_on faults.NotActive = None
+queued_on faults.NotIdle = None
+queued_on faults.Offline = None
+queued_on faults.AlreadyOnline = None
+queued_on faults.LastOnline = None
+queued_on (faults.Spent made) = None
+
+-- what the job of a timer is told that went out
+abbrev pub call_to : (now runner : ℕ) → Item → JobCall
+call_to now runner i =
+    record { timer = record { 0 = i.id }; arg = i.arg; now = now; runner = as_cpu runner }
+
+-- ARMED AGAIN: the receipt of a timer that its job asked for, as it was armed for a delay from now
+pub record IsRearmed (now runner : ℕ) (i : Item) (class : Class) (delay wheel : ℕ) (r : Receipt)
+    : Type 0 where
+  pub act : r.entry.act ≡ Armed
+  pub cpu : r.cpu.0 ≡ runner
+  pub line : r.entry.line ≡ 0
+  pub timer : r.entry.timer.0 ≡ i.id
+  pub expires : r.entry.expires ≡ now + delay
+  pub of_class : r.entry.class ≡ class
+  pub told : r.entry.wheel ≡ wheel
+  pub job : r.entry.job ≡ i.job
+  pub arg : r.entry.arg ≡ i.arg
+
+-- what is written after a job's reply: a receipt exactly where the timer was armed again
+abbrev pub Arms : (now runner : ℕ) → Item → JobReply → RanReply → List Receipt → Type 0
+Arms now runner i replies.Done reply rs = rs ≡ []
+Arms now runner i (replies.Mark m) reply rs = rs ≡ []
+Arms now runner i (replies.Again class delay) ran.Done rs = rs ≡ []
+Arms now runner i (replies.Again class delay) (ran.Mark m) rs = rs ≡ []
+Arms now runner i (replies.Again class delay) (ran.Again c wheel) rs =
+    (r : Receipt) × (rs ≡ r ∷ []) × IsRearmed now runner i c delay wheel r
+Arms now runner i (replies.Again class delay) (ran.Skip cpu) rs = rs ≡ []
+
+-- ANSWERED: what a job replied was done, and this is to be told; where the timer was queued by then
+-- the pass saw on which CPU
+pub record HasAnswered (table : TableId) (o : World) (i : Item) (job : JobReply)
+    (held after : HeldPass) (reply : RanReply) : Type 0 where
+  pub receipts : List Receipt
+  pub did : List Did
+  pub piece : Piece table held after receipts did 0
+  pub told : IsTold o i.id (deeds_of did) job reply
+  pub arms : Arms o.clock held.cpu i job reply receipts
+
+-- a run is told of a timer that went out of a CPU's base
+pub record IsOf (home : ℕ) (i : Item) (x : Ran) : Type 0 where
+  pub timer : x.timer.0 ≡ i.id
+  pub at : x.home.0 ≡ home
+  pub wheel : x.wheel ≡ i.wheel
+
+-- and it tells what the job replied
+pub record IsRan (o : World) (jobs : ℕ → JobCall → JobReply) (home runner : ℕ) (seen : List Deed)
+    (i : Item) (x : Ran) : Type 0 where
+  pub is : IsOf home i x
+  pub told : IsTold o i.id seen (jobs i.job (call_to o.clock runner i)) x.reply
+
+-- ONE JOB was run, and told
+pub record HasRun (table : TableId) (o : World) (jobs : ℕ → JobCall → JobReply) (home : ℕ)
+    (i : Item) (held after : HeldPass) (x : Ran) : Type 0 where
+  pub receipts : List Receipt
+  pub did : List Did
+  pub piece : Piece table held after receipts did 0
+  pub is : IsRan o jobs home held.cpu (deeds_of did) i x
+  pub arms :
+      Arms o.clock held.cpu i (jobs i.job (call_to o.clock held.cpu i)) x.reply receipts
+
+-- and the run is the last of the list
+pub record HasToldRun (table : TableId) (o : World) (jobs : ℕ → JobCall → JobReply) (home : ℕ)
+    (i : Item) (held after : HeldPass) (before now : List Ran) : Type 0 where
+  pub run : Ran
+  pub has : HasRun table o jobs home i held after run
+  pub runs_are : now ≡ before ++ run ∷ []
+
+-- WANT OF MEMORY: nothing was armed, and nothing is told
+pub record HasToldNone (table : TableId) (held after : HeldPass) (before now : List Ran) : Type 0
+  where
+    pub piece : Piece table held after [] [] 0
+    pub runs_are : now ≡ before

@@ -1,6 +1,0 @@
-pub mod Told
-pub mod Calls
-pub mod Seated
-pub mod Holding
-mod Slots
-pub mod Visits

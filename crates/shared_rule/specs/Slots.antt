@@ -1,0 +1,23 @@
+-- a load of a slot by a pass
+use Rattle.std.specs.Prelude.{◌≡◌, ◌<◌, ℕ, List, [], ◌∷◌, Some, length}
+use Rattle.event_queue.specs.declared.event.Event.{Event}
+use Rattle.event_queue.specs.Word.{slot_of}
+use Rattle.walk_rules.specs.Hierarchy.{HasGroup}
+use Rattle.core_world.specs.World.{World}
+use Rattle.shared_rule.specs.declared.parts.PassView.{PassView}
+use Rattle.shared_rule.specs.Rule.{Me, Step}
+use Rattle.shared_rule.specs.Plays.{on_pass, seen_pass}
+
+-- a CPU of the run that has a group
+abbrev pub IsGrouped : World → (c : ℕ) → Type 0
+IsGrouped o c = (c < length o.cpus) × HasGroup o.tree c
+
+-- the event in the word of a slot, where there is one, is that of a CPU of the run that has a group,
+-- as the first of these passes knows it
+abbrev pub HasEventOf : List PassView → (found : ℕ) → Type 0
+HasEventOf [] found = ⊥
+HasEventOf (p ∷ ps) found = (e : Event) → slot_of found ≡ Some e → IsGrouped p.opening e.cpu.0
+
+-- a load of a slot by a pass, whose event is that of a CPU of the run that has a group
+abbrev pub SeesSlot : Step → Me → ℕ → Me → Type 0
+SeesSlot t v found w = (w ≡ on_pass (seen_pass t.word found) v) × HasEventOf v.0.passes found

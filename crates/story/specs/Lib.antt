@@ -1,0 +1,5 @@
+pub mod Written
+pub mod Runs
+pub mod Shares
+pub mod Rounds
+pub mod Stories

@@ -1,0 +1,3 @@
+//! What a run of a script may be: the moments that come of it where each CPU has a thread of its
+//! own, as a relation between the core before and after each, and the lines that are told.
+#![tactic(auto)]

@@ -1,0 +1,321 @@
+-- the lines of an interrupt
+use Rattle.std.proofs.Common.{◌≡◌, ℕ, zero, suc, ◌+◌, List, [], ◌∷◌, ◌++◌, Contains}
+use Rattle.std.proofs.Common.{Some, true, false, refl, sym, ap, ◌∙◌, subst, arith}
+use Rattle.std.proofs.Common.{map, append-nil, append_assoc, subst₂, take}
+use Rattle.std.specs.Prelude.{slice_get}
+use Rattle.std.specs.Prelude.{Result, Ok, Err, OnOk}
+use Rattle.std.proofs.lemmas.List.{map-append}
+use Rattle.std.proofs.lemmas.List.Elements.{Contains-append_right}
+use Rattle.std.proofs.lemmas.Option.{none-some, same_Some}
+use Rattle.atomic_table.specs.Seated.{TableId}
+use Rattle.tm_base.specs.declared.names.Class.{Class}
+use Rattle.tm_base.specs.declared.names.CpuId.{CpuId}
+use Rattle.tm_report.specs.declared.lines.Line.{Line}
+use Rattle.tm_report.specs.declared.lines.Line.TheVariants as lines
+use Rattle.cpu_bases.specs.declared.entry.Act.{Act}
+use Rattle.cpu_bases.specs.declared.entry.Act.TheVariants.{Armed, Cancelled, Handed, MovedIn}
+use Rattle.cpu_bases.specs.declared.entry.Act.TheVariants.{MovedOut, Ticked}
+use Rattle.cpu_bases.specs.declared.entry.Entry.{Entry}
+use Rattle.core_world.specs.World.{World}
+use Rattle.job_table.specs.declared.jobs.JobReply.{JobReply}
+use Rattle.job_table.specs.declared.jobs.JobReply.TheVariants as replies
+use Rattle.shared_rule.specs.declared.parts.Deed.{Deed}
+use Rattle.shared_rule.specs.declared.parts.Did.{Did}
+use Rattle.shared_rule.specs.declared.parts.PassView.{PassView}
+use Rattle.shared_rule.specs.declared.parts.Receipt.{Receipt}
+use Rattle.shared_rule.specs.Passes.{HeldPass, IsPassIn}
+use Rattle.remote_expiry.specs.declared.runs.Ran.{Ran}
+use Rattle.remote_expiry.specs.declared.runs.RanReply.{RanReply}
+use Rattle.remote_expiry.specs.declared.runs.RanReply.TheVariants as ran
+use Rattle.remote_expiry.specs.Following.{Follows, FollowsArmed, FollowsBy, FollowsOut, FoundOn}
+use Rattle.remote_expiry.specs.Following.{IsAgain, IsTold, call_of}
+use Rattle.remote_expiry.specs.Following as from
+use Rattle.remote_expiry.specs.Interrupts.{HasGained, HasInterrupted, IsRefusedBy, NotInterrupted}
+use Rattle.remote_expiry.specs.Interrupts.{Tells, interrupt_fault, interrupt_fault_of, most_walks}
+use Rattle.remote_expiry.proofs.Gaining.{same_pass}
+use Rattle.remote_expiry.specs.Interrupts as interrupts
+use Rattle.play_rules.specs.Interrupts.{Replies, cpu_id}
+use Rattle.story.specs.Runs.{HasTicked, Owed, ShowsReply, TellsBy, TellsInterrupt, TellsRuns}
+use Rattle.story.specs.Runs.{owed_by}
+use Rattle.story.proofs.Knowing.{AreQueued, interrupt_more}
+use Rattle.story.specs.Shares.{with_written}
+use Rattle.thread_rounds.specs.Doing.{SawQueued, written_of}
+use Rattle.thread_rounds.specs.Lines.{ran_line, shown_of}
+use Rattle.thread_rounds.specs.Standing.{Grows, HasRun, MayAnswer}
+use Rattle.thread_rounds.proofs.Growing.{grown_none, grown_within}
+use Rattle.thread_rounds.proofs.Stands.{stands_more}
+
+-- an element of a list of values is the value of an element
+from_map : {X Y : Type 0} (f : X → Y) (xs : List X) (y : Y) → Contains (map f xs) y
+    → (x : X) × Contains xs x × (f x ≡ y)
+from_map f [] y (k, low, at) = absurd (omega (arith, low))
+from_map f (x ∷ xs) y (zero, low, at) = (x, (zero, omega arith, refl), at)
+from_map f (x ∷ xs) y (suc k, low, at) =
+    let rest = from_map f xs y (k, omega (arith, low), at) in
+    (rest.0, (suc rest.1.0, omega (arith, rest.1.1), rest.1.2), rest.2)
+
+into_map : {X Y : Type 0} (f : X → Y) (xs : List X) (x : X) → Contains xs x
+    → Contains (map f xs) (f x)
+into_map f [] x (k, low, at) = absurd (omega (arith, low))
+into_map f (y ∷ xs) x (zero, low, at) = (zero, omega arith, ap f at)
+into_map f (y ∷ xs) x (suc k, low, at) =
+    let rest = into_map f xs x (k, omega (arith, low), at) in
+    (suc rest.0, omega (arith, rest.1), rest.2)
+
+-- what is owed, as the story has it
+abbrev owed_as : from.Owed → Owed
+owed_as x =
+    record { class = x.class; wheel = x.wheel; delay = x.delay; out = x.out }
+
+owed_same : (job : JobReply) (reply : RanReply) (e : Entry)
+    → map owed_as (from.owed_by job reply e) ≡ owed_by job (shown_of reply) e
+owed_same replies.Done reply e = refl
+owed_same (replies.Mark m) reply e = refl
+owed_same (replies.Again class delay) ran.Done e = refl
+owed_same (replies.Again class delay) (ran.Mark m) e = refl
+owed_same (replies.Again class delay) (ran.Again c wheel) e = refl
+owed_same (replies.Again class delay) (ran.Skip cpu) e = refl
+
+module _ (o : World) (jobs : Replies) (runner : ℕ) (did : List Did) where
+  abbrev seen : List Deed
+  seen = map (λ (x : Did). x.deed) did
+
+  found_told : (timer cpu : ℕ) → FoundOn o timer cpu seen → SawQueued o did timer cpu
+  found_told timer cpu h =
+      let one = from_map (λ (x : Did). x.deed) did _ h.saw in
+      record {
+        there = h.there;
+        seen = one.0;
+        found = h.found;
+        spot = h.spot;
+        has = one.1;
+        deed = one.2;
+        spelled = h.spelled;
+        named = h.named;
+      }
+
+  reply_told : (timer : ℕ) (job : JobReply) (reply : RanReply) → IsTold o timer seen job reply
+      → ShowsReply (SawQueued o did) timer job (shown_of reply)
+  reply_told timer replies.Done reply h = ap shown_of h
+  reply_told timer (replies.Mark m) reply h = ap shown_of h
+  reply_told timer (replies.Again class delay) ran.Done h = absurd h
+  reply_told timer (replies.Again class delay) (ran.Mark m) h = absurd h
+  reply_told timer (replies.Again class delay) (ran.Again c wheel) h = h
+  reply_told timer (replies.Again class delay) (ran.Skip cpu) h = found_told timer cpu.0 h
+
+  -- what comes behind is told, whatever is owed by then
+  abbrev GoesOn : (rest : List from.Owed → List Ran → Type 0)
+      → (more : List Owed → List Line → Type 0) → Type 0
+  GoesOn rest more = (owed : List from.Owed) (runs : List Ran) → rest owed runs
+      → more (map owed_as owed) (map (ran_line o.clock (cpu_id runner)) runs)
+
+  out_told : (r : Receipt) (rest : List from.Owed → List Ran → Type 0)
+      (more : List Owed → List Line → Type 0) (owed : List from.Owed) (runs : List Ran)
+      → GoesOn rest more → FollowsOut o jobs runner seen r rest owed runs
+      → TellsBy (SawQueued o did) jobs o.clock runner Handed (written_of r) more
+      (map owed_as owed) (map (ran_line o.clock (cpu_id runner)) runs)
+  out_told r rest more owed [] on h = absurd h
+  out_told r rest more owed (x ∷ xs) on h =
+      let job = jobs r.entry.job (call_of o.clock runner r.entry) in
+      record {
+        reply = shown_of x.reply;
+        behind = map (ran_line o.clock (cpu_id runner)) xs;
+        line = λ i.
+            lines.Run o.clock (cpu_id runner) (h.0.timer i) (h.0.home i) (h.0.wheel i)
+            (shown_of x.reply) ∷ map (ran_line o.clock (cpu_id runner)) xs;
+        shows = reply_told r.entry.timer.0 job x.reply h.1;
+        goes_on =
+            subst (λ (l : List Owed). more l (map (ran_line o.clock (cpu_id runner)) xs))
+            (map-append owed_as owed (from.owed_by job x.reply r.entry)
+            ∙ ap (λ (l : List Owed). map owed_as owed ++ l) (owed_same job x.reply r.entry))
+            (on _ xs h.2);
+      }
+
+  armed_told : (r : Receipt) (rest : List from.Owed → List Ran → Type 0)
+      (more : List Owed → List Line → Type 0) (owed : List from.Owed) (runs : List Ran)
+      → GoesOn rest more → FollowsArmed o.clock runner r rest owed runs
+      → TellsBy (SawQueued o did) jobs o.clock runner Armed (written_of r) more
+      (map owed_as owed) (map (ran_line o.clock (cpu_id runner)) runs)
+  armed_told r rest more [] runs on h = absurd h
+  armed_told r rest more (x ∷ owed) runs on h = record {
+    first = owed_as x;
+    others = map owed_as owed;
+    owed_are = refl;
+    pays = record {
+      home = h.0.cpu;
+      line = h.0.line;
+      timer = h.0.timer;
+      expires = h.0.expires;
+      class = h.0.class;
+      wheel = h.0.wheel;
+      job = h.0.job;
+      arg = h.0.arg;
+    };
+    goes_on = on owed runs h.1;
+  }
+
+  act_told : (act : Act) (r : Receipt) (rest : List from.Owed → List Ran → Type 0)
+      (more : List Owed → List Line → Type 0) (owed : List from.Owed) (runs : List Ran)
+      → GoesOn rest more → FollowsBy o jobs runner seen act r rest owed runs
+      → TellsBy (SawQueued o did) jobs o.clock runner act (written_of r) more
+      (map owed_as owed) (map (ran_line o.clock (cpu_id runner)) runs)
+  act_told Armed r rest more owed runs on h = armed_told r rest more owed runs on h
+  act_told Handed r rest more owed runs on h = out_told r rest more owed runs on h
+  act_told Cancelled r rest more owed runs on h = absurd h
+  act_told MovedOut r rest more owed runs on h = absurd h
+  act_told MovedIn r rest more owed runs on h = absurd h
+  act_told Ticked r rest more owed runs on h = on owed runs h
+
+  -- the lines of the runs tell what follows
+  runs_told : (rs : List Receipt) (owed : List from.Owed) (runs : List Ran)
+      → Follows o jobs runner seen rs owed runs
+      → TellsRuns (SawQueued o did) jobs o.clock runner (map written_of rs) (map owed_as owed)
+      (map (ran_line o.clock (cpu_id runner)) runs)
+  unfolding Follows TellsRuns
+  runs_told [] owed runs h =
+      (ap (map owed_as) h.0, ap (map (ran_line o.clock (cpu_id runner))) h.1)
+  runs_told (r ∷ rs) owed runs h =
+      act_told r.entry.act r (Follows o jobs runner seen rs)
+      (TellsRuns (SawQueued o did) jobs o.clock runner (map written_of rs)) owed runs
+      (λ w x i. runs_told rs w x i) h
+
+-- a drain that a receipt tells
+ticked_told : (cpu : ℕ) (class : Class) (rs : List Receipt)
+    → interrupts.HasTicked cpu class rs → HasTicked cpu class (map written_of rs)
+ticked_told cpu class rs h = record {
+  drain = written_of h.receipt;
+  has = into_map written_of rs h.receipt h.has;
+  home = h.home;
+  act = h.act;
+  of_class = h.of_class;
+}
+
+-- what an interrupt gains lets a pass grow
+gained : (p q : PassView) (receipts : List Receipt) (did : List Did) → p.inside ≡ false
+    → HasGained p q receipts did → Grows most_walks p q
+gained p q receipts did outside h = record {
+  opening = h.opening;
+  cpu = h.cpu;
+  inside = h.inside ∙ sym outside;
+  receipts = receipts;
+  receipts_are = h.receipts_are;
+  did = did;
+  did_are = h.did_are;
+  journal = h.journal;
+  few = h.few;
+}
+
+-- all that was seen in it is seen by the pass
+all_seen : (o : World) (p q : PassView) (receipts : List Receipt) (did : List Did)
+    → HasGained p q receipts did → AreQueued (SawQueued o did) (SawQueued o q.did)
+all_seen o p q receipts did h timer cpu saw = record {
+  there = saw.there;
+  seen = saw.seen;
+  found = saw.found;
+  spot = saw.spot;
+  has = subst (λ (d : List Did). Contains d saw.seen) (sym h.did_are)
+      (Contains-append_right p.did did saw.seen saw.has);
+  deed = saw.deed;
+  spelled = saw.spelled;
+  named = saw.named;
+}
+
+module _ (table : TableId) (o : World) (now : ℕ) (jobs : Replies) (held after : HeldPass)
+    (is_now : now ≡ o.clock) (may : MayAnswer table o most_walks held) where
+  -- AN INTERRUPT is told by the lines of its runs
+  pub interrupt_told : (id : CpuId) → id.0 ≡ held.cpu
+      → ((q : PassView) → IsPassIn table after q → q.cpu ≡ after.cpu) → (all : List Ran)
+      (before lines : List Line) → lines ≡ before ++ map (ran_line now id) all
+      → Tells table o jobs held after [] all (Ok tt)
+      → HasRun table o now jobs true held after before lines
+  interrupt_told id same law all before lines is tells =
+      let p = tells.old in
+      let q = tells.new in
+      let h = tells.told.1 in
+      let one : may.pass ≡ p = same_pass table held may.pass p may.seated tells.had in
+      let own : p.cpu ≡ held.cpu = ap (λ (z : PassView). z.cpu) (sym one) ∙ may.own in
+      let outside = ap (λ (z : PassView). z.inside) (sym one) ∙ may.outside in
+      let told : TellsInterrupt (SawQueued o h.did) jobs o.clock p.cpu (map written_of h.receipts)
+      (map (ran_line o.clock (cpu_id p.cpu)) h.runs) = record {
+        drained = λ class. ticked_told p.cpu class h.receipts (h.drained class);
+        runs = runs_told o jobs p.cpu h.did h.receipts [] h.runs h.follows;
+      } in
+      record {
+        told = map (ran_line now (cpu_id held.cpu)) h.runs;
+        lines_are =
+            is ∙ (λ i. before ++ map (ran_line now (cpu_id (same i))) (h.runs_are i));
+        stepped = record {
+          before = p;
+          later = q;
+          had = tells.had;
+          has = tells.has;
+          same_cpu = sym (law q tells.has) ∙ (h.gained.cpu ∙ own);
+          grows = gained p q h.receipts h.did outside h.gained;
+          goes = λ s stood. (
+            record (with_written p.cpu (map written_of h.receipts) s) {
+              idle = q.idle;
+              wakeup = q.wakeup;
+            },
+            stands_more p q s h.receipts h.gained.journal h.gained.cpu h.gained.receipts_are
+                (h.gained.known stood.known) stood,
+            record {
+              more = map written_of h.receipts;
+              interrupt =
+                  subst₂ (λ n c. TellsInterrupt (SawQueued o q.did) jobs n c
+                  (map written_of h.receipts) (map (ran_line n (cpu_id c)) h.runs)) (sym is_now) own
+                  (interrupt_more (SawQueued o h.did) (SawQueued o q.did) jobs o.clock p.cpu
+                  (map written_of h.receipts) (map (ran_line o.clock (cpu_id p.cpu)) h.runs)
+                  (all_seen o p q h.receipts h.did h.gained) told);
+              wakeup = q.wakeup;
+              new_is = λ i. record (with_written (own i) (map written_of h.receipts) s) {
+                idle = (h.gained.idle ∙ stood.idle) i;
+                wakeup = q.wakeup;
+              };
+            },
+          );
+        };
+      }
+
+  -- a CPU that isn't due an interrupt has none
+  pub none_told : (before : List Line) → HasRun table o now jobs false held held before before
+  none_told before = record {
+    told = [];
+    lines_are = sym (append-nil before);
+    stepped = record {
+      before = may.pass;
+      later = may.pass;
+      had = may.seated;
+      has = may.seated;
+      same_cpu = refl;
+      grows = grown_within 0 most_walks may.pass may.pass (omega arith) (grown_none may.pass);
+      goes = λ s stood. (s, stood, (refl, refl));
+    };
+  }
+
+-- one line more
+taken_more : {X : Type 0} (xs : List X) (i : ℕ) (x : X) → slice_get xs i ≡ Some x
+    → take (suc i) xs ≡ take i xs ++ x ∷ []
+taken_more [] i x at = absurd (none-some x at)
+taken_more (y ∷ ys) zero x at = ap (λ z. z ∷ []) (same_Some y x at)
+taken_more (y ∷ ys) (suc i) x at = ap (λ l. y ∷ l) (taken_more ys i x at)
+
+pub one_line : (now : ℕ) (runner : CpuId) (runs : List Ran) (i : ℕ) (x : Ran)
+    (old before new : List Line) → slice_get runs i ≡ Some x
+    → before ≡ old ++ map (ran_line now runner) (take i runs)
+    → new ≡ before ++ ran_line now runner x ∷ []
+    → new ≡ old ++ map (ran_line now runner) (take (i + 1) runs)
+one_line now runner runs i x old before new at was is =
+    let next : suc i ≡ i + 1 = omega arith in
+    is
+    ∙ (ap (λ (l : List Line). l ++ ran_line now runner x ∷ []) was
+    ∙ (append_assoc old (map (ran_line now runner) (take i runs)) (ran_line now runner x ∷ [])
+    ∙ ap (λ (l : List Line). old ++ l)
+    (sym (map-append (ran_line now runner) (take i runs) (x ∷ []))
+    ∙ ap (map (ran_line now runner))
+    (sym (taken_more runs i x at) ∙ ap (λ n. take n runs) next))))
+
+-- what follows where a call ends well
+pub on_ok : {A E : Type 0} (P Q : Type 0) (result : Result A E) → (P → Q) → OnOk result P
+    → OnOk result Q
+on_ok P Q (Ok x) holds is = holds is
+on_ok P Q (Err e) holds is = tt

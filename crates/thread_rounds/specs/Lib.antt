@@ -1,0 +1,4 @@
+pub mod Doing
+pub mod Standing
+pub mod Lines
+pub mod Tasks

@@ -1,0 +1,144 @@
+//! A round: threads for the CPUs with something to do, from a core at rest to a core at rest.
+
+ghost use Rattle.std.specs.Prelude.{◌≡◌, ◌-◌, ◌^◌, ◌≤◌, ℕ, All, IfOk, length, true};
+ghost use Rattle.std.specs.FinSet.{contains};
+ghost use Rattle.tm_base.specs.declared.limits.TheConstants.{MOST_OPS};
+ghost use Rattle.tm_base.specs.declared.names.TheConstants.{TIME_LIMIT};
+ghost use Rattle.core_world.specs.World.{cpu_of};
+ghost use Rattle.step_play.specs.Rules.Seen.{InRun, resting};
+ghost use Rattle.shared_table.specs.Begun.{begun_passes};
+ghost use Rattle.story.specs.Rounds.{IsRound};
+ghost use Rattle.thread_rounds.specs.Doing.{IsRoundOp};
+ghost use Rattle.thread_rounds.specs.Tasks.{AreGathered, AreTasks, MayRound};
+
+use crate::shares::Share;
+use crate::tasks::{Task, first_tasks, give_all};
+use crate::threads::do_all;
+use core_facts::law_rest;
+use core_state::Core;
+use job_table::Jobs;
+use shared_rule::{Pass, RunName};
+use shared_table::{Ready, Shared};
+use std::alloc::Global;
+use std::marker::Brand;
+use std::sync::Wait;
+use std::thread::Threads;
+use tm_base::{CpuSet, Gate, Jiffy, NoMemory};
+use tm_report::Line;
+use tm_script::Op;
+use wheel_base::WheelBase;
+
+/// What each CPU has to do, in the order of the CPUs.
+fn tasks_of<N: RunName>(
+    alloc: Global,
+    passes: Vec<Pass>,
+    due: &CpuSet,
+    ops: &[Op],
+) -> Result<Vec<Task>, NoMemory>
+    requires passes { passes.items ≡ begun_passes N.table N.opening 0 }
+    requires ops { All (IsRoundOp (length N.opening.cpus) N.opening.timers) ops.now }
+    ensures { IfOk result (λ v. AreTasks N.table N.opening
+        (record { due = due.now; ops = ops.now }) (length N.opening.cpus) v.items) }
+{
+    let mut tasks = first_tasks(alloc, passes, due)?;
+    give_all(&mut tasks, ops)?;
+    Ok(tasks)
+}
+
+/// The passes and the lines of all shares, in the order of their CPUs, where memory was enough for
+/// each of them.
+fn gather(alloc: Global, shares: Vec<Share>) -> Result<(Vec<Pass>, Vec<Line>), NoMemory>
+    ensures { IfOk result (λ r. AreGathered shares.items r.0.items r.1.items) }
+{
+    let mut passes = Vec::with_capacity(alloc, shares.len())?;
+    let mut lines = Vec::new(alloc);
+    for share in shares {
+        let Share {
+            pass,
+            lines: mut told,
+            ended,
+        } = share;
+        ended?;
+        passes.push(pass)?;
+        lines.append(&mut told)?;
+    }
+    Ok((passes, lines))
+}
+
+/// The round of a run that has begun, up to its end.
+fn round_begun<N: RunName + Send + Sync, J: Jobs + Sync, G: Gate + Sync, R: Threads + Wait + Sync>(
+    rt: &R,
+    alloc: Global,
+    shared: Shared<N, WheelBase>,
+    passes: Vec<Pass>,
+    now: Jiffy,
+    due: &CpuSet,
+    ops: &[Op],
+    jobs: &J,
+    gate: &G,
+) -> Result<(Core<WheelBase>, Vec<Line>), NoMemory>
+    requires may { MayRound N.opening now (record { due = due.now; ops = ops.now }) }
+    requires passes { passes.items ≡ begun_passes N.table N.opening 0 }
+    ensures { IfOk result
+        (λ r. IsRound (J.replies jobs.now) N.opening due.now ops.now r.0 r.1.items) }
+{
+    law_rest();
+    let tasks = tasks_of::<N>(alloc, passes, due, ops)?;
+    let shares = do_all(rt, alloc, &shared, tasks, now, jobs, gate)?;
+    let (passes, lines) = gather(alloc, shares)?;
+    let core = shared.finish(passes);
+    Ok((core, lines))
+}
+
+/// The round of a core whose table is ready.
+fn round_over<N: RunName + Send + Sync, J: Jobs + Sync, G: Gate + Sync, R: Threads + Wait + Sync>(
+    rt: &R,
+    alloc: Global,
+    ready: Ready<WheelBase>,
+    now: Jiffy,
+    due: &CpuSet,
+    ops: &[Op],
+    jobs: &J,
+    gate: &G,
+) -> Result<(Core<WheelBase>, Vec<Line>), NoMemory>
+    requires table { ready.table ≡ N.table }
+    requires opening { ready.core ≡ N.opening }
+    requires made { ready.made ≡ 0 }
+    requires may { MayRound ready.core now (record { due = due.now; ops = ops.now }) }
+    ensures { IfOk result
+        (λ r. IsRound (J.replies jobs.now) ready.core due.now ops.now r.0 r.1.items) }
+{
+    match Shared::<N, WheelBase>::begin(alloc, ready) {
+        Ok((shared, passes)) => {
+            round_begun(rt, alloc, shared, passes, now, due, ops, jobs, gate)
+        },
+        Err((_ready, refused)) => Err(refused),
+    }
+}
+
+/// A moment of a run whose CPUs have threads (the clock stands at its time): each CPU that is due
+/// an interrupt or has operations gets a thread, which does its share; where no thread can be had
+/// the caller does it. It answers the core after, and the lines by ascending CPU. After want of
+/// memory the core is gone.
+pub fn round<J: Jobs + Sync, G: Gate + Sync, R: Threads + Wait + Sync>(
+    rt: &R,
+    alloc: Global,
+    core: Core<WheelBase>,
+    due: &CpuSet,
+    ops: &[Op],
+    jobs: &J,
+    gate: &G,
+) -> Result<(Core<WheelBase>, Vec<Line>), NoMemory>
+    requires in_run { InRun resting core }
+    requires in_time { core.clock ≤ TIME_LIMIT - 2 ^ 32 }
+    requires online { (c : ℕ) → contains due.now c ≡ true → (cpu_of core c).online ≡ true }
+    requires ops { All (IsRoundOp (length core.cpus) core.timers) ops.now }
+    requires few { length ops.now ≤ MOST_OPS }
+    ensures { IfOk result (λ r. IsRound (J.replies jobs.now) core due.now ops.now r.0 r.1.items) }
+{
+    let now = core.now();
+    match Ready::prepare(alloc, core, 0) {
+        Ok(ready) => round_over::<Brand, J, G, R>(rt, alloc, ready, now, due, ops, jobs, gate),
+        Err((_core, refused)) => Err(refused),
+    }
+}

@@ -1,0 +1,22 @@
+use Rattle.std.proofs.Common.{arith, rules, ◌∙◌}
+use Rattle.tm_driver.proofs.Spreading.{interrupted_apart, interrupted_last, on_cpus}
+use Rattle.tm_driver.proofs.plain_moments.interrupts_apart.Goals as goal
+
+pub loop-cpu-preserved : goal.loop-cpu-preserved
+loop-cpu-preserved g c =
+    let done = c.in_ok-interrupt_apart.ensures in
+    let was = c.loop-cpu.invariant in
+    let spreads = on_cpus _ _ _ _ _ _ was.same.cpus done.spreads in
+    record {
+      rest = interrupted_apart _ _ _ _ _ _ _ _ _ _ _ _ was.rest
+          (omega (arith, c.loop-cpu-test.true, c.cpus-cpu-end.ensures.count)) spreads;
+      count = done.count ∙ was.count;
+      same = search rules;
+      online = search rules;
+      fit = done.fit;
+    }
+
+pub returns-clause-spreads : goal.returns-clause-spreads
+returns-clause-spreads g c =
+    interrupted_last _ _ _ _ _ _ _ _ _ _ c.loop-cpu.invariant.rest
+    (omega (arith, c.loop-cpu-test.false, c.cpus-cpu-end.ensures.count))

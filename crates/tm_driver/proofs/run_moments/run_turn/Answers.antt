@@ -1,0 +1,53 @@
+use Rattle.std.proofs.Common.{◌≡◌, ◌∙◌, List, false, length, subst, sym, true, ℕ}
+use Rattle.std.proofs.lemmas.Result.{IfOk-weaker}
+use Rattle.std.specs.List.{list_any}
+use Rattle.std.specs.Option.{option_copied}
+use Rattle.tm_script.specs.declared.syntax.Op.{Op}
+use Rattle.core_world.specs.World.{World}
+use Rattle.story.specs.Stories.{is_hotplug, is_plain}
+use Rattle.tm_driver.specs.Runs.{IsRunMoment, TellsMoment}
+use Rattle.tm_driver.proofs.Scripts.{due_in_range}
+use Rattle.tm_driver.proofs.Threaded.{stays_out, told_by_threads, told_plainly}
+use Rattle.tm_driver.proofs.run_moments.run_turn.Goals as goal
+
+pub plain_moment-requires-clause-in_range : goal.plain_moment-requires-clause-in_range
+plain_moment-requires-clause-in_range g c =
+    rw (c.set_clock.ensures.cpus, c.set_clock.ensures.timers)
+    (λ m is.
+    (due_in_range (IsRunMoment (length c.args.player.cpus) c.args.player.timers) _ _ _ c.moment_due-m.ensures c.requires.in_range m is).in_range)
+
+pub threaded_moment-requires-clause-in_range : goal.threaded_moment-requires-clause-in_range
+threaded_moment-requires-clause-in_range g c κs within =
+    rw (c.set_clock.ensures.cpus, c.set_clock.ensures.timers)
+    (due_in_range (IsRunMoment (length c.args.player.cpus) c.args.player.timers) _ _ _ c.moment_due-m.ensures c.requires.in_range)
+
+pub threaded_moment-requires-clause-stay : goal.threaded_moment-requires-clause-stay
+threaded_moment-requires-clause-stay g c κs within =
+    subst (λ (ops : List Op). list_any (λ o. is_hotplug o.what) ops ≡ false) c.ops_of.ensures
+    (stays_out c.cpus.result c.having_interrupt-due.result c.ops_of.result.now (sym c.is_plain.ensures ∙ c.if-is_plain.false))
+
+pub returns-then-is_plain-clause-tells : goal.returns-then-is_plain-clause-tells
+returns-then-is_plain-clause-tells g c =
+    let s = c.set_clock.new.self in
+    let due = c.having_interrupt-due.result in
+    let by_count : is_plain (length s.cpus) due c.ops_of.result.now ≡ true =
+    subst (λ (n : ℕ). is_plain n due c.ops_of.result.now ≡ true) c.cpus.ensures.count (sym c.is_plain.ensures ∙ c.if-is_plain.true) in
+    told_plainly (g.J.Jobs.replies c.args.jobs.now) c.args.left.now c.args.now c.args.player c.args.telling.now _ _ s due (option_copied c.moment_due-m.result)
+    c.set_clock.ensures.state c.having_interrupt-due.ensures.set c.moment_due-m.ensures
+    (subst (λ (ops : List Op). is_plain (length s.cpus) due ops ≡ true) c.ops_of.ensures by_count)
+    c.in_ok-plain_moment.ensures.tells
+
+pub returns-clause-tells : goal.returns-clause-tells
+returns-clause-tells g c =
+    let jobs = g.J.Jobs.replies c.args.jobs.now in
+    let s = c.set_clock.new.self in
+    let due = c.having_interrupt-due.result in
+    let by_count : is_plain (length s.cpus) due c.ops_of.result.now ≡ false =
+    subst (λ (n : ℕ). is_plain n due c.ops_of.result.now ≡ false) c.cpus.ensures.count (sym c.is_plain.ensures ∙ c.if-is_plain.false) in
+    IfOk-weaker c.threaded_moment.result _
+    (λ (w : World). TellsMoment jobs c.args.left.now c.args.now c.args.player c.args.telling.now c.threaded_moment.new.telling w)
+    (λ after.
+    told_by_threads jobs c.args.left.now c.args.now c.args.player c.args.telling.now c.threaded_moment.new.telling after s due (option_copied c.moment_due-m.result)
+    c.set_clock.ensures.state c.having_interrupt-due.ensures.set c.moment_due-m.ensures
+    (subst (λ (ops : List Op). is_plain (length s.cpus) due ops ≡ false) c.ops_of.ensures by_count))
+    c.threaded_moment.ensures.tells

@@ -1,0 +1,108 @@
+//! Running a script: with threads for the CPUs of a moment.
+
+ghost use Rattle.std.specs.Prelude.{◌≡◌, ◌≤◌, All, IfErr, IfOk, length};
+ghost use Rattle.tm_base.specs.declared.limits.TheConstants.{MOST_OPS};
+ghost use Rattle.tm_script.specs.Grammar.{IsScript};
+ghost use Rattle.play_rules.specs.Parts.{Gains};
+ghost use Rattle.step_play.specs.Rules.Seen.{InRun, resting};
+ghost use Rattle.step_play.specs.SamePlay.{core_start};
+ghost use Rattle.tm_driver.specs.Conditions.{IsPlayable};
+ghost use Rattle.tm_driver.specs.Runs.{BreaksRun, EndsRunEarly, RunsToEnd, RunsWhole};
+
+use crate::closing::close;
+use crate::outcomes::DriveFault;
+use crate::playing::first_unknown_job;
+use crate::run_moments::run_moments;
+use crate::starting::start_core;
+use crate::telling::Telling;
+use core_machine::RunPlayer;
+use core_state::Core;
+use job_table::Jobs;
+use play_rules::UnknownJob;
+use std::alloc::Global;
+use std::mem;
+use std::sync::Wait;
+use std::thread::Threads;
+use tm_base::{Gate, NoMemory};
+use tm_report::Report;
+use tm_script::Script;
+use wheel_base::WheelBase;
+
+/// The core at the start of a script, which is to run it.
+fn started(alloc: Global, script: &Script) -> Result<RunPlayer<WheelBase>, NoMemory>
+    requires { IsScript script.now }
+    ensures start { IfOk result (λ player. player ≡ core_start script.now) }
+    ensures in_run { IfOk result (InRun resting) }
+{
+    let core = start_core(alloc, script)?;
+    Ok(RunPlayer::new(alloc, core))
+}
+
+/// The moments of a script, and what is left at its end.
+fn run_known<J: Jobs + Sync, G: Gate + Sync, R: Threads + Wait + Sync>(
+    rt: &R,
+    alloc: Global,
+    player: RunPlayer<WheelBase>,
+    script: &Script,
+    jobs: &J,
+    gate: &G,
+    telling: &mut Telling,
+) -> Result<RunPlayer<WheelBase>, DriveFault>
+    requires start { player ≡ core_start script.now }
+    requires playable { IsPlayable (length player.cpus) player.timers script.now }
+    requires few { All (λ m. length m.ops ≤ MOST_OPS) script.now.moments }
+    requires no_work { telling.old.work ≡ 0 }
+    requires fit { InRun resting player }
+    ensures whole { IfOk result
+        (RunsWhole (J.replies jobs.now) script.now telling.old.text telling.new.text) }
+    ensures fault { IfErr result (λ fault.
+        EndsRunEarly (J.replies jobs.now) script.now fault telling.old.text telling.new.text) }
+    ensures gains { Gains telling.old.text telling.new.text }
+{
+    let player = run_moments(rt, alloc, player, jobs, gate, script, telling)?;
+    close(&player, script.end, telling)?;
+    Ok(player)
+}
+
+/// Runs a script from its start into a report, with threads: in a moment each CPU that has an
+/// interrupt or operations gets a thread, which does its interrupt and then its operations in line
+/// order; a moment that takes a CPU offline or online, or has no operation and at most one
+/// interrupt, is played without threads. It answers the core that the last moment leaves. The lines
+/// of a moment are told by ascending CPU, so that they don't depend on which thread was first but
+/// where the threads met.
+///
+/// `BadJob` comes exactly where an `arm` line names a job that the table hasn't, before anything is
+/// run. `WorkSpent` comes where the moments finished, interrupts made and timers handed out
+/// together have reached the limit of the script's version after a moment that isn't the last; the
+/// report has gained the lines of the finished moments then. After the others it is as it was.
+pub fn run<J: Jobs + Sync, G: Gate + Sync, R: Threads + Wait + Sync>(
+    rt: &R,
+    alloc: Global,
+    script: &Script,
+    jobs: &J,
+    gate: &G,
+    report: &mut Report,
+) -> Result<Core<WheelBase>, DriveFault>
+    requires { IsScript script.now }
+    ensures whole { IfOk result
+        (RunsToEnd (J.replies jobs.now) (J.count jobs.now) script.now report.old report.new) }
+    ensures fault { IfErr result (λ fault.
+        BreaksRun (J.replies jobs.now) (J.count jobs.now) script.now fault report.old report.new) }
+{
+    if let Some(UnknownJob { line, job }) = first_unknown_job(script, jobs) {
+        return Err(DriveFault::BadJob { line, job });
+    }
+    let player = started(alloc, script)?;
+    let begin = report.text().len();
+    let mut telling = Telling::new(mem::replace(report, Report::new(alloc)));
+    let ran = run_known(rt, alloc, player, script, jobs, gate, &mut telling);
+    *report = telling.into_report();
+    match ran {
+        Ok(player) => Ok(player.into_core()),
+        Err(DriveFault::NoMemory) => {
+            report.truncate(begin);
+            Err(DriveFault::NoMemory)
+        }
+        Err(fault) => Err(fault),
+    }
+}
