@@ -3,8 +3,8 @@
 #![tactic(auto)]
 
 use job_table::{Job, JobTable, Marker, OneShot, Periodic};
-use script_main::{NO_MEMORY, run_program};
-use std::alloc::{AllocError, Global};
+use script_main::{NO_MEMORY, Status, run_program};
+use std::alloc::AllocError;
 use std::process::ExitCode;
 use std::{env, io};
 use tm_base::{Class, FreeGate};
@@ -20,8 +20,11 @@ fn words(rt: &HostRuntime) -> Result<Vec<String>, AllocError> {
     }
 }
 
-/// The four jobs. By their numbers: 0 is done, 1 and 2 arm again, 3 leaves a mark.
-fn four_jobs(alloc: Global) -> Result<JobTable, AllocError> {
+/// Runs the program with its four jobs. By their numbers: 0 is done, 1 and 2 arm again, 3 leaves
+/// a mark.
+fn run(rt: &HostRuntime) -> Result<Status, AllocError> {
+    let alloc = rt.alloc();
+    let words = words(rt)?;
     let mut jobs: Vec<Box<dyn Job + Send + Sync>> = Vec::new(alloc);
     jobs.push(Box::new(alloc, OneShot)?)?;
     jobs.push(Box::new(
@@ -37,19 +40,15 @@ fn four_jobs(alloc: Global) -> Result<JobTable, AllocError> {
         },
     )?)?;
     jobs.push(Box::new(alloc, Marker)?)?;
-    Ok(JobTable::new(jobs))
+    let jobs = JobTable::new(jobs);
+    let mut source = StdSource::new(rt.reader());
+    let mut sink = StdSink::new(io::writer(rt));
+    Ok(run_program(rt, alloc, &words, &mut source, &mut sink, &jobs, &FreeGate))
 }
 
 fn main(rt: HostRuntime) -> ExitCode {
-    let alloc = rt.alloc();
-    let Ok(words) = words(&rt) else {
-        return ExitCode::from(NO_MEMORY);
-    };
-    let Ok(jobs) = four_jobs(alloc) else {
-        return ExitCode::from(NO_MEMORY);
-    };
-    let mut source = StdSource::new(rt.reader());
-    let mut sink = StdSink::new(io::writer(&rt));
-    let status = run_program(&rt, alloc, &words, &mut source, &mut sink, &jobs, &FreeGate);
-    ExitCode::from(status.0)
+    match run(&rt) {
+        Ok(status) => ExitCode::from(status.0),
+        Err(AllocError) => ExitCode::from(NO_MEMORY),
+    }
 }
