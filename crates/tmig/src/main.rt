@@ -6,6 +6,8 @@ use job_table::{Job, JobTable, Marker, OneShot, Periodic};
 use script_main::{NO_MEMORY, Status, run_program};
 use std::alloc::AllocError;
 use std::process::ExitCode;
+use std::sync::Wait;
+use std::thread::Threads;
 use std::{env, io};
 use tm_base::{Class, FreeGate};
 use tm_io::{StdSink, StdSource};
@@ -20,9 +22,9 @@ fn words(rt: &HostRuntime) -> Result<Vec<String>, AllocError> {
     }
 }
 
-/// Runs the program with its four jobs. By their numbers: 0 is done, 1 and 2 arm again, 3 leaves
-/// a mark.
-fn run(rt: &HostRuntime) -> Result<Status, AllocError> {
+/// Runs the program with its four jobs: by their numbers, 0 is done, 1 and 2 arm again, 3 leaves a
+/// mark. `threads` gives the threads that `run` takes.
+fn run<R: Threads + Wait + Sync>(rt: &HostRuntime, threads: &R) -> Result<Status, AllocError> {
     let alloc = rt.alloc();
     let words = words(rt)?;
     let mut jobs: Vec<Box<dyn Job + Send + Sync>> = Vec::new(alloc);
@@ -43,11 +45,19 @@ fn run(rt: &HostRuntime) -> Result<Status, AllocError> {
     let jobs = JobTable::new(jobs);
     let mut source = StdSource::new(rt.reader());
     let mut sink = StdSink::new(io::writer(rt));
-    Ok(run_program(rt, alloc, &words, &mut source, &mut sink, &jobs, &FreeGate))
+    Ok(run_program(
+        threads,
+        alloc,
+        &words,
+        &mut source,
+        &mut sink,
+        &jobs,
+        &FreeGate,
+    ))
 }
 
 fn main(rt: HostRuntime) -> ExitCode {
-    match run(&rt) {
+    match run(&rt, &rt) {
         Ok(status) => ExitCode::from(status.0),
         Err(AllocError) => ExitCode::from(NO_MEMORY),
     }
