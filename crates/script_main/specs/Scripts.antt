@@ -107,7 +107,8 @@ pub record BreaksRunOff (jobs : Replies) (table count : ℕ) (script : Script) :
   pub text : List ℕ
   pub broken_off : BreaksStory jobs script count [] text
 
--- every job of the script is in the table, and the work of each of its stories stays below the limit
+-- every job of the script is in the table, and the work of each of its stories stays below the
+-- limit
 pub record CanRun (jobs : Replies) (table : ℕ) (script : Script) : Type 0 where
   pub known : first_unknown_job table script.moments ≡ None
   pub within : (count : ℕ) (text : List ℕ) → BreaksStory jobs script count [] text → ⊥

@@ -39,16 +39,16 @@ form_name forms.Works = codes "works"
 
 -- the text of statuses 1, 10 and 11: what was to be read, the line at fault, and the kind of the
 -- fault
-unfoldable pub refused_text : Form → ScriptFault → List ℕ
+abbrev pub refused_text : Form → ScriptFault → List ℕ
 refused_text form fault =
     form_name form ++ codes " refused line " ++ decimal fault.line
     ++ codes " kind " ++ decimal (kind_number fault.kind) ++ codes "\n"
 
 -- the text of status 8: the line, and the job that it names
-unfoldable pub job_unknown_text : (line job : ℕ) → List ℕ
+abbrev pub job_unknown_text : (line job : ℕ) → List ℕ
 job_unknown_text line job =
     codes "job unknown line " ++ decimal line ++ codes " job " ++ decimal job ++ codes "\n"
 
 -- the text of status 6: the work that was enough
-unfoldable pub work_spent_text : (count : ℕ) → List ℕ
+abbrev pub work_spent_text : (count : ℕ) → List ℕ
 work_spent_text count = codes "work spent " ++ decimal count ++ codes "\n"

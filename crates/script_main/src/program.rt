@@ -90,13 +90,14 @@ fn write_reply<K: Sink>(alloc: Global, reply: &Reply, sink: &mut K) -> u8
 /// `day NUMBER CPUS TIMERS MOMENTS`, `check`, `deep` or `works`; of these `play`, `run`, `tree` and
 /// `deep` read a script from the source, `check` a trace, and `works` a script of works.
 ///
-/// With `run` threads take part, which meet as the gate lets them go on: what is written is the text
-/// of one of the script's stories, and which one is free. The others need no thread and no gate.
+/// With `run` threads take part, which meet as the gate lets them go on: what is written is the
+/// text of one of the script's stories, and which one is free. The others need no thread and no
+/// gate.
 ///
 /// Want of memory with nothing written may come as the input is read, or made, or worked on, or as
-/// the sink takes its first bytes. Words that are no command, a source that failed, and one that has
-/// too many bytes want no memory for what is told of them: there it is the sink's alone. A front
-/// that was written is never all that was due.
+/// the sink takes its first bytes. Words that are no command, a source that failed, and one that
+/// has too many bytes want no memory for what is told of them: there it is the sink's alone. A
+/// front that was written is never all that was due.
 pub fn run_program<S: Source, K: Sink, J: Jobs + Sync, G: Gate + Sync, R: Threads + Wait + Sync>(
     rt: &R,
     alloc: Global,

@@ -2,8 +2,9 @@
 
 ghost use Rattle.std.specs.Prelude.{◌≡◌, ◌++◌, IfOk};
 ghost use Rattle.std.specs.Fmt.{decimal};
-ghost use Rattle.script_main.specs.Texts.{form_name, job_unknown_text, kind_number, read_fault_text};
-ghost use Rattle.script_main.specs.Texts.{refused_text, too_long_text, usage_text, work_spent_text};
+ghost use Rattle.script_main.specs.Texts.{form_name, job_unknown_text, kind_number};
+ghost use Rattle.script_main.specs.Texts.{read_fault_text, refused_text, too_long_text, usage_text};
+ghost use Rattle.script_main.specs.Texts.{work_spent_text};
 
 use crate::inputs::Form;
 use std::alloc::Global;
@@ -55,7 +56,7 @@ fn form_name(form: Form) -> &'static [u8]
     }
 }
 
-#[tactic(auto, unfolding(crate::specs::Texts::refused_text), using(std::proofs::lemmas::List::append_assoc))]
+#[tactic(auto, using(std::proofs::lemmas::List::append_assoc))]
 pub(crate) fn refused_text(
     alloc: Global,
     form: Form,
@@ -73,7 +74,7 @@ pub(crate) fn refused_text(
     Ok(text)
 }
 
-#[tactic(auto, unfolding(crate::specs::Texts::job_unknown_text), using(std::proofs::lemmas::List::append_assoc))]
+#[tactic(auto, using(std::proofs::lemmas::List::append_assoc))]
 pub(crate) fn job_unknown_text(alloc: Global, line: u32, job: u8) -> Result<Vec<u8>, NoMemory>
     ensures { IfOk result (λ text. text.items ≡ job_unknown_text line job) }
 {
@@ -86,7 +87,7 @@ pub(crate) fn job_unknown_text(alloc: Global, line: u32, job: u8) -> Result<Vec<
     Ok(text)
 }
 
-#[tactic(auto, unfolding(crate::specs::Texts::work_spent_text), using(std::proofs::lemmas::List::append_assoc))]
+#[tactic(auto, using(std::proofs::lemmas::List::append_assoc))]
 pub(crate) fn work_spent_text(alloc: Global, count: u32) -> Result<Vec<u8>, NoMemory>
     ensures { IfOk result (λ text. text.items ≡ work_spent_text count) }
 {

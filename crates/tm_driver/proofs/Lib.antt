@@ -10,6 +10,7 @@ mod Scripts
 mod StoryTurns
 mod Threaded
 mod Turns
+mod Unheard
 mod Unknown
 mod Wholes
 mod Tellers

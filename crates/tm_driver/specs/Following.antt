@@ -29,8 +29,8 @@ PassesNone w next = (c : ℕ) (class : Class) (item : Item) → (cpu_of w c).onl
     class ≢ Deferrable → Contains (base_of class (cpu_of w c).bases).items item →
     w.clock < item.wheel → next ≤ item.wheel
 
--- THE ONE THAT THE PLAY MAKES: where a moment of the script's play by steps left this core, whatever
--- its jobs answer, and another moment follows, it is played at this time
+-- THE ONE THAT THE PLAY MAKES: where a moment of the script's play by steps left this core,
+-- whatever its jobs answer, and another moment follows, it is played at this time
 abbrev pub IsNextOfPlay : World → Script → (next : ℕ) → Type 0
 IsNextOfPlay w script next = (jobs : Replies) (n : ℕ) (here there : Turn World) →
     slice_get (step_turns jobs script) n ≡ Some here →

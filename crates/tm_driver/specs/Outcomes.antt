@@ -91,3 +91,7 @@ SaysFault r jobs table script start (WorkSpent count) old new =
     (first_unknown_job table script.moments ≡ None)
     × BreaksOff (work_limit script.version) count (script_turns jobs r script start) old new
 SaysFault r jobs table script start NoMemory old new = new ≡ old
+
+-- it is so for some text of a report, whatever that is (no public clause cites it)
+abbrev pub ForSomeText : ((new : List ℕ) → Type 0) → Type 0
+ForSomeText P = (new : List ℕ) × P new

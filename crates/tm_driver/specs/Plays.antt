@@ -30,9 +30,9 @@ pub record CanPlay (jobs : Replies) (table : ℕ) (script : Script) : Type 0 whe
   pub known : first_unknown_job table script.moments ≡ None
   pub within : play_spent jobs (work_limit script.version) script ≡ None
 
--- what the lines of a script's play tell is so: the `run` lines are the hand-outs of the journals, up
--- to each moment; each arming has its run, unless it is cancelled or moved before it, and each run
--- its arming; the `left` lines are the timers that are still queued; the `cover` lines tell who
+-- what the lines of a script's play tell is so: the `run` lines are the hand-outs of the journals,
+-- up to each moment; each arming has its run, unless it is cancelled or moved before it, and each
+-- run its arming; the `left` lines are the timers that are still queued; the `cover` lines tell who
 -- answers
 pub record LinesHold (jobs : Replies) (script : Script) : Type 0 where
   pub runs : (n : ℕ) → TellSameUpTo is_hand_out jobs script n
@@ -41,9 +41,9 @@ pub record LinesHold (jobs : Replies) (script : Script) : Type 0 where
   pub covers : EachCoverIn jobs script
 
 -- what holds of a script's play, whatever comes of it: the core plays it by steps; its moments go
--- on to the script's end; its lines are true; and after each of them each global timer that is queued on an online idle
--- CPU is held or woken for, and each pinned or global timer whose wheel expiry has come has its
--- end, and was handed out in that jiffy where it was handed out
+-- on to the script's end; its lines are true; and after each of them each global timer that is
+-- queued on an online idle CPU is held or woken for, and each pinned or global timer whose wheel
+-- expiry has come has its end, and was handed out in that jiffy where it was handed out
 pub record LawsHold (jobs : Replies) (script : Script) : Type 0 where
   pub to_end : ComesToItsEnd script (times_of (play_turns jobs script))
   pub by_steps : IsPlayedBySteps jobs script

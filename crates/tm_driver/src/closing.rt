@@ -4,13 +4,14 @@ ghost use Rattle.std.specs.Prelude.{◌<◌, OnOk};
 ghost use Rattle.play_rules.specs.Moments.{closing, left};
 ghost use Rattle.play_rules.specs.Parts.{Gains, Prints, lines_told};
 
+use crate::listeners::Listener;
 use crate::telling::Telling;
 use play_rules::Machine;
 use tm_base::{Jiffy, NoMemory, TimerId};
 use tm_report::Line;
 
 /// A line for each timer that is still queued, by ascending timer.
-fn left_over<M: Machine>(machine: &M, telling: &mut Telling) -> Result<(), NoMemory>
+fn left_over<M: Machine, L: Listener>(machine: &M, telling: &mut Telling<L>) -> Result<(), NoMemory>
     ensures prints { OnOk result
         (Prints
         (lines_told (left M.rules (M.rules.timers (M.world machine.now)) 0 (M.world machine.now))
@@ -33,10 +34,10 @@ fn left_over<M: Machine>(machine: &M, telling: &mut Telling) -> Result<(), NoMem
 }
 
 /// The last lines of a play: the timers that are still queued, and the end.
-pub(crate) fn close<M: Machine>(
+pub(crate) fn close<M: Machine, L: Listener>(
     machine: &M,
     end: Jiffy,
-    telling: &mut Telling,
+    telling: &mut Telling<L>,
 ) -> Result<(), NoMemory>
     ensures prints { OnOk result
         (Prints (lines_told (closing M.rules end (M.world machine.now)) (M.world machine.now))

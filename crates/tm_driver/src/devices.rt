@@ -14,7 +14,7 @@ use crate::telling::Telling;
 use deep_idle::{Device, Wakeups, settle};
 use play_rules::Machine;
 use tm_base::{CpuId, CpuSet, Jiffy, NEVER, NoMemory};
-use tm_report::Line;
+use tm_report::{Line, Report};
 
 /// What a device is told of a machine's CPUs.
 #[derive(Drop)]
@@ -87,7 +87,7 @@ pub(crate) fn settle_after<M: Machine>(
     device: &mut Device,
     now: Jiffy,
     before: Jiffy,
-    telling: &mut Telling,
+    telling: &mut Telling<Report>,
 ) -> Result<(), NoMemory>
     ensures device { device.new ≡ after_settle M.rules (M.world machine.now) device.old }
     ensures settled { AreSettled (sleep_until M.rules (M.world machine.now)) device.new }

@@ -10,18 +10,19 @@ ghost use Rattle.play_rules.specs.Phases.{inside, resting};
 ghost use Rattle.tm_driver.specs.Conditions.{AreOnline};
 
 use crate::jobs::drain;
+use crate::listeners::Listener;
 use crate::telling::Telling;
 use job_table::Jobs;
 use play_rules::Machine;
 use tm_base::{Class, CpuId, CpuSet, NoMemory};
 
 /// A look tries a CPU that it named: it leaves it alone, or runs its due global timers.
-fn try_one<M: Machine, J: Jobs>(
+fn try_one<M: Machine, J: Jobs, L: Listener>(
     machine: &mut M,
     jobs: &J,
     cpu: CpuId,
     other: CpuId,
-    telling: &mut Telling,
+    telling: &mut Telling<L>,
 ) -> Result<(), NoMemory>
     requires cpu { cpu.0 < M.rules.cpus (M.world machine.old) }
     requires other { other.0 < M.rules.cpus (M.world machine.old) }
@@ -46,12 +47,12 @@ fn try_one<M: Machine, J: Jobs>(
 
 /// The look of a CPU at its group of a level: it tries one CPU after the other, as long as one is
 /// named.
-fn look<M: Machine, J: Jobs>(
+fn look<M: Machine, J: Jobs, L: Listener>(
     machine: &mut M,
     jobs: &J,
     cpu: CpuId,
     level: u8,
-    telling: &mut Telling,
+    telling: &mut Telling<L>,
 ) -> Result<(), NoMemory>
     requires cpu { cpu.0 < M.rules.cpus (M.world machine.old) }
     requires placed { M.rules.is_placed (M.world machine.old) cpu.0 ≡ true }
@@ -79,11 +80,11 @@ fn look<M: Machine, J: Jobs>(
 }
 
 /// A CPU looks after its groups from the leaf upwards, as long as that is its part.
-fn looks<M: Machine, J: Jobs>(
+fn looks<M: Machine, J: Jobs, L: Listener>(
     machine: &mut M,
     jobs: &J,
     cpu: CpuId,
-    telling: &mut Telling,
+    telling: &mut Telling<L>,
 ) -> Result<(), NoMemory>
     requires cpu { cpu.0 < M.rules.cpus (M.world machine.old) }
     requires fit { M.Fit (inside cpu.0) (M.world machine.old) }
@@ -107,11 +108,11 @@ fn looks<M: Machine, J: Jobs>(
 }
 
 /// A CPU drains its own three bases.
-fn drains<M: Machine, J: Jobs>(
+fn drains<M: Machine, J: Jobs, L: Listener>(
     machine: &mut M,
     jobs: &J,
     cpu: CpuId,
-    telling: &mut Telling,
+    telling: &mut Telling<L>,
 ) -> Result<(), NoMemory>
     requires cpu { cpu.0 < M.rules.cpus (M.world machine.old) }
     requires fit { M.Fit (inside cpu.0) (M.world machine.old) }
@@ -129,11 +130,11 @@ fn drains<M: Machine, J: Jobs>(
 }
 
 /// The interrupt of a CPU: its own due timers, the looks after its groups, and the end.
-fn interrupt<M: Machine, J: Jobs>(
+fn interrupt<M: Machine, J: Jobs, L: Listener>(
     machine: &mut M,
     jobs: &J,
     cpu: CpuId,
-    telling: &mut Telling,
+    telling: &mut Telling<L>,
 ) -> Result<(), NoMemory>
     requires cpu { cpu.0 < M.rules.cpus (M.world machine.old) }
     requires online { M.rules.is_online (M.world machine.old) cpu.0 ≡ true }
@@ -155,12 +156,12 @@ fn interrupt<M: Machine, J: Jobs>(
 }
 
 /// The interrupt of a CPU, where it is due one.
-pub(crate) fn interrupt_if_due<M: Machine, J: Jobs>(
+pub(crate) fn interrupt_if_due<M: Machine, J: Jobs, L: Listener>(
     machine: &mut M,
     jobs: &J,
     due: &CpuSet,
     cpu: CpuId,
-    telling: &mut Telling,
+    telling: &mut Telling<L>,
 ) -> Result<(), NoMemory>
     requires cpu { cpu.0 < M.rules.cpus (M.world machine.old) }
     requires online { AreOnline M.rules (M.world machine.old) due.now }
@@ -182,11 +183,11 @@ pub(crate) fn interrupt_if_due<M: Machine, J: Jobs>(
 }
 
 /// The interrupts of the CPUs that are due one, by ascending number.
-pub(crate) fn interrupts<M: Machine, J: Jobs>(
+pub(crate) fn interrupts<M: Machine, J: Jobs, L: Listener>(
     machine: &mut M,
     jobs: &J,
     due: &CpuSet,
-    telling: &mut Telling,
+    telling: &mut Telling<L>,
 ) -> Result<(), NoMemory>
     requires online { AreOnline M.rules (M.world machine.old) due.now }
     requires fit { M.Fit resting (M.world machine.old) }

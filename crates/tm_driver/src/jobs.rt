@@ -6,6 +6,7 @@ ghost use Rattle.play_rules.specs.Machines.{IsTimerOf, Same, SameOnline};
 ghost use Rattle.play_rules.specs.Phases.{FitsSome, MayDrain, MayRunIn, StaysFit};
 ghost use Rattle.play_rules.specs.Parts.{Gains, Prints};
 
+use crate::listeners::Listener;
 use crate::telling::Telling;
 use job_table::{JobCall, JobReply, Jobs};
 use play_rules::{Arming, Machine};
@@ -85,13 +86,13 @@ fn reply_to<M: Machine, J: Jobs>(
 }
 
 /// The job of an item of CPU `home` runs on CPU `runner`, with its line.
-fn run_job<M: Machine, J: Jobs>(
+fn run_job<M: Machine, J: Jobs, L: Listener>(
     machine: &mut M,
     jobs: &J,
     home: CpuId,
     runner: CpuId,
     item: Item,
-    telling: &mut Telling,
+    telling: &mut Telling<L>,
 ) -> Result<(), NoMemory>
     requires runner { runner.0 < M.rules.cpus (M.world machine.old) }
     requires timer { IsTimerOf (M.rules.timers (M.world machine.old)) item }
@@ -120,13 +121,13 @@ fn run_job<M: Machine, J: Jobs>(
 
 /// The jobs of the items that were taken out of a base of CPU `home` run on CPU `runner`, in that
 /// order.
-fn run_jobs<M: Machine, J: Jobs>(
+fn run_jobs<M: Machine, J: Jobs, L: Listener>(
     machine: &mut M,
     jobs: &J,
     home: CpuId,
     runner: CpuId,
     items: &[Item],
-    telling: &mut Telling,
+    telling: &mut Telling<L>,
 ) -> Result<(), NoMemory>
     requires runner { runner.0 < M.rules.cpus (M.world machine.old) }
     requires timers { All (IsTimerOf (M.rules.timers (M.world machine.old))) items.now }
@@ -148,13 +149,13 @@ fn run_jobs<M: Machine, J: Jobs>(
 }
 
 /// All that is due of a base of CPU `home` is taken out, and then its jobs run on CPU `runner`.
-pub(crate) fn drain<M: Machine, J: Jobs>(
+pub(crate) fn drain<M: Machine, J: Jobs, L: Listener>(
     machine: &mut M,
     jobs: &J,
     home: CpuId,
     class: Class,
     runner: CpuId,
-    telling: &mut Telling,
+    telling: &mut Telling<L>,
 ) -> Result<(), NoMemory>
     requires home { home.0 < M.rules.cpus (M.world machine.old) }
     requires runner { runner.0 < M.rules.cpus (M.world machine.old) }

@@ -12,6 +12,7 @@ mod devices;
 mod following;
 mod interrupts;
 mod jobs;
+mod listeners;
 mod moments;
 mod moving;
 mod numbers;

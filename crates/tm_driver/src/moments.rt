@@ -14,6 +14,7 @@ ghost use Rattle.tm_driver.specs.Outcomes.{work_limit};
 ghost use Rattle.tm_driver.specs.Conditions.{AreOnline, IsMomentInRange, IsPlayable};
 
 use crate::interrupts::{having_interrupt, interrupts};
+use crate::listeners::Listener;
 use crate::moving::{clear_after, covers};
 use crate::operations::operations;
 use crate::outcomes::DriveFault;
@@ -28,10 +29,10 @@ use tm_script::{Moment, Script};
 
 /// What the script has for a moment: its operations, the timers of a CPU that went offline, and the
 /// covers.
-fn scripted<M: Machine>(
+fn scripted<M: Machine, L: Listener>(
     machine: &mut M,
     due: Option<&Moment>,
-    telling: &mut Telling,
+    telling: &mut Telling<L>,
 ) -> Result<(), NoMemory>
     requires in_range { ForSome (option_copied due)
         (IsMomentInRange
@@ -54,12 +55,12 @@ fn scripted<M: Machine>(
 
 /// One moment, of which the CPUs that have an interrupt are known: it may be handed others than
 /// those of the clock.
-pub(crate) fn moment<M: Machine, J: Jobs>(
+pub(crate) fn moment<M: Machine, J: Jobs, L: Listener>(
     machine: &mut M,
     jobs: &J,
     interrupted: &CpuSet,
     due: Option<&Moment>,
-    telling: &mut Telling,
+    telling: &mut Telling<L>,
 ) -> Result<(), NoMemory>
     requires in_range { ForSome (option_copied due)
         (IsMomentInRange
@@ -101,12 +102,12 @@ pub(crate) fn still_to_come(left: &[Moment], now: Jiffy) -> &[Moment]
 }
 
 /// The moment of a time, which the clock comes to.
-fn turn<M: Machine, J: Jobs>(
+fn turn<M: Machine, J: Jobs, L: Listener>(
     machine: &mut M,
     jobs: &J,
     left: &[Moment],
     now: Jiffy,
-    telling: &mut Telling,
+    telling: &mut Telling<L>,
 ) -> Result<(), NoMemory>
     requires not_back { M.rules.clock (M.world machine.old) ≤ now }
     requires in_time { now < SCRIPT_TIME_LIMIT }
@@ -200,11 +201,11 @@ pub(crate) fn moment_after<M: Machine>(machine: &M, left: &[Moment], end: Jiffy)
 /// The moments of a script from jiffy 0 to its end, and how many they are. Where the work has
 /// reached the limit after a moment that isn't the last, the play is broken off there with that
 /// count.
-pub(crate) fn moments<M: Machine, J: Jobs>(
+pub(crate) fn moments<M: Machine, J: Jobs, L: Listener>(
     machine: &mut M,
     jobs: &J,
     script: &Script,
-    telling: &mut Telling,
+    telling: &mut Telling<L>,
 ) -> Result<u32, DriveFault>
     requires start { M.rules.clock (M.world machine.old) ≡ 0 }
     requires playable { IsPlayable

@@ -9,6 +9,7 @@ ghost use Rattle.play_rules.specs.Parts.{Gains, Prints};
 ghost use Rattle.play_rules.specs.Phases.{IsUp, resting};
 ghost use Rattle.tm_driver.specs.Conditions.{IsOpInRange};
 
+use crate::listeners::Listener;
 use crate::telling::Telling;
 use play_rules::Machine;
 use tm_base::{CpuId, NoMemory};
@@ -16,11 +17,11 @@ use tm_report::Line;
 use tm_script::{Op, What};
 
 /// The timers of CPU `from` move to CPU `to`, first to last, each with its line.
-fn moves<M: Machine>(
+fn moves<M: Machine, L: Listener>(
     machine: &mut M,
     from: CpuId,
     to: CpuId,
-    telling: &mut Telling,
+    telling: &mut Telling<L>,
 ) -> Result<(), NoMemory>
     requires from { from.0 < M.rules.cpus (M.world machine.old) }
     requires to { to.0 < M.rules.cpus (M.world machine.old) }
@@ -53,7 +54,11 @@ fn moves<M: Machine>(
 }
 
 /// What is queued on a CPU that is offline moves to the controlling CPU.
-fn clear<M: Machine>(machine: &mut M, from: CpuId, telling: &mut Telling) -> Result<(), NoMemory>
+fn clear<M: Machine, L: Listener>(
+    machine: &mut M,
+    from: CpuId,
+    telling: &mut Telling<L>,
+) -> Result<(), NoMemory>
     requires from { from.0 < M.rules.cpus (M.world machine.old) }
     requires fit { M.Fit resting (M.world machine.old) }
     ensures prints { OnOk result
@@ -99,10 +104,10 @@ fn leaver(ops: &[Op], cpus: u16, timers: u16) -> Option<CpuId>
 }
 
 /// Behind the operations of a moment: the timers of the CPU that went offline move.
-pub(crate) fn clear_after<M: Machine>(
+pub(crate) fn clear_after<M: Machine, L: Listener>(
     machine: &mut M,
     ops: &[Op],
-    telling: &mut Telling,
+    telling: &mut Telling<L>,
 ) -> Result<(), NoMemory>
     requires in_range { All (IsOpInRange
         (M.rules.cpus (M.world machine.old)) (M.rules.timers (M.world machine.old))) ops.now }
@@ -121,7 +126,10 @@ pub(crate) fn clear_after<M: Machine>(
 }
 
 /// Who answers for each idle CPU that has a global timer.
-pub(crate) fn covers<M: Machine>(machine: &M, telling: &mut Telling) -> Result<(), NoMemory>
+pub(crate) fn covers<M: Machine, L: Listener>(
+    machine: &M,
+    telling: &mut Telling<L>,
+) -> Result<(), NoMemory>
     requires fit { M.Fit resting (M.world machine.now) }
     ensures prints { OnOk result
         (Prints (covers M.rules (M.world machine.now))

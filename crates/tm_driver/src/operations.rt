@@ -9,6 +9,7 @@ ghost use Rattle.play_rules.specs.Parts.{Gains, Prints};
 ghost use Rattle.play_rules.specs.Phases.{after_offline, resting};
 ghost use Rattle.tm_driver.specs.Conditions.{IsOpInRange};
 
+use crate::listeners::Listener;
 use crate::telling::Telling;
 use play_rules::{Arming, Cancelling, Machine};
 use tm_base::{CpuId, Jiffy, NoMemory, OpFault};
@@ -109,11 +110,11 @@ fn refused_line(fault: OpFault, now: Jiffy, line: u32, cpu: CpuId) -> Line
 }
 
 /// A CPU arms a timer that is queued nowhere.
-fn arm<M: Machine>(
+fn arm<M: Machine, L: Listener>(
     machine: &mut M,
     cpu: CpuId,
     arming: Arming,
-    telling: &mut Telling,
+    telling: &mut Telling<L>,
 ) -> Result<(), NoMemory>
     requires cpu { cpu.0 < M.rules.cpus (M.world machine.old) }
     requires timer { arming.timer.0 < M.rules.timers (M.world machine.old) }
@@ -140,10 +141,10 @@ fn arm<M: Machine>(
 }
 
 /// A CPU cancels a timer, wherever it is queued.
-fn cancel<M: Machine>(
+fn cancel<M: Machine, L: Listener>(
     machine: &mut M,
     cancelling: Cancelling,
-    telling: &mut Telling,
+    telling: &mut Telling<L>,
 ) -> Result<(), NoMemory>
     requires cpu { cancelling.by.0 < M.rules.cpus (M.world machine.old) }
     requires timer { cancelling.timer.0 < M.rules.timers (M.world machine.old) }
@@ -171,7 +172,11 @@ fn cancel<M: Machine>(
 }
 
 /// A CPU tries to go idle.
-fn idle<M: Machine>(machine: &mut M, cpu: CpuId, telling: &mut Telling) -> Result<(), NoMemory>
+fn idle<M: Machine, L: Listener>(
+    machine: &mut M,
+    cpu: CpuId,
+    telling: &mut Telling<L>,
+) -> Result<(), NoMemory>
     requires cpu { cpu.0 < M.rules.cpus (M.world machine.old) }
     requires allowed { not_active M.rules (M.world machine.old) cpu.0 ≡ None }
     requires fit { M.Fit resting (M.world machine.old) }
@@ -193,7 +198,11 @@ fn idle<M: Machine>(machine: &mut M, cpu: CpuId, telling: &mut Telling) -> Resul
 }
 
 /// An idle CPU wakes.
-fn wake<M: Machine>(machine: &mut M, cpu: CpuId, telling: &mut Telling) -> Result<(), NoMemory>
+fn wake<M: Machine, L: Listener>(
+    machine: &mut M,
+    cpu: CpuId,
+    telling: &mut Telling<L>,
+) -> Result<(), NoMemory>
     requires cpu { cpu.0 < M.rules.cpus (M.world machine.old) }
     requires allowed { not_idle M.rules (M.world machine.old) cpu.0 ≡ None }
     requires fit { M.Fit resting (M.world machine.old) }
@@ -210,7 +219,11 @@ fn wake<M: Machine>(machine: &mut M, cpu: CpuId, telling: &mut Telling) -> Resul
 }
 
 /// An offline CPU comes online.
-fn online<M: Machine>(machine: &mut M, cpu: CpuId, telling: &mut Telling) -> Result<(), NoMemory>
+fn online<M: Machine, L: Listener>(
+    machine: &mut M,
+    cpu: CpuId,
+    telling: &mut Telling<L>,
+) -> Result<(), NoMemory>
     requires cpu { cpu.0 < M.rules.cpus (M.world machine.old) }
     requires offline { M.rules.is_online (M.world machine.old) cpu.0 ≡ false }
     requires fit { M.Fit resting (M.world machine.old) }
@@ -227,7 +240,11 @@ fn online<M: Machine>(machine: &mut M, cpu: CpuId, telling: &mut Telling) -> Res
 }
 
 /// A CPU that went offline hands on its duty, where it has one.
-fn hand_on<M: Machine>(machine: &mut M, cpu: CpuId, telling: &mut Telling) -> Result<(), NoMemory>
+fn hand_on<M: Machine, L: Listener>(
+    machine: &mut M,
+    cpu: CpuId,
+    telling: &mut Telling<L>,
+) -> Result<(), NoMemory>
     requires cpu { cpu.0 < M.rules.cpus (M.world machine.old) }
     requires missed { last_online M.rules (M.world machine.old) cpu.0 ≡ None }
     requires fit { M.Fit
@@ -251,7 +268,11 @@ fn hand_on<M: Machine>(machine: &mut M, cpu: CpuId, telling: &mut Telling) -> Re
 }
 
 /// A CPU goes offline.
-fn offline<M: Machine>(machine: &mut M, cpu: CpuId, telling: &mut Telling) -> Result<(), NoMemory>
+fn offline<M: Machine, L: Listener>(
+    machine: &mut M,
+    cpu: CpuId,
+    telling: &mut Telling<L>,
+) -> Result<(), NoMemory>
     requires cpu { cpu.0 < M.rules.cpus (M.world machine.old) }
     requires allowed { not_active M.rules (M.world machine.old) cpu.0 ≡ None }
     requires missed { last_online M.rules (M.world machine.old) cpu.0 ≡ None }
@@ -270,7 +291,11 @@ fn offline<M: Machine>(machine: &mut M, cpu: CpuId, telling: &mut Telling) -> Re
 }
 
 /// An operation that isn't refused.
-fn done<M: Machine>(machine: &mut M, op: &Op, telling: &mut Telling) -> Result<(), NoMemory>
+fn done<M: Machine, L: Listener>(
+    machine: &mut M,
+    op: &Op,
+    telling: &mut Telling<L>,
+) -> Result<(), NoMemory>
     requires in_range { IsOpInRange
         (M.rules.cpus (M.world machine.old)) (M.rules.timers (M.world machine.old)) op.now }
     requires allowed { refusal M.rules op.now.what op.now.cpu.0 (M.world machine.old) ≡ None }
@@ -321,10 +346,10 @@ fn done<M: Machine>(machine: &mut M, op: &Op, telling: &mut Telling) -> Result<(
 }
 
 /// One operation of a script: it is done, or refused.
-pub(crate) fn operation<M: Machine>(
+pub(crate) fn operation<M: Machine, L: Listener>(
     machine: &mut M,
     op: &Op,
-    telling: &mut Telling,
+    telling: &mut Telling<L>,
 ) -> Result<(), NoMemory>
     requires in_range { IsOpInRange
         (M.rules.cpus (M.world machine.old)) (M.rules.timers (M.world machine.old)) op.now }
@@ -343,10 +368,10 @@ pub(crate) fn operation<M: Machine>(
 }
 
 /// The operations of a moment, in line order.
-pub(crate) fn operations<M: Machine>(
+pub(crate) fn operations<M: Machine, L: Listener>(
     machine: &mut M,
     ops: &[Op],
-    telling: &mut Telling,
+    telling: &mut Telling<L>,
 ) -> Result<(), NoMemory>
     requires in_range { All (IsOpInRange
         (M.rules.cpus (M.world machine.old)) (M.rules.timers (M.world machine.old))) ops.now }

@@ -28,7 +28,7 @@ use tm_report::Report;
 use tm_script::{Moment, Op};
 
 /// A report for each of so many CPUs, in which nothing is told yet.
-fn nobody(alloc: Global, cpus: u16) -> Result<Vec<Telling>, NoMemory>
+fn nobody(alloc: Global, cpus: u16) -> Result<Vec<Telling<Report>>, NoMemory>
     ensures { IfOk result (λ own. ToldApart cpus own.items [] 0) }
 {
     let mut own = Vec::with_capacity(alloc, usize::from(cpus))?;
@@ -44,7 +44,7 @@ fn interrupt_apart<M: Machine, J: Jobs>(
     jobs: &J,
     due: &CpuSet,
     cpu: CpuId,
-    own: &mut Vec<Telling>,
+    own: &mut Vec<Telling<Report>>,
 ) -> Result<(), NoMemory>
     requires count { length own.old.items ≡ M.rules.cpus (M.world machine.old) }
     requires cpu { cpu.0 < M.rules.cpus (M.world machine.old) }
@@ -67,7 +67,7 @@ fn interrupts_apart<M: Machine, J: Jobs>(
     machine: &mut M,
     jobs: &J,
     due: &CpuSet,
-    own: &mut Vec<Telling>,
+    own: &mut Vec<Telling<Report>>,
 ) -> Result<(), NoMemory>
     requires count { length own.old.items ≡ M.rules.cpus (M.world machine.old) }
     requires online { AreOnline M.rules (M.world machine.old) due.now }
@@ -90,7 +90,7 @@ fn interrupts_apart<M: Machine, J: Jobs>(
 fn operation_apart<M: Machine>(
     machine: &mut M,
     op: &Op,
-    own: &mut Vec<Telling>,
+    own: &mut Vec<Telling<Report>>,
 ) -> Result<(), NoMemory>
     requires count { length own.old.items ≡ M.rules.cpus (M.world machine.old) }
     requires in_range { IsOpInRange
@@ -110,7 +110,7 @@ fn operation_apart<M: Machine>(
 fn operations_apart<M: Machine>(
     machine: &mut M,
     ops: &[Op],
-    own: &mut Vec<Telling>,
+    own: &mut Vec<Telling<Report>>,
 ) -> Result<(), NoMemory>
     requires count { length own.old.items ≡ M.rules.cpus (M.world machine.old) }
     requires in_range { All (IsOpInRange
@@ -129,7 +129,7 @@ fn operations_apart<M: Machine>(
 }
 
 /// The reports of all CPUs, one behind the other, come behind a report.
-fn gather(own: &[Telling], telling: &mut Telling) -> Result<(), NoMemory>
+fn gather(own: &[Telling<Report>], telling: &mut Telling<Report>) -> Result<(), NoMemory>
     ensures text { OnOk result (telling.new.text
         ≡ telling.old.text ++ lists.flat_map (λ (t : Progress). t.text) own.now) }
     ensures work { OnOk result (counted telling.new.work ≡ counted
@@ -150,7 +150,7 @@ fn done_apart<M: Machine, J: Jobs>(
     jobs: &J,
     due: &CpuSet,
     ops: &[Op],
-    telling: &mut Telling,
+    telling: &mut Telling<Report>,
 ) -> Result<(), NoMemory>
     requires in_range { All (IsOpInRange
         (M.rules.cpus (M.world machine.old)) (M.rules.timers (M.world machine.old))) ops.now }
@@ -180,7 +180,7 @@ pub(crate) fn plain_moment<M: Machine, J: Jobs>(
     jobs: &J,
     due: &CpuSet,
     m: Option<&Moment>,
-    telling: &mut Telling,
+    telling: &mut Telling<Report>,
 ) -> Result<(), NoMemory>
     requires in_range { ForSome (option_copied m)
         (IsMomentInRange

@@ -1,14 +1,15 @@
 //! Playing a script from its start to its end.
 
-ghost use Rattle.std.specs.Prelude.{◌≡◌, IfErr, IfOk, OnOk, length};
+ghost use Rattle.std.specs.Prelude.{◌≡◌, [], IfErr, IfOk, OnOk, length};
 ghost use Rattle.play_rules.specs.Jobs.{first_unknown_job, unknown_in_ops, unknown_job_of};
 ghost use Rattle.play_rules.specs.Parts.{Gains, counted};
 ghost use Rattle.play_rules.specs.Phases.{resting};
 ghost use Rattle.tm_driver.specs.Conditions.{IsPlayable};
-ghost use Rattle.tm_driver.specs.Outcomes.{EndsEarly, PlaysWhole, SaysFault, TellsAll};
+ghost use Rattle.tm_driver.specs.Outcomes.{EndsEarly, ForSomeText, PlaysWhole, SaysFault, TellsAll};
 ghost use Rattle.tm_driver.specs.Outcomes.{script_turns, work_limit};
 
 use crate::closing::close;
+use crate::listeners::{Listener, NoReport};
 use crate::moments::moments;
 use crate::outcomes::{Counts, DriveFault};
 use crate::telling::Telling;
@@ -57,11 +58,11 @@ pub(crate) fn first_unknown_job<J: Jobs>(script: &Script, jobs: &J) -> Option<Un
 }
 
 /// The moments of a script, of which there are so many, and what is left at its end.
-fn play_known<M: Machine, J: Jobs>(
+fn play_known<M: Machine, J: Jobs, L: Listener>(
     machine: &mut M,
     script: &Script,
     jobs: &J,
-    telling: &mut Telling,
+    telling: &mut Telling<L>,
 ) -> Result<u32, DriveFault>
     requires start { M.rules.clock (M.world machine.old) ≡ 0 }
     requires playable { IsPlayable
@@ -124,4 +125,32 @@ pub fn play_on<M: Machine, J: Jobs>(
         }
         Err(fault) => Err(fault),
     }
+}
+
+/// Plays a script as `play_on` does, but with no report.
+pub(crate) fn play_unheard<M: Machine, J: Jobs>(
+    machine: &mut M,
+    script: &Script,
+    jobs: &J,
+) -> Result<Counts, DriveFault>
+    requires start { M.rules.clock (M.world machine.old) ≡ 0 }
+    requires playable { IsPlayable
+        (M.rules.cpus (M.world machine.old)) (M.rules.timers (M.world machine.old)) script.now }
+    requires fit { M.Fit resting (M.world machine.old) }
+    ensures whole { IfOk result (λ counts. ForSomeText (λ new.
+        PlaysWhole M.rules (J.replies jobs.now) (J.count jobs.now) script.now (M.world machine.old)
+        [] new counts (M.world machine.new))) }
+    ensures fault { IfErr result (λ fault. ForSomeText (λ new.
+        SaysFault M.rules (J.replies jobs.now) (J.count jobs.now) script.now
+        (M.world machine.old) fault [] new)) }
+{
+    if let Some(UnknownJob { line, job }) = first_unknown_job(script, jobs) {
+        return Err(DriveFault::BadJob { line, job });
+    }
+    let mut telling = Telling::new(NoReport::new());
+    let moments = play_known(machine, script, jobs, &mut telling)?;
+    Ok(Counts {
+        moments,
+        lines: telling.tally(),
+    })
 }

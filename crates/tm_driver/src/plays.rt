@@ -1,6 +1,6 @@
 //! Playing a script on the core.
 
-ghost use Rattle.std.specs.Prelude.{◌≡◌, ◌≤◌, IfErr, IfOk, OnErr, OnOk};
+ghost use Rattle.std.specs.Prelude.{◌≡◌, ◌≤◌, [], IfErr, IfOk, OnErr, OnOk};
 ghost use Rattle.tm_script.specs.Grammar.{IsScript};
 ghost use Rattle.play_rules.specs.Moments.{moment};
 ghost use Rattle.play_rules.specs.Play.{plain_rules, play_start};
@@ -10,14 +10,14 @@ ghost use Rattle.step_play.specs.SamePlay.{core_start};
 ghost use Rattle.tm_driver.specs.Conditions.{AreOnline};
 ghost use Rattle.tm_driver.specs.Following.{moment_of};
 ghost use Rattle.tm_driver.specs.OnCore.{HasMachineOf, core_end};
-ghost use Rattle.tm_driver.specs.Outcomes.{PlaysMoment, PlaysWhole};
+ghost use Rattle.tm_driver.specs.Outcomes.{ForSomeText, PlaysMoment, PlaysWhole};
 ghost use Rattle.tm_driver.specs.Plays.{BreaksPlay, BreaksSummary, LawsHold, LawsHoldOfEach};
 ghost use Rattle.tm_driver.specs.Plays.{PlaysToEnd, Summarizes, summary_with};
 
 use crate::moments::moment_by_itself;
 use crate::numbers::Summary;
 use crate::outcomes::{Counts, DriveFault};
-use crate::playing::play_on;
+use crate::playing::{play_on, play_unheard};
 use crate::starting::start_core;
 use core_facts::law_settled as law_core_settled;
 use core_machine::{Player, RunPlayer};
@@ -192,7 +192,29 @@ fn summary_with(end: Jiffy, counts: Counts) -> Summary
     }
 }
 
-/// Plays a script as `play` does, with the same refusals, and answers the numbers of its play.
+/// Plays a script on the core of its start, by steps, with no report.
+fn unheard_by_steps<J: Jobs>(
+    player: &mut Player<WheelBase>,
+    script: &Script,
+    jobs: &J,
+) -> Result<Counts, DriveFault>
+    requires script { IsScript script.now }
+    requires start { player.old ≡ core_start script.now }
+    requires in_play { InPlay resting player.old }
+    ensures whole { IfOk result (λ counts. ForSomeText (λ new.
+        PlaysWhole plain_rules (J.replies jobs.now) (J.count jobs.now) script.now
+        (play_start script.now) [] new counts (state_of player.new))) }
+    ensures laws { LawsHold (J.replies jobs.now) script.now }
+    ensures fault { IfErr result (λ fault. ForSomeText (λ new.
+        BreaksPlay (J.replies jobs.now) (J.count jobs.now) script.now fault [] new)) }
+{
+    law_plays();
+    law_steps_are_play();
+    play_unheard(player, script, jobs)
+}
+
+/// Plays a script as `play` does, with the same refusals, and answers the numbers of its play. No
+/// text of a line is made, so memory is wanting only where the core wants it.
 pub fn summary<J: Jobs>(alloc: Global, script: &Script, jobs: &J) -> Result<Summary, DriveFault>
     requires { IsScript script.now }
     ensures whole { IfOk result
@@ -201,7 +223,6 @@ pub fn summary<J: Jobs>(alloc: Global, script: &Script, jobs: &J) -> Result<Summ
         (BreaksSummary (J.replies jobs.now) (J.count jobs.now) script.now) }
 {
     let mut player = started(alloc, script)?;
-    let mut report = Report::new(alloc);
-    let counts = play_by_steps(alloc, &mut player, script, jobs, &mut report)?;
+    let counts = unheard_by_steps(&mut player, script, jobs)?;
     Ok(summary_with(script.end, counts))
 }

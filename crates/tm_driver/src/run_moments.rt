@@ -4,7 +4,8 @@ ghost use Rattle.std.specs.Prelude.{◌≡◌, ◌<◌, ◌≤◌, ◌+◌, ◌+
 ghost use Rattle.std.specs.Prelude.{[], ◌∷◌, false, length};
 ghost use Rattle.std.specs.List.{list_any};
 ghost use Rattle.std.specs.Option.{ForSome, option_copied};
-ghost use Rattle.tm_base.specs.declared.limits.TheConstants.{CPU_SET_SIZE, MOST_OPS, SCRIPT_TIME_LIMIT};
+ghost use Rattle.tm_base.specs.declared.limits.TheConstants.{CPU_SET_SIZE, MOST_OPS};
+ghost use Rattle.tm_base.specs.declared.limits.TheConstants.{SCRIPT_TIME_LIMIT};
 ghost use Rattle.tm_report.specs.Lines.{line_text, report_text};
 ghost use Rattle.play_rules.specs.Machines.{SameBuild};
 ghost use Rattle.play_rules.specs.Parts.{Gains, counted};
@@ -32,7 +33,7 @@ use std::sync::Wait;
 use std::thread::Threads;
 use thread_rounds::round;
 use tm_base::{CpuId, CpuSet, Gate, Jiffy, NoMemory};
-use tm_report::Line;
+use tm_report::{Line, Report};
 use tm_script::{Moment, Op, Script, What};
 use wheel_base::WheelBase;
 
@@ -86,7 +87,7 @@ fn is_run(line: &Line) -> bool
 }
 
 /// Tells a line of a round, and counts it where it tells of a timer that ran.
-fn tell_one(line: &Line, telling: &mut Telling) -> Result<(), NoMemory>
+fn tell_one(line: &Line, telling: &mut Telling<Report>) -> Result<(), NoMemory>
     ensures text { OnOk result (telling.new.text ≡ telling.old.text ++ line_text line.now) }
     ensures work { OnOk result
         (telling.new.work ≡ counted (telling.old.work + runs_told (line.now ∷ []))) }
@@ -97,7 +98,7 @@ fn tell_one(line: &Line, telling: &mut Telling) -> Result<(), NoMemory>
 }
 
 /// Tells the lines of a round, and counts the timers that ran.
-fn tell_all(lines: &[Line], telling: &mut Telling) -> Result<(), NoMemory>
+fn tell_all(lines: &[Line], telling: &mut Telling<Report>) -> Result<(), NoMemory>
     ensures text { OnOk result (telling.new.text ≡ telling.old.text ++ report_text lines.now) }
     ensures work { OnOk result
         (counted telling.new.work ≡ counted (telling.old.work + runs_told lines.now)) }
@@ -113,7 +114,7 @@ fn tell_all(lines: &[Line], telling: &mut Telling) -> Result<(), NoMemory>
 fn told_covers(
     player: &RunPlayer<WheelBase>,
     m: Option<&Moment>,
-    telling: &mut Telling,
+    telling: &mut Telling<Report>,
 ) -> Result<(), NoMemory>
     requires fit { InRun resting player.now }
     ensures text { OnOk result (telling.new.text ≡
@@ -136,7 +137,7 @@ fn threaded_moment<J: Jobs + Sync, G: Gate + Sync, R: Threads + Wait + Sync>(
     gate: &G,
     due: &CpuSet,
     m: Option<&Moment>,
-    telling: &mut Telling,
+    telling: &mut Telling<Report>,
 ) -> Result<RunPlayer<WheelBase>, NoMemory>
     requires in_range { ForSome (option_copied m)
         (IsRunMoment (length player.cpus) player.timers) }
@@ -169,7 +170,7 @@ fn run_turn<J: Jobs + Sync, G: Gate + Sync, R: Threads + Wait + Sync>(
     gate: &G,
     left: &[Moment],
     now: Jiffy,
-    telling: &mut Telling,
+    telling: &mut Telling<Report>,
 ) -> Result<RunPlayer<WheelBase>, NoMemory>
     requires not_back { player.clock ≤ now }
     requires in_time { now < SCRIPT_TIME_LIMIT }
@@ -201,7 +202,7 @@ pub(crate) fn run_moments<J: Jobs + Sync, G: Gate + Sync, R: Threads + Wait + Sy
     jobs: &J,
     gate: &G,
     script: &Script,
-    telling: &mut Telling,
+    telling: &mut Telling<Report>,
 ) -> Result<RunPlayer<WheelBase>, DriveFault>
     requires start { player ≡ core_start script.now }
     requires playable { IsPlayable (length player.cpus) player.timers script.now }

@@ -46,7 +46,7 @@ fn run_known<J: Jobs + Sync, G: Gate + Sync, R: Threads + Wait + Sync>(
     script: &Script,
     jobs: &J,
     gate: &G,
-    telling: &mut Telling,
+    telling: &mut Telling<Report>,
 ) -> Result<RunPlayer<WheelBase>, DriveFault>
     requires start { player ≡ core_start script.now }
     requires playable { IsPlayable (length player.cpus) player.timers script.now }

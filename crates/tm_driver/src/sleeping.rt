@@ -36,7 +36,7 @@ fn deep_turn<M: Machine, J: Jobs>(
     jobs: &J,
     left: &[Moment],
     now: Jiffy,
-    telling: &mut Telling,
+    telling: &mut Telling<Report>,
 ) -> Result<(), NoMemory>
     requires by_wakeups { ByWakeups M.rules }
     requires not_back { M.rules.clock (M.world machine.old) ≤ now }
@@ -74,7 +74,7 @@ fn deep_moments<M: Machine, J: Jobs>(
     device: &mut Device,
     jobs: &J,
     script: &Script,
-    telling: &mut Telling,
+    telling: &mut Telling<Report>,
 ) -> Result<(), DriveFault>
     requires by_wakeups { ByWakeups M.rules }
     requires start { M.rules.clock (M.world machine.old) ≡ 0 }
@@ -118,7 +118,7 @@ fn deep_known<M: Machine, J: Jobs>(
     machine: &mut M,
     script: &Script,
     jobs: &J,
-    telling: &mut Telling,
+    telling: &mut Telling<Report>,
 ) -> Result<(), DriveFault>
     requires by_wakeups { ByWakeups M.rules }
     requires start { M.rules.clock (M.world machine.old) ≡ 0 }

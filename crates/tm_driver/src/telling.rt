@@ -1,30 +1,31 @@
-//! A report as it is told: its lines, their tally, and the work that was done for it.
+//! What is told of a play: its lines, their tally, and the work that was done for it.
 
 ghost use Rattle.std.specs.Prelude.{◌≡◌, ◌+◌, ◌++◌, OnOk, OnErr};
 ghost use Rattle.play_rules.specs.Parts.{counted};
 ghost use Rattle.play_rules.specs.Tallies.{no_lines, tallied, tallied_run};
 ghost use Rattle.tm_report.specs.Lines.{line_text};
 
+use crate::listeners::Listener;
 use play_rules::Tally;
 use std::marker::Model;
 use tm_base::{CpuId, NoMemory};
 use tm_report::{Line, Report, ShownReply};
 
-/// A report with the tally of its lines and the count of work, both in numbers that stand still at
-/// 2^32 - 1.
+/// Whoever hears the lines of a play, with the tally of these and the count of work, both in
+/// numbers that stand still at 2^32 - 1.
 #[derive(Drop)]
-pub(crate) struct Telling {
-    report: Report,
+pub(crate) struct Telling<L: Listener> {
+    listener: L,
     tally: Tally,
     work: u32,
 }
 
-impl Model for Telling {
+impl<L: Listener> Model for Telling<L> {
     ghost use Rattle.play_rules.specs.Parts.{Progress};
 
     ghost Value = { Progress };
 
-    ghost view = { λ t. record { text = t.report; tally = t.tally; work = t.work } };
+    ghost view = { λ t. record { text = L.heard t.listener; tally = t.tally; work = t.work } };
 }
 
 /// The tally with a timer more that ran.
@@ -95,15 +96,15 @@ fn tallied(tally: Tally, line: &Line) -> Tally
     }
 }
 
-impl Telling {
-    /// A report that goes on from a text, with nothing tallied and no work done.
-    pub(crate) fn new(report: Report) -> Telling
-        ensures text { result.text ≡ report }
+impl<L: Listener> Telling<L> {
+    /// The lines go on from what was heard, with nothing tallied and no work done.
+    pub(crate) fn new(listener: L) -> Telling<L>
+        ensures text { result.text ≡ L.heard listener }
         ensures tally { result.tally ≡ no_lines }
         ensures work { result.work ≡ 0 }
     {
         Telling {
-            report,
+            listener,
             tally: Tally {
                 runs: 0,
                 remote: 0,
@@ -126,22 +127,8 @@ impl Telling {
         ensures work { self.new.work ≡ self.old.work }
         ensures err { OnErr result (self.new ≡ self.old) }
     {
-        self.report.push(line)?;
+        self.listener.hear(line)?;
         self.tally = tallied(self.tally, line);
-        Ok(())
-    }
-
-    /// Tells the lines of another report, with its work; they aren't tallied. Want of memory leaves
-    /// all as it was.
-    pub(crate) fn append(&mut self, other: &Telling) -> Result<(), NoMemory>
-        ensures text { OnOk result (self.new.text ≡ self.old.text ++ other.now.text) }
-        ensures tally { self.new.tally ≡ self.old.tally }
-        ensures work { OnOk result
-            (self.new.work ≡ counted (self.old.work + other.now.work)) }
-        ensures err { OnErr result (self.new ≡ self.old) }
-    {
-        self.report.append(&other.report)?;
-        self.work = self.work.saturating_add(other.work);
         Ok(())
     }
 
@@ -176,11 +163,27 @@ impl Telling {
     {
         self.tally
     }
+}
+
+impl Telling<Report> {
+    /// Tells the lines of another report, with its work; they aren't tallied. Want of memory leaves
+    /// all as it was.
+    pub(crate) fn append(&mut self, other: &Telling<Report>) -> Result<(), NoMemory>
+        ensures text { OnOk result (self.new.text ≡ self.old.text ++ other.now.text) }
+        ensures tally { self.new.tally ≡ self.old.tally }
+        ensures work { OnOk result
+            (self.new.work ≡ counted (self.old.work + other.now.work)) }
+        ensures err { OnErr result (self.new ≡ self.old) }
+    {
+        self.listener.append(&other.listener)?;
+        self.work = self.work.saturating_add(other.work);
+        Ok(())
+    }
 
     /// The report.
     pub(crate) fn into_report(self) -> Report
         ensures { result ≡ self.text }
     {
-        self.report
+        self.listener
     }
 }

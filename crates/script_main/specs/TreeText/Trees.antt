@@ -20,13 +20,13 @@ standing t g (Some p) =
     codes " parent " ++ group_name t p ++ codes " bit " ++ decimal (bit_of t (of_group g))
 
 -- the line of a group: its name, where it stands, and how many children it has
-unfoldable pub group_line : Shape → ℕ → List ℕ
+abbrev pub group_line : Shape → ℕ → List ℕ
 group_line t g =
     codes "group " ++ group_name t g ++ standing t g (parent_of t (of_group g))
     ++ codes " children " ++ decimal (child_count_of t g)
 
 -- the line of a tree: how many levels and groups it has
-unfoldable pub measures_line : Shape → List ℕ
+abbrev pub measures_line : Shape → List ℕ
 measures_line t =
     codes "levels " ++ decimal (level_count_of t) ++ codes " groups " ++ decimal (group_count_of t)
 

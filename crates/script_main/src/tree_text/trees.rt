@@ -6,8 +6,8 @@ ghost use Rattle.std.specs.List.{flat_map};
 ghost use Rattle.text_words.specs.Words.{ended};
 ghost use Rattle.tm_base.specs.Children.{of_group};
 ghost use Rattle.tree_plan.specs.Paths.{group_count_of, parent_of};
-ghost use Rattle.script_main.specs.TreeText.Trees.{group_line, group_lines, group_name, measures_line};
-ghost use Rattle.script_main.specs.TreeText.Trees.{standing, tree_text};
+ghost use Rattle.script_main.specs.TreeText.Trees.{group_line, group_lines, group_name};
+ghost use Rattle.script_main.specs.TreeText.Trees.{measures_line, standing, tree_text};
 
 use std::alloc::Global;
 use text_words::{push_bytes, push_number};
@@ -25,7 +25,7 @@ fn push_count(text: &mut Vec<u8>, before: &[u8], n: u64) -> Result<(), NoMemory>
 }
 
 /// The line of the measures.
-#[tactic(auto, unfolding(crate::specs::TreeText::Trees::measures_line), using(std::proofs::lemmas::List::append_assoc))]
+#[tactic(auto, using(std::proofs::lemmas::List::append_assoc))]
 fn push_measures(text: &mut Vec<u8>, tree: &Tree) -> Result<(), NoMemory>
     ensures { OnOk result (text.new.items ≡ text.old.items ++ ended (measures_line tree.now)) }
 {
@@ -78,7 +78,7 @@ fn push_standing(text: &mut Vec<u8>, tree: &Tree, g: GroupId) -> Result<(), NoMe
 }
 
 /// The line of a group.
-#[tactic(auto, unfolding(crate::specs::TreeText::Trees::group_line), using(std::proofs::lemmas::List::append_assoc))]
+#[tactic(auto, using(std::proofs::lemmas::List::append_assoc))]
 fn push_group_line(text: &mut Vec<u8>, tree: &Tree, g: GroupId) -> Result<(), NoMemory>
     requires { g.0 < group_count_of tree.now }
     ensures { OnOk result (text.new.items ≡ text.old.items ++ ended (group_line tree.now g.0)) }
