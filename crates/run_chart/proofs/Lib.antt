@@ -1,3 +1,5 @@
 mod Joined
+mod NewsLaws
+mod NoteLaws
 mod Places
 mod States

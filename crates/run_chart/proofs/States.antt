@@ -81,14 +81,14 @@ state_at c line s e = by_change (change_in line) refl e
     by_change (Some change) is e = change_at line change is
 
 -- where a line stands behind the one before it
-point_at : (w : Window) (before : ℕ) (p : Point) (at : Option ℕ) (t : ℕ) → w.from ≤ w.to →
+pub point_at : (w : Window) (before : ℕ) (p : Point) (at : Option ℕ) (t : ℕ) → w.from ≤ w.to →
     p.at ≡ place w before → before ≤ t → at ≡ Some t → at_behind w p.at at ≡ place w t
 point_at w before p at t fits here up is =
     ap (at_behind w p.at) is
     ∙ later_is p.at (place w t) (let grows = place_up w fits before t up in omega (arith, here, grows))
 
 -- a line's point, and the lines behind it
-next_place : (w : Window) (before : ℕ) (p : Point) (line : Line) (rest : List Line) →
+pub next_place : (w : Window) (before : ℕ) (p : Point) (line : Line) (rest : List Line) →
     w.from ≤ w.to → p.at ≡ place w before → Ascends before (line ∷ rest) →
     (b : ℕ) × (next_at w p.at line ≡ place w b) × Ascends b rest
 next_place w before p line rest fits here ascends = by_time (time_of line) refl ascends
@@ -285,7 +285,7 @@ states_right w c ls j ascends low high =
 
 -- ---- arrows
 
-le_of : (m n : ℕ) → nat_le m n ≡ true → m ≤ n
+pub le_of : (m n : ℕ) → nat_le m n ≡ true → m ≤ n
 le_of m n e = grind (arith, nat_tests)
 
 module _ (w : Window) (fits : w.from ≤ w.to) where

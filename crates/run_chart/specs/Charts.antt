@@ -12,8 +12,9 @@ use Rattle.run_chart.specs.declared.model.Window.{Window}
 use Rattle.run_chart.specs.Said.{cpu_in, higher, time_of}
 use Rattle.run_chart.specs.Model.{all_spans, arrows_from, count_of, first_point, last_point}
 use Rattle.run_chart.specs.Model.{next_point}
+use Rattle.run_chart.specs.News.{news_where}
 use Rattle.run_chart.specs.Marks.{folds_from, ticks_from}
-use Rattle.run_chart.specs.Drawing.{picture_text}
+use Rattle.run_chart.specs.Pictures.{picture_text}
 
 -- the jiffy of the last of these lines that has one, else that of a line before them
 abbrev pub last_jiffy : (before : ℕ) → List Line → ℕ
@@ -70,9 +71,9 @@ abbrev pub end_from : Window → Point → List Line → Point
 end_from w p [] = last_point w p
 end_from w p (line ∷ rest) = end_from w (next_point w p line) rest
 
--- THE PICTURE of a window of a report
-unfoldable pub chart_text : Window → List Line → List ℕ
-chart_text w ls =
+-- THE PICTURE of a window of a report, with who answers, if that is chosen
+unfoldable pub chart_text : Window → (covers : Bool) → List Line → List ℕ
+chart_text w covers ls =
     picture_text w (end_from w (first_point w) ls).column (count_of w)
     (first_point w ∷ ticks_from w (first_point w) 0 ls) (folds_from w (first_point w) ls)
-    (all_spans w ls) (arrows_from w (first_point w) ls)
+    (all_spans w ls) (arrows_from w (first_point w) ls) covers (news_where w covers ls)

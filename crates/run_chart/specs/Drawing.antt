@@ -1,7 +1,6 @@
--- the picture of a chart, as SVG: one unit is a column of the chart, and a row has three
+-- bars, arrows and labels of a chart, as SVG: one unit is a column of the chart; a row has three
 use Rattle.std.specs.Prelude.{ℕ, zero, suc, ◌+◌, ◌-◌, ◌*◌, ◌==◌, nat_lt, List, [], ◌++◌, codes}
 use Rattle.std.specs.Prelude.{if◌then◌else◌}
-use Rattle.std.specs.List.{flat_map}
 use Rattle.tm_report.specs.Words.{time_word}
 use Rattle.run_chart.specs.declared.drawing.TheConstants.{ROW}
 use Rattle.run_chart.specs.declared.marks.Fold.{Fold}
@@ -81,56 +80,3 @@ label_text top cpu =
 abbrev pub labels_below : Window → (rows : ℕ) → List ℕ
 labels_below w zero = []
 labels_below w (suc n) = labels_below w n ++ label_text (ROW * n) (w.first.0 + n)
-
--- the size of a picture, and where it begins
-unfoldable pub frame_text : (width height : ℕ) → List ℕ
-frame_text width height =
-    two (codes " width=\"") width (codes "ex\" height=\"") height
-    ++ two (codes "ex\" viewBox=\"-10 -4 ") width (codes " ") height
-
--- what begins a picture of this size
-unfoldable pub size_text : (width height : ℕ) → List ℕ
-size_text width height =
-    codes "<svg xmlns=\"http://www.w3.org/2000/svg\" role=\"img\""
-    ++ (frame_text width height ++ codes "\">\n")
-
--- what a picture shows, in words
-unfoldable pub description_text : List ℕ
-description_text =
-    codes "</title>\n<desc>A row for each CPU, time from left to right, long rests folded. "
-    ++ (codes "Thick bar: awake; thin line: asleep; dots: offline. "
-    ++ codes "An arrow goes from a timer's home to the CPU that ran it.</desc>\n")
-
--- how bars and arrows look
-unfoldable pub style_text : List ℕ
-style_text =
-    codes "<style>text{font:1.4px sans-serif}.c{text-anchor:end}"
-    ++ (codes "path{fill:none;stroke:#333}.a{stroke-width:.8;stroke:#999}.s{stroke-width:.15}"
-    ++ (codes ".o{stroke-width:.15;stroke-dasharray:.2 .6}"
-    ++ codes ".r{stroke-width:.2;stroke:#000;marker-end:url(#h)}</style>\n"))
-
--- the head of an arrow
-unfoldable pub head_of_arrow : List ℕ
-head_of_arrow =
-    codes "<marker id=\"h\" orient=\"auto\" refX=\"3\" refY=\"2\" "
-    ++ (codes "markerWidth=\"4\" markerHeight=\"4\">"
-    ++ codes "<path style=\"fill:#000;stroke:none\" d=\"M0 0L4 2L0 4z\"/></marker>\n")
-
--- the title of a picture, what it shows, and how bars and arrows look
-unfoldable pub title_text : Window → List ℕ
-title_text w =
-    two (codes "<title>Timers and CPUs, jiffies ") w.from (codes " to ") w.to
-    ++ (description_text ++ (style_text ++ head_of_arrow))
-
--- THE PICTURE of a chart: its size with the margins, its title, the labels of its rows, what is
--- written above them, and then bars and arrows
-unfoldable pub picture_text : Window → (columns rows : ℕ) → (ticks : List Point) →
-    (folds : List Fold) → (spans : List Span) → (arrows : List Arrow) → List ℕ
-picture_text w columns rows ticks folds spans arrows =
-    size_text (columns + 14) (ROW * rows + 6)
-    ++ (title_text w
-    ++ (labels_below w rows
-    ++ (flat_map tick_text ticks
-    ++ (flat_map fold_text folds
-    ++ (flat_map (span_text w) spans
-    ++ (flat_map (arrow_text w) arrows ++ codes "</svg>\n"))))))

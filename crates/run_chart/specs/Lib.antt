@@ -1,7 +1,11 @@
 pub mod Said
 pub mod Model
 pub mod Marks
+pub mod News
 pub mod Pieces
 pub mod Drawing
+pub mod Heading
+pub mod Notes
+pub mod Pictures
 pub mod Laws
 pub mod Charts

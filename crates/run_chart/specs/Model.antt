@@ -1,18 +1,21 @@
--- the model of a chart: spans in which a CPU stays what it is, and an arrow for each expiry
-use Rattle.std.specs.Prelude.{ℕ, zero, suc, ◌+◌, ◌-◌, ◌==◌, ◌&&◌, nat_lt, nat_le, Bool, List, []}
-use Rattle.std.specs.Prelude.{◌∷◌, ◌++◌, Option, Some, None, if◌then◌else◌}
+-- the model of a chart: spans in which a CPU stays what it is, an arrow for each expiry, and a note
+-- for each answer
+use Rattle.std.specs.Prelude.{ℕ, zero, suc, ◌+◌, ◌-◌, ◌==◌, ◌&&◌, nat_lt, nat_le, Bool, true, false}
+use Rattle.std.specs.Prelude.{List, [], ◌∷◌, ◌++◌, Option, Some, None, if◌then◌else◌}
 use Rattle.tm_report.specs.declared.lines.Line.{Line}
 use Rattle.run_chart.specs.declared.model.Arrow.{Arrow}
 use Rattle.run_chart.specs.declared.model.Course.{Course}
+use Rattle.run_chart.specs.declared.model.Note.{Note}
 use Rattle.run_chart.specs.declared.model.Point.{Point}
 use Rattle.run_chart.specs.declared.model.Span.{Span}
 use Rattle.run_chart.specs.declared.model.Window.{Window}
 use Rattle.run_chart.specs.declared.model.TheConstants.{LONG_REST}
+use Rattle.run_chart.specs.declared.said.Answer.{Answer}
 use Rattle.run_chart.specs.declared.said.Change.{Change}
 use Rattle.run_chart.specs.declared.said.Run.{Run}
 use Rattle.run_chart.specs.declared.said.State.{State}
 use Rattle.run_chart.specs.declared.said.State.TheVariants as states
-use Rattle.run_chart.specs.Said.{change_in, run_in, time_of}
+use Rattle.run_chart.specs.Said.{answer_in, change_in, run_in, time_of}
 
 -- ---- jiffies and columns
 
@@ -152,3 +155,32 @@ abbrev pub arrows_from : Window → Point → List Line → List Arrow
 arrows_from w p [] = []
 arrows_from w p (line ∷ rest) =
     arrow_by w (next_point w p line) line ++ arrows_from w (next_point w p line) rest
+
+-- ---- who answers
+
+-- whether a window has an answer: its jiffy, and its idle CPU
+abbrev pub has_answer : Window → Answer → Bool
+has_answer w a = has_jiffy w a.at && has_cpu w a.cpu.0
+
+-- the note of an answer at a point
+abbrev pub note_for : Window → Point → Option Answer → List Note
+note_for w q None = []
+note_for w q (Some a) =
+    if has_answer w a then
+    (record { point = q; cpu = a.cpu; wheel = a.wheel; cover = a.cover } ∷ [])
+    else []
+
+-- the note of a line at a point
+abbrev pub note_by : Window → Point → Line → List Note
+note_by w q line = note_for w q (answer_in line)
+
+-- THE NOTES of lines behind a point
+abbrev pub notes_from : Window → Point → List Line → List Note
+notes_from w p [] = []
+notes_from w p (line ∷ rest) =
+    note_by w (next_point w p line) line ++ notes_from w (next_point w p line) rest
+
+-- the notes of a window, if they are chosen
+abbrev pub notes_where : Window → (covers : Bool) → List Line → List Note
+notes_where w true ls = notes_from w (first_point w) ls
+notes_where w false ls = []

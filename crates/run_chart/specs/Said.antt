@@ -1,7 +1,8 @@
--- what the lines of a report say of CPUs and expiries
+-- what the lines of a report say of CPUs and expiries, and of who answers
 use Rattle.std.specs.Prelude.{ℕ, nat_lt, Option, Some, None, if◌then◌else◌}
 use Rattle.tm_report.specs.declared.lines.Line.{Line}
 use Rattle.tm_report.specs.declared.lines.Line.TheVariants as lines
+use Rattle.run_chart.specs.declared.said.Answer.{Answer}
 use Rattle.run_chart.specs.declared.said.Change.{Change}
 use Rattle.run_chart.specs.declared.said.Run.{Run}
 use Rattle.run_chart.specs.declared.said.State.TheVariants as states
@@ -79,6 +80,31 @@ run_in (lines.Why steps cpu timer shown) = None
 run_in (lines.Yes steps) = None
 run_in (lines.No index) = None
 run_in (lines.Device now until) = None
+
+-- WHO ANSWERS for the first timer of an idle CPU, if a line tells it
+unfoldable pub answer_in : Line → Option Answer
+answer_in (lines.Arm now cpu timer class wheel) = None
+answer_in (lines.Run now runner timer home wheel reply) = None
+answer_in (lines.Cancel now cpu timer home) = None
+answer_in (lines.NotQueued now cpu timer) = None
+answer_in (lines.Idle now cpu until) = None
+answer_in (lines.Stay now cpu first) = None
+answer_in (lines.Wake now cpu) = None
+answer_in (lines.Offline now cpu) = None
+answer_in (lines.Handed now cpu to) = None
+answer_in (lines.Online now cpu) = None
+answer_in (lines.Control now cpu) = None
+answer_in (lines.Moved now timer from to wheel) = None
+answer_in (lines.Cover now cpu wheel cover) =
+    Some (record { at = now; cpu = cpu; wheel = wheel; cover = cover })
+answer_in (lines.Refused now cpu line number) = None
+answer_in (lines.RefusedQueued now cpu line number holder) = None
+answer_in (lines.Left timer cpu class wheel) = None
+answer_in (lines.End now) = None
+answer_in (lines.Why steps cpu timer shown) = None
+answer_in (lines.Yes steps) = None
+answer_in (lines.No index) = None
+answer_in (lines.Device now until) = None
 
 -- the higher of two CPUs
 abbrev pub higher : (c d : ℕ) → ℕ

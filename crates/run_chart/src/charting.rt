@@ -10,6 +10,7 @@ ghost use Rattle.run_chart.specs.Said.{time_of};
 use crate::drawing::{Chart, draw};
 use crate::marks::{folds_of, ticks_of};
 use crate::model::{Window, arrows_of, count_of, first_point, last_point, next_point, spans_of};
+use crate::news::news_of;
 use crate::said::{cpu_in, higher, time_of};
 use std::alloc::Global;
 use tm_base::{CpuId, Jiffy, NoMemory, TIME_LIMIT};
@@ -138,10 +139,15 @@ fn end_of(window: &Window, lines: &[Line]) -> u64
 
 /// The picture of a window of a report.
 #[tactic(auto, unfolding(crate::specs::Charts::chart_text))]
-fn draw_window(alloc: Global, window: &Window, lines: &[Line]) -> Result<Vec<u8>, NoMemory>
+fn draw_window(
+    alloc: Global,
+    window: &Window,
+    covers: bool,
+    lines: &[Line],
+) -> Result<Vec<u8>, NoMemory>
     requires order { window.now.from ≤ window.now.to }
     requires in_time { window.now.to ≤ TIME_LIMIT }
-    ensures { IfOk result (λ text. text.items ≡ chart_text window.now lines.now) }
+    ensures { IfOk result (λ text. text.items ≡ chart_text window.now covers lines.now) }
 {
     let begin = first_point(window);
     let chart = Chart {
@@ -149,18 +155,26 @@ fn draw_window(alloc: Global, window: &Window, lines: &[Line]) -> Result<Vec<u8>
         rows: count_of(window),
         spans: spans_of(alloc, window, lines)?,
         arrows: arrows_of(alloc, window, lines)?,
+        covers,
+        notes: news_of(alloc, window, covers, lines)?,
         ticks: ticks_of(alloc, window, begin, lines)?,
         folds: folds_of(alloc, window, begin, lines)?,
     };
     draw(alloc, window, &chart)
 }
 
-/// Draws a report as SVG: a row for each CPU, time from left to right with long rests folded, and
-/// an arrow for each expiry. The lines of a report come in the order of their jiffies; others are
-/// refused. It costs a walk over the lines for each CPU that is drawn.
-pub fn chart(alloc: Global, choice: Choice, lines: &[Line]) -> Result<Vec<u8>, NoChart>
+/// Draws a report as SVG: a row for each CPU, time from left to right with long rests folded, an
+/// arrow for each expiry, and, if that is chosen, below the lines of sleeping CPUs who answers for
+/// them. The lines of a report come in the order of their jiffies; others are refused. It costs a
+/// walk over the lines for each CPU that is drawn.
+pub fn chart(
+    alloc: Global,
+    choice: Choice,
+    covers: bool,
+    lines: &[Line],
+) -> Result<Vec<u8>, NoChart>
     ensures text { IfOk result
-        (λ text. text.items ≡ chart_text (window_of choice lines.now) lines.now) }
+        (λ text. text.items ≡ chart_text (window_of choice lines.now) covers lines.now) }
     ensures ascends { IfOk result (λ text. back_from 1 0 lines.now ≡ None) }
     ensures refused { IfErr result (IsRefusal lines.now) }
 {
@@ -168,7 +182,7 @@ pub fn chart(alloc: Global, choice: Choice, lines: &[Line]) -> Result<Vec<u8>, N
         return Err(NoChart::BackInTime(number));
     }
     let window = window_of(choice, lines);
-    match draw_window(alloc, &window, lines) {
+    match draw_window(alloc, &window, covers, lines) {
         Ok(text) => Ok(text),
         Err(_) => Err(NoChart::NoMemory),
     }

@@ -1,15 +1,17 @@
-//! The picture of a chart, as SVG: bars for spans, and arrows for expiries. One unit is a column of
-//! the chart; a row has three.
+//! The picture of a chart, as SVG: bars for spans, arrows for expiries, and notes of who answers.
+//! One unit is a column of the chart; a row has three.
 
 ghost use Rattle.std.specs.Prelude.{◌≡◌, ◌++◌, ◌+◌, ◌*◌, ◌≤◌, ◌^◌, IfOk, OnOk};
 ghost use Rattle.std.specs.List.{flat_map};
-ghost use Rattle.run_chart.specs.Drawing.{arrow_text, bar_text, fold_text, frame_text, head_text};
-ghost use Rattle.run_chart.specs.Drawing.{label_text, labels_below, line_of, picture_text, row_of, run_text, size_text};
-ghost use Rattle.run_chart.specs.Drawing.{description_text, head_of_arrow, span_text, state_text};
-ghost use Rattle.run_chart.specs.Drawing.{style_text, tick_text, title_text};
+ghost use Rattle.run_chart.specs.Drawing.{arrow_text, bar_text, fold_text, head_text};
+ghost use Rattle.run_chart.specs.Drawing.{label_text, labels_below, line_of, row_of, run_text};
+ghost use Rattle.run_chart.specs.Drawing.{span_text, state_text, tick_text};
+ghost use Rattle.run_chart.specs.Pictures.{body_text, picture_text};
 
+use crate::heading::{push_size, push_title};
 use crate::marks::Fold;
-use crate::model::{Arrow, Point, Span, Window};
+use crate::model::{Arrow, Note, Point, Span, Window};
+use crate::notes::push_notes;
 use crate::pieces::{push_after, push_three, push_time, push_two, push_words};
 use crate::said::State;
 use std::alloc::Global;
@@ -19,7 +21,7 @@ use tm_base::{CpuId, NoMemory};
 pub const ROW: u64 = 3;
 
 /// Where the row of a CPU is, in units from the top.
-fn row_of(window: &Window, cpu: CpuId) -> u64
+pub(crate) fn row_of(window: &Window, cpu: CpuId) -> u64
     ensures { result ≡ row_of window.now cpu.0 }
 {
     if cpu.0 < window.first.0 {
@@ -51,7 +53,7 @@ fn push_state(text: &mut Vec<u8>, state: State) -> Result<(), NoMemory>
 }
 
 /// A span that has at least a column: a bar, and its title.
-#[tactic(auto, using(std::proofs::lemmas::List::append_assoc), unfolding(crate::specs::Drawing::line_of))]
+#[tactic(auto, using(crate::proofs::Joined::onto), unfolding(crate::specs::Drawing::line_of))]
 fn push_bar(text: &mut Vec<u8>, window: &Window, span: Span) -> Result<(), NoMemory>
     ensures { OnOk result (text.new.items ≡ text.old.items ++ line_of window.now span) }
 {
@@ -91,7 +93,7 @@ fn push_span(text: &mut Vec<u8>, window: &Window, span: Span) -> Result<(), NoMe
 
 /// The way of an arrow: from the row of its home to that of its runner, and into the row from above
 /// where they are one.
-#[tactic(auto, using(std::proofs::lemmas::List::append_assoc), unfolding(crate::specs::Drawing::head_text))]
+#[tactic(auto, using(crate::proofs::Joined::onto), unfolding(crate::specs::Drawing::head_text))]
 fn push_way(text: &mut Vec<u8>, window: &Window, arrow: Arrow) -> Result<(), NoMemory>
     ensures { OnOk result (text.new.items ≡ text.old.items ++ head_text window.now arrow) }
 {
@@ -110,7 +112,7 @@ fn push_way(text: &mut Vec<u8>, window: &Window, arrow: Arrow) -> Result<(), NoM
 }
 
 /// The title of an arrow.
-#[tactic(auto, using(std::proofs::lemmas::List::append_assoc), unfolding(crate::specs::Drawing::run_text))]
+#[tactic(auto, using(crate::proofs::Joined::onto), unfolding(crate::specs::Drawing::run_text))]
 fn push_run(text: &mut Vec<u8>, arrow: Arrow) -> Result<(), NoMemory>
     ensures { OnOk result (text.new.items ≡ text.old.items ++ run_text arrow) }
 {
@@ -132,7 +134,7 @@ fn push_run(text: &mut Vec<u8>, arrow: Arrow) -> Result<(), NoMemory>
 }
 
 /// The arrow of an expiry, and its title.
-#[tactic(auto, using(std::proofs::lemmas::List::append_assoc), unfolding(crate::specs::Drawing::arrow_text))]
+#[tactic(auto, using(crate::proofs::Joined::onto), unfolding(crate::specs::Drawing::arrow_text))]
 fn push_arrow(text: &mut Vec<u8>, window: &Window, arrow: Arrow) -> Result<(), NoMemory>
     ensures { OnOk result (text.new.items ≡ text.old.items ++ arrow_text window.now arrow) }
 {
@@ -143,7 +145,7 @@ fn push_arrow(text: &mut Vec<u8>, window: &Window, arrow: Arrow) -> Result<(), N
 }
 
 /// A jiffy above the chart.
-#[tactic(auto, using(std::proofs::lemmas::List::append_assoc), unfolding(crate::specs::Drawing::tick_text))]
+#[tactic(auto, using(crate::proofs::Joined::onto), unfolding(crate::specs::Drawing::tick_text))]
 fn push_tick(text: &mut Vec<u8>, point: Point) -> Result<(), NoMemory>
     ensures { OnOk result (text.new.items ≡ text.old.items ++ tick_text point) }
 {
@@ -153,7 +155,7 @@ fn push_tick(text: &mut Vec<u8>, point: Point) -> Result<(), NoMemory>
 }
 
 /// A folded rest, which ends at a column.
-#[tactic(auto, using(std::proofs::lemmas::List::append_assoc), unfolding(crate::specs::Drawing::fold_text))]
+#[tactic(auto, using(crate::proofs::Joined::onto), unfolding(crate::specs::Drawing::fold_text))]
 fn push_fold(text: &mut Vec<u8>, fold: Fold) -> Result<(), NoMemory>
     ensures { OnOk result (text.new.items ≡ text.old.items ++ fold_text fold) }
 {
@@ -171,7 +173,7 @@ fn push_fold(text: &mut Vec<u8>, fold: Fold) -> Result<(), NoMemory>
 }
 
 /// The label of a row, so many units from the top.
-#[tactic(auto, using(std::proofs::lemmas::List::append_assoc), unfolding(crate::specs::Drawing::label_text))]
+#[tactic(auto, using(crate::proofs::Joined::onto), unfolding(crate::specs::Drawing::label_text))]
 fn push_label(text: &mut Vec<u8>, top: u64, cpu: u64) -> Result<(), NoMemory>
     ensures { OnOk result (text.new.items ≡ text.old.items ++ label_text top cpu) }
 {
@@ -249,30 +251,6 @@ fn push_folds(text: &mut Vec<u8>, folds: &[Fold]) -> Result<(), NoMemory>
     Ok(())
 }
 
-/// The size of a picture, and where it begins.
-#[tactic(auto, using(std::proofs::lemmas::List::append_assoc), unfolding(crate::specs::Drawing::frame_text))]
-fn push_frame(text: &mut Vec<u8>, width: u64, height: u64) -> Result<(), NoMemory>
-    ensures { OnOk result (text.new.items ≡ text.old.items ++ frame_text width height) }
-{
-    push_two(text, b" width=\"", width, b"ex\" height=\"", height)?;
-    push_two(text, b"ex\" viewBox=\"-10 -4 ", width, b" ", height)?;
-    Ok(())
-}
-
-/// What begins a picture of this size.
-#[tactic(auto, using(std::proofs::lemmas::List::append_assoc), unfolding(crate::specs::Drawing::size_text))]
-fn push_size(text: &mut Vec<u8>, width: u64, height: u64) -> Result<(), NoMemory>
-    ensures { OnOk result (text.new.items ≡ text.old.items ++ size_text width height) }
-{
-    push_words(
-        text,
-        b"<svg xmlns=\"http://www.w3.org/2000/svg\" role=\"img\"",
-    )?;
-    push_frame(text, width, height)?;
-    push_words(text, b"\">\n")?;
-    Ok(())
-}
-
 /// The width of a picture of so many columns, with its margins.
 fn width_of(columns: u64) -> u64
     requires { columns ≤ 2 ^ 48 }
@@ -288,79 +266,22 @@ fn full_height(rows: u32) -> u64
     height_of(rows) + 6
 }
 
-/// What a picture shows, in words.
-#[tactic(auto, using(std::proofs::lemmas::List::append_assoc), unfolding(crate::specs::Drawing::description_text))]
-fn push_description(text: &mut Vec<u8>) -> Result<(), NoMemory>
-    ensures { OnOk result (text.new.items ≡ text.old.items ++ description_text) }
+/// Bars, arrows, and notes, if these are chosen.
+#[tactic(auto, using(crate::proofs::Joined::onto), unfolding(crate::specs::Pictures::body_text))]
+fn push_body(
+    text: &mut Vec<u8>,
+    window: &Window,
+    spans: &[Span],
+    arrows: &[Arrow],
+    covers: bool,
+    notes: &[Note],
+) -> Result<(), NoMemory>
+    ensures { OnOk result (text.new.items ≡ text.old.items
+        ++ body_text window.now spans.now arrows.now covers notes.now) }
 {
-    push_words(
-        text,
-        b"</title>\n<desc>A row for each CPU, time from left to right, long rests folded. ",
-    )?;
-    push_words(
-        text,
-        b"Thick bar: awake; thin line: asleep; dots: offline. ",
-    )?;
-    push_words(
-        text,
-        b"An arrow goes from a timer's home to the CPU that ran it.</desc>\n",
-    )?;
-    Ok(())
-}
-
-/// How bars and arrows look.
-#[tactic(auto, using(std::proofs::lemmas::List::append_assoc), unfolding(crate::specs::Drawing::style_text))]
-fn push_style(text: &mut Vec<u8>) -> Result<(), NoMemory>
-    ensures { OnOk result (text.new.items ≡ text.old.items ++ style_text) }
-{
-    push_words(
-        text,
-        b"<style>text{font:1.4px sans-serif}.c{text-anchor:end}",
-    )?;
-    push_words(
-        text,
-        b"path{fill:none;stroke:#333}.a{stroke-width:.8;stroke:#999}.s{stroke-width:.15}",
-    )?;
-    push_words(text, b".o{stroke-width:.15;stroke-dasharray:.2 .6}")?;
-    push_words(
-        text,
-        b".r{stroke-width:.2;stroke:#000;marker-end:url(#h)}</style>\n",
-    )?;
-    Ok(())
-}
-
-/// The head of an arrow.
-#[tactic(auto, using(std::proofs::lemmas::List::append_assoc), unfolding(crate::specs::Drawing::head_of_arrow))]
-fn push_head(text: &mut Vec<u8>) -> Result<(), NoMemory>
-    ensures { OnOk result (text.new.items ≡ text.old.items ++ head_of_arrow) }
-{
-    push_words(
-        text,
-        b"<marker id=\"h\" orient=\"auto\" refX=\"3\" refY=\"2\" ",
-    )?;
-    push_words(text, b"markerWidth=\"4\" markerHeight=\"4\">")?;
-    push_words(
-        text,
-        b"<path style=\"fill:#000;stroke:none\" d=\"M0 0L4 2L0 4z\"/></marker>\n",
-    )?;
-    Ok(())
-}
-
-/// The title of a picture, what it shows, and how bars and arrows look.
-#[tactic(auto, using(std::proofs::lemmas::List::append_assoc), unfolding(crate::specs::Drawing::title_text))]
-fn push_title(text: &mut Vec<u8>, window: &Window) -> Result<(), NoMemory>
-    ensures { OnOk result (text.new.items ≡ text.old.items ++ title_text window.now) }
-{
-    push_two(
-        text,
-        b"<title>Timers and CPUs, jiffies ",
-        window.from,
-        b" to ",
-        window.to,
-    )?;
-    push_description(text)?;
-    push_style(text)?;
-    push_head(text)?;
+    push_spans(text, window, spans)?;
+    push_arrows(text, window, arrows)?;
+    push_notes(text, window, covers, notes)?;
     Ok(())
 }
 
@@ -373,26 +294,36 @@ pub(crate) struct Chart {
     pub rows: u32,
     pub spans: Vec<Span>,
     pub arrows: Vec<Arrow>,
+    /// Whether it says who answers.
+    pub covers: bool,
+    pub notes: Vec<Note>,
     pub ticks: Vec<Point>,
     pub folds: Vec<Fold>,
 }
 
 /// The picture of a chart.
-#[tactic(auto, using(std::proofs::lemmas::List::append_assoc), unfolding(crate::specs::Drawing::picture_text))]
+#[tactic(auto, using(crate::proofs::Joined::onto), unfolding(crate::specs::Pictures::picture_text))]
 pub(crate) fn draw(alloc: Global, window: &Window, chart: &Chart) -> Result<Vec<u8>, NoMemory>
     requires { chart.now.columns ≤ 2 ^ 48 }
     ensures { IfOk result (λ text. text.items
         ≡ picture_text window.now chart.now.columns chart.now.rows chart.now.ticks.items
-        chart.now.folds.items chart.now.spans.items chart.now.arrows.items) }
+        chart.now.folds.items chart.now.spans.items chart.now.arrows.items chart.now.covers
+        chart.now.notes.items) }
 {
     let mut text = Vec::new(alloc);
     push_size(&mut text, width_of(chart.columns), full_height(chart.rows))?;
-    push_title(&mut text, window)?;
+    push_title(&mut text, window, chart.covers)?;
     push_labels(&mut text, window, chart.rows)?;
     push_ticks(&mut text, &chart.ticks)?;
     push_folds(&mut text, &chart.folds)?;
-    push_spans(&mut text, window, &chart.spans)?;
-    push_arrows(&mut text, window, &chart.arrows)?;
+    push_body(
+        &mut text,
+        window,
+        &chart.spans,
+        &chart.arrows,
+        chart.covers,
+        &chart.notes,
+    )?;
     push_words(&mut text, b"</svg>\n")?;
     Ok(text)
 }

@@ -1,15 +1,17 @@
-//! The model of a chart: spans in which a CPU stays what it is, and an arrow for each expiry.
+//! The model of a chart: spans in which a CPU stays what it is, an arrow for each expiry, and a
+//! note for each answer.
 
 ghost use Rattle.std.specs.Prelude.{◌≡◌, ◌+◌, ◌≤◌, ◌^◌, ◌++◌, IfOk, OnOk};
 ghost use Rattle.std.specs.Prelude.{◌&&◌, nat_le, IsTrue};
-ghost use Rattle.run_chart.specs.Model.{all_spans, arrow_by, arrows_from, behind, count_of, course_by};
-ghost use Rattle.run_chart.specs.Model.{ended_by, first_point, has_cpu, has_jiffy, last_point};
-ghost use Rattle.run_chart.specs.Model.{new_state, next_at, next_point, place, spans_of_cpu, step_of};
+ghost use Rattle.run_chart.specs.Model.{all_spans, arrow_by, arrows_from, behind, count_of};
+ghost use Rattle.run_chart.specs.Model.{course_by, ended_by, first_point, has_cpu, has_jiffy};
+ghost use Rattle.run_chart.specs.Model.{last_point, new_state, next_at, next_point, note_by};
+ghost use Rattle.run_chart.specs.Model.{notes_from, notes_where, place, spans_of_cpu, step_of};
 
-use crate::said::{State, change_in, run_in, time_of};
+use crate::said::{State, answer_in, change_in, run_in, time_of};
 use std::alloc::Global;
 use tm_base::{CpuId, Jiffy, NoMemory, TimerId};
-use tm_report::Line;
+use tm_report::{Line, ShownCover};
 
 /// So many columns a rest of the machine has at most: a longer one is folded.
 pub const LONG_REST: u64 = 12;
@@ -50,6 +52,17 @@ pub struct Arrow {
     pub home: CpuId,
     pub runner: CpuId,
     pub timer: TimerId,
+}
+
+/// Who answers for an idle CPU, at a point.
+#[derive(Clone, Copy)]
+pub struct Note {
+    pub point: Point,
+    /// The idle CPU.
+    pub cpu: CpuId,
+    /// The wheel expiry of its first global timer, in jiffies.
+    pub wheel: Jiffy,
+    pub cover: ShownCover,
 }
 
 /// How many columns a rest of so many jiffies has.
@@ -136,7 +149,7 @@ pub(crate) fn last_point(window: &Window, before: Point) -> Point
 }
 
 /// What a CPU becomes by a line, if the line is of this CPU.
-fn new_state(cpu: CpuId, line: Line) -> Option<State>
+pub(crate) fn new_state(cpu: CpuId, line: Line) -> Option<State>
     ensures { result ≡ new_state cpu.0 line }
 {
     match change_in(line) {
@@ -256,7 +269,7 @@ fn has_cpu(window: &Window, cpu: CpuId) -> bool
 }
 
 /// Whether a window has this jiffy.
-fn has_jiffy(window: &Window, at: Jiffy) -> bool
+pub(crate) fn has_jiffy(window: &Window, at: Jiffy) -> bool
     ensures { result ≡ has_jiffy window.now at }
 {
     window.from <= at && at <= window.to
@@ -299,4 +312,59 @@ pub fn arrows_of(alloc: Global, window: &Window, lines: &[Line]) -> Result<Vec<A
         take_arrow(&mut arrows, window, point, *line)?;
     }
     Ok(arrows)
+}
+
+/// The note of a line at a point, if the line tells who answers, in the window, for one of its
+/// CPUs.
+fn take_note(
+    notes: &mut Vec<Note>,
+    window: &Window,
+    point: Point,
+    line: Line,
+) -> Result<(), NoMemory>
+    ensures { OnOk result
+        (notes.new.items ≡ notes.old.items ++ note_by window.now point line) }
+{
+    let Some(answer) = answer_in(line) else {
+        return Ok(());
+    };
+    if has_jiffy(window, answer.at) && has_cpu(window, answer.cpu) {
+        notes.push(Note {
+            point,
+            cpu: answer.cpu,
+            wheel: answer.wheel,
+            cover: answer.cover,
+        })?;
+    }
+    Ok(())
+}
+
+/// The notes of a report's answers, in the order of their lines.
+fn all_notes(alloc: Global, window: &Window, lines: &[Line]) -> Result<Vec<Note>, NoMemory>
+    ensures { IfOk result
+        (λ notes. notes.items ≡ notes_from window.now (first_point window.now) lines.now) }
+{
+    let mut notes = Vec::new(alloc);
+    let mut point = first_point(window);
+    for line in lines {
+        point = next_point(window, point, *line);
+        take_note(&mut notes, window, point, *line)?;
+    }
+    Ok(notes)
+}
+
+/// The notes of a report's answers, in the order of their lines, if they are chosen.
+pub fn notes_of(
+    alloc: Global,
+    window: &Window,
+    covers: bool,
+    lines: &[Line],
+) -> Result<Vec<Note>, NoMemory>
+    ensures { IfOk result (λ notes. notes.items ≡ notes_where window.now covers lines.now) }
+{
+    if covers {
+        all_notes(alloc, window, lines)
+    } else {
+        Ok(Vec::new(alloc))
+    }
 }

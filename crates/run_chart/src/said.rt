@@ -1,10 +1,10 @@
-//! What the lines of a report say of CPUs and expiries.
+//! What the lines of a report say of CPUs and expiries, and of who answers.
 
 ghost use Rattle.std.specs.Prelude.{◌≡◌};
-ghost use Rattle.run_chart.specs.Said.{change_in, cpu_in, higher, run_in, time_of};
+ghost use Rattle.run_chart.specs.Said.{answer_in, change_in, cpu_in, higher, run_in, time_of};
 
 use tm_base::{CpuId, Jiffy, TimerId};
-use tm_report::Line;
+use tm_report::{Line, ShownCover};
 
 /// What a CPU is.
 #[derive(Clone, Copy)]
@@ -35,6 +35,18 @@ pub struct Run {
     /// The CPU that ran it.
     pub runner: CpuId,
     pub timer: TimerId,
+}
+
+/// Who answers for the first global timer of an idle CPU.
+#[derive(Clone, Copy)]
+pub struct Answer {
+    /// In jiffies.
+    pub at: Jiffy,
+    /// The idle CPU.
+    pub cpu: CpuId,
+    /// The wheel expiry of the timer, in jiffies.
+    pub wheel: Jiffy,
+    pub cover: ShownCover,
 }
 
 /// The jiffy of a line.
@@ -146,6 +158,46 @@ pub fn run_in(line: Line) -> Option<Run>
         Line::Control { .. } => None,
         Line::Moved { .. } => None,
         Line::Cover { .. } => None,
+        Line::Refused { .. } => None,
+        Line::RefusedQueued { .. } => None,
+        Line::Left { .. } => None,
+        Line::End { .. } => None,
+        Line::Why { .. } => None,
+        Line::Yes { .. } => None,
+        Line::No { .. } => None,
+        Line::Device { .. } => None,
+    }
+}
+
+/// The answer that a line tells.
+#[tactic(auto, unfolding(crate::specs::Said::answer_in))]
+pub fn answer_in(line: Line) -> Option<Answer>
+    ensures { result ≡ answer_in line }
+{
+    match line {
+        Line::Cover {
+            now,
+            cpu,
+            wheel,
+            cover,
+        } => Some(Answer {
+            at: now,
+            cpu,
+            wheel,
+            cover,
+        }),
+        Line::Arm { .. } => None,
+        Line::Run { .. } => None,
+        Line::Cancel { .. } => None,
+        Line::NotQueued { .. } => None,
+        Line::Idle { .. } => None,
+        Line::Stay { .. } => None,
+        Line::Wake { .. } => None,
+        Line::Offline { .. } => None,
+        Line::Handed { .. } => None,
+        Line::Online { .. } => None,
+        Line::Control { .. } => None,
+        Line::Moved { .. } => None,
         Line::Refused { .. } => None,
         Line::RefusedQueued { .. } => None,
         Line::Left { .. } => None,

@@ -1,10 +1,10 @@
 use super::*;
 use std::test::Fail;
 use tm_base::{Class, CpuId, NEVER, TimerId};
-use tm_report::{Line, ShownReply};
+use tm_report::{Line, ShownCover, ShownReply};
 
 // The report of examples/two-sleepers.
-const LINES: [Line; 8] = [
+const LINES: [Line; 10] = [
     Line::Arm {
         now: 10,
         cpu: CpuId(1),
@@ -16,6 +16,16 @@ const LINES: [Line; 8] = [
         now: 10,
         cpu: CpuId(1),
         until: NEVER,
+    },
+    Line::Cover {
+        now: 10,
+        cpu: CpuId(1),
+        wheel: 31,
+        cover: ShownCover::Migrator {
+            level: 0,
+            place: 0,
+            cpu: CpuId(0),
+        },
     },
     Line::Run {
         now: 31,
@@ -29,6 +39,15 @@ const LINES: [Line; 8] = [
         now: 40,
         cpu: CpuId(0),
         until: 61,
+    },
+    Line::Cover {
+        now: 40,
+        cpu: CpuId(1),
+        wheel: 61,
+        cover: ShownCover::Wake {
+            cpu: CpuId(0),
+            at: 61,
+        },
     },
     Line::Run {
         now: 61,
@@ -115,6 +134,51 @@ fn each_run_is_drawn_from_its_home_to_its_runner(rt: HostRuntime) -> Result<(), 
     assert_eq!(rt; arrows.len(), want.len());
     for (arrow, want) in arrows.iter().zip(want.iter()) {
         assert_eq!(rt; told(*arrow), *want);
+    }
+    Ok(())
+}
+
+// By hand, from the words that docs/FORMATS.md gives such a line.
+#[test]
+fn an_answer_is_noted_in_words(rt: HostRuntime) -> Result<(), Fail> {
+    let notes = notes_of(rt.alloc(), &window_of(ALL, &LINES), true, &LINES)?;
+    let mut text = Vec::new(rt.alloc());
+    for note in notes.iter() {
+        push_answer(&mut text, *note)?;
+    }
+    let mut want = Vec::new(rt.alloc());
+    want.extend_from_slice(b": for CPU 1, whose first timer is due at 31: group 0:0, ")?;
+    want.extend_from_slice(b"which leads to CPU 0")?;
+    want.extend_from_slice(b": for CPU 1, whose first timer is due at 61: CPU 0 wakes at 61")?;
+    assert!(rt; text.as_slice() == want.as_slice());
+    Ok(())
+}
+
+fn answered_at(now: u64) -> Line {
+    Line::Cover {
+        now,
+        cpu: CpuId(1),
+        wheel: 31,
+        cover: ShownCover::Wake {
+            cpu: CpuId(0),
+            at: 31,
+        },
+    }
+}
+
+// By hand: at 12 nothing else is said than at 10, and at 21 the CPU has been awake since.
+#[test]
+fn an_answer_is_drawn_where_it_is_new(rt: HostRuntime) -> Result<(), Fail> {
+    let wake = Line::Wake {
+        now: 20,
+        cpu: CpuId(1),
+    };
+    let lines = [answered_at(10), answered_at(12), wake, answered_at(21)];
+    let notes = news_of(rt.alloc(), &window_of(ALL, &lines), true, &lines)?;
+    let want = [10, 21];
+    assert_eq!(rt; notes.len(), want.len());
+    for (note, want) in notes.iter().zip(want.iter()) {
+        assert_eq!(rt; note.point.at, *want);
     }
     Ok(())
 }

@@ -1,4 +1,4 @@
--- rows and jiffies of a page, one by one
+-- pieces, rows and jiffies of a page, one by one
 use Rattle.std.proofs.Common.{◌≡◌, ℕ, ◌+◌, ◌-◌, ◌<◌, ◌≤◌, List, ◌∷◌, ◌++◌, Option, Some}
 use Rattle.std.proofs.Common.{append_assoc, drop, length, replicate, sym, ap, ◌∙◌, get_or}
 use Rattle.std.proofs.Common.{arith, true, false}
@@ -11,6 +11,12 @@ use Rattle.run_chart.specs.declared.model.Point.{Point}
 use Rattle.run_chart.specs.declared.model.Span.{Span}
 use Rattle.text_chart.specs.declared.pages.TheConstants.{SPACE}
 use Rattle.text_chart.specs.Pages.{front_of, has_room, rows_from, ruler_from, signs_of}
+
+-- ---- pieces pushed one behind the other
+
+pub onto : {A : Type 0} → (front middle back : List A) →
+    front ++ middle ++ back ≡ front ++ (middle ++ back)
+onto front middle back = append_assoc front middle back
 
 -- ---- rows
 

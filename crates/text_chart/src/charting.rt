@@ -4,13 +4,13 @@ ghost use Rattle.std.specs.Prelude.{◌≡◌, ◌∷◌, ◌++◌, IfErr, IfOk,
 ghost use Rattle.run_chart.specs.Charts.{IsRefusal, back_from, is_back, window_of};
 ghost use Rattle.run_chart.specs.Model.{first_point, points_from};
 ghost use Rattle.run_chart.specs.Said.{time_of};
-ghost use Rattle.text_chart.specs.Texts.{answers_text, head_text, window_text};
+ghost use Rattle.text_chart.specs.Texts.{head_text, window_text};
 
-use crate::lists::{push_answers, push_runs};
+use crate::lists::{push_notes, push_runs};
 use crate::pages::push_pages;
 use crate::pieces::{push_after, push_words};
 use run_chart::{
-    Choice, NoChart, Point, Window, arrows_of, next_point, spans_of, time_of, window_of,
+    Choice, NoChart, Point, Window, arrows_of, next_point, notes_of, spans_of, time_of, window_of,
 };
 use std::alloc::Global;
 use tm_base::{Jiffy, NoMemory};
@@ -66,7 +66,7 @@ fn points_of(alloc: Global, window: &Window, lines: &[Line]) -> Result<Vec<Point
 }
 
 /// The first line.
-#[tactic(auto, using(std::proofs::lemmas::List::append_assoc), unfolding(crate::specs::Texts::head_text))]
+#[tactic(auto, using(crate::proofs::Steps::onto), unfolding(crate::specs::Texts::head_text))]
 fn push_head(text: &mut Vec<u8>, window: &Window) -> Result<(), NoMemory>
     ensures { OnOk result (text.new.items ≡ text.old.items ++ head_text window.now) }
 {
@@ -76,25 +76,8 @@ fn push_head(text: &mut Vec<u8>, window: &Window) -> Result<(), NoMemory>
     Ok(())
 }
 
-/// Who answers, if that is chosen.
-fn push_covers(
-    text: &mut Vec<u8>,
-    window: &Window,
-    covers: bool,
-    lines: &[Line],
-) -> Result<(), NoMemory>
-    ensures { OnOk result
-        (text.new.items ≡ text.old.items ++ answers_text window.now covers lines.now) }
-{
-    if covers {
-        push_answers(text, window, lines)
-    } else {
-        Ok(())
-    }
-}
-
 /// The text of a window of a report.
-#[tactic(auto, using(std::proofs::lemmas::List::append_assoc), unfolding(crate::specs::Texts::window_text))]
+#[tactic(auto, using(crate::proofs::Steps::onto), unfolding(crate::specs::Texts::window_text))]
 fn draw_window(
     alloc: Global,
     window: &Window,
@@ -105,12 +88,13 @@ fn draw_window(
 {
     let spans = spans_of(alloc, window, lines)?;
     let arrows = arrows_of(alloc, window, lines)?;
+    let notes = notes_of(alloc, window, covers, lines)?;
     let points = points_of(alloc, window, lines)?;
     let mut text = Vec::new(alloc);
     push_head(&mut text, window)?;
     push_pages(alloc, &mut text, &points, &spans)?;
     push_runs(&mut text, &arrows)?;
-    push_covers(&mut text, window, covers, lines)?;
+    push_notes(&mut text, &notes)?;
     Ok(text)
 }
 

@@ -8,7 +8,6 @@ mod pages;
 mod pieces;
 
 pub use charting::text_chart;
-pub use lists::Answer;
 pub use pages::{ASLEEP, AWAKE, LABEL, OFFLINE, SPACE, WIDTH};
 
 #[cfg(test)]

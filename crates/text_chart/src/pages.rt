@@ -4,8 +4,8 @@ ghost use Rattle.std.specs.Prelude.{◌≡◌, ℕ, ◌+◌, ◌-◌, ◌*◌, �
 ghost use Rattle.std.specs.Prelude.{List, None, codes, length, replicate, true};
 ghost use Rattle.std.specs.Fmt.{decimal};
 ghost use Rattle.text_chart.specs.Pages.{end_of, front_of, has_room, label_text, padded};
-ghost use Rattle.text_chart.specs.Pages.{page_count, page_text, pages_below, rows_from, ruler_from, sign_of};
-ghost use Rattle.text_chart.specs.Pages.{signs_of, within};
+ghost use Rattle.text_chart.specs.Pages.{page_count, page_text, pages_below, rows_from};
+ghost use Rattle.text_chart.specs.Pages.{ruler_from, sign_of, signs_of, within};
 ghost use Rattle.run_chart.specs.declared.model.Point.{Point};
 
 use crate::pieces::{push_after, push_signs, push_words};
@@ -67,7 +67,7 @@ fn count_of(text: &[u8]) -> u64
 }
 
 /// A text, and spaces behind it up to a width.
-#[tactic(auto, using(std::proofs::lemmas::List::append_assoc))]
+#[tactic(auto, using(crate::proofs::Steps::onto))]
 fn push_padded(text: &mut Vec<u8>, words: &[u8], width: u64) -> Result<(), NoMemory>
     ensures { OnOk result (text.new.items ≡ text.old.items ++ padded width words.now) }
 {
@@ -87,7 +87,7 @@ fn push_label(alloc: Global, text: &mut Vec<u8>, cpu: CpuId) -> Result<(), NoMem
 }
 
 /// What stands in front of a span, behind one of this CPU, or of none.
-#[tactic(auto, using(std::proofs::lemmas::List::append_assoc))]
+#[tactic(auto, using(crate::proofs::Steps::onto))]
 fn push_front(
     alloc: Global,
     text: &mut Vec<u8>,
@@ -108,7 +108,7 @@ fn push_front(
 }
 
 /// A span, and what stands in front of it.
-#[tactic(auto, using(std::proofs::lemmas::List::append_assoc))]
+#[tactic(auto, using(crate::proofs::Steps::onto))]
 fn push_next(
     alloc: Global,
     text: &mut Vec<u8>,
@@ -162,7 +162,7 @@ fn number_text(alloc: Global, n: u64) -> Result<Vec<u8>, NoMemory>
 }
 
 /// A jiffy behind so many spaces, and one space behind it.
-#[tactic(auto, using(std::proofs::lemmas::List::append_assoc))]
+#[tactic(auto, using(crate::proofs::Steps::onto))]
 fn push_mark(text: &mut Vec<u8>, spaces: u64, number: &[u8]) -> Result<(), NoMemory>
     ensures { OnOk result (text.new.items ≡ text.old.items
         ++ (replicate spaces SPACE ++ (number.now ++ codes " "))) }
@@ -216,7 +216,7 @@ fn push_ruler(
 }
 
 /// A page.
-#[tactic(auto, using(std::proofs::lemmas::List::append_assoc), unfolding(crate::specs::Pages::page_text))]
+#[tactic(auto, using(crate::proofs::Steps::onto), unfolding(crate::specs::Pages::page_text))]
 fn push_page(
     alloc: Global,
     text: &mut Vec<u8>,

@@ -25,7 +25,7 @@ use Rattle.view_main.specs.Refusals.{back_text, report_text, steps_text}
 abbrev pub drawing_of : Look → List Line → List ℕ
 drawing_of look ls =
     if look.text then window_text (window_of look.choice ls) look.covers ls
-    else chart_text (window_of look.choice ls) ls
+    else chart_text (window_of look.choice ls) look.covers ls
 
 -- what is written of the lines of a report: the drawing; or one of them goes back in time, and the
 -- first is told

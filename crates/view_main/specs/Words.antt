@@ -1,5 +1,5 @@
 -- what the program's words say
-use Rattle.std.specs.Prelude.{ℕ, ◌+◌, ◌==◌, ◌&&◌, nat_lt, not, Bool, true, false, length, List, []}
+use Rattle.std.specs.Prelude.{ℕ, ◌+◌, ◌==◌, ◌&&◌, nat_lt, Bool, true, false, length, List, []}
 use Rattle.std.specs.Prelude.{◌∷◌, codes, take, drop}
 use Rattle.std.specs.Prelude.{Option, Some, None, if◌then◌else◌, String, string_bytes, bytes_eq}
 use Rattle.std.specs.List.{position}
@@ -98,13 +98,9 @@ word_where options awaits.Cpus word =
 abbrev pub take_word : Options → (word : List ℕ) → Option Options
 take_word options word = word_where options options.awaited word
 
--- a look, where who answers is chosen for text alone
-abbrev pub as_look : Look → Option Look
-as_look look = if look.covers && not look.text then None else Some look
-
 -- what is chosen, if nothing is awaited any more
 abbrev pub look_where : Look → Awaited → Option Look
-look_where look awaits.Nothing = as_look look
+look_where look awaits.Nothing = Some look
 look_where look awaits.From = None
 look_where look awaits.To = None
 look_where look awaits.Cpus = None

@@ -3,9 +3,8 @@
 ghost use Rattle.std.specs.Prelude.{◌≡◌, IfErr, IfOk, None};
 ghost use Rattle.run_chart.specs.Charts.{IsRefusal, back_from};
 ghost use Rattle.trace_check.specs.Texts.{IsTrace};
-ghost use Rattle.view_main.specs.Outputs.{IsAllTold};
-ghost use Rattle.view_main.specs.Outputs.{IsDrawing, IsDrawn, IsTelling, IsTold, drawing_of};
-ghost use Rattle.view_main.specs.Outputs.{status_told};
+ghost use Rattle.view_main.specs.Outputs.{IsAllTold, IsDrawing, IsDrawn, IsTelling, IsTold};
+ghost use Rattle.view_main.specs.Outputs.{drawing_of, status_told};
 
 use crate::refusals::{back_refused, report_refused, steps_refused};
 use crate::words::Look;
@@ -36,7 +35,7 @@ fn drawing_of(alloc: Global, look: Look, lines: &[Line]) -> Result<Vec<u8>, NoCh
     if look.text {
         text_chart(alloc, look.choice, look.covers, lines)
     } else {
-        chart(alloc, look.choice, lines)
+        chart(alloc, look.choice, look.covers, lines)
     }
 }
 

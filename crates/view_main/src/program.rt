@@ -88,8 +88,9 @@ fn run_command<S: Source, K: Sink>(
 }
 
 /// Does all that the program does: `chart` draws a report, `explain` tells a trace of steps,
-/// `linux --all` tells all that is wrong with a kernel's trace, and what other words say is `trace_view::run_view`. It reads the source to its end, writes the
-/// answer at the end, and answers the exit status.
+/// `linux --all` tells all that is wrong with a kernel's trace, and what other words say is
+/// `trace_view::run_view`. It reads the source to its end, writes the answer at the end, and
+/// answers the exit status.
 pub fn run_views<S: Source, K: Sink>(
     alloc: Global,
     words: &[String],

@@ -23,7 +23,7 @@ fn cause_text(kind: Kind) -> &'static [u8]
 }
 
 /// A text that is no report.
-#[tactic(auto, using(std::proofs::lemmas::List::append_assoc), unfolding(crate::specs::Refusals::report_text))]
+#[tactic(auto, using(crate::proofs::Joined::onto), unfolding(crate::specs::Refusals::report_text))]
 pub(crate) fn report_refused(alloc: Global, fault: ReportFault) -> Result<Vec<u8>, NoMemory>
     ensures { IfOk result (λ text. text.items ≡ report_text fault) }
 {
@@ -35,7 +35,7 @@ pub(crate) fn report_refused(alloc: Global, fault: ReportFault) -> Result<Vec<u8
 }
 
 /// A report of which the line of this number goes back in time.
-#[tactic(auto, using(std::proofs::lemmas::List::append_assoc), unfolding(crate::specs::Refusals::back_text))]
+#[tactic(auto, using(crate::proofs::Joined::onto), unfolding(crate::specs::Refusals::back_text))]
 pub(crate) fn back_refused(alloc: Global, number: usize) -> Result<Vec<u8>, NoMemory>
     ensures { IfOk result (λ text. text.items ≡ back_text number) }
 {
@@ -61,7 +61,7 @@ fn kind_text(kind: tm_script::Kind) -> &'static [u8]
 }
 
 /// A text that is no trace of steps.
-#[tactic(auto, using(std::proofs::lemmas::List::append_assoc), unfolding(crate::specs::Refusals::steps_text))]
+#[tactic(auto, using(crate::proofs::Joined::onto), unfolding(crate::specs::Refusals::steps_text))]
 pub(crate) fn steps_refused(alloc: Global, fault: ScriptFault) -> Result<Vec<u8>, NoMemory>
     ensures { IfOk result (λ text. text.items ≡ steps_text fault) }
 {

@@ -4,11 +4,10 @@ ghost use Rattle.std.specs.Prelude.{◌≡◌, ◌<◌, ◌==◌, IfSome, length
 ghost use Rattle.std.specs.List.{position};
 ghost use Rattle.std.specs.Str.{bytes_eq};
 ghost use Rattle.text_words.specs.Numbers.{number_of};
-ghost use Rattle.view_main.specs.Words.{is_all};
-ghost use Rattle.view_main.specs.Words.{as_look, awaiting, both, chart_with, chosen, command_of};
-ghost use Rattle.view_main.specs.Words.{look_of, looking, with_option};
-ghost use Rattle.view_main.specs.Words.{cpu_in, cpus_in, first_options, option_in, options_from};
-ghost use Rattle.view_main.specs.Words.{take_word, with_cpus, with_from, with_to};
+ghost use Rattle.view_main.specs.Words.{awaiting, both, chart_with, chosen, command_of, cpu_in};
+ghost use Rattle.view_main.specs.Words.{cpus_in, first_options, is_all, look_of, looking};
+ghost use Rattle.view_main.specs.Words.{option_in, options_from, take_word, with_cpus};
+ghost use Rattle.view_main.specs.Words.{with_from, with_option, with_to};
 
 use run_chart::Choice;
 use text_words::read_number;
@@ -40,7 +39,7 @@ pub struct Look {
     pub choice: Choice,
     /// As text, for a terminal.
     pub text: bool,
-    /// With who answers for idle CPUs, which text has alone.
+    /// With who answers for idle CPUs.
     pub covers: bool,
 }
 
@@ -229,23 +228,12 @@ fn take_word(options: Options, word: &[u8]) -> Option<Options>
     }
 }
 
-/// A look, where who answers is chosen for text alone.
-fn as_look(look: Look) -> Option<Look>
-    ensures { result ≡ as_look look }
-{
-    if look.covers && !look.text {
-        None
-    } else {
-        Some(look)
-    }
-}
-
 /// What options choose, if nothing is awaited any more.
 fn look_of(options: Options) -> Option<Look>
     ensures { result ≡ look_of options }
 {
     match options.awaited {
-        Awaited::Nothing => as_look(options.look),
+        Awaited::Nothing => Some(options.look),
         Awaited::From => None,
         Awaited::To => None,
         Awaited::Cpus => None,

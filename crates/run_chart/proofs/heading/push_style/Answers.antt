@@ -1,6 +1,6 @@
-use Rattle.run_chart.specs.Drawing.{style_text}
+use Rattle.run_chart.specs.Heading.{style_text}
 use Rattle.run_chart.proofs.Joined.{four_pieces}
-use Rattle.run_chart.proofs.drawing.push_style.Goals as goal
+use Rattle.run_chart.proofs.heading.push_style.Goals as goal
 
 pub returns : goal.returns
 unfolding style_text

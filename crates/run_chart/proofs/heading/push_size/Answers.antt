@@ -1,6 +1,6 @@
-use Rattle.run_chart.specs.Drawing.{frame_text, size_text}
+use Rattle.run_chart.specs.Heading.{frame_text, size_text}
 use Rattle.run_chart.proofs.Joined.{three_pieces}
-use Rattle.run_chart.proofs.drawing.push_size.Goals as goal
+use Rattle.run_chart.proofs.heading.push_size.Goals as goal
 
 pub returns : goal.returns
 unfolding size_text
