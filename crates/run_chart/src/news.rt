@@ -1,6 +1,6 @@
 //! The notes of a picture: of the answers for a CPU those that say something new of it.
 
-ghost use Rattle.std.specs.Prelude.{◌≡◌, ◌≤◌, ◌++◌, IfOk, OnOk};
+ghost use Rattle.std.specs.Prelude.{◌≡◌, ◌++◌, IfOk, OnOk};
 ghost use Rattle.run_chart.specs.News.{is_known, is_led, is_same, is_woken, known_by, known_where};
 ghost use Rattle.run_chart.specs.News.{new_of, news_below, news_of_cpu, news_where, note_at};
 ghost use Rattle.run_chart.specs.News.{told_of};
