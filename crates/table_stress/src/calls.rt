@@ -16,24 +16,18 @@ use timer_calls::{arm, cancel};
 use tm_base::{CpuId, Gate, Jiffy, OpFault, TimerId};
 use wheel_core::TimerBase;
 
-/// The terms of a run: its time, in jiffies, and how many timers there are.
-#[derive(Clone, Copy)]
-pub(crate) struct Terms {
-    pub(crate) now: Jiffy,
-    pub(crate) timers: u16,
-}
-
 /// The CPU of a pass arms a timer of the run.
 fn arm_own<N: RunName, B: TimerBase, R: Wait>(
     rt: &R,
     shared: &Shared<N, B>,
-    terms: Terms,
+    now: Jiffy,
+    timers: u16,
     asked: Asked,
     pass: &mut Pass,
 ) -> Result<Jiffy, OpFault>
     requires one { IsOneOf N.table N.opening pass.old }
-    requires fits { Fits N.opening terms.now terms.timers }
-    requires known { asked.timer.0 < terms.timers }
+    requires fits { Fits N.opening now timers }
+    requires known { asked.timer.0 < timers }
     ensures { StaysQuiet N.table N.opening pass.old pass.new }
 {
     let Asked {
@@ -44,26 +38,25 @@ fn arm_own<N: RunName, B: TimerBase, R: Wait>(
         arg,
     } = asked;
     pass.law();
-    arm(
-        rt, shared, pass, terms.now, timer, class, delay, job, arg, 1,
-    )
+    arm(rt, shared, pass, now, timer, class, delay, job, arg, 1)
 }
 
 /// The same, counted; a timer that there isn't is passed over.
 pub(crate) fn arm_known<N: RunName, B: TimerBase, R: Wait>(
     rt: &R,
     shared: &Shared<N, B>,
-    terms: Terms,
+    now: Jiffy,
+    timers: u16,
     asked: Asked,
     tally: &mut Tally,
     pass: &mut Pass,
 )
     requires one { IsOneOf N.table N.opening pass.old }
-    requires fits { Fits N.opening terms.now terms.timers }
+    requires fits { Fits N.opening now timers }
     ensures { StaysQuiet N.table N.opening pass.old pass.new }
 {
-    if asked.timer.0 < terms.timers {
-        tally.count_arm(arm_own(rt, shared, terms, asked, pass));
+    if asked.timer.0 < timers {
+        tally.count_arm(arm_own(rt, shared, now, timers, asked, pass));
     }
 }
 
@@ -71,34 +64,36 @@ pub(crate) fn arm_known<N: RunName, B: TimerBase, R: Wait>(
 fn cancel_own<N: RunName, B: TimerBase, R: Wait>(
     rt: &R,
     shared: &Shared<N, B>,
-    terms: Terms,
+    now: Jiffy,
+    timers: u16,
     timer: TimerId,
     pass: &mut Pass,
 ) -> Result<Option<CpuId>, OpFault>
     requires one { IsOneOf N.table N.opening pass.old }
-    requires fits { Fits N.opening terms.now terms.timers }
-    requires known { timer.0 < terms.timers }
+    requires fits { Fits N.opening now timers }
+    requires known { timer.0 < timers }
     ensures { StaysQuiet N.table N.opening pass.old pass.new }
 {
     pass.law();
-    cancel(rt, shared, pass, terms.now, timer, 1)
+    cancel(rt, shared, pass, now, timer, 1)
 }
 
 /// The same, counted; a timer that there isn't is passed over.
 pub(crate) fn cancel_known<N: RunName, B: TimerBase, R: Wait>(
     rt: &R,
     shared: &Shared<N, B>,
-    terms: Terms,
+    now: Jiffy,
+    timers: u16,
     timer: TimerId,
     tally: &mut Tally,
     pass: &mut Pass,
 )
     requires one { IsOneOf N.table N.opening pass.old }
-    requires fits { Fits N.opening terms.now terms.timers }
+    requires fits { Fits N.opening now timers }
     ensures { StaysQuiet N.table N.opening pass.old pass.new }
 {
-    if timer.0 < terms.timers {
-        tally.count_cancel(cancel_own(rt, shared, terms, timer, pass));
+    if timer.0 < timers {
+        tally.count_cancel(cancel_own(rt, shared, now, timers, timer, pass));
     }
 }
 
@@ -106,16 +101,17 @@ pub(crate) fn cancel_known<N: RunName, B: TimerBase, R: Wait>(
 pub(crate) fn rest<N: RunName, B: TimerBase, G: Gate, R: Wait>(
     rt: &R,
     shared: &Shared<N, B>,
-    terms: Terms,
+    now: Jiffy,
+    timers: u16,
     gate: &G,
     pass: &mut Pass,
 ) -> Result<IdleAnswer, OpFault>
     requires one { IsOneOf N.table N.opening pass.old }
-    requires fits { Fits N.opening terms.now terms.timers }
+    requires fits { Fits N.opening now timers }
     ensures { StaysQuiet N.table N.opening pass.old pass.new }
 {
     pass.law();
-    go_idle(rt, shared, pass, terms.now, gate)
+    go_idle(rt, shared, pass, now, gate)
 }
 
 /// The CPU of a pass wakes.
@@ -137,17 +133,18 @@ pub(crate) fn run_due<N: RunName, B: TimerBase, J: Jobs, G: Gate, R: Wait>(
     rt: &R,
     alloc: Global,
     shared: &Shared<N, B>,
-    terms: Terms,
+    now: Jiffy,
+    timers: u16,
     jobs: &J,
     gate: &G,
     pass: &mut Pass,
 ) -> (Result<(), OpFault>, usize)
     requires one { IsOneOf N.table N.opening pass.old }
-    requires fits { Fits N.opening terms.now terms.timers }
+    requires fits { Fits N.opening now timers }
     ensures { StaysQuiet N.table N.opening pass.old pass.new }
 {
     let mut runs = Runs::new(alloc);
     pass.law();
-    let ended = interrupt(rt, alloc, shared, pass, terms.now, jobs, gate, &mut runs);
+    let ended = interrupt(rt, alloc, shared, pass, now, jobs, gate, &mut runs);
     (ended, runs.len())
 }

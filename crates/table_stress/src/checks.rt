@@ -1,13 +1,14 @@
 //! What a core has to be like as a run ends.
 
-ghost use Rattle.std.specs.Prelude.{◌<◌, length};
+ghost use Rattle.std.specs.Prelude.{◌≡◌, ◌<◌, length};
 
+use crate::covers::agrees;
 use core_state::Core;
 use cpu_bases::{Act, Entry};
+use shared_rows::no_base_behind;
 use std::alloc::Global;
 use step_laws::{is_settled, law_once};
 use tm_base::{Class, CpuId, NoMemory, TimerId};
-use walk_rows::{agrees, no_base_behind};
 use wheel_base::WheelBase;
 
 /// What was found that may not be.

@@ -4,9 +4,8 @@ ghost use Rattle.std.specs.Prelude.{◌≡◌, ◌+◌, ◌≤◌, IfOk, length}
 ghost use Rattle.std.specs.Thread.{IsSend, IsSync};
 ghost use Rattle.table_stress.specs.Quiet.{Fits, QuietFrom};
 
-use crate::calls::Terms;
 use crate::gates::Watch;
-use crate::runs::Plan;
+use crate::runs::{Crew, Plan};
 use crate::tally::Tally;
 use crate::turns::take_rounds;
 use job_table::Jobs;
@@ -16,8 +15,7 @@ use std::alloc::Global;
 use std::sync::Wait;
 use std::thread;
 use std::thread::Threads;
-use tm_base::NoMemory;
-use walk_rows::Crew;
+use tm_base::{Jiffy, NoMemory};
 use wheel_core::TimerBase;
 
 /// How many of so many CPUs from `first` on are below `cut`.
@@ -32,7 +30,8 @@ fn one<N: RunName, B: TimerBase, J: Jobs, G: Watch, R: Wait>(
     rt: &R,
     alloc: Global,
     shared: &Shared<N, B>,
-    terms: Terms,
+    now: Jiffy,
+    timers: u16,
     jobs: &J,
     gate: &G,
     plan: &Plan,
@@ -41,7 +40,7 @@ fn one<N: RunName, B: TimerBase, J: Jobs, G: Watch, R: Wait>(
 ) -> (Vec<Pass>, Tally)
     requires each { QuietFrom N.table N.opening first passes.items }
     requires few { first + length passes.items ≤ length N.opening.cpus }
-    requires fits { Fits N.opening terms.now terms.timers }
+    requires fits { Fits N.opening now timers }
     ensures each { QuietFrom N.table N.opening first result.0.items }
     ensures count { length result.0.items ≡ length passes.items }
 {
@@ -49,7 +48,8 @@ fn one<N: RunName, B: TimerBase, J: Jobs, G: Watch, R: Wait>(
         rt,
         alloc,
         shared,
-        terms,
+        now,
+        timers,
         jobs,
         gate,
         plan,
@@ -70,7 +70,8 @@ fn both<
     rt: &R,
     alloc: Global,
     shared: &Shared<N, B>,
-    terms: Terms,
+    now: Jiffy,
+    timers: u16,
     jobs: &J,
     gate: &G,
     plan: &Plan,
@@ -83,7 +84,7 @@ fn both<
     requires back { QuietFrom N.table N.opening middle back.items }
     requires few { first + length front.items ≤ length N.opening.cpus }
     requires others { middle + length back.items ≤ length N.opening.cpus }
-    requires fits { Fits N.opening terms.now terms.timers }
+    requires fits { Fits N.opening now timers }
     ensures front { QuietFrom N.table N.opening first result.0.0.items }
     ensures back { QuietFrom N.table N.opening middle result.1.0.items }
     ensures counts { (length result.0.0.items ≡ length front.items)
@@ -94,17 +95,25 @@ fn both<
         || -> (Vec<Pass>, Tally)
             requires { QuietFrom N.table N.opening first front.items
                 × (first + length front.items ≤ length N.opening.cpus)
-                × Fits N.opening terms.now terms.timers }
+                × Fits N.opening now timers }
             ensures { QuietFrom N.table N.opening first result.0.items
                 × (length result.0.items ≡ length front.items) }
-        { one(rt, alloc, shared, terms, jobs, gate, plan, first, front) },
+        {
+            one(
+                rt, alloc, shared, now, timers, jobs, gate, plan, first, front,
+            )
+        },
         || -> (Vec<Pass>, Tally)
             requires { QuietFrom N.table N.opening middle back.items
                 × (middle + length back.items ≤ length N.opening.cpus)
-                × Fits N.opening terms.now terms.timers }
+                × Fits N.opening now timers }
             ensures { QuietFrom N.table N.opening middle result.0.items
                 × (length result.0.items ≡ length back.items) }
-        { one(rt, alloc, shared, terms, jobs, gate, plan, middle, back) },
+        {
+            one(
+                rt, alloc, shared, now, timers, jobs, gate, plan, middle, back,
+            )
+        },
     )
 }
 
@@ -119,7 +128,8 @@ fn cut_in_two<
     rt: &R,
     alloc: Global,
     shared: &Shared<N, B>,
-    terms: Terms,
+    now: Jiffy,
+    timers: u16,
     jobs: &J,
     gate: &G,
     plan: &Plan,
@@ -129,7 +139,7 @@ fn cut_in_two<
 ) -> Result<(Vec<Pass>, Tally), NoMemory>
     requires each { QuietFrom N.table N.opening first passes.items }
     requires few { first + length passes.items ≤ length N.opening.cpus }
-    requires fits { Fits N.opening terms.now terms.timers }
+    requires fits { Fits N.opening now timers }
     ensures each { IfOk result (λ r. QuietFrom N.table N.opening first r.0.items) }
     ensures count { IfOk result (λ r. length r.0.items ≡ length passes.items) }
 {
@@ -141,7 +151,8 @@ fn cut_in_two<
         rt,
         alloc,
         shared,
-        terms,
+        now,
+        timers,
         jobs,
         gate,
         plan,
@@ -166,7 +177,8 @@ fn pairs<
     rt: &R,
     alloc: Global,
     shared: &Shared<N, B>,
-    terms: Terms,
+    now: Jiffy,
+    timers: u16,
     jobs: &J,
     gate: &G,
     plan: &Plan,
@@ -184,7 +196,7 @@ fn pairs<
     requires back { QuietFrom N.table N.opening middle back.items }
     requires few { first + length front.items ≤ length N.opening.cpus }
     requires others { middle + length back.items ≤ length N.opening.cpus }
-    requires fits { Fits N.opening terms.now terms.timers }
+    requires fits { Fits N.opening now timers }
     ensures front { IfOk result.0 (λ r. QuietFrom N.table N.opening first r.0.items) }
     ensures back { IfOk result.1 (λ r. QuietFrom N.table N.opening middle r.0.items) }
     ensures few { IfOk result.0 (λ r. length r.0.items ≡ length front.items) }
@@ -196,24 +208,24 @@ fn pairs<
             requires { IsSync R.row × IsSync G.row × IsSync J.row × IsSend N.row × IsSync N.row × IsSend B.row
                 × IsSync B.row × QuietFrom N.table N.opening first front.items
                 × (first + length front.items ≤ length N.opening.cpus)
-                × Fits N.opening terms.now terms.timers }
+                × Fits N.opening now timers }
             ensures { IfOk result (λ r. QuietFrom N.table N.opening first r.0.items)
                 × IfOk result (λ r. length r.0.items ≡ length front.items) }
         {
             cut_in_two(
-                rt, alloc, shared, terms, jobs, gate, plan, first, low, front,
+                rt, alloc, shared, now, timers, jobs, gate, plan, first, low, front,
             )
         },
         || -> Result<(Vec<Pass>, Tally), NoMemory>
             requires { IsSync R.row × IsSync G.row × IsSync J.row × IsSend N.row × IsSync N.row × IsSend B.row
                 × IsSync B.row × QuietFrom N.table N.opening middle back.items
                 × (middle + length back.items ≤ length N.opening.cpus)
-                × Fits N.opening terms.now terms.timers }
+                × Fits N.opening now timers }
             ensures { IfOk result (λ r. QuietFrom N.table N.opening middle r.0.items)
                 × IfOk result (λ r. length r.0.items ≡ length back.items) }
         {
             cut_in_two(
-                rt, alloc, shared, terms, jobs, gate, plan, middle, high, back,
+                rt, alloc, shared, now, timers, jobs, gate, plan, middle, high, back,
             )
         },
     )
@@ -230,7 +242,8 @@ fn cut_in_four<
     rt: &R,
     alloc: Global,
     shared: &Shared<N, B>,
-    terms: Terms,
+    now: Jiffy,
+    timers: u16,
     jobs: &J,
     gate: &G,
     plan: &Plan,
@@ -240,7 +253,7 @@ fn cut_in_four<
 ) -> Result<(Vec<Pass>, Tally), NoMemory>
     requires each { QuietFrom N.table N.opening first passes.items }
     requires few { first + length passes.items ≤ length N.opening.cpus }
-    requires fits { Fits N.opening terms.now terms.timers }
+    requires fits { Fits N.opening now timers }
     ensures each { IfOk result (λ r. QuietFrom N.table N.opening first r.0.items) }
     ensures count { IfOk result (λ r. length r.0.items ≡ length passes.items) }
 {
@@ -253,7 +266,8 @@ fn cut_in_four<
         rt,
         alloc,
         shared,
-        terms,
+        now,
+        timers,
         jobs,
         gate,
         plan,
@@ -281,7 +295,8 @@ pub(crate) fn all<
     rt: &R,
     alloc: Global,
     shared: &Shared<N, B>,
-    terms: Terms,
+    now: Jiffy,
+    timers: u16,
     jobs: &J,
     gate: &G,
     plan: &Plan,
@@ -289,19 +304,22 @@ pub(crate) fn all<
 ) -> Result<(Vec<Pass>, Tally), NoMemory>
     requires each { QuietFrom N.table N.opening 0 passes.items }
     requires few { length passes.items ≤ length N.opening.cpus }
-    requires fits { Fits N.opening terms.now terms.timers }
+    requires fits { Fits N.opening now timers }
     ensures each { IfOk result (λ r. QuietFrom N.table N.opening 0 r.0.items) }
     ensures count { IfOk result (λ r. length r.0.items ≡ length passes.items) }
 {
     match plan.crew {
-        Crew::One => Ok(one(rt, alloc, shared, terms, jobs, gate, plan, 0, passes)),
-        Crew::Two(cut) => cut_in_two(rt, alloc, shared, terms, jobs, gate, plan, 0, cut, passes),
+        Crew::One => Ok(one(rt, alloc, shared, now, timers, jobs, gate, plan, 0, passes)),
+        Crew::Two(cut) => cut_in_two(
+            rt, alloc, shared, now, timers, jobs, gate, plan, 0, cut, passes,
+        ),
         Crew::Four(low, middle, high) => {
             cut_in_four(
                 rt,
                 alloc,
                 shared,
-                terms,
+                now,
+                timers,
                 jobs,
                 gate,
                 plan,

@@ -1,11 +1,12 @@
 //! Lists of turns, drawn by a seed.
 
+use crate::gates::Order;
 use crate::jobs::JOBS;
+use crate::runs::Crew;
 use crate::turns::{Act, Asked, Turn};
 use std::alloc::Global;
 use std::sync::atomic::AtomicU64;
 use tm_base::{Class, CpuId, NoMemory, TimerId};
-use walk_rows::{Crew, Draws, Turnstile};
 
 /// The CPUs of a machine: a leaf of eight and one of four.
 pub const CPUS: u16 = 12;
@@ -18,6 +19,24 @@ const LONGEST: u16 = 60;
 
 /// How many places the order of a gate has.
 const PLACES: u16 = 96;
+
+/// A state from which numbers are drawn, by a linear congruence.
+#[derive(Clone, Copy, Debug, PartialEq, Eq)]
+pub struct Draws(pub u64);
+
+impl Draws {
+    /// The next number below this one; 0 if there is none.
+    pub fn below(&mut self, bound: u16) -> u16 {
+        self.0 = self
+            .0
+            .wrapping_mul(6_364_136_223_846_793_005)
+            .wrapping_add(1_442_695_040_888_963_407);
+        if bound == 0 {
+            return 0;
+        }
+        ((self.0 >> 33) % u64::from(bound)) as u16
+    }
+}
 
 /// A class: global as often as the others together.
 fn drawn_class(draws: &mut Draws) -> Class {
@@ -92,17 +111,17 @@ pub fn drawn_gate(
     alloc: Global,
     draws: &mut Draws,
     cuts: (u16, u16, u16),
-) -> Result<Turnstile, NoMemory> {
-    let mut kinds = Vec::new(alloc);
+) -> Result<Order, NoMemory> {
+    let mut threads = Vec::new(alloc);
     for cpu in 0..CPUS {
-        kinds.push(thread_of(cuts, cpu))?;
+        threads.push(thread_of(cuts, cpu))?;
     }
     let mut order = Vec::new(alloc);
     for _place in 0..PLACES {
         order.push((draws.below(4) % 256) as u8)?;
     }
-    Ok(Turnstile {
-        kinds,
+    Ok(Order {
+        threads,
         order,
         over: AtomicU64::new(0),
     })

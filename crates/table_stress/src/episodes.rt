@@ -1,9 +1,7 @@
 //! Episodes: a machine from its start through some runs, all drawn by one seed.
 
-ghost use Rattle.std.specs.Prelude.{◌<◌, length};
-
 use crate::checks::{Flaw, first_flaw, is_all_done, is_quiet_at};
-use crate::drawing::{CPUS, TIMERS, drawn_crew, drawn_cuts, drawn_gate, drawn_turns};
+use crate::drawing::{CPUS, Draws, TIMERS, drawn_crew, drawn_cuts, drawn_gate, drawn_turns};
 use crate::gates::Watch;
 use crate::jobs::stored_jobs;
 use crate::noted::{are_new_entries, handed, lengths};
@@ -13,12 +11,12 @@ use crate::turns::{Act, Turn};
 use core_state::Core;
 use core_world::Step;
 use job_table::Jobs;
+use shared_rows::{no_base_behind, start};
 use std::alloc::Global;
 use std::sync::Wait;
 use std::thread::Threads;
 use step_laws::{is_settled, run_steps};
 use tm_base::{CpuId, CpuSet, FreeGate, NoMemory};
-use walk_rows::{Draws, no_base_behind, start};
 use wheel_base::WheelBase;
 
 /// How many runs an episode has, each behind a jump of the clock.
@@ -103,8 +101,9 @@ fn flaw_of(
     Ok(None)
 }
 
-/// A run over a core, and its first flaw; or the flaw that the core has before it.
-fn judged<J: Jobs + Sync, G: Watch + Sync, R: Threads + Wait + Sync>(
+/// A run over a core, whose passes begin with no walk, and its first flaw; or the flaw that the core
+/// has before it.
+pub fn judged<J: Jobs + Sync, G: Watch + Sync, R: Threads + Wait + Sync>(
     rt: &R,
     alloc: Global,
     core: Core<WheelBase>,

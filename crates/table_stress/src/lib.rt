@@ -4,6 +4,7 @@
 
 mod calls;
 mod checks;
+mod covers;
 mod crews;
 mod drawing;
 mod episodes;
@@ -17,10 +18,12 @@ mod tests;
 mod turns;
 
 pub use checks::{Flaw, first_flaw, is_quiet_at};
-pub use drawing::{CPUS, TIMERS, drawn_crew, drawn_turns};
-pub use episodes::{Broken, episode};
-pub use gates::Watch;
+pub use covers::{agrees, is_active};
+pub use drawing::{CPUS, Draws, TIMERS, drawn_turns};
+pub use episodes::{Broken, RUNS, episode, judged};
+pub use gates::{Hold, Order, Watch};
 pub use jobs::stored_jobs;
-pub use runs::{LATEST, Plan, Ran, run_plan};
+pub use runs::{Crew, LATEST, Plan, Ran, run_plan};
+pub use shared_rows::{no_base_behind, start};
 pub use tally::Tally;
 pub use turns::{Act, Asked, Turn};

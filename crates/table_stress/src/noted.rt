@@ -1,7 +1,5 @@
 //! Receipts, held against the journals.
 
-ghost use Rattle.std.specs.Prelude.{◌<◌, length};
-
 use core_state::Core;
 use cpu_bases::{Act, Entry};
 use shared_rule::{Pass, Receipt};

@@ -6,9 +6,7 @@ ghost use Rattle.core_world.specs.Covered.{IsSettled};
 ghost use Rattle.shared_table.specs.Begun.{begun_passes};
 ghost use Rattle.shared_table.specs.Ended.{HasNoBaseBehind};
 ghost use Rattle.shared_table.specs.declared.ready.TheConstants.{MOST_MADE};
-ghost use Rattle.table_stress.specs.Quiet.{Fits};
 
-use crate::calls::Terms;
 use crate::crews::all;
 use crate::gates::Watch;
 use crate::noted::noted;
@@ -23,13 +21,23 @@ use std::marker::Brand;
 use std::sync::Wait;
 use std::thread::Threads;
 use tm_base::{Jiffy, NoMemory, TIME_LIMIT};
-use walk_rows::Crew;
 use wheel_base::WheelBase;
 
 /// The latest time of a run, in jiffies, so that any delay may be asked.
 pub const LATEST: Jiffy = TIME_LIMIT - 4_294_967_296;
 
 const _: () = prove!(LATEST == TIME_LIMIT - (1 << 32));
+
+/// The threads that share the CPUs of a run, each with CPUs that follow one another.
+#[derive(Clone, Copy, Debug, PartialEq, Eq)]
+pub enum Crew {
+    /// One thread.
+    One,
+    /// Two threads, of which the second has the CPUs from this number on.
+    Two(u16),
+    /// Four threads, of which the others have the CPUs from these numbers on.
+    Four(u16, u16, u16),
+}
 
 /// What the CPUs of a run do: the turns, so many times. A thread takes those of its own CPUs, in
 /// order.
@@ -54,7 +62,8 @@ fn run_begun<N: RunName + Send + Sync, J: Jobs + Sync, G: Watch + Sync, R: Threa
     rt: &R,
     alloc: Global,
     shared: Shared<N, WheelBase>,
-    terms: Terms,
+    now: Jiffy,
+    timers: u16,
     jobs: &J,
     gate: &G,
     plan: &Plan,
@@ -63,9 +72,11 @@ fn run_begun<N: RunName + Send + Sync, J: Jobs + Sync, G: Watch + Sync, R: Threa
 ) -> Result<Ran, NoMemory>
     requires settled { IsSettled N.opening }
     requires passes { passes.items ≡ begun_passes N.table N.opening made }
-    requires fits { Fits N.opening terms.now terms.timers }
+    requires now { now ≡ N.opening.clock }
+    requires timers { timers ≡ N.opening.timers }
+    requires in_time { now ≤ TIME_LIMIT - 2 ^ 32 }
 {
-    let (passes, tally) = all(rt, alloc, &shared, terms, jobs, gate, plan, passes)?;
+    let (passes, tally) = all(rt, alloc, &shared, now, timers, jobs, gate, plan, passes)?;
     let receipts = noted(alloc, passes.as_slice())?;
     let core = shared.finish(passes);
     Ok(Ran {
@@ -79,7 +90,8 @@ fn run_begun<N: RunName + Send + Sync, J: Jobs + Sync, G: Watch + Sync, R: Threa
 fn run_over<N: RunName + Send + Sync, J: Jobs + Sync, G: Watch + Sync, R: Threads + Wait + Sync>(
     rt: &R,
     alloc: Global,
-    terms: Terms,
+    now: Jiffy,
+    timers: u16,
     jobs: &J,
     gate: &G,
     plan: &Plan,
@@ -89,11 +101,15 @@ fn run_over<N: RunName + Send + Sync, J: Jobs + Sync, G: Watch + Sync, R: Thread
     requires table { ready.table ≡ N.table }
     requires opening { ready.core ≡ N.opening }
     requires made { ready.made ≡ made }
-    requires fits { Fits ready.core terms.now terms.timers }
+    requires now { now ≡ ready.core.clock }
+    requires timers { timers ≡ ready.core.timers }
+    requires in_time { now ≤ TIME_LIMIT - 2 ^ 32 }
 {
     match Shared::<N, WheelBase>::begin(alloc, ready) {
         Ok((shared, passes)) => {
-            run_begun(rt, alloc, shared, terms, jobs, gate, plan, made, passes)
+            run_begun(
+                rt, alloc, shared, now, timers, jobs, gate, plan, made, passes,
+            )
         },
         Err((_ready, refused)) => Err(refused),
     }
@@ -115,12 +131,12 @@ pub fn run_plan<J: Jobs + Sync, G: Watch + Sync, R: Threads + Wait + Sync>(
     requires few { made ≤ MOST_MADE }
     requires in_time { core.clock ≤ TIME_LIMIT - 2 ^ 32 }
 {
-    let terms = Terms {
-        now: core.now(),
-        timers: core.timers(),
-    };
+    let now = core.now();
+    let timers = core.timers();
     match Ready::prepare(alloc, core, made) {
-        Ok(ready) => run_over::<Brand, J, G, R>(rt, alloc, terms, jobs, gate, plan, made, ready),
+        Ok(ready) => run_over::<Brand, J, G, R>(
+            rt, alloc, now, timers, jobs, gate, plan, made, ready,
+        ),
         Err((_core, refused)) => Err(refused),
     }
 }

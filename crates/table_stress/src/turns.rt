@@ -3,7 +3,7 @@
 ghost use Rattle.std.specs.Prelude.{◌≡◌, ◌+◌, ◌≤◌, length};
 ghost use Rattle.table_stress.specs.Quiet.{Fits, IsOneOf, QuietFrom, StaysQuiet};
 
-use crate::calls::{Terms, arm_known, cancel_known, rest, rouse, run_due};
+use crate::calls::{arm_known, cancel_known, rest, rouse, run_due};
 use crate::gates::Watch;
 use crate::runs::Plan;
 use crate::tally::Tally;
@@ -12,7 +12,7 @@ use shared_rule::{Pass, RunName};
 use shared_table::Shared;
 use std::alloc::Global;
 use std::sync::Wait;
-use tm_base::{Class, CpuId, TimerId};
+use tm_base::{Class, CpuId, Jiffy, TimerId};
 use wheel_core::TimerBase;
 
 /// A timer as it is to be armed, `delay` jiffies from now.
@@ -52,7 +52,8 @@ fn take_own<N: RunName, B: TimerBase, J: Jobs, G: Watch, R: Wait>(
     rt: &R,
     alloc: Global,
     shared: &Shared<N, B>,
-    terms: Terms,
+    now: Jiffy,
+    timers: u16,
     jobs: &J,
     gate: &G,
     act: Act,
@@ -60,16 +61,16 @@ fn take_own<N: RunName, B: TimerBase, J: Jobs, G: Watch, R: Wait>(
     pass: &mut Pass,
 )
     requires one { IsOneOf N.table N.opening pass.old }
-    requires fits { Fits N.opening terms.now terms.timers }
+    requires fits { Fits N.opening now timers }
     ensures { StaysQuiet N.table N.opening pass.old pass.new }
 {
     match act {
-        Act::Arm(asked) => arm_known(rt, shared, terms, asked, tally, pass),
-        Act::Cancel { timer } => cancel_known(rt, shared, terms, timer, tally, pass),
-        Act::Rest => tally.count_rest(rest(rt, shared, terms, gate, pass)),
+        Act::Arm(asked) => arm_known(rt, shared, now, timers, asked, tally, pass),
+        Act::Cancel { timer } => cancel_known(rt, shared, now, timers, timer, tally, pass),
+        Act::Rest => tally.count_rest(rest(rt, shared, now, timers, gate, pass)),
         Act::Wake => tally.count_wake(rouse(rt, shared, gate, pass)),
         Act::Interrupt => {
-            tally.count_interrupt(run_due(rt, alloc, shared, terms, jobs, gate, pass))
+            tally.count_interrupt(run_due(rt, alloc, shared, now, timers, jobs, gate, pass))
         },
     }
 }
@@ -79,7 +80,8 @@ fn take_turn<N: RunName, B: TimerBase, J: Jobs, G: Watch, R: Wait>(
     rt: &R,
     alloc: Global,
     shared: &Shared<N, B>,
-    terms: Terms,
+    now: Jiffy,
+    timers: u16,
     jobs: &J,
     gate: &G,
     turn: Turn,
@@ -89,7 +91,7 @@ fn take_turn<N: RunName, B: TimerBase, J: Jobs, G: Watch, R: Wait>(
 )
     requires each { QuietFrom N.table N.opening first passes.old }
     requires few { first + length passes.old ≤ length N.opening.cpus }
-    requires fits { Fits N.opening terms.now terms.timers }
+    requires fits { Fits N.opening now timers }
     ensures each { QuietFrom N.table N.opening first passes.new }
     ensures count { length passes.new ≡ length passes.old }
 {
@@ -99,18 +101,20 @@ fn take_turn<N: RunName, B: TimerBase, J: Jobs, G: Watch, R: Wait>(
     }
     let place = cpu - first;
     if place < passes.len() {
-        gate.before(turn.cpu);
+        gate.before(turn);
         take_own(
             rt,
             alloc,
             shared,
-            terms,
+            now,
+            timers,
             jobs,
             gate,
             turn.act,
             tally,
             &mut passes[place],
         );
+        gate.after(turn);
     }
 }
 
@@ -119,7 +123,8 @@ fn take_all<N: RunName, B: TimerBase, J: Jobs, G: Watch, R: Wait>(
     rt: &R,
     alloc: Global,
     shared: &Shared<N, B>,
-    terms: Terms,
+    now: Jiffy,
+    timers: u16,
     jobs: &J,
     gate: &G,
     turns: &[Turn],
@@ -129,13 +134,13 @@ fn take_all<N: RunName, B: TimerBase, J: Jobs, G: Watch, R: Wait>(
 )
     requires each { QuietFrom N.table N.opening first passes.old }
     requires few { first + length passes.old ≤ length N.opening.cpus }
-    requires fits { Fits N.opening terms.now terms.timers }
+    requires fits { Fits N.opening now timers }
     ensures each { QuietFrom N.table N.opening first passes.new }
     ensures count { length passes.new ≡ length passes.old }
 {
     for turn in turns {
         take_turn(
-            rt, alloc, shared, terms, jobs, gate, *turn, first, tally, passes,
+            rt, alloc, shared, now, timers, jobs, gate, *turn, first, tally, passes,
         );
     }
 }
@@ -146,7 +151,8 @@ pub(crate) fn take_rounds<N: RunName, B: TimerBase, J: Jobs, G: Watch, R: Wait>(
     rt: &R,
     alloc: Global,
     shared: &Shared<N, B>,
-    terms: Terms,
+    now: Jiffy,
+    timers: u16,
     jobs: &J,
     gate: &G,
     plan: &Plan,
@@ -155,7 +161,7 @@ pub(crate) fn take_rounds<N: RunName, B: TimerBase, J: Jobs, G: Watch, R: Wait>(
 ) -> Tally
     requires each { QuietFrom N.table N.opening first passes.old }
     requires few { first + length passes.old ≤ length N.opening.cpus }
-    requires fits { Fits N.opening terms.now terms.timers }
+    requires fits { Fits N.opening now timers }
     ensures each { QuietFrom N.table N.opening first passes.new }
     ensures count { length passes.new ≡ length passes.old }
 {
@@ -163,7 +169,7 @@ pub(crate) fn take_rounds<N: RunName, B: TimerBase, J: Jobs, G: Watch, R: Wait>(
     let turns = plan.turns.as_slice();
     for _ in 0..plan.rounds {
         take_all(
-            rt, alloc, shared, terms, jobs, gate, turns, first, &mut tally, passes,
+            rt, alloc, shared, now, timers, jobs, gate, turns, first, &mut tally, passes,
         );
     }
     tally

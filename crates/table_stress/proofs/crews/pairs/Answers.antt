@@ -10,5 +10,6 @@ join-requires-send-F g c κs within =
     let base_send = c.type_bounds.send-B in
     let base_sync = c.type_bounds.sync-B in
     let gate_sync = c.type_bounds.sync-G in
+    let jobs_sync = c.type_bounds.sync-J in
     let handle_sync = c.type_bounds.sync-R in
     search (sendable, crosses, pass_send, plan_sync, shared_sync) depth 200 fits 1000000

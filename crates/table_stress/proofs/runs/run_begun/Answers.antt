@@ -1,2 +1,0 @@
-use Rattle.table_stress.proofs.Rows.{all_begun, all_passes, count_begun}
-use Rattle.table_stress.proofs.runs.run_begun.Goals as goal
