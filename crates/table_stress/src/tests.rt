@@ -1,6 +1,7 @@
 use crate::{
-    Act, Asked, CPUS, LATEST, Plan, Ran, TIMERS, Tally, Turn, drawn_turns, episode, is_quiet_at,
-    judged, run_plan, stored_jobs,
+    Act, Asked, CPUS, Crew, Draws, Hold, LATEST, Plan, Ran, TIMERS, Tally, Turn, agrees,
+    drawn_turns, episode, is_active, is_quiet_at, judged, no_base_behind, run_plan, start,
+    stored_jobs,
 };
 use core_state::Core;
 use core_world::Step;
