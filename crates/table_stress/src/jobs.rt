@@ -13,8 +13,23 @@ pub fn stored_jobs(alloc: Global) -> Result<JobTable, NoMemory> {
     let mut jobs: Vec<Box<dyn Job + Send + Sync>> = Vec::new(alloc);
     jobs.push(Box::new(alloc, OneShot)?)?;
     jobs.push(Box::new(alloc, Marker)?)?;
-    for class in [Class::Global, Class::Pinned, Class::Deferrable] {
-        jobs.push(Box::new(alloc, Periodic { class })?)?;
-    }
+    jobs.push(Box::new(
+        alloc,
+        Periodic {
+            class: Class::Global,
+        },
+    )?)?;
+    jobs.push(Box::new(
+        alloc,
+        Periodic {
+            class: Class::Pinned,
+        },
+    )?)?;
+    jobs.push(Box::new(
+        alloc,
+        Periodic {
+            class: Class::Deferrable,
+        },
+    )?)?;
     Ok(JobTable::new(jobs))
 }

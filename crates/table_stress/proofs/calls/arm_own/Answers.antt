@@ -1,3 +1,4 @@
+use Rattle.std.proofs.Common.{◌+◌}
 use Rattle.timer_calls.specs.Arms.{arming_of}
 use Rattle.table_stress.proofs.Staying.{arm_stays}
 use Rattle.table_stress.proofs.calls.arm_own.Goals as goal
