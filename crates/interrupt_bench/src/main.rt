@@ -79,51 +79,46 @@ fn time_steps<R: Clock>(rt: &R, alloc: Global, case: &Case, rounds: u32) -> anyh
     Ok(micros)
 }
 
-/// Makes a case once, and writes how many turns there were, and how many timers ran, on the shared
-/// words and as steps.
-fn make_once(rt: &HostRuntime, case: &Case, jobs: &JobTable) -> anyhow::Result<()> {
-    let alloc = rt.alloc();
+/// How many turns there are where a case is made once, and how many timers run, on the shared words
+/// and as steps.
+fn make_once<R: Threads + Wait + Sync>(
+    rt: &R,
+    alloc: Global,
+    case: &Case,
+    jobs: &JobTable,
+) -> anyhow::Result<(usize, u64, u64)> {
     let plan = plan(alloc, case, 1, Crew::Four(16, 32, 48)).map_err(no_memory)?;
     let core = machine(alloc, case.load).map_err(no_memory)?;
     let ran = run(rt, alloc, core, &plan, jobs)?;
     let core = machine(alloc, case.load).map_err(no_memory)?;
     let steps = drawn(alloc, core, case, 1).map_err(no_memory)?;
-    let name = case.name;
-    let turns = plan.turns.len();
-    println!(rt; "{name} {turns} {} {}", ran.tally.ran, handed(steps.as_slice()))?;
-    Ok(())
-}
-
-/// Times a case.
-fn time_case(rt: &HostRuntime, case: &Case, jobs: &JobTable) -> anyhow::Result<()> {
-    let alloc = rt.alloc();
-    let name = case.name;
-    let none = plan(alloc, case, 0, Crew::Four(16, 32, 48)).map_err(no_memory)?;
-    let begin = time_words(rt, alloc, case, &none, jobs)?;
-    println!(rt; "Begin {name} {begin}")?;
-    for (threads, crew) in CREWS {
-        let plan = plan(alloc, case, case.rounds, crew).map_err(no_memory)?;
-        let turns = plan.turns.len().saturating_mul(case.rounds as usize);
-        let words = time_words(rt, alloc, case, &plan, jobs)?;
-        println!(rt; "Words {name} {threads} {turns} {words}")?;
-    }
-    let turns = none.turns.len().saturating_mul(case.rounds as usize);
-    let steps = time_steps(rt, alloc, case, case.rounds)?;
-    println!(rt; "Steps {name} {turns} {steps}")?;
-    Ok(())
+    Ok((plan.turns.len(), ran.tally.ran, handed(steps.as_slice())))
 }
 
 fn main(rt: HostRuntime) -> anyhow::Result<()> {
     let jobs = stored_jobs(rt.alloc()).map_err(no_memory)?;
     if env::args(&rt)?.count() < 2 {
         for case in &CASES {
-            make_once(&rt, case, &jobs)?;
+            let (turns, words, steps) = make_once(&rt, rt.alloc(), case, &jobs)?;
+            let name = case.name;
+            println!(&rt; "{name} {turns} {words} {steps}")?;
         }
         return Ok(());
     }
     for _round in 0..ROUNDS {
         for case in &CASES {
-            time_case(&rt, case, &jobs)?;
+            let name = case.name;
+            let none = plan(rt.alloc(), case, 0, Crew::Four(16, 32, 48)).map_err(no_memory)?;
+            let begin = time_words(&rt, rt.alloc(), case, &none, &jobs)?;
+            println!(&rt; "Begin {name} {begin}")?;
+            let turns = none.turns.len().saturating_mul(case.rounds as usize);
+            for (threads, crew) in CREWS {
+                let plan = plan(rt.alloc(), case, case.rounds, crew).map_err(no_memory)?;
+                let words = time_words(&rt, rt.alloc(), case, &plan, &jobs)?;
+                println!(&rt; "Words {name} {threads} {turns} {words}")?;
+            }
+            let steps = time_steps(&rt, rt.alloc(), case, case.rounds)?;
+            println!(&rt; "Steps {name} {turns} {steps}")?;
         }
     }
     Ok(())

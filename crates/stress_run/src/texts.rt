@@ -8,7 +8,8 @@ fn flaw_text(flaw: Flaw) -> &'static str {
         Flaw::NotAtRest => "a walk or an interrupt is under way",
         Flaw::Behind => "a timer is behind the clock of its base",
         Flaw::NotCovered => "an idle CPU isn't answered for, or a group isn't as its CPUs are",
-        Flaw::NotOnce => "an arming has two ends, or a timer isn't queued where the journals say so",
+        Flaw::NotOnce =>
+            "an arming has two ends, or a timer isn't queued where the journals say so",
         Flaw::Receipts => "receipts aren't exactly the new entries",
         Flaw::Runs => "as many timers didn't run as went out",
         Flaw::LeftDue => "something due is left where an interrupt ended last",
@@ -25,7 +26,10 @@ fn tell_turn(rt: &HostRuntime, turn: &Turn) -> anyhow::Result<()> {
             let timer = asked.timer.0;
             let class = asked.class.word();
             let delay = asked.delay;
-            println!(rt; "cpu {cpu} arm {timer} {class} {delay} job {} {}", asked.job, asked.arg)?;
+            println!(rt;
+                "cpu {cpu} arm {timer} {class} {delay} job {} {}",
+                asked.job, asked.arg
+            )?;
         },
         Act::Cancel { timer } => {
             let timer = timer.0;
@@ -53,7 +57,10 @@ pub(crate) fn tell_broken(rt: &HostRuntime, seed: u64, broken: &Broken) -> anyho
 pub(crate) fn tell_tally(rt: &HostRuntime, tally: &Tally) -> anyhow::Result<()> {
     println!(rt; "armed {} queued {}", tally.armed, tally.queued)?;
     println!(rt; "cancelled {} nowhere {}", tally.cancelled, tally.nowhere)?;
-    println!(rt; "idle {} stay {} wake {}", tally.rested, tally.stayed, tally.woken)?;
+    println!(rt;
+        "idle {} stay {} wake {}",
+        tally.rested, tally.stayed, tally.woken
+    )?;
     println!(rt; "interrupts {} ran {}", tally.interrupted, tally.ran)?;
     println!(rt; "refused {}", tally.refused)?;
     Ok(())
