@@ -267,8 +267,15 @@ fn the_timer_of_a_cpu_whose_exchange_was_stale_is_run(rt: HostRuntime) -> Result
     assert!(&rt; run_steps(&mut core, later.as_slice()).is_ok());
     let acts = [(0, Act::Interrupt), (9, Act::Interrupt)];
     match ran(&rt, rt.alloc(), core, 0, &acts)? {
-        Some(Ran { core, tally, .. }) => {
+        Some(
+            Ran {
+                core,
+                receipts,
+                tally,
+            },
+        ) => {
             assert_eq!(&rt; (tally.interrupted, tally.ran), (2, 1));
+            assert!(&rt; receipts.len() > 6);
             assert!(&rt; is_quiet_at(&core, CpuId(8)) && agrees(&core));
         },
         None => assert!(&rt; false, "not at rest"),
