@@ -37,14 +37,20 @@ __attribute__((constructor)) static void begin(void) {
     atomic_store(&begun, 1);
 }
 
-// The program ends by _exit, so that no destructor would tell.
+// Tells what was asked for, once.
+static void tell(void) {
+    if (!atomic_exchange(&begun, 0) || !counted) return;
+    FILE *file = fopen(counted, "w");
+    if (!file) return;
+    fprintf(file, "%lu %lu\n", atomic_load(&asked), atomic_load(&threads));
+    fclose(file);
+}
+
+__attribute__((destructor)) static void end(void) { tell(); }
+
+// Where a program ends by _exit, no destructor tells.
 void _exit(int status) {
-    atomic_store(&begun, 0);
-    FILE *file = counted ? fopen(counted, "w") : NULL;
-    if (file) {
-        fprintf(file, "%lu %lu\n", atomic_load(&asked), atomic_load(&threads));
-        fclose(file);
-    }
+    tell();
     for (;;) syscall(SYS_exit_group, status);
 }
 

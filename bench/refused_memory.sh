@@ -86,4 +86,12 @@ sweep one-walk.steps check
 sweep - generate 1 4 8 10
 sweep - day 1 4 8 10
 sweep - generate 1 0 8 10
+
+# The calls of the library, which a program makes again where memory was wanting: `cd crates/refused_calls && rt run`
+# builds it. It ends with status 0 where the calls left what they should.
+calls=$here/../crates/refused_calls/out/refused_calls
+if [ -x "$calls" ]; then
+    program=$calls
+    sweep - refused_calls
+fi
 exit "$failed"
