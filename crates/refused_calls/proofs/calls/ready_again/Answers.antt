@@ -1,0 +1,7 @@
+use Rattle.std.proofs.Common.{◌≡◌, subst, sym}
+use Rattle.shared_table.specs.Ended.{HasNoBaseBehind}
+use Rattle.refused_calls.proofs.calls.ready_again.Goals as goal
+
+pub prepare-requires-in-Err-clause-whole : goal.prepare-requires-in-Err-clause-whole
+prepare-requires-in-Err-clause-whole c =
+    subst HasNoBaseBehind (sym c.in-Err.ensures.err) c.requires.whole

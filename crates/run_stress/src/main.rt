@@ -1,0 +1,134 @@
+//! Runs scripts that are drawn, with threads for four CPUs whose walks take turns in orders that
+//! are drawn too, and judges each report and each core.
+//!
+//! With no words it does nothing. `SEED` draws one schedule after another for a minute, and then
+//! writes how many: `runs N`. Where one fails it writes why, the seed and the schedule's number,
+//! its script, and the order of its gate, and ends with status 1. `SEED NUMBER` runs that schedule
+//! again, over and over for a minute.
+#![tactic(auto)]
+
+mod drawn;
+mod judged;
+mod orders;
+
+use crate::drawn::{Schedule, draw};
+use crate::judged::{Flaw, judge};
+use held_gates::is_answered;
+use job_table::{Job, JobTable, Marker, OneShot, Periodic};
+use std::alloc::{AllocError, Global};
+use std::sync::Wait;
+use std::thread::Threads;
+use std::time::{Clock, Instant};
+use std::{env, io};
+use tm_base::Class;
+use tm_driver::run;
+use tm_report::Report;
+use tm_script::read_script;
+
+/// How long schedules are run, in seconds.
+const SECONDS: u64 = 60;
+
+/// The most schedules of one call.
+const MOST: u64 = 1_000_000_000;
+
+/// Runs a schedule, and looks what is wrong with what comes of it. The jobs are those of the program:
+/// done, again as global, again as pinned, a mark.
+fn run_one<R: Threads + Wait + Sync>(
+    rt: &R,
+    alloc: Global,
+    schedule: &Schedule,
+) -> Result<Option<Flaw>, AllocError> {
+    let global = Periodic {
+        class: Class::Global,
+    };
+    let pinned = Periodic {
+        class: Class::Pinned,
+    };
+    let mut list: Vec<Box<dyn Job + Send + Sync>> = Vec::new(alloc);
+    list.push(Box::new(alloc, OneShot)?)?;
+    list.push(Box::new(alloc, global)?)?;
+    list.push(Box::new(alloc, pinned)?)?;
+    list.push(Box::new(alloc, Marker)?)?;
+    let jobs = JobTable::new(list);
+    let mut report = Report::new(alloc);
+    let Ok(script) = read_script(alloc, schedule.script.as_slice()) else {
+        return Ok(Some(Flaw::NoScript));
+    };
+    match run(rt, alloc, &script, &jobs, &schedule.gate, &mut report) {
+        Ok(core) if is_answered(&core) => judge(alloc, report.text()),
+        Ok(_) => Ok(Some(Flaw::Unanswered)),
+        Err(_) => Ok(Some(Flaw::BrokenOff)),
+    }
+}
+
+/// How a call ended: after how many schedules, and with which of them and why, if one failed.
+#[derive(Drop)]
+struct Outcome {
+    runs: u64,
+    failed: Option<(u64, Schedule, Flaw)>,
+}
+
+/// Runs schedules of a seed until a minute is over or one fails: this one over and over, or else
+/// one after another from the first on.
+fn run_all<R: Threads + Wait + Sync + Clock>(
+    rt: &R,
+    alloc: Global,
+    seed: u64,
+    one: Option<u64>,
+) -> anyhow::Result<Outcome> {
+    let from = Instant::now(rt)?;
+    for runs in 0..MOST {
+        let number = match one {
+            Some(number) => number,
+            None => runs,
+        };
+        let schedule = draw(alloc, seed, number)?;
+        if let Some(flaw) = run_one(rt, alloc, &schedule)? {
+            return Ok(Outcome {
+                runs,
+                failed: Some((number, schedule, flaw)),
+            });
+        }
+        if from.elapsed(rt)?.as_secs() >= SECONDS {
+            return Ok(Outcome {
+                runs: runs + 1,
+                failed: None,
+            });
+        }
+    }
+    Ok(Outcome {
+        runs: MOST,
+        failed: None,
+    })
+}
+
+/// The words after the program's name, which are numbers.
+fn numbers(rt: &HostRuntime) -> anyhow::Result<Vec<u64>> {
+    let mut numbers = Vec::new(rt.alloc());
+    for word in env::args(rt)?.skip(1) {
+        match word.parse::<u64>() {
+            Ok(number) => numbers.push(number)?,
+            Err(_) => anyhow::bail!("a word is no number"),
+        }
+    }
+    Ok(numbers)
+}
+
+fn main(rt: HostRuntime) -> anyhow::Result<()> {
+    let words = numbers(&rt)?;
+    let (seed, one) = match words.as_slice() {
+        [] => return Ok(()),
+        [seed] => (*seed, None),
+        [seed, number] => (*seed, Some(*number)),
+        _ => anyhow::bail!("usage: run_stress [SEED [NUMBER]]"),
+    };
+    let Outcome { runs, failed } = run_all(&rt, rt.alloc(), seed, one)?;
+    println!(&rt; "runs {runs}")?;
+    if let Some((number, schedule, flaw)) = failed {
+        println!(&rt; "seed {seed} schedule {number}: {flaw:?}")?;
+        io::Write::write_all(&mut io::writer(&rt), schedule.script.as_slice())?;
+        println!(&rt; "order of the gate: {:?}", schedule.gate.order)?;
+        anyhow::bail!("a schedule failed");
+    }
+    Ok(())
+}
