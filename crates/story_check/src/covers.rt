@@ -1,0 +1,147 @@
+//! The lines of covers.
+
+use crate::faults::Fault;
+use crate::moments::{is_owed, is_unmoved};
+use crate::places::is_queued_in;
+use crate::seen::{CpuSeen, Point, Seen, Stage, TimerSeen};
+use tm_base::{Class, CpuId, Jiffy};
+use tm_report::ShownCover;
+use tm_script::Script;
+
+/// Whether a CPU has to be covered: it is online and idle, and global timers are queued on it.
+fn needs_cover(cpu: &CpuSeen) -> bool {
+    cpu.state.online && cpu.state.idle && cpu.globals > 0
+}
+
+/// Whether some CPU from this one on has no cover yet; nothing is known where a timer isn't clear.
+pub fn some_uncovered(seen: &Seen, from: u16) -> bool {
+    seen.point().unclear == 0
+        && seen.cpus().iter().any(|c| c.cpu.0 >= from && needs_cover(c))
+}
+
+/// Whether a CPU before this one has no cover yet.
+fn some_passed(seen: &Seen, from: u16, to: u16) -> bool {
+    seen.point().unclear == 0
+        && seen
+            .cpus()
+            .iter()
+            .any(|c| c.cpu.0 >= from && c.cpu.0 < to && needs_cover(c))
+}
+
+/// Whether a global timer of a CPU has this wheel expiry.
+fn has_wheel(timer: &TimerSeen, cpu: CpuId, wheel: Jiffy) -> bool {
+    is_queued_in(timer, cpu, Class::Global) && wheel_of(timer) == wheel
+}
+
+/// Whether a global timer of a CPU has an earlier one.
+fn has_earlier(timer: &TimerSeen, cpu: CpuId, wheel: Jiffy) -> bool {
+    is_queued_in(timer, cpu, Class::Global) && wheel_of(timer) < wheel
+}
+
+/// The wheel expiry of a timer, or 0.
+pub fn wheel_of(timer: &TimerSeen) -> Jiffy {
+    match timer.place {
+        Some(queued) => queued.wheel,
+        None => 0,
+    }
+}
+
+/// Whether a wheel expiry is the first of a CPU's global timers.
+fn is_first_global(seen: &Seen, cpu: CpuId, wheel: Jiffy) -> bool {
+    seen.timers().iter().any(|t| has_wheel(t, cpu, wheel))
+        && !seen.timers().iter().any(|t| has_earlier(t, cpu, wheel))
+}
+
+/// Whether a CPU of the hierarchy is active.
+pub fn is_active(script: &Script, cpu: &CpuSeen) -> bool {
+    cpu.state.online && !cpu.state.idle && !script.isolated.has(cpu.cpu)
+}
+
+/// Whether a wakeup may be that of an idle CPU: the one that is known, or any.
+fn may_be_wakeup(cpu: &CpuSeen, now: Jiffy, at: Jiffy) -> bool {
+    cpu.state.online && cpu.state.idle && (cpu.quiet <= now || cpu.quiet == at)
+}
+
+/// Whether a cover may answer for a timer of a CPU: an active CPU, where the timer's CPU doesn't
+/// wake in time by itself; or a CPU that wakes in time, itself or where none is active.
+fn answers(script: &Script, seen: &Seen, cpu: CpuId, wheel: Jiffy, cover: ShownCover) -> bool {
+    let now = seen.point().now;
+    match cover {
+        ShownCover::Migrator {
+            level: _,
+            place: _,
+            cpu: migrator,
+        } => {
+            let own = seen.cpu(cpu);
+            is_active(script, &seen.cpu(migrator))
+                && !script.isolated.has(cpu)
+                && (own.quiet <= now || own.quiet > wheel)
+        }
+        ShownCover::Wake { cpu: waker, at } => {
+            at <= wheel
+                && may_be_wakeup(&seen.cpu(waker), now, at)
+                && (waker.0 == cpu.0 || wakes_for(script, seen, waker))
+        }
+    }
+}
+
+/// Whether a CPU may wake for others: it is in the hierarchy, and there no CPU is active.
+fn wakes_for(script: &Script, seen: &Seen, waker: CpuId) -> bool {
+    !script.isolated.has(waker) && !seen.cpus().iter().any(|c| is_active(script, c))
+}
+
+/// What is wrong with the line of a cover.
+pub fn cover_fault(
+    script: &Script,
+    seen: &Seen,
+    cpu: CpuId,
+    wheel: Jiffy,
+    cover: ShownCover,
+) -> Option<Fault> {
+    let point = seen.point();
+    let own = seen.cpu(cpu);
+    let clear = point.unclear == 0;
+    if is_owed(script, seen) {
+        Some(Fault::Skipped)
+    } else if is_unmoved(seen) {
+        Some(Fault::Unmoved)
+    } else if cpu.0 < point.covered {
+        Some(Fault::Order)
+    } else if some_passed(seen, point.covered, cpu.0) {
+        Some(Fault::Uncovered)
+    } else if !point.listed || !own.state.online || !own.state.idle || clear && own.globals == 0 {
+        Some(Fault::NoCover)
+    } else if clear && !is_first_global(seen, cpu, wheel)
+        || !answers(script, seen, cpu, wheel, cover)
+    {
+        Some(Fault::Answer)
+    } else {
+        None
+    }
+}
+
+/// Keeps the wakeup that a cover shows.
+fn learn_wakeup(seen: &mut Seen, cover: ShownCover) {
+    match cover {
+        ShownCover::Migrator {
+            level: _,
+            place: _,
+            cpu: _,
+        } => {}
+        ShownCover::Wake { cpu, at } => {
+            let waker = seen.cpu(cpu);
+            seen.put_cpu(CpuSeen { quiet: at, ..waker });
+        }
+    }
+}
+
+/// Keeps what the line of a cover tells.
+pub fn learn_cover(seen: &mut Seen, cpu: CpuId, cover: ShownCover) {
+    learn_wakeup(seen, cover);
+    let point = seen.point();
+    seen.set_point(Point {
+        stage: Stage::Covers,
+        covered: if cpu.0 < 65535 { cpu.0 + 1 } else { cpu.0 },
+        ..point
+    });
+}

@@ -1,0 +1,200 @@
+//! Going from one moment to the next: what must have been told by then, and which times are moments.
+
+use crate::covers::some_uncovered;
+use crate::faults::Fault;
+use crate::places::{ops_now, same_class};
+use crate::runs::{is_after, may_interrupt};
+use crate::seen::{CpuSeen, Point, Queued, Seen, Stage, TimerSeen, opening_of};
+use tm_base::{Class, CpuId, Jiffy};
+use tm_script::{Moment, Op, Script, What};
+
+/// Whether an operation takes a CPU offline or online.
+fn is_hotplug(op: &Op) -> bool {
+    matches!(op.what, What::Offline | What::Online)
+}
+
+/// Whether at most one CPU may have an interrupt by a time.
+fn few_interrupt(seen: &Seen, by: Jiffy) -> bool {
+    let now = seen.point().now;
+    seen.cpus().iter().filter(|c| may_interrupt(c, now, by)).count() <= 1
+}
+
+/// Whether the moment is played as `play` does it, without threads: it has an operation that takes a
+/// CPU offline or online, or none and at most one CPU with an interrupt.
+fn is_plain(script: &Script, seen: &Seen) -> bool {
+    let point = seen.point();
+    let ops = ops_now(script, seen);
+    point.play
+        || ops.iter().any(|op| is_hotplug(op))
+        || ops.is_empty() && few_interrupt(seen, point.now)
+}
+
+/// Whether a CPU was active as the moment began.
+fn was_active(cpu: &CpuSeen, now: Jiffy) -> bool {
+    let opening = opening_of(cpu, now);
+    opening.online && !opening.idle
+}
+
+/// Whether a global timer of a CPU that sleeps must have run before a time: in a moment that was
+/// played without threads, now or since.
+fn is_looked_for(script: &Script, seen: &Seen, queued: &Queued, to: Jiffy) -> bool {
+    let now = seen.point().now;
+    if queued.wheel <= now && is_plain(script, seen) {
+        return true;
+    }
+    let next = queued.wheel.max(now + 1);
+    next < to && (seen.point().play || few_interrupt(seen, next))
+}
+
+/// Whether a timer of an online CPU that is due before a time must have run.
+fn is_missed_on(script: &Script, seen: &Seen, cpu: &CpuSeen, queued: &Queued, to: Jiffy) -> bool {
+    let now = seen.point().now;
+    if same_class(queued.class, Class::Pinned) {
+        return true;
+    }
+    if was_active(cpu, now) && queued.wheel <= now {
+        return true;
+    }
+    if !cpu.state.idle {
+        return to > now + 1;
+    }
+    same_class(queued.class, Class::Global) && is_looked_for(script, seen, queued, to)
+}
+
+/// Whether a timer must have run before a time.
+fn is_missed(script: &Script, seen: &Seen, timer: &TimerSeen, to: Jiffy) -> bool {
+    match timer.place {
+        Some(queued) => {
+            if !timer.clear || queued.wheel >= to {
+                return false;
+            }
+            let home = seen.cpu(queued.home);
+            home.state.online && is_missed_on(script, seen, &home, &queued, to)
+        }
+        None => false,
+    }
+}
+
+/// The moments of the script from the next one on.
+fn moments_left<'a>(script: &'a Script, point: &Point) -> &'a [Moment] {
+    let all = script.moments.as_slice();
+    if point.next <= all.len() {
+        &all[point.next..]
+    } else {
+        &[]
+    }
+}
+
+/// How many of these moments come before a time.
+fn count_before(moments: &[Moment], to: Jiffy) -> usize {
+    match moments.iter().position(|m| m.at >= to) {
+        Some(count) => count,
+        None => moments.len(),
+    }
+}
+
+/// Whether some of the first so many moments has operations.
+fn some_ops(moments: &[Moment], count: usize) -> bool {
+    count <= moments.len() && moments[..count].iter().any(|m| !m.ops.is_empty())
+}
+
+/// Whether a CPU that went offline has timers still.
+pub fn is_unmoved(seen: &Seen) -> bool {
+    match seen.point().dead {
+        Some(cpu) => seen.cpu(cpu).timers > 0,
+        None => false,
+    }
+}
+
+/// Whether an operation of the moment has no answer yet.
+pub fn is_owed(script: &Script, seen: &Seen) -> bool {
+    let point = seen.point();
+    ops_now(script, seen).iter().any(|op| is_after(&point, op))
+}
+
+/// What is missing where the lines leave a moment for a time.
+pub fn leave_fault(script: &Script, seen: &Seen, to: Jiffy) -> Option<Fault> {
+    let point = seen.point();
+    let left = moments_left(script, &point);
+    let count = count_before(left, to);
+    if is_owed(script, seen) || some_ops(left, count) {
+        Some(Fault::Skipped)
+    } else if is_unmoved(seen) {
+        Some(Fault::Unmoved)
+    } else if point.listed && some_uncovered(seen, point.covered) {
+        Some(Fault::Uncovered)
+    } else if count > 0 && some_uncovered(seen, 0) {
+        Some(Fault::Uncovered)
+    } else if seen.timers().iter().any(|t| is_missed(script, seen, t, to)) {
+        Some(Fault::Missed)
+    } else {
+        None
+    }
+}
+
+/// Whether a CPU makes a moment of a time: it is active, or its wakeup isn't later.
+fn makes_moment(cpu: &CpuSeen, at: Jiffy) -> bool {
+    cpu.state.online && (!cpu.state.idle || cpu.quiet <= at)
+}
+
+/// Whether a time is one of a moment.
+fn is_moment(script: &Script, seen: &Seen, at: Jiffy) -> bool {
+    let left = moments_left(script, &seen.point());
+    at <= script.end
+        && (at == script.end
+            || left.iter().position(|m| m.at >= at).is_some_and(|k| left[k].at == at)
+            || seen.cpus().iter().any(|c| makes_moment(c, at)))
+}
+
+/// The point as a moment at this time begins.
+fn point_at(script: &Script, point: Point, at: Jiffy) -> Point {
+    let left = moments_left(script, &point);
+    let count = count_before(left, at);
+    let listed = count < left.len() && left[count].at == at;
+    let next = point.next + count;
+    Point {
+        now: at,
+        listed,
+        next: if listed { next + 1 } else { next },
+        stage: Stage::Tellers,
+        answered_cpu: CpuId(0),
+        answered: 0,
+        runner: None,
+        rank: 0,
+        leaving: None,
+        dead: None,
+        handed: None,
+        control: None,
+        moved_rank: 0,
+        moved_turn: 0,
+        covered: 0,
+        ..point
+    }
+}
+
+/// Goes on to the moment of a time, where it is another one.
+pub fn go_to(script: &Script, seen: &mut Seen, at: Jiffy) {
+    let point = seen.point();
+    if at != point.now {
+        seen.set_point(point_at(script, point, at));
+    }
+}
+
+/// What is wrong with a line at a time, before it is looked at.
+pub fn time_fault(script: &Script, seen: &Seen, at: Jiffy) -> Option<Fault> {
+    let point = seen.point();
+    match point.stage {
+        Stage::Lefts | Stage::Over => Some(Fault::NotTheEnd),
+        Stage::Tellers | Stage::Moves | Stage::Covers => {
+            if at < point.now {
+                Some(Fault::BackInTime)
+            } else if at == point.now {
+                None
+            } else if !is_moment(script, seen, at) {
+                Some(Fault::NoMoment)
+            } else {
+                leave_fault(script, seen, at)
+            }
+        }
+    }
+}

@@ -1,0 +1,486 @@
+//! The lines that answer operations.
+
+use crate::covers::is_active;
+use crate::faults::Fault;
+use crate::places::{Asked, ahead, is_contested, level_in, ops_now, others_act, requeue, same_class};
+use crate::runs::is_after;
+use crate::seen::{CpuSeen, Point, Queued, Seen, State, TimerSeen, opening_of};
+use tm_base::{Class, CpuId, Jiffy, NEVER, TimerId};
+use tm_script::{Op, Script, What};
+
+/// An answer to an operation, as a line shows it.
+#[derive(Clone, Copy)]
+pub enum Answer {
+    Armed {
+        timer: TimerId,
+        class: Class,
+        wheel: Jiffy,
+    },
+    Cancelled {
+        timer: TimerId,
+        home: CpuId,
+    },
+    NotQueued {
+        timer: TimerId,
+    },
+    Idle {
+        until: Jiffy,
+    },
+    Stay {
+        first: Jiffy,
+    },
+    Woke,
+    WentOffline,
+    CameOnline,
+    Refused {
+        line: u32,
+        number: u8,
+    },
+    RefusedQueued {
+        line: u32,
+        number: u8,
+        holder: CpuId,
+    },
+}
+
+/// The next operation of a CPU.
+fn next_of(point: &Point, ops: &[Op], cpu: CpuId) -> Option<Op> {
+    ops.iter().copied().find(|op| op.cpu.0 == cpu.0 && is_after(point, op))
+}
+
+/// Whether an operation is to be answered before another.
+fn is_owed_above(point: &Point, op: &Op, answered: &Op) -> bool {
+    is_after(point, op)
+        && if point.play {
+            op.line < answered.line
+        } else {
+            op.cpu.0 < answered.cpu.0
+        }
+}
+
+/// The operation that a line of a CPU answers: the next of that CPU, where none of a lower CPU is
+/// left; in the order of `play`, the next of all.
+fn answered_op(script: &Script, seen: &Seen, cpu: CpuId) -> Option<Op> {
+    let point = seen.point();
+    let ops = ops_now(script, seen);
+    match next_of(&point, ops, cpu) {
+        Some(found) => {
+            if ops.iter().any(|op| is_owed_above(&point, op, &found)) {
+                None
+            } else {
+                Some(found)
+            }
+        }
+        None => None,
+    }
+}
+
+/// The number of the refusal by a CPU's state, or 0: 1 it is idle, 2 active, 3 offline, 4 online.
+fn refusal(what: What, state: State) -> u8 {
+    match what {
+        What::Online => {
+            if state.online {
+                4
+            } else {
+                0
+            }
+        }
+        What::Wake => {
+            if !state.online {
+                3
+            } else if !state.idle {
+                2
+            } else {
+                0
+            }
+        }
+        What::Arm {
+            timer: _,
+            class: _,
+            delay: _,
+            job: _,
+            arg: _,
+        }
+        | What::Cancel { timer: _ }
+        | What::Idle
+        | What::Offline => {
+            if !state.online {
+                3
+            } else if state.idle {
+                1
+            } else {
+                0
+            }
+        }
+    }
+}
+
+/// Whether another CPU of the hierarchy is online.
+fn is_other_online(script: &Script, cpu: &CpuSeen, own: CpuId) -> bool {
+    cpu.cpu.0 != own.0 && cpu.state.online && !script.isolated.has(cpu.cpu)
+}
+
+/// Whether a CPU is the last of the hierarchy that is online.
+fn is_last_online(script: &Script, seen: &Seen, cpu: CpuId) -> bool {
+    !script.isolated.has(cpu) && !seen.cpus().iter().any(|c| is_other_online(script, c, cpu))
+}
+
+/// The number of the refusal of an operation but for timers that are queued, or 0.
+fn number_of(script: &Script, seen: &Seen, op: &Op) -> u8 {
+    let by_state = refusal(op.what, seen.cpu(op.cpu).state);
+    if by_state == 0 && matches!(op.what, What::Offline) && is_last_online(script, seen, op.cpu) {
+        5
+    } else {
+        by_state
+    }
+}
+
+/// Whether a timer is queued on a CPU, as the lines tell.
+fn is_on(timer: &TimerSeen, cpu: CpuId) -> bool {
+    match timer.place {
+        Some(queued) => timer.clear && queued.home.0 == cpu.0,
+        None => false,
+    }
+}
+
+/// Whether a timer is queued nowhere, as the lines tell.
+fn is_nowhere(timer: &TimerSeen) -> bool {
+    timer.clear && timer.place.is_none()
+}
+
+/// A fault where this doesn't hold.
+fn unless(holds: bool, fault: Fault) -> Option<Fault> {
+    if holds { None } else { Some(fault) }
+}
+
+/// Whether a timer of a CPU that isn't deferrable has an earlier wheel expiry.
+fn is_sooner(timer: &TimerSeen, cpu: CpuId, than: Jiffy) -> bool {
+    match timer.place {
+        Some(queued) => {
+            queued.home.0 == cpu.0
+                && !same_class(queued.class, Class::Deferrable)
+                && queued.wheel < than
+        }
+        None => false,
+    }
+}
+
+/// Whether a pinned timer of a CPU has an earlier wheel expiry.
+fn is_pinned_sooner(timer: &TimerSeen, cpu: CpuId, than: Jiffy) -> bool {
+    match timer.place {
+        Some(queued) => {
+            queued.home.0 == cpu.0
+                && same_class(queued.class, Class::Pinned)
+                && queued.wheel < than
+        }
+        None => false,
+    }
+}
+
+/// Whether some timer of a CPU that isn't deferrable is due before a time.
+fn some_sooner(seen: &Seen, cpu: CpuId, than: Jiffy) -> bool {
+    seen.timers().iter().any(|t| is_sooner(t, cpu, than))
+}
+
+/// Whether some pinned one is.
+fn some_pinned_sooner(seen: &Seen, cpu: CpuId, than: Jiffy) -> bool {
+    seen.timers().iter().any(|t| is_pinned_sooner(t, cpu, than))
+}
+
+/// Whether a time is the first event of a CPU.
+fn is_first_event(seen: &Seen, cpu: CpuId, first: Jiffy) -> bool {
+    !some_sooner(seen, cpu, first) && (first == NEVER || some_sooner(seen, cpu, first + 1))
+}
+
+/// Whether a time is the first pinned event of a CPU.
+fn is_first_pinned(seen: &Seen, cpu: CpuId, first: Jiffy) -> bool {
+    !some_pinned_sooner(seen, cpu, first)
+        && (first == NEVER || some_pinned_sooner(seen, cpu, first + 1))
+}
+
+/// Whether the events of a CPU may be others than the lines so far tell: where other CPUs act in the
+/// same moment, where it slept as the moment began, and where a timer isn't clear.
+fn is_open(script: &Script, seen: &Seen, cpu: CpuId) -> bool {
+    let point = seen.point();
+    seen.point().unclear > 0
+        || others_act(script, seen, cpu)
+        || !point.play && opening_of(&seen.cpu(cpu), point.now).idle
+}
+
+/// Whether another CPU of the hierarchy is active.
+fn is_other_active(script: &Script, cpu: &CpuSeen, own: CpuId) -> bool {
+    cpu.cpu.0 != own.0 && is_active(script, cpu)
+}
+
+/// Whether a wakeup fits a CPU that goes idle: where another CPU of the hierarchy stays active, its
+/// first pinned event; where it is the last or isolated, no later than its first event.
+fn fits_wakeup(script: &Script, seen: &Seen, cpu: CpuId, until: Jiffy) -> bool {
+    if script.isolated.has(cpu) {
+        is_first_event(seen, cpu, until)
+    } else if seen.cpus().iter().any(|c| is_other_active(script, c, cpu)) {
+        is_first_pinned(seen, cpu, until)
+    } else {
+        !some_sooner(seen, cpu, until)
+    }
+}
+
+/// What is wrong with going idle.
+fn idle_fault(script: &Script, seen: &Seen, cpu: CpuId, until: Jiffy) -> Option<Fault> {
+    if is_open(script, seen, cpu) {
+        None
+    } else if some_sooner(seen, cpu, seen.point().now + 2) {
+        Some(Fault::Soon)
+    } else {
+        unless(fits_wakeup(script, seen, cpu, until), Fault::Wakeup)
+    }
+}
+
+/// What is wrong with staying.
+fn stay_fault(script: &Script, seen: &Seen, cpu: CpuId, first: Jiffy) -> Option<Fault> {
+    if first > seen.point().now + 1 {
+        Some(Fault::Soon)
+    } else if is_open(script, seen, cpu) {
+        None
+    } else {
+        unless(is_first_event(seen, cpu, first), Fault::First)
+    }
+}
+
+/// What is wrong with an arming.
+fn arm_fault(
+    script: &Script,
+    seen: &Seen,
+    cpu: CpuId,
+    timer: TimerId,
+    class: Class,
+    asked: Asked,
+) -> Option<Fault> {
+    if !is_nowhere(&seen.timer(timer)) && !is_contested(script, seen, timer, cpu) {
+        Some(Fault::StillQueued)
+    } else {
+        unless(
+            level_in(seen, cpu, class, seen.point().now, asked).is_some(),
+            Fault::Wheel,
+        )
+    }
+}
+
+/// What is wrong with an answer that isn't a refusal.
+fn done_fault(script: &Script, seen: &Seen, op: &Op, answer: Answer) -> Option<Fault> {
+    let now = seen.point().now;
+    match (op.what, answer) {
+        (
+            What::Arm {
+                timer,
+                class,
+                delay,
+                job: _,
+                arg: _,
+            },
+            Answer::Armed {
+                timer: shown,
+                class: told,
+                wheel,
+            },
+        ) => {
+            if timer.0 != shown.0 || !same_class(class, told) {
+                return Some(Fault::NoOperation);
+            }
+            let expires = ahead(now, delay);
+            arm_fault(script, seen, op.cpu, timer, class, Asked { expires, wheel })
+        }
+        (What::Cancel { timer }, Answer::Cancelled { timer: shown, home }) => {
+            if timer.0 != shown.0 {
+                return Some(Fault::NoOperation);
+            }
+            unless(
+                is_on(&seen.timer(timer), home) || is_contested(script, seen, timer, op.cpu),
+                Fault::NotQueuedThere,
+            )
+        }
+        (What::Cancel { timer }, Answer::NotQueued { timer: shown }) => {
+            if timer.0 != shown.0 {
+                return Some(Fault::NoOperation);
+            }
+            unless(
+                is_nowhere(&seen.timer(timer)) || is_contested(script, seen, timer, op.cpu),
+                Fault::StillQueued,
+            )
+        }
+        (What::Idle, Answer::Idle { until }) => idle_fault(script, seen, op.cpu, until),
+        (What::Idle, Answer::Stay { first }) => stay_fault(script, seen, op.cpu, first),
+        (What::Wake, Answer::Woke) => None,
+        (What::Offline, Answer::WentOffline) => None,
+        (What::Online, Answer::CameOnline) => None,
+        _ => Some(Fault::NoOperation),
+    }
+}
+
+/// What is wrong with a refusal of this number.
+fn refused_fault(op: &Op, expected: u8, line: u32, number: u8) -> Option<Fault> {
+    if op.line != line {
+        Some(Fault::NoOperation)
+    } else {
+        unless(expected != 0 && expected == number, Fault::MayNotRefuse)
+    }
+}
+
+/// What is wrong with a refusal since the timer is queued.
+fn queued_fault(
+    script: &Script,
+    seen: &Seen,
+    op: &Op,
+    expected: u8,
+    line: u32,
+    number: u8,
+    holder: CpuId,
+) -> Option<Fault> {
+    let What::Arm {
+        timer,
+        class: _,
+        delay: _,
+        job: _,
+        arg: _,
+    } = op.what
+    else {
+        return Some(Fault::MayNotRefuse);
+    };
+    if op.line != line {
+        Some(Fault::NoOperation)
+    } else if number != 6 || expected != 0 {
+        Some(Fault::MayNotRefuse)
+    } else {
+        unless(
+            is_on(&seen.timer(timer), holder) || is_contested(script, seen, timer, op.cpu),
+            Fault::NotQueuedThere,
+        )
+    }
+}
+
+/// What is wrong with an answer to an operation.
+fn answer_fault(script: &Script, seen: &Seen, op: &Op, answer: Answer) -> Option<Fault> {
+    let expected = number_of(script, seen, op);
+    match answer {
+        Answer::Refused { line, number } => refused_fault(op, expected, line, number),
+        Answer::RefusedQueued {
+            line,
+            number,
+            holder,
+        } => queued_fault(script, seen, op, expected, line, number, holder),
+        _ => {
+            if expected != 0 {
+                Some(Fault::MustRefuse)
+            } else {
+                done_fault(script, seen, op, answer)
+            }
+        }
+    }
+}
+
+/// A CPU whose state changes.
+pub fn changed_cpu(cpu: CpuSeen, now: Jiffy, state: State) -> CpuSeen {
+    CpuSeen {
+        before: opening_of(&cpu, now),
+        changed: now,
+        state,
+        ..cpu
+    }
+}
+
+/// Keeps that a CPU is in another state, with no interrupt before a time.
+pub fn put_state(seen: &mut Seen, cpu: CpuId, online: bool, idle: bool, quiet: Jiffy) {
+    let own = seen.cpu(cpu);
+    let now = seen.point().now;
+    let after = changed_cpu(own, now, State { online, idle });
+    seen.put_cpu(CpuSeen { quiet, ..after });
+}
+
+/// Keeps an arming.
+fn learn_arming(seen: &mut Seen, op: &Op, wheel: Jiffy, turn: u64) {
+    let What::Arm {
+        timer,
+        class,
+        delay,
+        job,
+        arg,
+    } = op.what
+    else {
+        return;
+    };
+    let now = seen.point().now;
+    let expires = ahead(now, delay);
+    let level = level_in(seen, op.cpu, class, now, Asked { expires, wheel });
+    let in_order = is_nowhere(&seen.timer(timer));
+    let queued = Queued {
+        home: op.cpu,
+        class,
+        expires,
+        wheel,
+        level: level.unwrap_or(0),
+        job,
+        arg,
+        turn,
+    };
+    requeue(seen, timer, Some(queued), op.cpu, in_order);
+}
+
+/// Keeps what an answer tells.
+fn learn_answer(seen: &mut Seen, op: &Op, answer: Answer, turn: u64) {
+    match answer {
+        Answer::Armed {
+            timer: _,
+            class: _,
+            wheel,
+        } => learn_arming(seen, op, wheel, turn),
+        Answer::Cancelled { timer, home } => {
+            let in_order = is_on(&seen.timer(timer), home);
+            requeue(seen, timer, None, op.cpu, in_order);
+        }
+        Answer::Idle { until } => put_state(seen, op.cpu, true, true, until),
+        Answer::Woke => put_state(seen, op.cpu, true, false, NEVER),
+        Answer::WentOffline => put_state(seen, op.cpu, false, false, NEVER),
+        Answer::CameOnline => put_state(seen, op.cpu, true, false, NEVER),
+        Answer::NotQueued { timer: _ }
+        | Answer::Stay { first: _ }
+        | Answer::Refused { line: _, number: _ }
+        | Answer::RefusedQueued {
+            line: _,
+            number: _,
+            holder: _,
+        } => {}
+    }
+}
+
+/// The point behind an answer.
+fn answered(point: Point, op: &Op, answer: Answer) -> Point {
+    let gone = match answer {
+        Answer::WentOffline => Some(op.cpu),
+        _ => None,
+    };
+    Point {
+        answered_cpu: op.cpu,
+        answered: op.line,
+        leaving: gone,
+        dead: if gone.is_some() { gone } else { point.dead },
+        ..point
+    }
+}
+
+/// Takes the line of an answer.
+pub fn take_answer(
+    script: &Script,
+    seen: &mut Seen,
+    cpu: CpuId,
+    answer: Answer,
+    turn: u64,
+) -> Option<Fault> {
+    let Some(op) = answered_op(script, seen, cpu) else {
+        return Some(Fault::NoOperation);
+    };
+    if let Some(fault) = answer_fault(script, seen, &op, answer) {
+        return Some(fault);
+    }
+    learn_answer(seen, &op, answer, turn);
+    seen.set_point(answered(seen.point(), &op, answer));
+    None
+}

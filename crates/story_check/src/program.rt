@@ -1,0 +1,157 @@
+//! The whole program.
+
+use crate::judge::{Verdict, judge_lines};
+use crate::statuses::{
+    FITS, MISFIT, MOST_STORY_BYTES, NO_MEMORY, NO_STORY, READ_FAULT, TOO_LONG, USAGE, WRITE_FAULT,
+};
+use crate::texts::{report_refused, script_refused, verdict_text};
+use report_reader::{ReadReport, read_report};
+use std::alloc::Global;
+use text_words::{cut, push_bytes};
+use tm_base::NoMemory;
+use tm_io::{ReadFault, Sink, Source, WriteCause, read_all, write_all};
+use tm_script::{ReadScript, Script, read_script};
+
+/// A text, and the status where all of it is written.
+#[derive(Drop)]
+pub struct Output {
+    pub text: Vec<u8>,
+    pub status: u8,
+}
+
+/// An output of these bytes.
+fn output_of(alloc: Global, bytes: &[u8], status: u8) -> Result<Output, NoMemory> {
+    let mut text = Vec::new(alloc);
+    push_bytes(&mut text, bytes)?;
+    Ok(Output { text, status })
+}
+
+/// Whether a line is the last of a script.
+fn is_end(line: &[u8]) -> bool {
+    match cut(line, b' ') {
+        Some((word, _)) => word == b"end".as_slice(),
+        None => false,
+    }
+}
+
+/// How many bytes the script has: up to its line `end`, or all.
+fn script_size(bytes: &[u8]) -> usize {
+    let mut rest = bytes;
+    while let Some((line, after)) = cut(rest, b'\n') {
+        rest = after;
+        if is_end(line) {
+            return bytes.len() - rest.len();
+        }
+    }
+    bytes.len()
+}
+
+/// The status of a verdict.
+fn status_of(verdict: Verdict) -> u8 {
+    match verdict {
+        Verdict::Fits { lines: _, runs: _ } => FITS,
+        Verdict::Misfit { line: _, fault: _ } => MISFIT,
+    }
+}
+
+/// What is written of the bytes of a report.
+fn judge_report(
+    alloc: Global,
+    script: &Script,
+    bytes: &[u8],
+    play: bool,
+) -> Result<Output, NoMemory> {
+    match read_report(alloc, bytes) {
+        Ok(lines) => {
+            let verdict = judge_lines(alloc, script, &lines, play)?;
+            Ok(Output {
+                text: verdict_text(alloc, verdict)?,
+                status: status_of(verdict),
+            })
+        }
+        Err(ReadReport::Refused(fault)) => Ok(Output {
+            text: report_refused(alloc, fault)?,
+            status: NO_STORY,
+        }),
+        Err(ReadReport::NoMemory) => Err(NoMemory),
+    }
+}
+
+/// What is written of the bytes of a script with a report behind it.
+pub fn judge_bytes(alloc: Global, bytes: &[u8], play: bool) -> Result<Output, NoMemory> {
+    let size = script_size(bytes);
+    match read_script(alloc, &bytes[..size]) {
+        Ok(script) => judge_report(alloc, &script, &bytes[size..], play),
+        Err(ReadScript::Refused(fault)) => Ok(Output {
+            text: script_refused(alloc, fault)?,
+            status: NO_STORY,
+        }),
+        Err(ReadScript::NoMemory) => Err(NoMemory),
+    }
+}
+
+/// The order of lines that the words name: none that of `run`, `play` that of `play`.
+fn order_of(words: &[String]) -> Option<bool> {
+    match words {
+        [] => Some(false),
+        [word] => {
+            if word.as_bytes() == b"play".as_slice() {
+                Some(true)
+            } else {
+                None
+            }
+        }
+        _ => None,
+    }
+}
+
+/// What is written of the source, which is read to its end.
+fn judge_source<S: Source>(alloc: Global, source: &mut S, play: bool) -> Result<Output, NoMemory> {
+    match read_all(alloc, source, MOST_STORY_BYTES) {
+        Ok(bytes) => judge_bytes(alloc, &bytes, play),
+        Err(ReadFault::Read) => output_of(alloc, b"read fault\n", READ_FAULT),
+        Err(ReadFault::TooLong) => output_of(alloc, b"input too long\n", TOO_LONG),
+        Err(ReadFault::NoMemory) => Err(NoMemory),
+    }
+}
+
+/// What the words say is written.
+fn output_for<S: Source>(
+    alloc: Global,
+    words: &[String],
+    source: &mut S,
+) -> Result<Output, NoMemory> {
+    match order_of(words) {
+        Some(play) => judge_source(alloc, source, play),
+        None => output_of(
+            alloc,
+            b"usage: tmigstory [play] < SCRIPT-AND-REPORT\n",
+            USAGE,
+        ),
+    }
+}
+
+/// Writes an output, and answers the status that says how that went.
+fn write_output<K: Sink>(sink: &mut K, output: &Output) -> u8 {
+    match write_all(sink, &output.text) {
+        Ok(()) => output.status,
+        Err(fault) => match fault.cause {
+            WriteCause::NoMemory => NO_MEMORY,
+            _ => WRITE_FAULT,
+        },
+    }
+}
+
+/// Does all that the program does: it reads a script and the report behind it, and writes whether
+/// the report can be a story of the script, or the first line that can't stand where it does.
+pub fn run_story<S: Source, K: Sink>(
+    alloc: Global,
+    words: &[String],
+    source: &mut S,
+    sink: &mut K,
+) -> u8 {
+    match output_for(alloc, words, source) {
+        Ok(output) => write_output(sink, &output),
+        Err(_) => NO_MEMORY,
+    }
+}
