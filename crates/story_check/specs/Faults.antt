@@ -27,6 +27,7 @@ clause_of faults.Reply = clauses.Runs
 clause_of faults.Missed = clauses.Runs
 clause_of faults.First = clauses.Idle
 clause_of faults.Soon = clauses.Idle
+clause_of faults.Late = clauses.Idle
 clause_of faults.Wakeup = clauses.Idle
 clause_of faults.Uncovered = clauses.Idle
 clause_of faults.NoCover = clauses.Idle

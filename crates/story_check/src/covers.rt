@@ -1,5 +1,11 @@
 //! The lines of covers.
 
+ghost use Rattle.std.specs.Prelude.{◌≡◌};
+ghost use Rattle.story_check.specs.Covers.{answers, cover_fault, has_earlier, has_wheel, is_active};
+ghost use Rattle.story_check.specs.Covers.{is_first_global, learned_cover, learned_wakeup};
+ghost use Rattle.story_check.specs.Covers.{may_be_wakeup, needs_cover, some_passed, some_uncovered};
+ghost use Rattle.story_check.specs.Covers.{wakes_for, wheel_of};
+
 use crate::faults::Fault;
 use crate::moments::{is_owed, is_unmoved};
 use crate::places::is_queued_in;
@@ -9,18 +15,24 @@ use tm_report::ShownCover;
 use tm_script::Script;
 
 /// Whether a CPU has to be covered: it is online and idle, and global timers are queued on it.
-fn needs_cover(cpu: &CpuSeen) -> bool {
+fn needs_cover(cpu: &CpuSeen) -> bool
+    ensures { result ≡ needs_cover cpu.now }
+{
     cpu.state.online && cpu.state.idle && cpu.globals > 0
 }
 
 /// Whether some CPU from this one on has no cover yet; nothing is known where a timer isn't clear.
-pub fn some_uncovered(seen: &Seen, from: u16) -> bool {
+pub fn some_uncovered(seen: &Seen, from: u16) -> bool
+    ensures { result ≡ some_uncovered seen.now from }
+{
     seen.point().unclear == 0
         && seen.cpus().iter().any(|c| c.cpu.0 >= from && needs_cover(c))
 }
 
 /// Whether a CPU before this one has no cover yet.
-fn some_passed(seen: &Seen, from: u16, to: u16) -> bool {
+fn some_passed(seen: &Seen, from: u16, to: u16) -> bool
+    ensures { result ≡ some_passed seen.now from to }
+{
     seen.point().unclear == 0
         && seen
             .cpus()
@@ -29,17 +41,23 @@ fn some_passed(seen: &Seen, from: u16, to: u16) -> bool {
 }
 
 /// Whether a global timer of a CPU has this wheel expiry.
-fn has_wheel(timer: &TimerSeen, cpu: CpuId, wheel: Jiffy) -> bool {
+fn has_wheel(timer: &TimerSeen, cpu: CpuId, wheel: Jiffy) -> bool
+    ensures { result ≡ has_wheel cpu wheel timer.now }
+{
     is_queued_in(timer, cpu, Class::Global) && wheel_of(timer) == wheel
 }
 
 /// Whether a global timer of a CPU has an earlier one.
-fn has_earlier(timer: &TimerSeen, cpu: CpuId, wheel: Jiffy) -> bool {
+fn has_earlier(timer: &TimerSeen, cpu: CpuId, wheel: Jiffy) -> bool
+    ensures { result ≡ has_earlier cpu wheel timer.now }
+{
     is_queued_in(timer, cpu, Class::Global) && wheel_of(timer) < wheel
 }
 
 /// The wheel expiry of a timer, or 0.
-pub fn wheel_of(timer: &TimerSeen) -> Jiffy {
+pub fn wheel_of(timer: &TimerSeen) -> Jiffy
+    ensures { result ≡ wheel_of timer.now }
+{
     match timer.place {
         Some(queued) => queued.wheel,
         None => 0,
@@ -47,25 +65,33 @@ pub fn wheel_of(timer: &TimerSeen) -> Jiffy {
 }
 
 /// Whether a wheel expiry is the first of a CPU's global timers.
-fn is_first_global(seen: &Seen, cpu: CpuId, wheel: Jiffy) -> bool {
+fn is_first_global(seen: &Seen, cpu: CpuId, wheel: Jiffy) -> bool
+    ensures { result ≡ is_first_global seen.now cpu wheel }
+{
     seen.timers().iter().any(|t| has_wheel(t, cpu, wheel))
         && !seen.timers().iter().any(|t| has_earlier(t, cpu, wheel))
 }
 
 /// Whether a CPU of the hierarchy is active.
-pub fn is_active(script: &Script, cpu: &CpuSeen) -> bool {
+pub fn is_active(script: &Script, cpu: &CpuSeen) -> bool
+    ensures { result ≡ is_active script.now cpu.now }
+{
     cpu.state.online && !cpu.state.idle && !script.isolated.has(cpu.cpu)
 }
 
 /// Whether a wakeup may be that of an idle CPU: the one that is known, or any.
-fn may_be_wakeup(cpu: &CpuSeen, now: Jiffy, at: Jiffy) -> bool {
+fn may_be_wakeup(cpu: &CpuSeen, now: Jiffy, at: Jiffy) -> bool
+    ensures { result ≡ may_be_wakeup cpu.now now at }
+{
     cpu.state.online && cpu.state.idle && (cpu.quiet <= now || cpu.quiet == at)
 }
 
 /// Whether a cover may answer for a timer of a CPU: an active CPU, where the timer's CPU doesn't
 /// wake in time by itself; or a CPU that wakes in time, itself or where none is active.
-fn answers(script: &Script, seen: &Seen, cpu: CpuId, wheel: Jiffy, cover: ShownCover) -> bool {
-    let now = seen.point().now;
+fn answers(script: &Script, seen: &Seen, cpu: CpuId, wheel: Jiffy, cover: ShownCover) -> bool
+    ensures { result ≡ answers script.now seen.now cpu wheel cover }
+{
+    let now = seen.point().time;
     match cover {
         ShownCover::Migrator {
             level: _,
@@ -86,18 +112,23 @@ fn answers(script: &Script, seen: &Seen, cpu: CpuId, wheel: Jiffy, cover: ShownC
 }
 
 /// Whether a CPU may wake for others: it is in the hierarchy, and there no CPU is active.
-fn wakes_for(script: &Script, seen: &Seen, waker: CpuId) -> bool {
+fn wakes_for(script: &Script, seen: &Seen, waker: CpuId) -> bool
+    ensures { result ≡ wakes_for script.now seen.now waker }
+{
     !script.isolated.has(waker) && !seen.cpus().iter().any(|c| is_active(script, c))
 }
 
 /// What is wrong with the line of a cover.
+#[tactic(auto, unfolding(crate::specs::Covers::cover_fault))]
 pub fn cover_fault(
     script: &Script,
     seen: &Seen,
     cpu: CpuId,
     wheel: Jiffy,
     cover: ShownCover,
-) -> Option<Fault> {
+) -> Option<Fault>
+    ensures { result ≡ cover_fault script.now seen.now cpu wheel cover }
+{
     let point = seen.point();
     let own = seen.cpu(cpu);
     let clear = point.unclear == 0;
@@ -121,7 +152,10 @@ pub fn cover_fault(
 }
 
 /// Keeps the wakeup that a cover shows.
-fn learn_wakeup(seen: &mut Seen, cover: ShownCover) {
+#[tactic(auto, unfolding(crate::specs::Covers::learned_wakeup))]
+fn learn_wakeup(seen: &mut Seen, cover: ShownCover)
+    ensures { seen.new ≡ learned_wakeup seen.old cover }
+{
     match cover {
         ShownCover::Migrator {
             level: _,
@@ -136,7 +170,10 @@ fn learn_wakeup(seen: &mut Seen, cover: ShownCover) {
 }
 
 /// Keeps what the line of a cover tells.
-pub fn learn_cover(seen: &mut Seen, cpu: CpuId, cover: ShownCover) {
+#[tactic(auto, unfolding(crate::specs::Covers::learned_cover))]
+pub fn learn_cover(seen: &mut Seen, cpu: CpuId, cover: ShownCover)
+    ensures { seen.new ≡ learned_cover seen.old cpu cover }
+{
     learn_wakeup(seen, cover);
     let point = seen.point();
     seen.set_point(Point {

@@ -67,8 +67,10 @@ pub enum Fault {
     Missed,
     /// The CPU's first event is another one.
     First,
-    /// The CPU's first event is too soon for going idle, or too late for staying.
+    /// The CPU has an event within a jiffy, and so doesn't go idle.
     Soon,
+    /// The CPU's first event is more than a jiffy ahead, and so it doesn't stay.
+    Late,
     /// The wakeup isn't in time.
     Wakeup,
     /// An idle CPU has no cover before it.
@@ -115,6 +117,7 @@ impl Fault {
             | Fault::Missed => Clause::Runs,
             Fault::First
             | Fault::Soon
+            | Fault::Late
             | Fault::Wakeup
             | Fault::Uncovered
             | Fault::NoCover

@@ -1,5 +1,12 @@
 //! The fold over the lines of a report.
 
+ghost use Rattle.std.specs.Prelude.{◌≡◌, IfOk, None};
+ghost use Rattle.story_check.specs.Judge.{active_cpu, after_last, answer_of, behind_after, behind_fault, ended};
+ghost use Rattle.story_check.specs.Judge.{closing_after, closing_fault, closing_time, come_to, first_point};
+ghost use Rattle.story_check.specs.Judge.{fresh_cpus, fresh_timers, judged, last_fault, left_for};
+ghost use Rattle.story_check.specs.Judge.{line_after, line_fault, start, told_after, told_fault, told_of};
+ghost use Rattle.story_check.specs.Moments.{time_fault};
+
 use crate::closing::{
     MovedLine, control_fault, end_fault, handed_fault, learn_control, learn_handed, learn_left,
     learn_moved, left_fault, moved_fault, settle,
@@ -9,7 +16,7 @@ use crate::faults::Fault;
 use crate::moments::{go_to, leave_fault, time_fault};
 use crate::operations::{Answer, take_answer};
 use crate::runs::{RunLine, take_run};
-use crate::seen::{CpuSeen, Point, Seen, Stage, State, TimerSeen, absent_cpu, fresh_timer};
+use crate::seen::{CpuSeen, Point, Seen, Stage, State, TimerSeen, absent_cpu, fresh_timer, up};
 use std::alloc::Global;
 use tm_base::{CpuId, Jiffy, NoMemory, TimerId};
 use tm_report::Line;
@@ -36,7 +43,9 @@ enum Told {
 }
 
 /// The answer that a line shows to an operation of a CPU.
-fn told_of(line: &Line) -> Option<(Jiffy, Told)> {
+fn told_of(line: &Line) -> Option<(Jiffy, Told)>
+    ensures { result ≡ told_of line.now }
+{
     match *line {
         Line::Run {
             now,
@@ -64,7 +73,9 @@ fn told_of(line: &Line) -> Option<(Jiffy, Told)> {
 }
 
 /// The answer to an operation that a line shows.
-fn answer_of(line: &Line) -> Option<(Jiffy, CpuId, Answer)> {
+fn answer_of(line: &Line) -> Option<(Jiffy, CpuId, Answer)>
+    ensures { result ≡ answer_of line.now }
+{
     match *line {
         Line::Arm {
             now,
@@ -119,7 +130,11 @@ fn answer_of(line: &Line) -> Option<(Jiffy, CpuId, Answer)> {
 }
 
 /// Takes a line of an interrupt or an operation, in its moment.
-fn take_told(script: &Script, seen: &mut Seen, told: Told, turn: u64) -> Option<Fault> {
+#[tactic(auto, unfolding(crate::specs::Judge::told_fault, crate::specs::Judge::told_after))]
+fn take_told(script: &Script, seen: &mut Seen, told: Told, turn: u64) -> Option<Fault>
+    ensures fault { result ≡ told_fault script.now seen.old told }
+    ensures after { result ≡ None → seen.new ≡ told_after script.now seen.old told turn }
+{
     if !matches!(seen.point().stage, Stage::Tellers) {
         return Some(Fault::Order);
     }
@@ -137,7 +152,11 @@ fn take_told(script: &Script, seen: &mut Seen, told: Told, turn: u64) -> Option<
 }
 
 /// Takes a line that closes a moment.
-fn take_closing(script: &Script, seen: &mut Seen, line: &Line, turn: u64) -> Option<Fault> {
+#[tactic(auto, unfolding(crate::specs::Judge::closing_fault, crate::specs::Judge::closing_after))]
+fn take_closing(script: &Script, seen: &mut Seen, line: &Line, turn: u64) -> Option<Fault>
+    ensures fault { result ≡ closing_fault line.now script.now seen.old }
+    ensures after { result ≡ None → seen.new ≡ closing_after line.now seen.old turn }
+{
     match *line {
         Line::Control { now: _, cpu } => {
             if let Some(fault) = control_fault(script, seen, cpu) {
@@ -182,7 +201,9 @@ fn take_closing(script: &Script, seen: &mut Seen, line: &Line, turn: u64) -> Opt
 }
 
 /// Whether a line closes a moment, and its time.
-fn closing_time(line: &Line) -> Option<Jiffy> {
+fn closing_time(line: &Line) -> Option<Jiffy>
+    ensures { result ≡ closing_time line.now }
+{
     match *line {
         Line::Control { now, cpu: _ } => Some(now),
         Line::Moved {
@@ -202,27 +223,50 @@ fn closing_time(line: &Line) -> Option<Jiffy> {
     }
 }
 
-/// Closes the last moment before the first line behind it.
-fn take_last(script: &Script, seen: &mut Seen) -> Option<Fault> {
-    let point = seen.point();
-    match point.stage {
+/// What is missing before the first line behind the last moment.
+#[tactic(auto, unfolding(crate::specs::Judge::last_fault))]
+fn last_fault(script: &Script, seen: &Seen) -> Option<Fault>
+    ensures { result ≡ last_fault script.now seen.now }
+{
+    match seen.point().stage {
         Stage::Over => Some(Fault::NotTheEnd),
         Stage::Lefts => None,
         Stage::Tellers | Stage::Moves | Stage::Covers => {
-            if let Some(fault) = leave_fault(script, seen, script.end + 1) {
-                return Some(fault);
-            }
-            seen.set_point(Point {
-                stage: Stage::Lefts,
-                ..point
-            });
-            None
+            leave_fault(script, seen, up(script.end))
         }
     }
 }
 
+/// Keeps that the last moment is closed.
+#[tactic(auto, unfolding(crate::specs::Judge::after_last))]
+fn close_last(seen: &mut Seen)
+    ensures { seen.new ≡ after_last seen.old }
+{
+    let point = seen.point();
+    seen.set_point(Point {
+        stage: Stage::Lefts,
+        ..point
+    });
+}
+
+/// Keeps that all is told.
+#[tactic(auto, unfolding(crate::specs::Judge::ended))]
+fn end(seen: &mut Seen)
+    ensures { seen.new ≡ ended seen.old }
+{
+    let point = seen.point();
+    seen.set_point(Point {
+        stage: Stage::Over,
+        ..point
+    });
+}
+
 /// Takes a line behind the last moment.
-fn take_behind(script: &Script, seen: &mut Seen, line: &Line) -> Option<Fault> {
+#[tactic(auto, unfolding(crate::specs::Judge::behind_fault, crate::specs::Judge::behind_after))]
+fn take_behind(script: &Script, seen: &mut Seen, line: &Line) -> Option<Fault>
+    ensures fault { result ≡ behind_fault line.now script.now seen.old }
+    ensures after { result ≡ None → seen.new ≡ behind_after line.now seen.old }
+{
     match *line {
         Line::Left {
             timer,
@@ -231,9 +275,10 @@ fn take_behind(script: &Script, seen: &mut Seen, line: &Line) -> Option<Fault> {
             wheel,
         } => {
             settle(seen);
-            if let Some(fault) = take_last(script, seen) {
+            if let Some(fault) = last_fault(script, seen) {
                 return Some(fault);
             }
+            close_last(seen);
             if let Some(fault) = left_fault(seen, timer, cpu, class, wheel) {
                 return Some(fault);
             }
@@ -242,17 +287,14 @@ fn take_behind(script: &Script, seen: &mut Seen, line: &Line) -> Option<Fault> {
         }
         Line::End { now } => {
             settle(seen);
-            if let Some(fault) = take_last(script, seen) {
+            if let Some(fault) = last_fault(script, seen) {
                 return Some(fault);
             }
+            close_last(seen);
             if let Some(fault) = end_fault(script, seen, now) {
                 return Some(fault);
             }
-            let point = seen.point();
-            seen.set_point(Point {
-                stage: Stage::Over,
-                ..point
-            });
+            end(seen);
             None
         }
         _ => Some(Fault::Foreign),
@@ -260,8 +302,12 @@ fn take_behind(script: &Script, seen: &mut Seen, line: &Line) -> Option<Fault> {
 }
 
 /// Goes to the moment of a line.
-fn come_to(script: &Script, seen: &mut Seen, at: Jiffy) -> Option<Fault> {
-    if at != seen.point().now {
+#[tactic(auto, unfolding(crate::specs::Judge::left_for, crate::specs::Judge::come_to))]
+fn come_to(script: &Script, seen: &mut Seen, at: Jiffy) -> Option<Fault>
+    ensures fault { result ≡ time_fault script.now (left_for seen.old at) at }
+    ensures after { result ≡ None → seen.new ≡ come_to script.now seen.old at }
+{
+    if at != seen.point().time {
         settle(seen);
     }
     if let Some(fault) = time_fault(script, seen, at) {
@@ -273,7 +319,11 @@ fn come_to(script: &Script, seen: &mut Seen, at: Jiffy) -> Option<Fault> {
 
 /// Takes a line, and answers what is wrong with it, if it is. Where something is, nothing is known
 /// of what was told.
-pub fn take_line(script: &Script, seen: &mut Seen, line: &Line, turn: u64) -> Option<Fault> {
+#[tactic(auto, unfolding(crate::specs::Judge::line_fault, crate::specs::Judge::line_after))]
+pub fn take_line(script: &Script, seen: &mut Seen, line: &Line, turn: u64) -> Option<Fault>
+    ensures fault { result ≡ line_fault script.now seen.old line.now }
+    ensures after { result ≡ None → seen.new ≡ line_after script.now seen.old line.now turn }
+{
     if let Some((at, told)) = told_of(line) {
         if let Some(fault) = come_to(script, seen, at) {
             return Some(fault);
@@ -291,7 +341,9 @@ pub fn take_line(script: &Script, seen: &mut Seen, line: &Line, turn: u64) -> Op
 }
 
 /// The timers of a script, of which nothing was told.
-fn fresh_timers(alloc: Global, count: u16) -> Result<Vec<TimerSeen>, NoMemory> {
+fn fresh_timers(alloc: Global, count: u16) -> Result<Vec<TimerSeen>, NoMemory>
+    ensures { IfOk result (λ ts. ts.items ≡ fresh_timers count) }
+{
     let mut timers = Vec::new(alloc);
     for number in 0..count {
         timers.push(fresh_timer(TimerId(number)))?;
@@ -300,7 +352,9 @@ fn fresh_timers(alloc: Global, count: u16) -> Result<Vec<TimerSeen>, NoMemory> {
 }
 
 /// A CPU that is active, as each is at the start.
-fn active_cpu(cpu: CpuId) -> CpuSeen {
+fn active_cpu(cpu: CpuId) -> CpuSeen
+    ensures { result ≡ active_cpu cpu }
+{
     let state = State {
         online: true,
         idle: false,
@@ -313,7 +367,9 @@ fn active_cpu(cpu: CpuId) -> CpuSeen {
 }
 
 /// The CPUs of a script as they start.
-fn fresh_cpus(alloc: Global, count: u16) -> Result<Vec<CpuSeen>, NoMemory> {
+fn fresh_cpus(alloc: Global, count: u16) -> Result<Vec<CpuSeen>, NoMemory>
+    ensures { IfOk result (λ cs. cs.items ≡ fresh_cpus count) }
+{
     let mut cpus = Vec::new(alloc);
     for number in 0..count {
         cpus.push(active_cpu(CpuId(number)))?;
@@ -322,14 +378,17 @@ fn fresh_cpus(alloc: Global, count: u16) -> Result<Vec<CpuSeen>, NoMemory> {
 }
 
 /// The point at the first moment, jiffy 0.
-fn first_point(script: &Script, play: bool) -> Point {
+#[tactic(auto, unfolding(crate::specs::Judge::first_point))]
+fn first_point(script: &Script, play: bool) -> Point
+    ensures { result ≡ first_point script.now play }
+{
     let listed = match script.moments.get(0) {
         Some(first) => first.at == 0,
         None => false,
     };
     Point {
         play,
-        now: 0,
+        time: 0,
         listed,
         next: if listed { 1 } else { 0 },
         stage: Stage::Tellers,
@@ -351,7 +410,9 @@ fn first_point(script: &Script, play: bool) -> Point {
 }
 
 /// What is known before the first line.
-fn start(alloc: Global, script: &Script, play: bool) -> Result<Seen, NoMemory> {
+fn start(alloc: Global, script: &Script, play: bool) -> Result<Seen, NoMemory>
+    ensures { IfOk result (λ s. s ≡ start script.now play) }
+{
     let count = u16::from(script.nodes) * u16::from(script.cpus);
     let timers = fresh_timers(alloc, script.timers)?;
     let cpus = fresh_cpus(alloc, count)?;
@@ -365,11 +426,13 @@ pub fn judge_lines(
     script: &Script,
     lines: &[Line],
     play: bool,
-) -> Result<Verdict, NoMemory> {
+) -> Result<Verdict, NoMemory>
+    ensures exact { IfOk result (λ v. v ≡ judged script.now (start script.now play) 0 lines.now) }
+{
     let mut seen = start(alloc, script, play)?;
     let mut number = 0;
     for line in lines {
-        number += 1;
+        number = up(number);
         if let Some(fault) = take_line(script, &mut seen, line, number) {
             return Ok(Verdict::Misfit {
                 line: number,
@@ -379,7 +442,7 @@ pub fn judge_lines(
     }
     if !matches!(seen.point().stage, Stage::Over) {
         return Ok(Verdict::Misfit {
-            line: number + 1,
+            line: up(number),
             fault: Fault::Unended,
         });
     }

@@ -1,54 +1,79 @@
 //! Going from one moment to the next: what must have been told by then, and which times are moments.
 
+ghost use Rattle.std.specs.Prelude.{◌≡◌};
+ghost use Rattle.story_check.specs.Covers.{is_owed, is_unmoved};
+ghost use Rattle.story_check.specs.Moments.{count_before, few_interrupt, gone_to, is_hotplug, is_listed};
+ghost use Rattle.story_check.specs.Moments.{is_looked_for, is_missed, is_missed_on, is_moment, is_plain};
+ghost use Rattle.story_check.specs.Moments.{later_by, leave_fault, makes_moment, moments_left, point_at};
+ghost use Rattle.story_check.specs.Moments.{some_ops, time_fault, was_active};
+
 use crate::covers::some_uncovered;
 use crate::faults::Fault;
-use crate::places::{ops_now, same_class};
+use crate::places::{ahead, ops_now, same_class};
 use crate::runs::{is_after, may_interrupt};
 use crate::seen::{CpuSeen, Point, Queued, Seen, Stage, TimerSeen, opening_of};
 use tm_base::{Class, CpuId, Jiffy};
 use tm_script::{Moment, Op, Script, What};
 
+/// More than a script has moments.
+const MOST_PLACES: usize = 4_294_967_295;
+
 /// Whether an operation takes a CPU offline or online.
-fn is_hotplug(op: &Op) -> bool {
+fn is_hotplug(op: &Op) -> bool
+    ensures { result ≡ is_hotplug op.now }
+{
     matches!(op.what, What::Offline | What::Online)
 }
 
 /// Whether at most one CPU may have an interrupt by a time.
-fn few_interrupt(seen: &Seen, by: Jiffy) -> bool {
-    let now = seen.point().now;
+fn few_interrupt(seen: &Seen, by: Jiffy) -> bool
+    ensures { result ≡ few_interrupt seen.now by }
+{
+    let now = seen.point().time;
     seen.cpus().iter().filter(|c| may_interrupt(c, now, by)).count() <= 1
 }
 
 /// Whether the moment is played as `play` does it, without threads: it has an operation that takes a
 /// CPU offline or online, or none and at most one CPU with an interrupt.
-fn is_plain(script: &Script, seen: &Seen) -> bool {
+#[tactic(auto, unfolding(crate::specs::Moments::is_plain))]
+fn is_plain(script: &Script, seen: &Seen) -> bool
+    ensures { result ≡ is_plain script.now seen.now }
+{
     let point = seen.point();
     let ops = ops_now(script, seen);
     point.play
         || ops.iter().any(|op| is_hotplug(op))
-        || ops.is_empty() && few_interrupt(seen, point.now)
+        || ops.len() == 0 && few_interrupt(seen, point.time)
 }
 
 /// Whether a CPU was active as the moment began.
-fn was_active(cpu: &CpuSeen, now: Jiffy) -> bool {
+fn was_active(cpu: &CpuSeen, now: Jiffy) -> bool
+    ensures { result ≡ was_active cpu.now now }
+{
     let opening = opening_of(cpu, now);
     opening.online && !opening.idle
 }
 
 /// Whether a global timer of a CPU that sleeps must have run before a time: in a moment that was
 /// played without threads, now or since.
-fn is_looked_for(script: &Script, seen: &Seen, queued: &Queued, to: Jiffy) -> bool {
-    let now = seen.point().now;
+#[tactic(auto, unfolding(crate::specs::Moments::is_looked_for))]
+fn is_looked_for(script: &Script, seen: &Seen, queued: &Queued, to: Jiffy) -> bool
+    ensures { result ≡ is_looked_for script.now seen.now queued.now to }
+{
+    let now = seen.point().time;
     if queued.wheel <= now && is_plain(script, seen) {
         return true;
     }
-    let next = queued.wheel.max(now + 1);
+    let next = queued.wheel.max(ahead(now, 1));
     next < to && (seen.point().play || few_interrupt(seen, next))
 }
 
 /// Whether a timer of an online CPU that is due before a time must have run.
-fn is_missed_on(script: &Script, seen: &Seen, cpu: &CpuSeen, queued: &Queued, to: Jiffy) -> bool {
-    let now = seen.point().now;
+#[tactic(auto, unfolding(crate::specs::Moments::is_missed_on))]
+fn is_missed_on(script: &Script, seen: &Seen, cpu: &CpuSeen, queued: &Queued, to: Jiffy) -> bool
+    ensures { result ≡ is_missed_on script.now seen.now cpu.now queued.now to }
+{
+    let now = seen.point().time;
     if same_class(queued.class, Class::Pinned) {
         return true;
     }
@@ -56,13 +81,15 @@ fn is_missed_on(script: &Script, seen: &Seen, cpu: &CpuSeen, queued: &Queued, to
         return true;
     }
     if !cpu.state.idle {
-        return to > now + 1;
+        return to > ahead(now, 1);
     }
     same_class(queued.class, Class::Global) && is_looked_for(script, seen, queued, to)
 }
 
 /// Whether a timer must have run before a time.
-fn is_missed(script: &Script, seen: &Seen, timer: &TimerSeen, to: Jiffy) -> bool {
+fn is_missed(script: &Script, seen: &Seen, timer: &TimerSeen, to: Jiffy) -> bool
+    ensures { result ≡ is_missed script.now seen.now to timer.now }
+{
     match timer.place {
         Some(queued) => {
             if !timer.clear || queued.wheel >= to {
@@ -76,7 +103,9 @@ fn is_missed(script: &Script, seen: &Seen, timer: &TimerSeen, to: Jiffy) -> bool
 }
 
 /// The moments of the script from the next one on.
-fn moments_left<'a>(script: &'a Script, point: &Point) -> &'a [Moment] {
+fn moments_left<'a>(script: &'a Script, point: &Point) -> &'a [Moment]
+    ensures { result.now ≡ moments_left script.now point.now }
+{
     let all = script.moments.as_slice();
     if point.next <= all.len() {
         &all[point.next..]
@@ -86,7 +115,9 @@ fn moments_left<'a>(script: &'a Script, point: &Point) -> &'a [Moment] {
 }
 
 /// How many of these moments come before a time.
-fn count_before(moments: &[Moment], to: Jiffy) -> usize {
+fn count_before(moments: &[Moment], to: Jiffy) -> usize
+    ensures { result ≡ count_before moments.now to }
+{
     match moments.iter().position(|m| m.at >= to) {
         Some(count) => count,
         None => moments.len(),
@@ -94,12 +125,16 @@ fn count_before(moments: &[Moment], to: Jiffy) -> usize {
 }
 
 /// Whether some of the first so many moments has operations.
-fn some_ops(moments: &[Moment], count: usize) -> bool {
+fn some_ops(moments: &[Moment], count: usize) -> bool
+    ensures { result ≡ some_ops moments.now count }
+{
     count <= moments.len() && moments[..count].iter().any(|m| !m.ops.is_empty())
 }
 
 /// Whether a CPU that went offline has timers still.
-pub fn is_unmoved(seen: &Seen) -> bool {
+pub fn is_unmoved(seen: &Seen) -> bool
+    ensures { result ≡ is_unmoved seen.now }
+{
     match seen.point().dead {
         Some(cpu) => seen.cpu(cpu).timers > 0,
         None => false,
@@ -107,13 +142,18 @@ pub fn is_unmoved(seen: &Seen) -> bool {
 }
 
 /// Whether an operation of the moment has no answer yet.
-pub fn is_owed(script: &Script, seen: &Seen) -> bool {
+pub fn is_owed(script: &Script, seen: &Seen) -> bool
+    ensures { result ≡ is_owed script.now seen.now }
+{
     let point = seen.point();
     ops_now(script, seen).iter().any(|op| is_after(&point, op))
 }
 
 /// What is missing where the lines leave a moment for a time.
-pub fn leave_fault(script: &Script, seen: &Seen, to: Jiffy) -> Option<Fault> {
+#[tactic(auto, unfolding(crate::specs::Moments::leave_fault))]
+pub fn leave_fault(script: &Script, seen: &Seen, to: Jiffy) -> Option<Fault>
+    ensures { result ≡ leave_fault script.now seen.now to }
+{
     let point = seen.point();
     let left = moments_left(script, &point);
     let count = count_before(left, to);
@@ -133,29 +173,57 @@ pub fn leave_fault(script: &Script, seen: &Seen, to: Jiffy) -> Option<Fault> {
 }
 
 /// Whether a CPU makes a moment of a time: it is active, or its wakeup isn't later.
-fn makes_moment(cpu: &CpuSeen, at: Jiffy) -> bool {
+fn makes_moment(cpu: &CpuSeen, at: Jiffy) -> bool
+    ensures { result ≡ makes_moment at cpu.now }
+{
     cpu.state.online && (!cpu.state.idle || cpu.quiet <= at)
 }
 
+/// Whether the script has a moment at this time, among these.
+fn is_listed(moments: &[Moment], at: Jiffy) -> bool
+    ensures { result ≡ is_listed moments.now at }
+{
+    match moments.get(count_before(moments, at)) {
+        Some(moment) => moment.at == at,
+        None => false,
+    }
+}
+
+/// A place of the script's moments, so many further.
+fn later_by(next: usize, count: usize) -> usize
+    ensures { result ≡ later_by next count }
+{
+    if next <= MOST_PLACES && count <= MOST_PLACES {
+        next + count
+    } else {
+        next
+    }
+}
+
 /// Whether a time is one of a moment.
-fn is_moment(script: &Script, seen: &Seen, at: Jiffy) -> bool {
+#[tactic(auto, unfolding(crate::specs::Moments::is_moment))]
+fn is_moment(script: &Script, seen: &Seen, at: Jiffy) -> bool
+    ensures { result ≡ is_moment script.now seen.now at }
+{
     let left = moments_left(script, &seen.point());
     at <= script.end
         && (at == script.end
-            || left.iter().position(|m| m.at >= at).is_some_and(|k| left[k].at == at)
+            || is_listed(left, at)
             || seen.cpus().iter().any(|c| makes_moment(c, at)))
 }
 
 /// The point as a moment at this time begins.
-fn point_at(script: &Script, point: Point, at: Jiffy) -> Point {
+#[tactic(auto, unfolding(crate::specs::Moments::point_at))]
+fn point_at(script: &Script, point: Point, at: Jiffy) -> Point
+    ensures { result ≡ point_at script.now point at }
+{
     let left = moments_left(script, &point);
-    let count = count_before(left, at);
-    let listed = count < left.len() && left[count].at == at;
-    let next = point.next + count;
+    let listed = is_listed(left, at);
+    let next = later_by(point.next, count_before(left, at));
     Point {
-        now: at,
+        time: at,
         listed,
-        next: if listed { next + 1 } else { next },
+        next: if listed { later_by(next, 1) } else { next },
         stage: Stage::Tellers,
         answered_cpu: CpuId(0),
         answered: 0,
@@ -173,22 +241,28 @@ fn point_at(script: &Script, point: Point, at: Jiffy) -> Point {
 }
 
 /// Goes on to the moment of a time, where it is another one.
-pub fn go_to(script: &Script, seen: &mut Seen, at: Jiffy) {
+#[tactic(auto, unfolding(crate::specs::Moments::gone_to))]
+pub fn go_to(script: &Script, seen: &mut Seen, at: Jiffy)
+    ensures { seen.new ≡ gone_to script.now seen.old at }
+{
     let point = seen.point();
-    if at != point.now {
+    if at != point.time {
         seen.set_point(point_at(script, point, at));
     }
 }
 
 /// What is wrong with a line at a time, before it is looked at.
-pub fn time_fault(script: &Script, seen: &Seen, at: Jiffy) -> Option<Fault> {
+#[tactic(auto, unfolding(crate::specs::Moments::time_fault))]
+pub fn time_fault(script: &Script, seen: &Seen, at: Jiffy) -> Option<Fault>
+    ensures { result ≡ time_fault script.now seen.now at }
+{
     let point = seen.point();
     match point.stage {
         Stage::Lefts | Stage::Over => Some(Fault::NotTheEnd),
         Stage::Tellers | Stage::Moves | Stage::Covers => {
-            if at < point.now {
+            if at < point.time {
                 Some(Fault::BackInTime)
-            } else if at == point.now {
+            } else if at == point.time {
                 None
             } else if !is_moment(script, seen, at) {
                 Some(Fault::NoMoment)

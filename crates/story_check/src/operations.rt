@@ -1,10 +1,20 @@
 //! The lines that answer operations.
 
+ghost use Rattle.std.specs.Prelude.{◌≡◌, None, find};
+ghost use Rattle.story_check.specs.Operations.{after_answer, answer_fault, answer_line_fault, answered};
+ghost use Rattle.story_check.specs.Operations.{answered_op, arm_fault, changed_cpu, comes_next, done_fault};
+ghost use Rattle.story_check.specs.Operations.{fits_wakeup, idle_fault, is_first_event, is_first_pinned};
+ghost use Rattle.story_check.specs.Operations.{is_last_online, is_nowhere, is_on, is_open, is_other_active};
+ghost use Rattle.story_check.specs.Operations.{is_other_online, is_owed_above, is_pinned_sooner, is_sooner};
+ghost use Rattle.story_check.specs.Operations.{learned_answer, learned_arming, number_of, queued_fault};
+ghost use Rattle.story_check.specs.Operations.{refusal, refused_fault, some_pinned_sooner, some_sooner};
+ghost use Rattle.story_check.specs.Operations.{stay_fault, unless, with_state};
+
 use crate::covers::is_active;
 use crate::faults::Fault;
 use crate::places::{Asked, ahead, is_contested, level_in, ops_now, others_act, requeue, same_class};
 use crate::runs::is_after;
-use crate::seen::{CpuSeen, Point, Queued, Seen, State, TimerSeen, opening_of};
+use crate::seen::{CpuSeen, Point, Queued, Seen, State, TimerSeen, opening_of, up};
 use tm_base::{Class, CpuId, Jiffy, NEVER, TimerId};
 use tm_script::{Op, Script, What};
 
@@ -44,12 +54,16 @@ pub enum Answer {
 }
 
 /// The next operation of a CPU.
-fn next_of(point: &Point, ops: &[Op], cpu: CpuId) -> Option<Op> {
+fn next_of(point: &Point, ops: &[Op], cpu: CpuId) -> Option<Op>
+    ensures { result ≡ find (comes_next point.now cpu) ops.now }
+{
     ops.iter().copied().find(|op| op.cpu.0 == cpu.0 && is_after(point, op))
 }
 
 /// Whether an operation is to be answered before another.
-fn is_owed_above(point: &Point, op: &Op, answered: &Op) -> bool {
+fn is_owed_above(point: &Point, op: &Op, answered: &Op) -> bool
+    ensures { result ≡ is_owed_above point.now answered.now op.now }
+{
     is_after(point, op)
         && if point.play {
             op.line < answered.line
@@ -60,7 +74,10 @@ fn is_owed_above(point: &Point, op: &Op, answered: &Op) -> bool {
 
 /// The operation that a line of a CPU answers: the next of that CPU, where none of a lower CPU is
 /// left; in the order of `play`, the next of all.
-fn answered_op(script: &Script, seen: &Seen, cpu: CpuId) -> Option<Op> {
+#[tactic(auto, unfolding(crate::specs::Operations::answered_op))]
+fn answered_op(script: &Script, seen: &Seen, cpu: CpuId) -> Option<Op>
+    ensures { result ≡ answered_op script.now seen.now cpu }
+{
     let point = seen.point();
     let ops = ops_now(script, seen);
     match next_of(&point, ops, cpu) {
@@ -76,7 +93,9 @@ fn answered_op(script: &Script, seen: &Seen, cpu: CpuId) -> Option<Op> {
 }
 
 /// The number of the refusal by a CPU's state, or 0: 1 it is idle, 2 active, 3 offline, 4 online.
-fn refusal(what: What, state: State) -> u8 {
+fn refusal(what: What, state: State) -> u8
+    ensures { result ≡ refusal what state }
+{
     match what {
         What::Online => {
             if state.online {
@@ -116,17 +135,24 @@ fn refusal(what: What, state: State) -> u8 {
 }
 
 /// Whether another CPU of the hierarchy is online.
-fn is_other_online(script: &Script, cpu: &CpuSeen, own: CpuId) -> bool {
+fn is_other_online(script: &Script, cpu: &CpuSeen, own: CpuId) -> bool
+    ensures { result ≡ is_other_online script.now own cpu.now }
+{
     cpu.cpu.0 != own.0 && cpu.state.online && !script.isolated.has(cpu.cpu)
 }
 
 /// Whether a CPU is the last of the hierarchy that is online.
-fn is_last_online(script: &Script, seen: &Seen, cpu: CpuId) -> bool {
+fn is_last_online(script: &Script, seen: &Seen, cpu: CpuId) -> bool
+    ensures { result ≡ is_last_online script.now seen.now cpu }
+{
     !script.isolated.has(cpu) && !seen.cpus().iter().any(|c| is_other_online(script, c, cpu))
 }
 
 /// The number of the refusal of an operation but for timers that are queued, or 0.
-fn number_of(script: &Script, seen: &Seen, op: &Op) -> u8 {
+#[tactic(auto, unfolding(crate::specs::Operations::number_of))]
+fn number_of(script: &Script, seen: &Seen, op: &Op) -> u8
+    ensures { result ≡ number_of script.now seen.now op.now }
+{
     let by_state = refusal(op.what, seen.cpu(op.cpu).state);
     if by_state == 0 && matches!(op.what, What::Offline) && is_last_online(script, seen, op.cpu) {
         5
@@ -136,7 +162,9 @@ fn number_of(script: &Script, seen: &Seen, op: &Op) -> u8 {
 }
 
 /// Whether a timer is queued on a CPU, as the lines tell.
-fn is_on(timer: &TimerSeen, cpu: CpuId) -> bool {
+fn is_on(timer: &TimerSeen, cpu: CpuId) -> bool
+    ensures { result ≡ is_on timer.now cpu }
+{
     match timer.place {
         Some(queued) => timer.clear && queued.home.0 == cpu.0,
         None => false,
@@ -144,17 +172,23 @@ fn is_on(timer: &TimerSeen, cpu: CpuId) -> bool {
 }
 
 /// Whether a timer is queued nowhere, as the lines tell.
-fn is_nowhere(timer: &TimerSeen) -> bool {
+fn is_nowhere(timer: &TimerSeen) -> bool
+    ensures { result ≡ is_nowhere timer.now }
+{
     timer.clear && timer.place.is_none()
 }
 
 /// A fault where this doesn't hold.
-fn unless(holds: bool, fault: Fault) -> Option<Fault> {
+fn unless(holds: bool, fault: Fault) -> Option<Fault>
+    ensures { result ≡ unless holds fault }
+{
     if holds { None } else { Some(fault) }
 }
 
 /// Whether a timer of a CPU that isn't deferrable has an earlier wheel expiry.
-fn is_sooner(timer: &TimerSeen, cpu: CpuId, than: Jiffy) -> bool {
+fn is_sooner(timer: &TimerSeen, cpu: CpuId, than: Jiffy) -> bool
+    ensures { result ≡ is_sooner cpu than timer.now }
+{
     match timer.place {
         Some(queued) => {
             queued.home.0 == cpu.0
@@ -166,7 +200,9 @@ fn is_sooner(timer: &TimerSeen, cpu: CpuId, than: Jiffy) -> bool {
 }
 
 /// Whether a pinned timer of a CPU has an earlier wheel expiry.
-fn is_pinned_sooner(timer: &TimerSeen, cpu: CpuId, than: Jiffy) -> bool {
+fn is_pinned_sooner(timer: &TimerSeen, cpu: CpuId, than: Jiffy) -> bool
+    ensures { result ≡ is_pinned_sooner cpu than timer.now }
+{
     match timer.place {
         Some(queued) => {
             queued.home.0 == cpu.0
@@ -178,43 +214,57 @@ fn is_pinned_sooner(timer: &TimerSeen, cpu: CpuId, than: Jiffy) -> bool {
 }
 
 /// Whether some timer of a CPU that isn't deferrable is due before a time.
-fn some_sooner(seen: &Seen, cpu: CpuId, than: Jiffy) -> bool {
+fn some_sooner(seen: &Seen, cpu: CpuId, than: Jiffy) -> bool
+    ensures { result ≡ some_sooner seen.now cpu than }
+{
     seen.timers().iter().any(|t| is_sooner(t, cpu, than))
 }
 
 /// Whether some pinned one is.
-fn some_pinned_sooner(seen: &Seen, cpu: CpuId, than: Jiffy) -> bool {
+fn some_pinned_sooner(seen: &Seen, cpu: CpuId, than: Jiffy) -> bool
+    ensures { result ≡ some_pinned_sooner seen.now cpu than }
+{
     seen.timers().iter().any(|t| is_pinned_sooner(t, cpu, than))
 }
 
 /// Whether a time is the first event of a CPU.
-fn is_first_event(seen: &Seen, cpu: CpuId, first: Jiffy) -> bool {
-    !some_sooner(seen, cpu, first) && (first == NEVER || some_sooner(seen, cpu, first + 1))
+fn is_first_event(seen: &Seen, cpu: CpuId, first: Jiffy) -> bool
+    ensures { result ≡ is_first_event seen.now cpu first }
+{
+    !some_sooner(seen, cpu, first) && (first == NEVER || some_sooner(seen, cpu, up(first)))
 }
 
 /// Whether a time is the first pinned event of a CPU.
-fn is_first_pinned(seen: &Seen, cpu: CpuId, first: Jiffy) -> bool {
+fn is_first_pinned(seen: &Seen, cpu: CpuId, first: Jiffy) -> bool
+    ensures { result ≡ is_first_pinned seen.now cpu first }
+{
     !some_pinned_sooner(seen, cpu, first)
-        && (first == NEVER || some_pinned_sooner(seen, cpu, first + 1))
+        && (first == NEVER || some_pinned_sooner(seen, cpu, up(first)))
 }
 
 /// Whether the events of a CPU may be others than the lines so far tell: where other CPUs act in the
 /// same moment, where it slept as the moment began, and where a timer isn't clear.
-fn is_open(script: &Script, seen: &Seen, cpu: CpuId) -> bool {
+fn is_open(script: &Script, seen: &Seen, cpu: CpuId) -> bool
+    ensures { result ≡ is_open script.now seen.now cpu }
+{
     let point = seen.point();
     seen.point().unclear > 0
         || others_act(script, seen, cpu)
-        || !point.play && opening_of(&seen.cpu(cpu), point.now).idle
+        || !point.play && opening_of(&seen.cpu(cpu), point.time).idle
 }
 
 /// Whether another CPU of the hierarchy is active.
-fn is_other_active(script: &Script, cpu: &CpuSeen, own: CpuId) -> bool {
+fn is_other_active(script: &Script, cpu: &CpuSeen, own: CpuId) -> bool
+    ensures { result ≡ is_other_active script.now own cpu.now }
+{
     cpu.cpu.0 != own.0 && is_active(script, cpu)
 }
 
 /// Whether a wakeup fits a CPU that goes idle: where another CPU of the hierarchy stays active, its
 /// first pinned event; where it is the last or isolated, no later than its first event.
-fn fits_wakeup(script: &Script, seen: &Seen, cpu: CpuId, until: Jiffy) -> bool {
+fn fits_wakeup(script: &Script, seen: &Seen, cpu: CpuId, until: Jiffy) -> bool
+    ensures { result ≡ fits_wakeup script.now seen.now cpu until }
+{
     if script.isolated.has(cpu) {
         is_first_event(seen, cpu, until)
     } else if seen.cpus().iter().any(|c| is_other_active(script, c, cpu)) {
@@ -225,10 +275,12 @@ fn fits_wakeup(script: &Script, seen: &Seen, cpu: CpuId, until: Jiffy) -> bool {
 }
 
 /// What is wrong with going idle.
-fn idle_fault(script: &Script, seen: &Seen, cpu: CpuId, until: Jiffy) -> Option<Fault> {
+fn idle_fault(script: &Script, seen: &Seen, cpu: CpuId, until: Jiffy) -> Option<Fault>
+    ensures { result ≡ idle_fault script.now seen.now cpu until }
+{
     if is_open(script, seen, cpu) {
         None
-    } else if some_sooner(seen, cpu, seen.point().now + 2) {
+    } else if some_sooner(seen, cpu, ahead(seen.point().time, 2)) {
         Some(Fault::Soon)
     } else {
         unless(fits_wakeup(script, seen, cpu, until), Fault::Wakeup)
@@ -236,9 +288,11 @@ fn idle_fault(script: &Script, seen: &Seen, cpu: CpuId, until: Jiffy) -> Option<
 }
 
 /// What is wrong with staying.
-fn stay_fault(script: &Script, seen: &Seen, cpu: CpuId, first: Jiffy) -> Option<Fault> {
-    if first > seen.point().now + 1 {
-        Some(Fault::Soon)
+fn stay_fault(script: &Script, seen: &Seen, cpu: CpuId, first: Jiffy) -> Option<Fault>
+    ensures { result ≡ stay_fault script.now seen.now cpu first }
+{
+    if first > ahead(seen.point().time, 1) {
+        Some(Fault::Late)
     } else if is_open(script, seen, cpu) {
         None
     } else {
@@ -254,20 +308,25 @@ fn arm_fault(
     timer: TimerId,
     class: Class,
     asked: Asked,
-) -> Option<Fault> {
+) -> Option<Fault>
+    ensures { result ≡ arm_fault script.now seen.now cpu timer class asked }
+{
     if !is_nowhere(&seen.timer(timer)) && !is_contested(script, seen, timer, cpu) {
         Some(Fault::StillQueued)
     } else {
         unless(
-            level_in(seen, cpu, class, seen.point().now, asked).is_some(),
+            level_in(seen, cpu, class, seen.point().time, asked).is_some(),
             Fault::Wheel,
         )
     }
 }
 
 /// What is wrong with an answer that isn't a refusal.
-fn done_fault(script: &Script, seen: &Seen, op: &Op, answer: Answer) -> Option<Fault> {
-    let now = seen.point().now;
+#[tactic(auto, unfolding(crate::specs::Operations::done_fault))]
+fn done_fault(script: &Script, seen: &Seen, op: &Op, answer: Answer) -> Option<Fault>
+    ensures { result ≡ done_fault script.now seen.now op.now answer }
+{
+    let now = seen.point().time;
     match (op.what, answer) {
         (
             What::Arm {
@@ -317,7 +376,9 @@ fn done_fault(script: &Script, seen: &Seen, op: &Op, answer: Answer) -> Option<F
 }
 
 /// What is wrong with a refusal of this number.
-fn refused_fault(op: &Op, expected: u8, line: u32, number: u8) -> Option<Fault> {
+fn refused_fault(op: &Op, expected: u8, line: u32, number: u8) -> Option<Fault>
+    ensures { result ≡ refused_fault op.now expected line number }
+{
     if op.line != line {
         Some(Fault::NoOperation)
     } else {
@@ -326,6 +387,7 @@ fn refused_fault(op: &Op, expected: u8, line: u32, number: u8) -> Option<Fault> 
 }
 
 /// What is wrong with a refusal since the timer is queued.
+#[tactic(auto, unfolding(crate::specs::Operations::queued_fault))]
 fn queued_fault(
     script: &Script,
     seen: &Seen,
@@ -334,7 +396,9 @@ fn queued_fault(
     line: u32,
     number: u8,
     holder: CpuId,
-) -> Option<Fault> {
+) -> Option<Fault>
+    ensures { result ≡ queued_fault script.now seen.now op.now expected line number holder }
+{
     let What::Arm {
         timer,
         class: _,
@@ -358,7 +422,10 @@ fn queued_fault(
 }
 
 /// What is wrong with an answer to an operation.
-fn answer_fault(script: &Script, seen: &Seen, op: &Op, answer: Answer) -> Option<Fault> {
+#[tactic(auto, unfolding(crate::specs::Operations::answer_fault))]
+fn answer_fault(script: &Script, seen: &Seen, op: &Op, answer: Answer) -> Option<Fault>
+    ensures { result ≡ answer_fault script.now seen.now op.now answer }
+{
     let expected = number_of(script, seen, op);
     match answer {
         Answer::Refused { line, number } => refused_fault(op, expected, line, number),
@@ -378,7 +445,9 @@ fn answer_fault(script: &Script, seen: &Seen, op: &Op, answer: Answer) -> Option
 }
 
 /// A CPU whose state changes.
-pub fn changed_cpu(cpu: CpuSeen, now: Jiffy, state: State) -> CpuSeen {
+pub fn changed_cpu(cpu: CpuSeen, now: Jiffy, state: State) -> CpuSeen
+    ensures { result ≡ changed_cpu cpu now state }
+{
     CpuSeen {
         before: opening_of(&cpu, now),
         changed: now,
@@ -388,15 +457,21 @@ pub fn changed_cpu(cpu: CpuSeen, now: Jiffy, state: State) -> CpuSeen {
 }
 
 /// Keeps that a CPU is in another state, with no interrupt before a time.
-pub fn put_state(seen: &mut Seen, cpu: CpuId, online: bool, idle: bool, quiet: Jiffy) {
+#[tactic(auto, unfolding(crate::specs::Operations::with_state))]
+pub fn put_state(seen: &mut Seen, cpu: CpuId, online: bool, idle: bool, quiet: Jiffy)
+    ensures { seen.new ≡ with_state seen.old cpu online idle quiet }
+{
     let own = seen.cpu(cpu);
-    let now = seen.point().now;
+    let now = seen.point().time;
     let after = changed_cpu(own, now, State { online, idle });
     seen.put_cpu(CpuSeen { quiet, ..after });
 }
 
 /// Keeps an arming.
-fn learn_arming(seen: &mut Seen, op: &Op, wheel: Jiffy, turn: u64) {
+#[tactic(auto, unfolding(crate::specs::Operations::learned_arming))]
+fn learn_arming(seen: &mut Seen, op: &Op, wheel: Jiffy, turn: u64)
+    ensures { seen.new ≡ learned_arming seen.old op.now wheel turn }
+{
     let What::Arm {
         timer,
         class,
@@ -407,7 +482,7 @@ fn learn_arming(seen: &mut Seen, op: &Op, wheel: Jiffy, turn: u64) {
     else {
         return;
     };
-    let now = seen.point().now;
+    let now = seen.point().time;
     let expires = ahead(now, delay);
     let level = level_in(seen, op.cpu, class, now, Asked { expires, wheel });
     let in_order = is_nowhere(&seen.timer(timer));
@@ -425,7 +500,10 @@ fn learn_arming(seen: &mut Seen, op: &Op, wheel: Jiffy, turn: u64) {
 }
 
 /// Keeps what an answer tells.
-fn learn_answer(seen: &mut Seen, op: &Op, answer: Answer, turn: u64) {
+#[tactic(auto, unfolding(crate::specs::Operations::learned_answer))]
+fn learn_answer(seen: &mut Seen, op: &Op, answer: Answer, turn: u64)
+    ensures { seen.new ≡ learned_answer seen.old op.now answer turn }
+{
     match answer {
         Answer::Armed {
             timer: _,
@@ -452,7 +530,9 @@ fn learn_answer(seen: &mut Seen, op: &Op, answer: Answer, turn: u64) {
 }
 
 /// The point behind an answer.
-fn answered(point: Point, op: &Op, answer: Answer) -> Point {
+fn answered(point: Point, op: &Op, answer: Answer) -> Point
+    ensures { result ≡ answered point op.now answer }
+{
     let gone = match answer {
         Answer::WentOffline => Some(op.cpu),
         _ => None,
@@ -467,13 +547,17 @@ fn answered(point: Point, op: &Op, answer: Answer) -> Point {
 }
 
 /// Takes the line of an answer.
+#[tactic(auto, unfolding(crate::specs::Operations::answer_line_fault, crate::specs::Operations::after_answer))]
 pub fn take_answer(
     script: &Script,
     seen: &mut Seen,
     cpu: CpuId,
     answer: Answer,
     turn: u64,
-) -> Option<Fault> {
+) -> Option<Fault>
+    ensures fault { result ≡ answer_line_fault script.now seen.old cpu answer }
+    ensures after { result ≡ None → seen.new ≡ after_answer script.now seen.old cpu answer turn }
+{
     let Some(op) = answered_op(script, seen, cpu) else {
         return Some(Fault::NoOperation);
     };

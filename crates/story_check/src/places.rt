@@ -2,12 +2,12 @@
 
 ghost use Rattle.std.specs.Prelude.{◌≡◌};
 ghost use Rattle.std.specs.List.{list_any};
-ghost use Rattle.story_check.specs.Places.{ahead, clock_of, due_in, is_due, is_hot, is_queued_in};
-ghost use Rattle.story_check.specs.Places.{level_by, names_other, names_timer, is_contested};
-ghost use Rattle.story_check.specs.Places.{others_act, entered, left_behind, requeued, rank_of};
-ghost use Rattle.story_check.specs.Places.{same_class, touched_by, touched_other, class_of, level_in};
-ghost use Rattle.story_check.specs.Places.{level_at, ops_at, sooner_due, level_later, is_clearly};
-ghost use Rattle.story_check.specs.Places.{counted_in, counted_out, settled_at, unclear_after};
+ghost use Rattle.story_check.specs.Places.{ahead, clock_of, counted_in, counted_out, entered};
+ghost use Rattle.story_check.specs.Places.{explains, is_contested, is_hot, is_queued_in};
+ghost use Rattle.story_check.specs.Places.{is_settled, left_behind, level_at, level_by, level_in};
+ghost use Rattle.story_check.specs.Places.{level_late, names_other, ops_at, others_act, rank_of};
+ghost use Rattle.story_check.specs.Places.{requeued, same_class, timer_named, touched_by};
+ghost use Rattle.story_check.specs.Places.{touched_other, unclear_after};
 
 use crate::seen::{Clocks, CpuSeen, Queued, Seen, TimerSeen, Touch, down, opening_of, up};
 use tm_base::{Class, CpuId, Jiffy, TIME_LIMIT, TimerId};
@@ -51,25 +51,6 @@ pub fn is_queued_in(timer: &TimerSeen, cpu: CpuId, class: Class) -> bool
         Some(queued) => queued.home.0 == cpu.0 && same_class(queued.class, class),
         None => false,
     }
-}
-
-/// Whether a timer is queued in the base of a CPU and a class, with a wheel expiry by this time.
-pub fn is_due(timer: &TimerSeen, cpu: CpuId, class: Class, by: Jiffy) -> bool
-    ensures { result ≡ is_due cpu class by timer.now }
-{
-    match timer.place {
-        Some(queued) => {
-            queued.home.0 == cpu.0 && same_class(queued.class, class) && queued.wheel <= by
-        }
-        None => false,
-    }
-}
-
-/// Whether some timer is due in a base.
-fn due_in(seen: &Seen, cpu: CpuId, class: Class, by: Jiffy) -> bool
-    ensures { result ≡ due_in seen.now cpu class by }
-{
-    seen.timers().iter().any(|t| is_due(t, cpu, class, by))
 }
 
 /// The clock of a class.
@@ -131,7 +112,7 @@ pub struct Asked {
 fn level_late(seen: &Seen, cpu: CpuId, class: Class, by: Jiffy, asked: Asked) -> Option<u8>
     ensures { result ≡ level_late seen.now cpu class by asked }
 {
-    match level_by(asked.expires, by, by + 1, asked.wheel) {
+    match level_by(asked.expires, by, ahead(by, 1), asked.wheel) {
         Some(level) => Some(level),
         None => {
             if seen.timers().iter().any(|t| explains(t, cpu, class, by, asked)) {
@@ -145,6 +126,7 @@ fn level_late(seen: &Seen, cpu: CpuId, class: Class, by: Jiffy, asked: Asked) ->
 
 /// The level at which a timer is armed in a base that is forwarded to a time, where the wheel's rule
 /// gives the wheel expiry that is shown.
+#[tactic(auto, unfolding(crate::specs::Places::level_in))]
 pub fn level_in(seen: &Seen, cpu: CpuId, class: Class, by: Jiffy, asked: Asked) -> Option<u8>
     ensures { result ≡ level_in seen.now cpu class by asked }
 {
@@ -153,7 +135,7 @@ pub fn level_in(seen: &Seen, cpu: CpuId, class: Class, by: Jiffy, asked: Asked) 
     match level_at(asked.expires, clock, asked.wheel) {
         Some(level) => Some(level),
         None => {
-            if opening_of(&own, seen.point().now).idle && by < TIME_LIMIT {
+            if opening_of(&own, seen.point().time).idle {
                 level_late(seen, cpu, class, by, asked)
             } else {
                 None
@@ -190,6 +172,7 @@ fn names_other(op: &Op, timer: TimerId, cpu: CpuId) -> bool
 }
 
 /// The operations of the script at the time of the lines.
+#[tactic(auto, unfolding(crate::specs::Places::ops_at))]
 pub fn ops_now<'a>(script: &'a Script, seen: &Seen) -> &'a [Op]
     ensures { result.now ≡ ops_at script.now seen.now.point }
 {
@@ -236,11 +219,12 @@ fn is_hot(timer: &TimerSeen, now: Jiffy) -> bool
 
 /// Whether the lines of other CPUs in this moment may have come before or after those of this one,
 /// and are of the same timer; or a line before left open where it is.
+#[tactic(auto, unfolding(crate::specs::Places::is_contested))]
 pub fn is_contested(script: &Script, seen: &Seen, timer: TimerId, cpu: CpuId) -> bool
     ensures { result ≡ is_contested script.now seen.now timer cpu }
 {
     let told = seen.timer(timer);
-    let now = seen.point().now;
+    let now = seen.point().time;
     if seen.point().play {
         return false;
     }
@@ -301,6 +285,7 @@ fn counted_out(cpu: CpuSeen, class: Class) -> CpuSeen
 }
 
 /// Counts a place in.
+#[tactic(auto, unfolding(crate::specs::Places::entered))]
 fn enter_place(seen: &mut Seen, place: Option<Queued>)
     ensures { seen.new ≡ entered seen.old place }
 {
@@ -311,6 +296,7 @@ fn enter_place(seen: &mut Seen, place: Option<Queued>)
 }
 
 /// Counts a place out.
+#[tactic(auto, unfolding(crate::specs::Places::left_behind))]
 fn leave_place(seen: &mut Seen, place: Option<Queued>)
     ensures { seen.new ≡ left_behind seen.old place }
 {
@@ -347,19 +333,20 @@ fn is_settled(timer: &TimerSeen, now: Jiffy, in_order: bool) -> bool
 
 /// Keeps that a CPU has changed where a timer is queued; `in_order` says whether that fits to where
 /// it was.
+#[tactic(auto, unfolding(crate::specs::Places::requeued))]
 pub fn requeue(seen: &mut Seen, timer: TimerId, place: Option<Queued>, cpu: CpuId, in_order: bool)
     ensures { seen.new ≡ requeued seen.old timer place cpu in_order }
 {
     let told = seen.timer(timer);
     let point = seen.point();
-    let clear = is_settled(&told, point.now, in_order);
+    let clear = is_settled(&told, point.time, in_order);
     leave_place(seen, told.place);
     enter_place(seen, place);
     seen.put_timer(TimerSeen {
         place,
         clear,
-        touch: touched_by(&told, point.now, cpu),
-        touched: point.now,
+        touch: touched_by(&told, point.time, cpu),
+        touched: point.time,
         ..told
     });
     seen.set_point(crate::seen::Point {

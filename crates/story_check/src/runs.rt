@@ -1,7 +1,13 @@
 //! The lines of timers that ran.
 
-ghost use Rattle.std.specs.Prelude.{◌≡◌};
-ghost use Rattle.story_check.specs.Runs.{after_run, run_fault, run_line_fault, learned_run};
+ghost use Rattle.std.specs.Prelude.{◌≡◌, None};
+ghost use Rattle.story_check.specs.Runs.{after_run, again_level, armed_again, clocks_after};
+ghost use Rattle.story_check.specs.Runs.{handed_out, is_after, is_before, is_its_turn};
+ghost use Rattle.story_check.specs.Runs.{is_not_below, is_owed_before, is_reply, learned_run};
+ghost use Rattle.story_check.specs.Runs.{may_interrupt, may_run, place_after, place_fault, ran};
+ghost use Rattle.story_check.specs.Runs.{rank_after, rank_in, reply_fault, run_fault};
+ghost use Rattle.story_check.specs.Runs.{run_line_fault, run_may_stand, shows_again};
+ghost use Rattle.story_check.specs.Runs.{stands_behind, taken_out, told_place};
 
 use crate::faults::Fault;
 use crate::places::{Asked, ahead, is_contested, level_in, ops_now, rank_of, requeue, same_class};
@@ -21,6 +27,7 @@ pub struct RunLine {
 }
 
 /// Where the timer was queued, if the line tells of that place.
+#[tactic(auto, unfolding(crate::specs::Runs::told_place))]
 fn told_place(seen: &Seen, run: &RunLine) -> Option<Queued>
     ensures { result ≡ told_place seen.now run.now }
 {
@@ -56,7 +63,7 @@ fn may_run(script: &Script, seen: &Seen, run: &RunLine, class: Class) -> bool
     same_class(class, Class::Global)
         && !script.isolated.has(run.runner)
         && !script.isolated.has(run.home)
-        && opening_of(&seen.cpu(run.home), seen.point().now).idle
+        && opening_of(&seen.cpu(run.home), seen.point().time).idle
 }
 
 /// Whether a timer went out of its base before another, by the order of hand-out.
@@ -78,7 +85,7 @@ fn is_its_turn(seen: &Seen, queued: &Queued) -> bool
 {
     match seen.cpu(queued.home).out {
         Some(out) => {
-            out.at != seen.point().now
+            out.at != seen.point().time
                 || !same_class(out.class, queued.class)
                 || is_before(&out, queued)
         }
@@ -100,7 +107,7 @@ fn rank_in(run: &RunLine, class: Class) -> u8
 /// Whether a job that armed its timer again shows the arming: on the CPU that ran it, in that class,
 /// that far ahead; or was passed over, where another CPU may have armed it.
 fn shows_again(script: &Script, seen: &Seen, run: &RunLine, class: Class, delay: u32) -> bool
-    ensures { result ≡ shows_again script.now seen.now run.now class delay }
+    ensures { result ≡ shows_again script.now seen.now run.now class delay run.now.reply }
 {
     match run.reply {
         ShownReply::Done | ShownReply::Mark(_) => false,
@@ -124,12 +131,13 @@ fn again_level(
 ) -> Option<u8>
     ensures { result ≡ again_level seen.now run.now class delay wheel }
 {
-    let now = seen.point().now;
+    let now = seen.point().time;
     let expires = ahead(now, delay);
     level_in(seen, run.runner, class, now, Asked { expires, wheel })
 }
 
 /// Whether a reply is that of the timer's job.
+#[tactic(auto, unfolding(crate::specs::Runs::is_reply))]
 fn is_reply(script: &Script, seen: &Seen, run: &RunLine, queued: &Queued) -> bool
     ensures { result ≡ is_reply script.now seen.now run.now queued.now }
 {
@@ -217,6 +225,7 @@ fn is_not_below(before: Option<CpuId>, cpu: CpuId) -> bool
 }
 
 /// What is wrong with the line of a timer that ran.
+#[tactic(auto, unfolding(crate::specs::Runs::run_fault))]
 fn run_fault(script: &Script, seen: &Seen, run: &RunLine) -> Option<Fault>
     ensures { result ≡ run_fault script.now seen.now run.now }
 {
@@ -224,10 +233,10 @@ fn run_fault(script: &Script, seen: &Seen, run: &RunLine) -> Option<Fault>
     if !run_may_stand(&point, ops_now(script, seen), run.runner) {
         return Some(Fault::Order);
     }
-    if run.wheel > point.now {
+    if run.wheel > point.time {
         return Some(Fault::Early);
     }
-    if !may_interrupt(&seen.cpu(run.runner), point.now, point.now) {
+    if !may_interrupt(&seen.cpu(run.runner), point.time, point.time) {
         return Some(Fault::NoInterrupt);
     }
     match told_place(seen, run) {
@@ -274,7 +283,7 @@ fn armed_again(
     Queued {
         home: run.runner,
         class,
-        expires: ahead(seen.point().now, arg),
+        expires: ahead(seen.point().time, arg),
         wheel,
         level: level.unwrap_or(0),
         job,
@@ -305,11 +314,12 @@ fn clocks_after(clocks: Clocks, class: Class, wheel: Jiffy) -> Clocks
 }
 
 /// Keeps that a base of a home handed a timer out.
+#[tactic(auto, unfolding(crate::specs::Runs::handed_out))]
 fn hand_out(seen: &mut Seen, queued: &Queued)
     ensures { seen.new ≡ handed_out seen.old queued.now }
 {
     let home = seen.cpu(queued.home);
-    let now = seen.point().now;
+    let now = seen.point().time;
     seen.put_cpu(CpuSeen {
         clocks: clocks_after(home.clocks, queued.class, queued.wheel),
         out: Some(Out {
@@ -337,6 +347,7 @@ fn ran(point: Point, run: &RunLine, rank: u8) -> Point
 }
 
 /// Keeps that the timer went out of its base, where the line tells of it.
+#[tactic(auto, unfolding(crate::specs::Runs::taken_out))]
 fn take_out(seen: &mut Seen, run: &RunLine)
     ensures { seen.new ≡ taken_out seen.old run.now }
 {
@@ -346,6 +357,7 @@ fn take_out(seen: &mut Seen, run: &RunLine)
 }
 
 /// What is wrong with the reply, behind the hand-out.
+#[tactic(auto, unfolding(crate::specs::Runs::reply_fault))]
 fn reply_fault(script: &Script, seen: &Seen, run: &RunLine) -> Option<Fault>
     ensures { result ≡ reply_fault script.now seen.now run.now }
 {
@@ -372,6 +384,7 @@ fn rank_after(place: Option<Queued>, run: &RunLine) -> u8
 }
 
 /// Keeps what the line of a timer that ran tells, behind the hand-out.
+#[tactic(auto, unfolding(crate::specs::Runs::learned_run))]
 fn learn_run(seen: &mut Seen, run: &RunLine, turn: u64)
     ensures { seen.new ≡ learned_run seen.old run.now turn }
 {
@@ -383,6 +396,7 @@ fn learn_run(seen: &mut Seen, run: &RunLine, turn: u64)
 }
 
 /// Takes the line of a timer that ran.
+#[tactic(auto, unfolding(crate::specs::Runs::run_line_fault, crate::specs::Runs::after_run))]
 pub fn take_run(script: &Script, seen: &mut Seen, run: &RunLine, turn: u64) -> Option<Fault>
     ensures fault { result ≡ run_line_fault script.now seen.old run.now }
     ensures after { result ≡ None → seen.new ≡ after_run seen.old run.now turn }

@@ -1,13 +1,11 @@
 //! What the lines of a report told so far of timers and CPUs.
 
-ghost use Rattle.std.specs.Prelude.{◌≡◌, [], length, IfOk};
-ghost use Rattle.story_check.specs.Seen.{cpu_at, put_cpu, put_timer, timer_at};
-ghost use Rattle.story_check.specs.Seen.{absent_cpu, down, fresh_timer, up, with_cpu, with_timer};
-ghost use Rattle.story_check.specs.Seen.{opening_of};
+ghost use Rattle.std.specs.Prelude.{◌≡◌};
+ghost use Rattle.story_check.specs.Seen.{absent_cpu, cpu_at, down, fresh_timer, opening_of};
+ghost use Rattle.story_check.specs.Seen.{timer_at, up, with_cpu, with_timer};
 
-use std::alloc::Global;
 use std::marker::Model;
-use tm_base::{Class, CpuId, Jiffy, NEVER, NoMemory, TimerId};
+use tm_base::{Class, CpuId, Jiffy, NEVER, TimerId};
 
 /// A timer as it is queued.
 #[derive(Clone, Copy)]
@@ -116,7 +114,7 @@ pub struct Point {
     /// Whether the lines stand in the order of `play`.
     pub play: bool,
     /// The time of the moment, in jiffies.
-    pub now: Jiffy,
+    pub time: Jiffy,
     /// Whether the script has a moment at this time.
     pub listed: bool,
     /// Which of the script's moments comes next.
@@ -292,6 +290,7 @@ impl Seen {
     }
 
     /// Keeps what was told of a timer.
+    #[tactic(auto, unfolding(crate::specs::Seen::with_timer))]
     pub fn put_timer(&mut self, timer: TimerSeen)
         ensures { self.new ≡ with_timer self.old timer }
     {
@@ -302,6 +301,7 @@ impl Seen {
     }
 
     /// Keeps what was told of a CPU.
+    #[tactic(auto, unfolding(crate::specs::Seen::with_cpu))]
     pub fn put_cpu(&mut self, cpu: CpuSeen)
         ensures { self.new ≡ with_cpu self.old cpu }
     {
