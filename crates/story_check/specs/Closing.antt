@@ -181,7 +181,8 @@ abbrev pub learned_moved_by : Sight → MovedLine → (turn : ℕ) → Option Qu
 learned_moved_by s m turn None = s
 learned_moved_by s m turn (Some q) =
     with_moved
-    (requeued s m.timer (Some (moved_to s m turn q)) m.to (timer_at s m.timer).clear) q
+    (requeued s m.timer (Some (moved_to s m turn q)) m.to
+    (record { in_order = (timer_at s m.timer).clear; settles = false })) q
 
 -- a timer was moved
 unfoldable pub learned_moved : Sight → MovedLine → (turn : ℕ) → Sight

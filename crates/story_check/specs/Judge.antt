@@ -85,7 +85,7 @@ told_fault script s told =
 
 -- what it tells
 abbrev pub told_after_by : Told → Script → Sight → (turn : ℕ) → Sight
-told_after_by (tolds.Ran run) script s turn = after_run s run turn
+told_after_by (tolds.Ran run) script s turn = after_run script s run turn
 told_after_by (tolds.Answered cpu answer) script s turn = after_answer script s cpu answer turn
 told_after_by (tolds.Handed cpu to) script s turn = learned_handed s to
 

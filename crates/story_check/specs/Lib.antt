@@ -8,3 +8,5 @@ pub mod Operations
 pub mod Covers
 pub mod Closing
 pub mod Judge
+pub mod Texts
+pub mod Ends

@@ -25,7 +25,7 @@ use Rattle.story_check.specs.declared.seen.TimerSeen.{TimerSeen}
 use Rattle.story_check.specs.Sight.{Sight}
 use Rattle.story_check.specs.Seen.{cpu_at, opening_of, or_else, timer_at, up, with_cpu}
 use Rattle.story_check.specs.Places.{ahead, is_contested, level_in, ops_at, others_act, requeued}
-use Rattle.story_check.specs.Places.{same_class}
+use Rattle.story_check.specs.Places.{fit_of, same_class}
 use Rattle.story_check.specs.Runs.{fault_or, is_after}
 use Rattle.story_check.specs.Covers.{is_active}
 
@@ -312,37 +312,40 @@ armed s cpu timer class delay job arg wheel turn = record {
 }
 
 -- what an arming tells
-abbrev pub arming_by : What → Sight → CpuId → (wheel turn : ℕ) → Sight
-arming_by (whats.Arm timer class delay job arg) s cpu wheel turn =
+abbrev pub arming_by : What → Script → Sight → CpuId → (wheel turn : ℕ) → Sight
+arming_by (whats.Arm timer class delay job arg) script s cpu wheel turn =
     requeued s timer (Some (armed s cpu timer class delay job arg wheel turn)) cpu
-    (is_nowhere (timer_at s timer))
-arming_by (whats.Cancel timer) s cpu wheel turn = s
-arming_by whats.Idle s cpu wheel turn = s
-arming_by whats.Wake s cpu wheel turn = s
-arming_by whats.Offline s cpu wheel turn = s
-arming_by whats.Online s cpu wheel turn = s
+    (fit_of script s timer cpu
+    (record { in_order = is_nowhere (timer_at s timer); settles = true }))
+arming_by (whats.Cancel timer) script s cpu wheel turn = s
+arming_by whats.Idle script s cpu wheel turn = s
+arming_by whats.Wake script s cpu wheel turn = s
+arming_by whats.Offline script s cpu wheel turn = s
+arming_by whats.Online script s cpu wheel turn = s
 
 -- of an operation
-unfoldable pub learned_arming : Sight → Op → (wheel turn : ℕ) → Sight
-learned_arming s op wheel turn = arming_by op.what s op.cpu wheel turn
+unfoldable pub learned_arming : Script → Sight → Op → (wheel turn : ℕ) → Sight
+learned_arming script s op wheel turn = arming_by op.what script s op.cpu wheel turn
 
 -- what an answer tells
-abbrev pub learned_by : Answer → Sight → Op → (turn : ℕ) → Sight
-learned_by (answers.Armed timer class wheel) s op turn = learned_arming s op wheel turn
-learned_by (answers.Cancelled timer home) s op turn =
-    requeued s timer None op.cpu (is_on (timer_at s timer) home)
-learned_by (answers.NotQueued timer) s op turn = s
-learned_by (answers.Idle until) s op turn = with_state s op.cpu true true until
-learned_by (answers.Stay first) s op turn = s
-learned_by answers.Woke s op turn = with_state s op.cpu true false NEVER
-learned_by answers.WentOffline s op turn = with_state s op.cpu false false NEVER
-learned_by answers.CameOnline s op turn = with_state s op.cpu true false NEVER
-learned_by (answers.Refused line number) s op turn = s
-learned_by (answers.RefusedQueued line number holder) s op turn = s
+abbrev pub learned_by : Answer → Script → Sight → Op → (turn : ℕ) → Sight
+learned_by (answers.Armed timer class wheel) script s op turn = learned_arming script s op wheel turn
+learned_by (answers.Cancelled timer home) script s op turn =
+    requeued s timer None op.cpu
+    (fit_of script s timer op.cpu
+    (record { in_order = is_on (timer_at s timer) home; settles = true }))
+learned_by (answers.NotQueued timer) script s op turn = s
+learned_by (answers.Idle until) script s op turn = with_state s op.cpu true true until
+learned_by (answers.Stay first) script s op turn = s
+learned_by answers.Woke script s op turn = with_state s op.cpu true false NEVER
+learned_by answers.WentOffline script s op turn = with_state s op.cpu false false NEVER
+learned_by answers.CameOnline script s op turn = with_state s op.cpu true false NEVER
+learned_by (answers.Refused line number) script s op turn = s
+learned_by (answers.RefusedQueued line number holder) script s op turn = s
 
 -- of an operation
-unfoldable pub learned_answer : Sight → Op → Answer → (turn : ℕ) → Sight
-learned_answer s op answer turn = learned_by answer s op turn
+unfoldable pub learned_answer : Script → Sight → Op → Answer → (turn : ℕ) → Sight
+learned_answer script s op answer turn = learned_by answer script s op turn
 
 -- the CPU that went offline, if one did
 abbrev pub gone_by : Answer → CpuId → Option CpuId
@@ -380,10 +383,12 @@ unfoldable pub answer_line_fault : Script → Sight → CpuId → Answer → Opt
 answer_line_fault script s cpu answer = line_by script s answer (answered_op script s cpu)
 
 -- what is told behind an answer to an operation, if there is one
-abbrev pub after_by : Sight → Answer → (turn : ℕ) → Option Op → Sight
-after_by s answer turn None = s
-after_by s answer turn (Some op) = with_answer (learned_answer s op answer turn) op answer
+abbrev pub after_by : Script → Sight → Answer → (turn : ℕ) → Option Op → Sight
+after_by script s answer turn None = s
+after_by script s answer turn (Some op) =
+    with_answer (learned_answer script s op answer turn) op answer
 
 -- what is told behind the line of an answer
 unfoldable pub after_answer : Script → Sight → CpuId → Answer → (turn : ℕ) → Sight
-after_answer script s cpu answer turn = after_by s answer turn (answered_op script s cpu)
+after_answer script s cpu answer turn =
+    after_by script s answer turn (answered_op script s cpu)

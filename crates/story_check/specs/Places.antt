@@ -15,6 +15,7 @@ use Rattle.tm_script.specs.declared.syntax.What.{What}
 use Rattle.tm_script.specs.declared.syntax.What.TheVariants as whats
 use Rattle.wheel_core.specs.WheelExpiry.{wheel_expiry_of, wheel_level_of}
 use Rattle.story_check.specs.declared.places.Asked.{Asked}
+use Rattle.story_check.specs.declared.places.Fit.{Fit}
 use Rattle.story_check.specs.declared.seen.Clocks.{Clocks}
 use Rattle.story_check.specs.declared.seen.CpuSeen.{CpuSeen}
 use Rattle.story_check.specs.declared.seen.Point.{Point}
@@ -156,15 +157,24 @@ is_hot_at now (Some q) = nat_le q.wheel now
 abbrev pub is_hot : TimerSeen → (now : ℕ) → Bool
 is_hot t now = is_hot_at now t.place
 
--- CONTESTED: lines of other CPUs in this moment may have come before or after those of this one, and
--- are of the same timer; or a line before left open where it is. In the order of `play` none is
-unfoldable pub is_contested : Script → Sight → TimerId → CpuId → Bool
-is_contested script s timer cpu =
+-- operations of other CPUs in this moment are of the same timer
+abbrev pub is_shared : Script → Sight → TimerId → CpuId → Bool
+is_shared script s timer cpu = list_any (names_other timer cpu) (ops_at script s.point)
+
+-- MET: operations of other CPUs in this moment may have come before or after the lines of this one,
+-- and are of the same timer; or a line before left open where it is. In the order of `play` none is
+unfoldable pub is_met : Script → Sight → TimerId → CpuId → Bool
+is_met script s timer cpu =
     if s.point.play then false
     else not (timer_at s timer).clear
     || touched_other (timer_at s timer) s.point.time cpu
-    || is_hot (timer_at s timer) s.point.time
-    || list_any (names_other timer cpu) (ops_at script s.point)
+    || is_shared script s timer cpu
+
+-- CONTESTED: so may lines of other CPUs, where it is met, or another CPU may run it
+unfoldable pub is_contested : Script → Sight → TimerId → CpuId → Bool
+is_contested script s timer cpu =
+    is_met script s timer cpu
+    || (not s.point.play && is_hot (timer_at s timer) s.point.time)
 
 -- one CPU more
 abbrev pub and_by : Touch → CpuId → Touch
@@ -215,28 +225,35 @@ unclear_after unclear before after =
     else if not before && after then down unclear
     else unclear
 
--- a timer is clear behind a line that is or isn't in order: a line in a later moment than that
--- which left it open settles where it is
-abbrev pub is_settled : TimerSeen → (now : ℕ) → (in_order : Bool) → Bool
-is_settled t now in_order = if t.clear then in_order else not (t.touched == now)
+-- a timer is clear behind a line that is in order; or that tells all of it, in a later moment than
+-- that which left it open
+abbrev pub is_settled : TimerSeen → (now : ℕ) → Fit → Bool
+is_settled t now fit =
+    if t.clear then fit.in_order else fit.settles && not (t.touched == now)
 
 -- a timer at another place
-abbrev pub placed : TimerSeen → Option Queued → (now : ℕ) → CpuId → (in_order : Bool) → TimerSeen
-placed t place now cpu in_order = record t {
+abbrev pub placed : TimerSeen → Option Queued → (now : ℕ) → CpuId → Fit → TimerSeen
+placed t place now cpu fit = record t {
   place = place;
-  clear = is_settled t now in_order;
+  clear = is_settled t now fit;
   touch = touched_by t now cpu;
   touched = now;
 }
 
+-- the fit of a line that tells all of its timer, or not: where operations of other CPUs in the moment
+-- are of the same timer it settles nothing
+abbrev pub fit_of : Script → Sight → TimerId → CpuId → (whole : Fit) → Fit
+fit_of script s timer cpu whole =
+    record whole { settles = whole.settles && not (is_shared script s timer cpu) }
+
 -- REQUEUED: a CPU has changed where a timer is queued
-unfoldable pub requeued : Sight → TimerId → Option Queued → CpuId → (in_order : Bool) → Sight
-requeued s timer place cpu in_order =
+unfoldable pub requeued : Sight → TimerId → Option Queued → CpuId → Fit → Sight
+requeued s timer place cpu fit =
     record (with_timer (entered (left_behind s (timer_at s timer).place) place)
-    (placed (timer_at s timer) place s.point.time cpu in_order))
+    (placed (timer_at s timer) place s.point.time cpu fit))
     {
       point = record s.point {
         unclear = unclear_after s.point.unclear (timer_at s timer).clear
-            (is_settled (timer_at s timer) s.point.time in_order);
+            (is_settled (timer_at s timer) s.point.time fit);
       };
     }

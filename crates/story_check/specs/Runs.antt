@@ -23,7 +23,7 @@ use Rattle.story_check.specs.declared.seen.State.{State}
 use Rattle.story_check.specs.declared.seen.TimerSeen.{TimerSeen}
 use Rattle.story_check.specs.Sight.{Sight}
 use Rattle.story_check.specs.Seen.{cpu_at, opening_of, or_else, timer_at, up, with_cpu}
-use Rattle.story_check.specs.Places.{ahead, is_contested, level_in, ops_at, rank_of, requeued}
+use Rattle.story_check.specs.Places.{ahead, fit_of, is_met, level_in, ops_at, rank_of, requeued}
 use Rattle.story_check.specs.Places.{same_class}
 
 -- a place, where the line tells of it
@@ -99,7 +99,7 @@ shows_again script s run class delay shown.Done = false
 shows_again script s run class delay (shown.Mark mark) = false
 shows_again script s run class delay (shown.Again told wheel) =
     same_class told class && is_some (again_level s run class delay wheel)
-shows_again script s run class delay (shown.Skip cpu) = is_contested script s run.timer run.runner
+shows_again script s run class delay (shown.Skip cpu) = is_met script s run.timer run.runner
 
 -- done
 abbrev pub is_done : ShownReply → Bool
@@ -162,7 +162,7 @@ run_may_stand p ops runner =
 abbrev pub fault_by : Script → Sight → RunLine → Option Queued → Option Fault
 fault_by script s run (Some q) = place_fault script s run q
 fault_by script s run None =
-    if is_contested script s run.timer run.runner then None else Some faults.NotQueuedSo
+    if is_met script s run.timer run.runner then None else Some faults.NotQueuedSo
 
 -- WHAT IS WRONG with the line of a timer that ran
 unfoldable pub run_fault : Script → Sight → RunLine → Option Fault
@@ -262,7 +262,7 @@ ran p run rank = record p {
 
 -- the rank of a run, by where the timer was queued
 abbrev pub rank_after : Option Queued → RunLine → ℕ
-rank_after None run = 3
+rank_after None run = 0
 rank_after (Some q) run = rank_in run q.class
 
 -- what is told with a run at this rank
@@ -270,10 +270,14 @@ abbrev pub with_run : Sight → RunLine → (rank : ℕ) → Sight
 with_run s run rank = record s { point = ran s.point run rank }
 
 -- what a run tells, behind the hand-out
-unfoldable pub learned_run : Sight → RunLine → (turn : ℕ) → Sight
-learned_run s run turn =
+unfoldable pub learned_run : Script → Sight → RunLine → (turn : ℕ) → Sight
+learned_run script s run turn =
     with_run
-    (requeued s run.timer (place_after s run turn) run.runner (is_some (told_place s run))) run
+    (requeued s run.timer (place_after s run turn) run.runner
+    (fit_of script s run.timer run.runner (record {
+      in_order = is_some (told_place s run);
+      settles = is_none (place_after s run turn);
+    }))) run
     (rank_after (told_place s run) run)
 
 -- the first of two faults
@@ -287,5 +291,5 @@ run_line_fault script s run =
     fault_or (run_fault script s run) (reply_fault script (taken_out s run) run)
 
 -- what is told behind a run
-unfoldable pub after_run : Sight → RunLine → (turn : ℕ) → Sight
-after_run s run turn = learned_run (taken_out s run) run turn
+unfoldable pub after_run : Script → Sight → RunLine → (turn : ℕ) → Sight
+after_run script s run turn = learned_run script (taken_out s run) run turn

@@ -11,7 +11,7 @@ use crate::covers::is_active;
 use crate::faults::Fault;
 use crate::moments::is_owed;
 use crate::operations::put_state;
-use crate::places::{Asked, ahead, level_in, rank_of, requeue, same_class};
+use crate::places::{Asked, Fit, ahead, level_in, rank_of, requeue, same_class};
 use crate::seen::{CpuSeen, Point, Queued, Seen, Stage, TimerSeen};
 use tm_base::{Class, CpuId, Jiffy, NEVER, TimerId};
 use tm_script::Script;
@@ -243,7 +243,11 @@ pub fn learn_moved(seen: &mut Seen, moved: &MovedLine, turn: u64)
             turn,
             ..queued
         };
-        requeue(seen, moved.timer, Some(after), moved.to, told.clear);
+        let fit = Fit {
+            in_order: told.clear,
+            settles: false,
+        };
+        requeue(seen, moved.timer, Some(after), moved.to, fit);
         let point = seen.point();
         seen.set_point(Point {
             moved_rank: rank_of(queued.class),

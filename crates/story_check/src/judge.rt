@@ -1,6 +1,7 @@
 //! The fold over the lines of a report.
 
-ghost use Rattle.std.specs.Prelude.{◌≡◌, IfOk, None};
+ghost use Rattle.std.specs.Prelude.{◌≡◌, ◌↔◌, IfOk, None};
+ghost use Rattle.story_check.specs.Judge.{EachFits, IsFirstFault, IsFitting, ending};
 ghost use Rattle.story_check.specs.Judge.{active_cpu, after_last, answer_of, behind_after, behind_fault, ended};
 ghost use Rattle.story_check.specs.Judge.{closing_after, closing_fault, closing_time, come_to, first_point};
 ghost use Rattle.story_check.specs.Judge.{fresh_cpus, fresh_timers, judged, last_fault, left_for};
@@ -419,15 +420,14 @@ fn start(alloc: Global, script: &Script, play: bool) -> Result<Seen, NoMemory>
     Ok(Seen::new(timers, cpus, first_point(script, play)))
 }
 
-/// What is said of the lines of a report: in the order of `run`, or in that of `play`. The only error
-/// is want of memory.
-pub fn judge_lines(
+/// What the function on lists says of the lines of a report.
+fn judge_from(
     alloc: Global,
     script: &Script,
     lines: &[Line],
     play: bool,
 ) -> Result<Verdict, NoMemory>
-    ensures exact { IfOk result (λ v. v ≡ judged script.now (start script.now play) 0 lines.now) }
+    ensures { IfOk result (λ v. v ≡ judged script.now (start script.now play) 0 lines.now) }
 {
     let mut seen = start(alloc, script, play)?;
     let mut number = 0;
@@ -440,14 +440,42 @@ pub fn judge_lines(
             });
         }
     }
-    if !matches!(seen.point().stage, Stage::Over) {
-        return Ok(Verdict::Misfit {
-            line: up(number),
+    Ok(ending(&seen, number))
+}
+
+/// What is said behind so many lines.
+fn ending(seen: &Seen, lines: u64) -> Verdict
+    ensures { result ≡ ending seen.now lines }
+{
+    let point = seen.point();
+    match point.stage {
+        Stage::Over => Verdict::Fits {
+            lines,
+            runs: point.runs,
+        },
+        Stage::Tellers | Stage::Moves | Stage::Covers | Stage::Lefts => Verdict::Misfit {
+            line: up(lines),
             fault: Fault::Unended,
-        });
+        },
     }
-    Ok(Verdict::Fits {
-        lines: number,
-        runs: seen.point().runs,
-    })
+}
+
+/// What is said of the lines of a report: in the order of `run`, or in that of `play`. A misfit names
+/// the first line that doesn't fit, from 1, and what is wrong with it. The only error is want of
+/// memory.
+pub fn judge_lines(
+    alloc: Global,
+    script: &Script,
+    lines: &[Line],
+    play: bool,
+) -> Result<Verdict, NoMemory>
+    ensures exact { IfOk result
+        (λ v. v ≡ judged script.now (start script.now play) 0 lines.now) }
+    ensures fits { IfOk result
+        (λ v. IsFitting v ↔ EachFits script.now (start script.now play) 0 lines.now) }
+    ensures first { IfOk result
+        (λ v. IsFirstFault script.now (start script.now play) lines.now v) }
+{
+    let verdict = judge_from(alloc, script, lines, play)?;
+    Ok(verdict)
 }

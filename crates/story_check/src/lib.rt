@@ -19,3 +19,6 @@ pub use faults::{Clause, Fault};
 pub use judge::{Verdict, judge_lines};
 pub use program::{Output, judge_bytes, run_story};
 pub use statuses::NO_MEMORY;
+
+#[cfg(test)]
+mod tests;

@@ -12,7 +12,7 @@ ghost use Rattle.story_check.specs.Operations.{stay_fault, unless, with_state};
 
 use crate::covers::is_active;
 use crate::faults::Fault;
-use crate::places::{Asked, ahead, is_contested, level_in, ops_now, others_act, requeue, same_class};
+use crate::places::{Asked, Fit, fit_of, ahead, is_contested, level_in, ops_now, others_act, requeue, same_class};
 use crate::runs::is_after;
 use crate::seen::{CpuSeen, Point, Queued, Seen, State, TimerSeen, opening_of, up};
 use tm_base::{Class, CpuId, Jiffy, NEVER, TimerId};
@@ -469,8 +469,8 @@ pub fn put_state(seen: &mut Seen, cpu: CpuId, online: bool, idle: bool, quiet: J
 
 /// Keeps an arming.
 #[tactic(auto, unfolding(crate::specs::Operations::learned_arming))]
-fn learn_arming(seen: &mut Seen, op: &Op, wheel: Jiffy, turn: u64)
-    ensures { seen.new ≡ learned_arming seen.old op.now wheel turn }
+fn learn_arming(script: &Script, seen: &mut Seen, op: &Op, wheel: Jiffy, turn: u64)
+    ensures { seen.new ≡ learned_arming script.now seen.old op.now wheel turn }
 {
     let What::Arm {
         timer,
@@ -496,23 +496,32 @@ fn learn_arming(seen: &mut Seen, op: &Op, wheel: Jiffy, turn: u64)
         arg,
         turn,
     };
-    requeue(seen, timer, Some(queued), op.cpu, in_order);
+    let whole = Fit {
+        in_order,
+        settles: true,
+    };
+    let fit = fit_of(script, seen, timer, op.cpu, whole);
+    requeue(seen, timer, Some(queued), op.cpu, fit);
 }
 
 /// Keeps what an answer tells.
 #[tactic(auto, unfolding(crate::specs::Operations::learned_answer))]
-fn learn_answer(seen: &mut Seen, op: &Op, answer: Answer, turn: u64)
-    ensures { seen.new ≡ learned_answer seen.old op.now answer turn }
+fn learn_answer(script: &Script, seen: &mut Seen, op: &Op, answer: Answer, turn: u64)
+    ensures { seen.new ≡ learned_answer script.now seen.old op.now answer turn }
 {
     match answer {
         Answer::Armed {
             timer: _,
             class: _,
             wheel,
-        } => learn_arming(seen, op, wheel, turn),
+        } => learn_arming(script, seen, op, wheel, turn),
         Answer::Cancelled { timer, home } => {
-            let in_order = is_on(&seen.timer(timer), home);
-            requeue(seen, timer, None, op.cpu, in_order);
+            let whole = Fit {
+                in_order: is_on(&seen.timer(timer), home),
+                settles: true,
+            };
+            let fit = fit_of(script, seen, timer, op.cpu, whole);
+            requeue(seen, timer, None, op.cpu, fit);
         }
         Answer::Idle { until } => put_state(seen, op.cpu, true, true, until),
         Answer::Woke => put_state(seen, op.cpu, true, false, NEVER),
@@ -564,7 +573,7 @@ pub fn take_answer(
     if let Some(fault) = answer_fault(script, seen, &op, answer) {
         return Some(fault);
     }
-    learn_answer(seen, &op, answer, turn);
+    learn_answer(script, seen, &op, answer, turn);
     seen.set_point(answered(seen.point(), &op, answer));
     None
 }

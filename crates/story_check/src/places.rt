@@ -3,11 +3,11 @@
 ghost use Rattle.std.specs.Prelude.{◌≡◌};
 ghost use Rattle.std.specs.List.{list_any};
 ghost use Rattle.story_check.specs.Places.{ahead, clock_of, counted_in, counted_out, entered};
-ghost use Rattle.story_check.specs.Places.{explains, is_contested, is_hot, is_queued_in};
+ghost use Rattle.story_check.specs.Places.{explains, is_contested, is_hot, is_met, is_queued_in};
 ghost use Rattle.story_check.specs.Places.{is_settled, left_behind, level_at, level_by, level_in};
 ghost use Rattle.story_check.specs.Places.{level_late, names_other, ops_at, others_act, rank_of};
 ghost use Rattle.story_check.specs.Places.{requeued, same_class, timer_named, touched_by};
-ghost use Rattle.story_check.specs.Places.{touched_other, unclear_after};
+ghost use Rattle.story_check.specs.Places.{fit_of, is_shared, touched_other, unclear_after};
 
 use crate::seen::{Clocks, CpuSeen, Queued, Seen, TimerSeen, Touch, down, opening_of, up};
 use tm_base::{Class, CpuId, Jiffy, TIME_LIMIT, TimerId};
@@ -217,21 +217,38 @@ fn is_hot(timer: &TimerSeen, now: Jiffy) -> bool
     }
 }
 
+/// Whether operations of other CPUs in this moment are of the same timer.
+fn is_shared(script: &Script, seen: &Seen, timer: TimerId, cpu: CpuId) -> bool
+    ensures { result ≡ is_shared script.now seen.now timer cpu }
+{
+    ops_now(script, seen).iter().any(|op| names_other(op, timer, cpu))
+}
+
+/// Whether operations of other CPUs in this moment may have come before or after the lines of this
+/// one, and are of the same timer; or a line before left open where it is.
+#[tactic(auto, unfolding(crate::specs::Places::is_met))]
+pub fn is_met(script: &Script, seen: &Seen, timer: TimerId, cpu: CpuId) -> bool
+    ensures { result ≡ is_met script.now seen.now timer cpu }
+{
+    let told = seen.timer(timer);
+    let point = seen.point();
+    if point.play {
+        return false;
+    }
+    !told.clear
+        || touched_other(&told, point.time, cpu)
+        || is_shared(script, seen, timer, cpu)
+}
+
 /// Whether the lines of other CPUs in this moment may have come before or after those of this one,
-/// and are of the same timer; or a line before left open where it is.
+/// and are of the same timer: such operations, or its run.
 #[tactic(auto, unfolding(crate::specs::Places::is_contested))]
 pub fn is_contested(script: &Script, seen: &Seen, timer: TimerId, cpu: CpuId) -> bool
     ensures { result ≡ is_contested script.now seen.now timer cpu }
 {
     let told = seen.timer(timer);
-    let now = seen.point().time;
-    if seen.point().play {
-        return false;
-    }
-    !told.clear
-        || touched_other(&told, now, cpu)
-        || is_hot(&told, now)
-        || ops_now(script, seen).iter().any(|op| names_other(op, timer, cpu))
+    let point = seen.point();
+    is_met(script, seen, timer, cpu) || !point.play && is_hot(&told, point.time)
 }
 
 /// Who changed a timer in this moment, with one CPU more.
@@ -319,27 +336,46 @@ fn unclear_after(unclear: u64, before: bool, after: bool) -> u64
     }
 }
 
-/// Whether a timer is clear behind a line that is or isn't in order: a line in a later moment than
-/// that which left it open settles where it is.
-fn is_settled(timer: &TimerSeen, now: Jiffy, in_order: bool) -> bool
-    ensures { result ≡ is_settled timer.now now in_order }
+/// How the line of a change fits to what was told of its timer.
+#[derive(Clone, Copy)]
+pub struct Fit {
+    /// Whether the timer was where the line has it.
+    pub in_order: bool,
+    /// Whether the line tells all of the timer, so that in a later moment than that which left it
+    /// open it settles where it is.
+    pub settles: bool,
+}
+
+/// The fit of a line of a CPU that tells all of its timer, or not: where operations of other CPUs in
+/// the moment are of the same timer it settles nothing.
+pub fn fit_of(script: &Script, seen: &Seen, timer: TimerId, cpu: CpuId, whole: Fit) -> Fit
+    ensures { result ≡ fit_of script.now seen.now timer cpu whole }
 {
-    if timer.clear {
-        in_order
-    } else {
-        timer.touched != now
+    Fit {
+        settles: whole.settles && !is_shared(script, seen, timer, cpu),
+        ..whole
     }
 }
 
-/// Keeps that a CPU has changed where a timer is queued; `in_order` says whether that fits to where
-/// it was.
+/// Whether a timer is clear behind a line.
+fn is_settled(timer: &TimerSeen, now: Jiffy, fit: Fit) -> bool
+    ensures { result ≡ is_settled timer.now now fit }
+{
+    if timer.clear {
+        fit.in_order
+    } else {
+        fit.settles && timer.touched != now
+    }
+}
+
+/// Keeps that a CPU has changed where a timer is queued, by a line that fits so.
 #[tactic(auto, unfolding(crate::specs::Places::requeued))]
-pub fn requeue(seen: &mut Seen, timer: TimerId, place: Option<Queued>, cpu: CpuId, in_order: bool)
-    ensures { seen.new ≡ requeued seen.old timer place cpu in_order }
+pub fn requeue(seen: &mut Seen, timer: TimerId, place: Option<Queued>, cpu: CpuId, fit: Fit)
+    ensures { seen.new ≡ requeued seen.old timer place cpu fit }
 {
     let told = seen.timer(timer);
     let point = seen.point();
-    let clear = is_settled(&told, point.time, in_order);
+    let clear = is_settled(&told, point.time, fit);
     leave_place(seen, told.place);
     enter_place(seen, place);
     seen.put_timer(TimerSeen {

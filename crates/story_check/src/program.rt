@@ -1,10 +1,16 @@
 //! The whole program.
 
+ghost use Rattle.std.specs.Prelude.{◌≡◌, ◌≤◌, IfOk, length};
+ghost use Rattle.story_check.specs.Ends.{IsEnd, IsJudged, IsOutput, IsOutputBy, IsReportJudged, Tells};
+ghost use Rattle.story_check.specs.Ends.{order_of, status_of};
+
 use crate::judge::{Verdict, judge_lines};
 use crate::statuses::{
     FITS, MISFIT, MOST_STORY_BYTES, NO_MEMORY, NO_STORY, READ_FAULT, TOO_LONG, USAGE, WRITE_FAULT,
 };
-use crate::texts::{report_refused, script_refused, verdict_text};
+use crate::texts::{
+    read_fault_text, report_refused, script_refused, too_long_text, usage_text, verdict_text,
+};
 use report_reader::{ReadReport, read_report};
 use std::alloc::Global;
 use text_words::{cut, push_bytes};
@@ -20,7 +26,10 @@ pub struct Output {
 }
 
 /// An output of these bytes.
-fn output_of(alloc: Global, bytes: &[u8], status: u8) -> Result<Output, NoMemory> {
+fn output_of(alloc: Global, bytes: &[u8], status: u8) -> Result<Output, NoMemory>
+    ensures text { IfOk result (λ o. o.text.items ≡ bytes.now) }
+    ensures status { IfOk result (λ o. o.status ≡ status) }
+{
     let mut text = Vec::new(alloc);
     push_bytes(&mut text, bytes)?;
     Ok(Output { text, status })
@@ -35,7 +44,9 @@ fn is_end(line: &[u8]) -> bool {
 }
 
 /// How many bytes the script has: up to its line `end`, or all.
-fn script_size(bytes: &[u8]) -> usize {
+fn script_size(bytes: &[u8]) -> usize
+    ensures { result ≤ length bytes.now }
+{
     let mut rest = bytes;
     while let Some((line, after)) = cut(rest, b'\n') {
         rest = after;
@@ -47,7 +58,9 @@ fn script_size(bytes: &[u8]) -> usize {
 }
 
 /// The status of a verdict.
-fn status_of(verdict: Verdict) -> u8 {
+fn status_of(verdict: Verdict) -> u8
+    ensures { result ≡ status_of verdict }
+{
     match verdict {
         Verdict::Fits { lines: _, runs: _ } => FITS,
         Verdict::Misfit { line: _, fault: _ } => MISFIT,
@@ -60,7 +73,10 @@ fn judge_report(
     script: &Script,
     bytes: &[u8],
     play: bool,
-) -> Result<Output, NoMemory> {
+) -> Result<Output, NoMemory>
+    ensures { IfOk result
+        (λ o. IsReportJudged script.now play bytes.now o.text.items o.status) }
+{
     match read_report(alloc, bytes) {
         Ok(lines) => {
             let verdict = judge_lines(alloc, script, &lines, play)?;
@@ -78,7 +94,9 @@ fn judge_report(
 }
 
 /// What is written of the bytes of a script with a report behind it.
-pub fn judge_bytes(alloc: Global, bytes: &[u8], play: bool) -> Result<Output, NoMemory> {
+pub fn judge_bytes(alloc: Global, bytes: &[u8], play: bool) -> Result<Output, NoMemory>
+    ensures { IfOk result (λ o. IsJudged play bytes.now o.text.items o.status) }
+{
     let size = script_size(bytes);
     match read_script(alloc, &bytes[..size]) {
         Ok(script) => judge_report(alloc, &script, &bytes[size..], play),
@@ -91,7 +109,9 @@ pub fn judge_bytes(alloc: Global, bytes: &[u8], play: bool) -> Result<Output, No
 }
 
 /// The order of lines that the words name: none that of `run`, `play` that of `play`.
-fn order_of(words: &[String]) -> Option<bool> {
+fn order_of(words: &[String]) -> Option<bool>
+    ensures { result ≡ order_of words.now }
+{
     match words {
         [] => Some(false),
         [word] => {
@@ -106,11 +126,14 @@ fn order_of(words: &[String]) -> Option<bool> {
 }
 
 /// What is written of the source, which is read to its end.
-fn judge_source<S: Source>(alloc: Global, source: &mut S, play: bool) -> Result<Output, NoMemory> {
+fn judge_source<S: Source>(alloc: Global, source: &mut S, play: bool) -> Result<Output, NoMemory>
+    ensures { IfOk result
+        (λ o. IsOutput play (S.seen source.old) (S.seen source.new) o.text.items o.status) }
+{
     match read_all(alloc, source, MOST_STORY_BYTES) {
         Ok(bytes) => judge_bytes(alloc, &bytes, play),
-        Err(ReadFault::Read) => output_of(alloc, b"read fault\n", READ_FAULT),
-        Err(ReadFault::TooLong) => output_of(alloc, b"input too long\n", TOO_LONG),
+        Err(ReadFault::Read) => output_of(alloc, read_fault_text(), READ_FAULT),
+        Err(ReadFault::TooLong) => output_of(alloc, too_long_text(), TOO_LONG),
         Err(ReadFault::NoMemory) => Err(NoMemory),
     }
 }
@@ -120,19 +143,22 @@ fn output_for<S: Source>(
     alloc: Global,
     words: &[String],
     source: &mut S,
-) -> Result<Output, NoMemory> {
+) -> Result<Output, NoMemory>
+    ensures { IfOk result
+        (λ o. IsOutputBy (order_of words.now) (S.seen source.old) (S.seen source.new)
+        o.text.items o.status) }
+{
     match order_of(words) {
         Some(play) => judge_source(alloc, source, play),
-        None => output_of(
-            alloc,
-            b"usage: tmigstory [play] < SCRIPT-AND-REPORT\n",
-            USAGE,
-        ),
+        None => output_of(alloc, usage_text(), USAGE),
     }
 }
 
 /// Writes an output, and answers the status that says how that went.
-fn write_output<K: Sink>(sink: &mut K, output: &Output) -> u8 {
+fn write_output<K: Sink>(sink: &mut K, output: &Output) -> u8
+    ensures { IsEnd output.now.text.items output.now.status
+        (K.seen sink.old) (K.seen sink.new) result }
+{
     match write_all(sink, &output.text) {
         Ok(()) => output.status,
         Err(fault) => match fault.cause {
@@ -149,7 +175,10 @@ pub fn run_story<S: Source, K: Sink>(
     words: &[String],
     source: &mut S,
     sink: &mut K,
-) -> u8 {
+) -> u8
+    ensures { Tells words.now (S.seen source.old) (S.seen source.new)
+        (K.seen sink.old) (K.seen sink.new) result }
+{
     match output_for(alloc, words, source) {
         Ok(output) => write_output(sink, &output),
         Err(_) => NO_MEMORY,

@@ -10,7 +10,7 @@ ghost use Rattle.story_check.specs.Runs.{run_line_fault, run_may_stand, shows_ag
 ghost use Rattle.story_check.specs.Runs.{stands_behind, taken_out, told_place};
 
 use crate::faults::Fault;
-use crate::places::{Asked, ahead, is_contested, level_in, ops_now, rank_of, requeue, same_class};
+use crate::places::{Asked, Fit, fit_of, ahead, is_met, level_in, ops_now, rank_of, requeue, same_class};
 use crate::seen::{Clocks, CpuSeen, Out, Point, Queued, Seen, opening_of, up};
 use tm_base::{Class, CpuId, Jiffy, TimerId};
 use tm_report::ShownReply;
@@ -117,7 +117,7 @@ fn shows_again(script: &Script, seen: &Seen, run: &RunLine, class: Class, delay:
         } => {
             same_class(shown, class) && again_level(seen, run, class, delay, wheel).is_some()
         }
-        ShownReply::Skip { cpu: _ } => is_contested(script, seen, run.timer, run.runner),
+        ShownReply::Skip { cpu: _ } => is_met(script, seen, run.timer, run.runner),
     }
 }
 
@@ -242,7 +242,7 @@ fn run_fault(script: &Script, seen: &Seen, run: &RunLine) -> Option<Fault>
     match told_place(seen, run) {
         Some(queued) => place_fault(script, seen, run, &queued),
         None => {
-            if is_contested(script, seen, run.timer, run.runner) {
+            if is_met(script, seen, run.timer, run.runner) {
                 None
             } else {
                 Some(Fault::NotQueuedSo)
@@ -379,19 +379,24 @@ fn rank_after(place: Option<Queued>, run: &RunLine) -> u8
 {
     match place {
         Some(queued) => rank_in(run, queued.class),
-        None => 3,
+        None => 0,
     }
 }
 
 /// Keeps what the line of a timer that ran tells, behind the hand-out.
 #[tactic(auto, unfolding(crate::specs::Runs::learned_run))]
-fn learn_run(seen: &mut Seen, run: &RunLine, turn: u64)
-    ensures { seen.new ≡ learned_run seen.old run.now turn }
+fn learn_run(script: &Script, seen: &mut Seen, run: &RunLine, turn: u64)
+    ensures { seen.new ≡ learned_run script.now seen.old run.now turn }
 {
     let place = told_place(seen, run);
     let after = place_after(seen, run, turn);
     let rank = rank_after(place, run);
-    requeue(seen, run.timer, after, run.runner, place.is_some());
+    let whole = Fit {
+        in_order: place.is_some(),
+        settles: after.is_none(),
+    };
+    let fit = fit_of(script, seen, run.timer, run.runner, whole);
+    requeue(seen, run.timer, after, run.runner, fit);
     seen.set_point(ran(seen.point(), run, rank));
 }
 
@@ -399,7 +404,7 @@ fn learn_run(seen: &mut Seen, run: &RunLine, turn: u64)
 #[tactic(auto, unfolding(crate::specs::Runs::run_line_fault, crate::specs::Runs::after_run))]
 pub fn take_run(script: &Script, seen: &mut Seen, run: &RunLine, turn: u64) -> Option<Fault>
     ensures fault { result ≡ run_line_fault script.now seen.old run.now }
-    ensures after { result ≡ None → seen.new ≡ after_run seen.old run.now turn }
+    ensures after { result ≡ None → seen.new ≡ after_run script.now seen.old run.now turn }
 {
     if let Some(fault) = run_fault(script, seen, run) {
         return Some(fault);
@@ -408,6 +413,6 @@ pub fn take_run(script: &Script, seen: &mut Seen, run: &RunLine, turn: u64) -> O
     if let Some(fault) = reply_fault(script, seen, run) {
         return Some(fault);
     }
-    learn_run(seen, run, turn);
+    learn_run(script, seen, run, turn);
     None
 }

@@ -1,5 +1,11 @@
 //! What the program writes.
 
+ghost use Rattle.std.specs.Prelude.{◌≡◌, IfOk};
+ghost use Rattle.story_check.specs.Texts.{clause_text, fault_text, fits_text, misfit_text};
+ghost use Rattle.story_check.specs.Texts.{read_fault_text, report_kind_text, report_refused};
+ghost use Rattle.story_check.specs.Texts.{script_kind_text, script_refused, too_long_text, usage_text};
+ghost use Rattle.story_check.specs.Texts.{verdict_text};
+
 use crate::faults::{Clause, Fault};
 use crate::judge::Verdict;
 use report_reader::ReportFault;
@@ -9,7 +15,9 @@ use tm_base::NoMemory;
 use tm_script::ScriptFault;
 
 /// The name of a clause.
-fn clause_text(clause: Clause) -> &'static [u8] {
+fn clause_text(clause: Clause) -> &'static [u8]
+    ensures { result.now ≡ clause_text clause }
+{
     match clause {
         Clause::Moments => b": Moments: ",
         Clause::Journals => b": Journals: ",
@@ -23,7 +31,9 @@ fn clause_text(clause: Clause) -> &'static [u8] {
 }
 
 /// What is wrong, in a sentence.
-fn fault_text(fault: Fault) -> &'static [u8] {
+fn fault_text(fault: Fault) -> &'static [u8]
+    ensures { result.now ≡ fault_text fault }
+{
     match fault {
         Fault::Foreign => b"no run prints such a line\n",
         Fault::BackInTime => b"its time is before that of the line above\n",
@@ -61,7 +71,10 @@ fn fault_text(fault: Fault) -> &'static [u8] {
 }
 
 /// A line that can't stand where it does.
-fn misfit_text(alloc: Global, line: u64, fault: Fault) -> Result<Vec<u8>, NoMemory> {
+#[tactic(auto, using(std::proofs::lemmas::List::append_assoc), unfolding(crate::specs::Texts::misfit_text))]
+fn misfit_text(alloc: Global, line: u64, fault: Fault) -> Result<Vec<u8>, NoMemory>
+    ensures { IfOk result (λ text. text.items ≡ misfit_text line fault) }
+{
     let mut text = Vec::new(alloc);
     push_bytes(&mut text, b"line ")?;
     push_number(&mut text, line)?;
@@ -71,7 +84,10 @@ fn misfit_text(alloc: Global, line: u64, fault: Fault) -> Result<Vec<u8>, NoMemo
 }
 
 /// A report that can be a story.
-fn fits_text(alloc: Global, lines: u64, runs: u64) -> Result<Vec<u8>, NoMemory> {
+#[tactic(auto, using(std::proofs::lemmas::List::append_assoc), unfolding(crate::specs::Texts::fits_text))]
+fn fits_text(alloc: Global, lines: u64, runs: u64) -> Result<Vec<u8>, NoMemory>
+    ensures { IfOk result (λ text. text.items ≡ fits_text lines runs) }
+{
     let mut text = Vec::new(alloc);
     push_bytes(&mut text, b"story: fits, ")?;
     push_number(&mut text, lines)?;
@@ -82,7 +98,9 @@ fn fits_text(alloc: Global, lines: u64, runs: u64) -> Result<Vec<u8>, NoMemory> 
 }
 
 /// What is said of a report.
-pub fn verdict_text(alloc: Global, verdict: Verdict) -> Result<Vec<u8>, NoMemory> {
+pub fn verdict_text(alloc: Global, verdict: Verdict) -> Result<Vec<u8>, NoMemory>
+    ensures { IfOk result (λ text. text.items ≡ verdict_text verdict) }
+{
     match verdict {
         Verdict::Fits { lines, runs } => fits_text(alloc, lines, runs),
         Verdict::Misfit { line, fault } => misfit_text(alloc, line, fault),
@@ -90,7 +108,9 @@ pub fn verdict_text(alloc: Global, verdict: Verdict) -> Result<Vec<u8>, NoMemory
 }
 
 /// What is wrong with a line of a script.
-fn script_kind_text(kind: tm_script::Kind) -> &'static [u8] {
+fn script_kind_text(kind: tm_script::Kind) -> &'static [u8]
+    ensures { result.now ≡ script_kind_text kind }
+{
     match kind {
         tm_script::Kind::BadLine => b": no such line may stand here\n",
         tm_script::Kind::BadNumber => b": a number is spelled wrong\n",
@@ -102,7 +122,9 @@ fn script_kind_text(kind: tm_script::Kind) -> &'static [u8] {
 }
 
 /// What is wrong with a line of a report.
-fn report_kind_text(kind: report_reader::Kind) -> &'static [u8] {
+fn report_kind_text(kind: report_reader::Kind) -> &'static [u8]
+    ensures { result.now ≡ report_kind_text kind }
+{
     match kind {
         report_reader::Kind::UnknownName => b": no line has this name\n",
         report_reader::Kind::WrongWords => b": these are not the words of such a line\n",
@@ -111,7 +133,10 @@ fn report_kind_text(kind: report_reader::Kind) -> &'static [u8] {
 }
 
 /// A text that is no script.
-pub fn script_refused(alloc: Global, fault: ScriptFault) -> Result<Vec<u8>, NoMemory> {
+#[tactic(auto, using(std::proofs::lemmas::List::append_assoc), unfolding(crate::specs::Texts::script_refused))]
+pub fn script_refused(alloc: Global, fault: ScriptFault) -> Result<Vec<u8>, NoMemory>
+    ensures { IfOk result (λ text. text.items ≡ script_refused fault) }
+{
     let mut text = Vec::new(alloc);
     push_bytes(&mut text, b"script refused line ")?;
     push_number(&mut text, u64::from(fault.line))?;
@@ -120,10 +145,34 @@ pub fn script_refused(alloc: Global, fault: ScriptFault) -> Result<Vec<u8>, NoMe
 }
 
 /// A text that is no report.
-pub fn report_refused(alloc: Global, fault: ReportFault) -> Result<Vec<u8>, NoMemory> {
+#[tactic(auto, using(std::proofs::lemmas::List::append_assoc), unfolding(crate::specs::Texts::report_refused))]
+pub fn report_refused(alloc: Global, fault: ReportFault) -> Result<Vec<u8>, NoMemory>
+    ensures { IfOk result (λ text. text.items ≡ report_refused fault) }
+{
     let mut text = Vec::new(alloc);
     push_bytes(&mut text, b"report refused line ")?;
     push_number(&mut text, fault.line as u64)?;
     push_bytes(&mut text, report_kind_text(fault.kind))?;
     Ok(text)
+}
+
+/// The text where the words are none that the program knows.
+pub fn usage_text() -> &'static [u8]
+    ensures { result.now ≡ usage_text }
+{
+    b"usage: tmigstory [play] < SCRIPT-AND-REPORT\n"
+}
+
+/// The text where the source failed.
+pub fn read_fault_text() -> &'static [u8]
+    ensures { result.now ≡ read_fault_text }
+{
+    b"tmigstory: the input could not be read\n"
+}
+
+/// The text where the source has too many bytes.
+pub fn too_long_text() -> &'static [u8]
+    ensures { result.now ≡ too_long_text }
+{
+    b"tmigstory: the input has more than 67108864 bytes\n"
 }
