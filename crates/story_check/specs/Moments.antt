@@ -41,6 +41,14 @@ is_hotplug op = hotplugs op.what
 abbrev pub few_interrupt : Sight → (by : ℕ) → Bool
 few_interrupt s by = nat_le (count_by (may_interrupt s.point.time by) s.cpus) 1
 
+-- a CPU makes a moment of a time: it is active, or its wakeup isn't later
+abbrev pub makes_moment : (at : ℕ) → CpuSeen → Bool
+makes_moment at c = c.state.online && (not c.state.idle || nat_le c.quiet at)
+
+-- at most one CPU may have an interrupt in a later moment, by a time
+abbrev pub few_come : Sight → (by : ℕ) → Bool
+few_come s by = nat_le (count_by (makes_moment by) s.cpus) 1
+
 -- PLAIN: the moment is played without threads, since it has an operation that takes a CPU offline or
 -- online, or none and at most one CPU with an interrupt; all moments of `play` are
 unfoldable pub is_plain : Script → Sight → Bool
@@ -63,7 +71,7 @@ unfoldable pub is_looked_for : Script → Sight → Queued → (to : ℕ) → Bo
 is_looked_for script s q to =
     if nat_le q.wheel s.point.time && is_plain script s then true
     else nat_lt (max q.wheel (ahead s.point.time 1)) to
-    && (s.point.play || few_interrupt s (max q.wheel (ahead s.point.time 1)))
+    && (s.point.play || few_come s (max q.wheel (ahead s.point.time 1)))
 
 -- a timer of an online CPU that is due before a time must have run: a pinned one always; one of a CPU
 -- that had an interrupt; a global one of a CPU that sleeps where it was looked for
@@ -114,10 +122,6 @@ leave_fault script s to =
     then Some faults.Uncovered
     else if list_any (is_missed script s to) s.timers then Some faults.Missed
     else None
-
--- a CPU makes a moment of a time: it is active, or its wakeup isn't later
-abbrev pub makes_moment : (at : ℕ) → CpuSeen → Bool
-makes_moment at c = c.state.online && (not c.state.idle || nat_le c.quiet at)
 
 -- it is the time of a moment that may be there
 abbrev pub is_at : (at : ℕ) → Option Moment → Bool

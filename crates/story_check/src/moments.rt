@@ -2,7 +2,7 @@
 
 ghost use Rattle.std.specs.Prelude.{◌≡◌};
 ghost use Rattle.story_check.specs.Covers.{is_owed, is_unmoved};
-ghost use Rattle.story_check.specs.Moments.{count_before, few_interrupt, gone_to, is_hotplug, is_listed};
+ghost use Rattle.story_check.specs.Moments.{count_before, few_come, few_interrupt, gone_to, is_hotplug, is_listed};
 ghost use Rattle.story_check.specs.Moments.{is_looked_for, is_missed, is_missed_on, is_moment, is_plain};
 ghost use Rattle.story_check.specs.Moments.{later_by, leave_fault, makes_moment, moments_left, point_at};
 ghost use Rattle.story_check.specs.Moments.{some_ops, time_fault, was_active};
@@ -31,6 +31,13 @@ fn few_interrupt(seen: &Seen, by: Jiffy) -> bool
 {
     let now = seen.point().time;
     seen.cpus().iter().filter(|c| may_interrupt(c, now, by)).count() <= 1
+}
+
+/// Whether at most one CPU may have an interrupt in a later moment, by a time.
+fn few_come(seen: &Seen, by: Jiffy) -> bool
+    ensures { result ≡ few_come seen.now by }
+{
+    seen.cpus().iter().filter(|c| makes_moment(c, by)).count() <= 1
 }
 
 /// Whether the moment is played as `play` does it, without threads: it has an operation that takes a
@@ -65,7 +72,7 @@ fn is_looked_for(script: &Script, seen: &Seen, queued: &Queued, to: Jiffy) -> bo
         return true;
     }
     let next = queued.wheel.max(ahead(now, 1));
-    next < to && (seen.point().play || few_interrupt(seen, next))
+    next < to && (seen.point().play || few_come(seen, next))
 }
 
 /// Whether a timer of an online CPU that is due before a time must have run.

@@ -74,7 +74,7 @@ fn a_line_that_no_run_prints_is_named_with_its_clause(rt: HostRuntime) -> Result
             "control 20 1\n",
             "line 9: Close: it names another CPU than the one that takes over\n",
         ),
-        (10, "", "line 10: Close: a timer of a CPU that went offline has not moved before it\n"),
+        (10, "", "line 11: Close: a timer of a CPU that went offline has not moved before it\n"),
         (10, "moved 20 1 2 0 312\nmoved 20 2 2 0 31\n", "line 11: Journals: another timer comes before it\n"),
         (12, "run 32 0 2 0 31 done\n", "line 12: Runs: a timer that was due has not run before it\n"),
         (12, "run 30 0 2 0 31 done\n", "line 12: Runs: the timer isn't due\n"),
@@ -99,7 +99,19 @@ fn a_line_that_no_run_prints_is_named_with_its_clause(rt: HostRuntime) -> Result
     Ok(())
 }
 
-// Row 10 doesn't stand in the order of `run`: CPU 2 arms before CPU 1 is refused.
+// CPU 0 alone is awake, so the timer of CPU 1 is run by it at 31, and at no later time.
+#[test]
+fn a_look_that_was_not_made_is_seen_in_a_plain_moment(rt: HostRuntime) -> Result<(), Fail> {
+    let bytes = b"tmig 1\nnodes 1\ncpus 2\ntimers 1\nat 10\narm 1 0 global 20 0 0\nidle 1\nend 40\n\
+        arm 10 1 0 global 31\nidle 10 1 never\ncover 10 1 31 migrator 0:0 0\n\
+        run 32 0 0 1 31 done\nend 40\n";
+    let told = judge_bytes(rt.alloc(), bytes.as_slice(), false).ok().ok_or("no memory")?;
+    let want = b"line 4: Runs: a timer that was due has not run before it\n";
+    assert!(rt; told.text.as_slice() == want.as_slice());
+    Ok(())
+}
+
+// CPU 2 arms before CPU 1 is refused: so the lines stand in the script, but not by ascending CPU.
 #[test]
 fn the_lines_of_play_stand_by_the_lines_of_the_script(rt: HostRuntime) -> Result<(), Fail> {
     let bytes = b"tmig 1\nnodes 1\ncpus 3\ntimers 1\nat 10\narm 2 0 global 5 0 0\n\
