@@ -27,13 +27,17 @@ abbrev pub status_of : Verdict → ℕ
 status_of (verdicts.Fits lines runs) = FITS
 status_of (verdicts.Misfit line fault) = MISFIT
 
+-- what is written of the lines of a report: what is said of them
+pub record IsTold (script : Script) (play : Bool) (ls : List Line) (text : List ℕ) (status : ℕ) :
+    Type 0 where
+  pub text_is : text ≡ verdict_text (judged script (start script play) 0 ls)
+  pub status_is : status ≡ status_of (judged script (start script play) 0 ls)
+
 -- WHAT IS WRITTEN of the bytes behind a script: what is said of the report that they are, or the
 -- first fault
 pub data IsReportJudged (script : Script) (play : Bool) (bytes text : List ℕ) (status : ℕ) :
     Type 0 where
-  judged_as : (ls : List Line) → IsReportOf bytes ls
-      → text ≡ verdict_text (judged script (start script play) 0 ls)
-      → status ≡ status_of (judged script (start script play) 0 ls)
+  judged_as : (ls : List Line) → IsReportOf bytes ls → IsTold script play ls text status
       → IsReportJudged script play bytes text status
   no_report : (fault : ReportFault) → IsFirstFault bytes fault → text ≡ report_refused fault
       → status ≡ NO_STORY → IsReportJudged script play bytes text status

@@ -98,9 +98,13 @@ abbrev pub moments_left : Script → Point → List Moment
 moments_left script p =
     if nat_le p.next (length script.moments) then drop p.next script.moments else []
 
+-- a moment doesn't come before a time
+abbrev pub is_from : (to : ℕ) → Moment → Bool
+is_from to m = nat_le to m.at
+
 -- how many of these moments come before a time
 abbrev pub count_before : List Moment → (to : ℕ) → ℕ
-count_before ms to = or_else (position (λ m. nat_le to m.at) ms) (length ms)
+count_before ms to = or_else (position (is_from to) ms) (length ms)
 
 -- a moment has operations
 abbrev pub has_ops : Moment → Bool

@@ -133,10 +133,14 @@ unfoldable pub ops_at : Script → Point → List Op
 ops_at script p =
     if not p.listed || (p.next == 0) then [] else ops_in (slice_get script.moments (p.next - 1))
 
+-- an operation is that of another CPU
+abbrev pub is_other : CpuId → Op → Bool
+is_other cpu op = not (op.cpu.0 == cpu.0)
+
 -- OTHERS ACT: operations of other CPUs stand in the same moment, and may come before or after
 abbrev pub others_act : Script → Sight → CpuId → Bool
 others_act script s cpu =
-    not s.point.play && list_any (λ (op : Op). not (op.cpu.0 == cpu.0)) (ops_at script s.point)
+    not s.point.play && list_any (is_other cpu) (ops_at script s.point)
 
 -- of those who changed a timer in a moment one is another CPU
 abbrev pub is_by_other : CpuId → Touch → Bool

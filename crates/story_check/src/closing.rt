@@ -1,13 +1,14 @@
 //! The lines that close a moment in which a CPU went offline, and those behind the last moment.
 
 ghost use Rattle.std.specs.Prelude.{◌≡◌};
+ghost use Rattle.std.specs.List.{list_any};
 ghost use Rattle.story_check.specs.Closing.{are_ends, control_fault, end_fault, handed_fault, is_left};
 ghost use Rattle.story_check.specs.Closing.{is_lower_active, is_lower_online, is_placed_online, is_untold};
 ghost use Rattle.story_check.specs.Closing.{learned_control, learned_handed, learned_left, learned_moved};
 ghost use Rattle.story_check.specs.Closing.{left_fault, may_control, moved_fault, moves_behind};
 ghost use Rattle.story_check.specs.Closing.{place_moved_fault, settled};
 
-use crate::covers::is_active;
+use crate::covers::{is_active, some_active};
 use crate::faults::Fault;
 use crate::moments::is_owed;
 use crate::operations::put_state;
@@ -37,6 +38,20 @@ fn is_lower_active(script: &Script, cpu: &CpuSeen, than: CpuId) -> bool
     cpu.cpu.0 < than.0 && is_active(script, cpu)
 }
 
+/// Whether some CPU is.
+fn some_lower_online(script: &Script, cpus: &[CpuSeen], than: CpuId) -> bool
+    ensures { result ≡ list_any (is_lower_online script.now than) cpus.now }
+{
+    cpus.iter().any(|c| is_lower_online(script, c, than))
+}
+
+/// Whether some CPU is active, in the hierarchy, and below another.
+fn some_lower_active(script: &Script, cpus: &[CpuSeen], than: CpuId) -> bool
+    ensures { result ≡ list_any (is_lower_active script.now than) cpus.now }
+{
+    cpus.iter().any(|c| is_lower_active(script, c, than))
+}
+
 /// What is wrong with the line of a first event that is handed on: it stands behind the `offline`
 /// line of its CPU, and the other is the lowest that is online.
 #[tactic(auto, unfolding(crate::specs::Closing::handed_fault))]
@@ -50,7 +65,7 @@ pub fn handed_fault(script: &Script, seen: &Seen, cpu: CpuId, to: CpuId) -> Opti
                 Some(Fault::Order)
             } else if script.isolated.has(cpu)
                 || !is_placed_online(script, &seen.cpu(to))
-                || seen.cpus().iter().any(|c| is_lower_online(script, c, to))
+                || some_lower_online(script, seen.cpus(), to)
             {
                 Some(Fault::Control)
             } else {
@@ -98,11 +113,11 @@ fn may_control(script: &Script, seen: &Seen, cpu: CpuId) -> bool
 {
     let own = seen.cpu(cpu);
     if is_active(script, &own) {
-        !seen.cpus().iter().any(|c| is_lower_active(script, c, cpu))
+        !some_lower_active(script, seen.cpus(), cpu)
     } else {
         is_placed_online(script, &own)
-            && !seen.cpus().iter().any(|c| is_active(script, c))
-            && !seen.cpus().iter().any(|c| is_lower_online(script, c, cpu))
+            && !some_active(script, seen.cpus())
+            && !some_lower_online(script, seen.cpus(), cpu)
     }
 }
 
@@ -132,8 +147,8 @@ pub fn control_fault(script: &Script, seen: &Seen, cpu: CpuId) -> Option<Fault>
 pub fn learn_control(seen: &mut Seen, cpu: CpuId)
     ensures { seen.new ≡ learned_control seen.old cpu }
 {
-    put_state(seen, cpu, true, false, NEVER);
     let point = seen.point();
+    put_state(seen, cpu, true, false, NEVER);
     seen.set_point(Point {
         stage: Stage::Moves,
         control: Some(cpu),
@@ -264,6 +279,13 @@ fn is_untold(timer: &TimerSeen, from: u16, to: u16) -> bool
     timer.timer.0 >= from && timer.timer.0 < to && timer.clear && timer.place.is_some()
 }
 
+/// Whether some timer is.
+fn some_untold(timers: &[TimerSeen], from: u16, to: u16) -> bool
+    ensures { result ≡ list_any (is_untold from to) timers.now }
+{
+    timers.iter().any(|t| is_untold(t, from, to))
+}
+
 /// Whether a timer is queued so.
 fn is_left(timer: &TimerSeen, cpu: CpuId, class: Class, wheel: Jiffy) -> bool
     ensures { result ≡ is_left timer.now cpu class wheel }
@@ -293,7 +315,7 @@ pub fn left_fault(
     let from = seen.point().left;
     if timer.0 < from {
         Some(Fault::Order)
-    } else if seen.timers().iter().any(|t| is_untold(t, from, timer.0)) {
+    } else if some_untold(seen.timers(), from, timer.0) {
         Some(Fault::Untold)
     } else if !is_left(&seen.timer(timer), cpu, class, wheel) {
         Some(Fault::Left)
@@ -322,7 +344,7 @@ pub fn end_fault(script: &Script, seen: &Seen, now: Jiffy) -> Option<Fault>
     let from = seen.point().left;
     if now != script.end {
         Some(Fault::NotTheEnd)
-    } else if seen.timers().iter().any(|t| is_untold(t, from, 65535)) {
+    } else if some_untold(seen.timers(), from, 65535) {
         Some(Fault::Untold)
     } else {
         None

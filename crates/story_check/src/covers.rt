@@ -1,10 +1,11 @@
 //! The lines of covers.
 
 ghost use Rattle.std.specs.Prelude.{◌≡◌};
+ghost use Rattle.std.specs.List.{list_any};
 ghost use Rattle.story_check.specs.Covers.{answers, cover_fault, has_earlier, has_wheel, is_active};
 ghost use Rattle.story_check.specs.Covers.{is_first_global, learned_cover, learned_wakeup};
-ghost use Rattle.story_check.specs.Covers.{may_be_wakeup, needs_cover, some_passed, some_uncovered};
-ghost use Rattle.story_check.specs.Covers.{wakes_for, wheel_of};
+ghost use Rattle.story_check.specs.Covers.{may_be_wakeup, needs_between, needs_cover, needs_from};
+ghost use Rattle.story_check.specs.Covers.{some_passed, some_uncovered, wakes_for, wheel_of};
 
 use crate::faults::Fault;
 use crate::moments::{is_owed, is_unmoved};
@@ -21,23 +22,46 @@ fn needs_cover(cpu: &CpuSeen) -> bool
     cpu.state.online && cpu.state.idle && cpu.globals > 0
 }
 
+/// Whether a CPU from this one on has to be covered.
+fn needs_from(cpu: &CpuSeen, from: u16) -> bool
+    ensures { result ≡ needs_from from cpu.now }
+{
+    cpu.cpu.0 >= from && needs_cover(cpu)
+}
+
+/// Whether a CPU between two has to be.
+fn needs_between(cpu: &CpuSeen, from: u16, to: u16) -> bool
+    ensures { result ≡ needs_between from to cpu.now }
+{
+    cpu.cpu.0 >= from && cpu.cpu.0 < to && needs_cover(cpu)
+}
+
+/// Whether some CPU from this one on has to be.
+fn some_need_from(cpus: &[CpuSeen], from: u16) -> bool
+    ensures { result ≡ list_any (needs_from from) cpus.now }
+{
+    cpus.iter().any(|c| needs_from(c, from))
+}
+
+/// Whether some CPU between two has to be.
+fn some_need_between(cpus: &[CpuSeen], from: u16, to: u16) -> bool
+    ensures { result ≡ list_any (needs_between from to) cpus.now }
+{
+    cpus.iter().any(|c| needs_between(c, from, to))
+}
+
 /// Whether some CPU from this one on has no cover yet; nothing is known where a timer isn't clear.
 pub fn some_uncovered(seen: &Seen, from: u16) -> bool
     ensures { result ≡ some_uncovered seen.now from }
 {
-    seen.point().unclear == 0
-        && seen.cpus().iter().any(|c| c.cpu.0 >= from && needs_cover(c))
+    seen.point().unclear == 0 && some_need_from(seen.cpus(), from)
 }
 
 /// Whether a CPU before this one has no cover yet.
 fn some_passed(seen: &Seen, from: u16, to: u16) -> bool
     ensures { result ≡ some_passed seen.now from to }
 {
-    seen.point().unclear == 0
-        && seen
-            .cpus()
-            .iter()
-            .any(|c| c.cpu.0 >= from && c.cpu.0 < to && needs_cover(c))
+    seen.point().unclear == 0 && some_need_between(seen.cpus(), from, to)
 }
 
 /// Whether a global timer of a CPU has this wheel expiry.
@@ -64,12 +88,25 @@ pub fn wheel_of(timer: &TimerSeen) -> Jiffy
     }
 }
 
+/// Whether some timer has this wheel expiry.
+fn some_have_wheel(timers: &[TimerSeen], cpu: CpuId, wheel: Jiffy) -> bool
+    ensures { result ≡ list_any (has_wheel cpu wheel) timers.now }
+{
+    timers.iter().any(|t| has_wheel(t, cpu, wheel))
+}
+
+/// Whether some timer has an earlier one.
+fn some_have_earlier(timers: &[TimerSeen], cpu: CpuId, wheel: Jiffy) -> bool
+    ensures { result ≡ list_any (has_earlier cpu wheel) timers.now }
+{
+    timers.iter().any(|t| has_earlier(t, cpu, wheel))
+}
+
 /// Whether a wheel expiry is the first of a CPU's global timers.
 fn is_first_global(seen: &Seen, cpu: CpuId, wheel: Jiffy) -> bool
     ensures { result ≡ is_first_global seen.now cpu wheel }
 {
-    seen.timers().iter().any(|t| has_wheel(t, cpu, wheel))
-        && !seen.timers().iter().any(|t| has_earlier(t, cpu, wheel))
+    some_have_wheel(seen.timers(), cpu, wheel) && !some_have_earlier(seen.timers(), cpu, wheel)
 }
 
 /// Whether a CPU of the hierarchy is active.
@@ -77,6 +114,13 @@ pub fn is_active(script: &Script, cpu: &CpuSeen) -> bool
     ensures { result ≡ is_active script.now cpu.now }
 {
     cpu.state.online && !cpu.state.idle && !script.isolated.has(cpu.cpu)
+}
+
+/// Whether some CPU of the hierarchy is active.
+pub fn some_active(script: &Script, cpus: &[CpuSeen]) -> bool
+    ensures { result ≡ list_any (is_active script.now) cpus.now }
+{
+    cpus.iter().any(|c| is_active(script, c))
 }
 
 /// Whether a wakeup may be that of an idle CPU: the one that is known, or any.
@@ -115,7 +159,7 @@ fn answers(script: &Script, seen: &Seen, cpu: CpuId, wheel: Jiffy, cover: ShownC
 fn wakes_for(script: &Script, seen: &Seen, waker: CpuId) -> bool
     ensures { result ≡ wakes_for script.now seen.now waker }
 {
-    !script.isolated.has(waker) && !seen.cpus().iter().any(|c| is_active(script, c))
+    !script.isolated.has(waker) && !some_active(script, seen.cpus())
 }
 
 /// What is wrong with the line of a cover.

@@ -1,11 +1,12 @@
 //! Going from one moment to the next: what must have been told by then, and which times are moments.
 
-ghost use Rattle.std.specs.Prelude.{◌≡◌};
+ghost use Rattle.std.specs.Prelude.{◌≡◌, position};
+ghost use Rattle.std.specs.List.{list_any};
 ghost use Rattle.story_check.specs.Covers.{is_owed, is_unmoved};
 ghost use Rattle.story_check.specs.Moments.{count_before, few_come, few_interrupt, gone_to, is_hotplug, is_listed};
 ghost use Rattle.story_check.specs.Moments.{is_looked_for, is_missed, is_missed_on, is_moment, is_plain};
 ghost use Rattle.story_check.specs.Moments.{later_by, leave_fault, makes_moment, moments_left, point_at};
-ghost use Rattle.story_check.specs.Moments.{some_ops, time_fault, was_active};
+ghost use Rattle.story_check.specs.Moments.{has_ops, is_from, some_ops, time_fault, was_active};
 
 use crate::covers::some_uncovered;
 use crate::faults::Fault;
@@ -23,6 +24,13 @@ fn is_hotplug(op: &Op) -> bool
     ensures { result ≡ is_hotplug op.now }
 {
     matches!(op.what, What::Offline | What::Online)
+}
+
+/// Whether some operation does.
+fn some_hotplug(ops: &[Op]) -> bool
+    ensures { result ≡ list_any is_hotplug ops.now }
+{
+    ops.iter().any(|op| is_hotplug(op))
 }
 
 /// Whether at most one CPU may have an interrupt by a time.
@@ -49,7 +57,7 @@ fn is_plain(script: &Script, seen: &Seen) -> bool
     let point = seen.point();
     let ops = ops_now(script, seen);
     point.play
-        || ops.iter().any(|op| is_hotplug(op))
+        || some_hotplug(ops)
         || ops.len() == 0 && few_interrupt(seen, point.time)
 }
 
@@ -109,6 +117,13 @@ fn is_missed(script: &Script, seen: &Seen, timer: &TimerSeen, to: Jiffy) -> bool
     }
 }
 
+/// Whether some timer must have.
+fn some_missed(script: &Script, seen: &Seen, to: Jiffy) -> bool
+    ensures { result ≡ list_any (is_missed script.now seen.now to) seen.now.timers }
+{
+    seen.timers().iter().any(|t| is_missed(script, seen, t, to))
+}
+
 /// The moments of the script from the next one on.
 fn moments_left<'a>(script: &'a Script, point: &Point) -> &'a [Moment]
     ensures { result.now ≡ moments_left script.now point.now }
@@ -121,21 +136,49 @@ fn moments_left<'a>(script: &'a Script, point: &Point) -> &'a [Moment]
     }
 }
 
+/// Whether a moment doesn't come before a time.
+fn is_from(moment: &Moment, to: Jiffy) -> bool
+    ensures { result ≡ is_from to moment.now }
+{
+    moment.at >= to
+}
+
+/// The place of the first moment that doesn't.
+fn first_from(moments: &[Moment], to: Jiffy) -> Option<usize>
+    ensures { result ≡ position (is_from to) moments.now }
+{
+    moments.iter().position(|m| is_from(m, to))
+}
+
 /// How many of these moments come before a time.
 fn count_before(moments: &[Moment], to: Jiffy) -> usize
     ensures { result ≡ count_before moments.now to }
 {
-    match moments.iter().position(|m| m.at >= to) {
+    match first_from(moments, to) {
         Some(count) => count,
         None => moments.len(),
     }
+}
+
+/// Whether a moment has operations.
+fn has_ops(moment: &Moment) -> bool
+    ensures { result ≡ has_ops moment.now }
+{
+    moment.ops.len() != 0
+}
+
+/// Whether some moment has.
+fn some_have_ops(moments: &[Moment]) -> bool
+    ensures { result ≡ list_any has_ops moments.now }
+{
+    moments.iter().any(|m| has_ops(m))
 }
 
 /// Whether some of the first so many moments has operations.
 fn some_ops(moments: &[Moment], count: usize) -> bool
     ensures { result ≡ some_ops moments.now count }
 {
-    count <= moments.len() && moments[..count].iter().any(|m| !m.ops.is_empty())
+    count <= moments.len() && some_have_ops(&moments[..count])
 }
 
 /// Whether a CPU that went offline has timers still.
@@ -172,7 +215,7 @@ pub fn leave_fault(script: &Script, seen: &Seen, to: Jiffy) -> Option<Fault>
         Some(Fault::Uncovered)
     } else if count > 0 && some_uncovered(seen, 0) {
         Some(Fault::Uncovered)
-    } else if seen.timers().iter().any(|t| is_missed(script, seen, t, to)) {
+    } else if some_missed(script, seen, to) {
         Some(Fault::Missed)
     } else {
         None
@@ -184,6 +227,13 @@ fn makes_moment(cpu: &CpuSeen, at: Jiffy) -> bool
     ensures { result ≡ makes_moment at cpu.now }
 {
     cpu.state.online && (!cpu.state.idle || cpu.quiet <= at)
+}
+
+/// Whether some CPU makes a moment of a time.
+fn some_make_moment(cpus: &[CpuSeen], at: Jiffy) -> bool
+    ensures { result ≡ list_any (makes_moment at) cpus.now }
+{
+    cpus.iter().any(|c| makes_moment(c, at))
 }
 
 /// Whether the script has a moment at this time, among these.
@@ -216,7 +266,7 @@ fn is_moment(script: &Script, seen: &Seen, at: Jiffy) -> bool
     at <= script.end
         && (at == script.end
             || is_listed(left, at)
-            || seen.cpus().iter().any(|c| makes_moment(c, at)))
+            || some_make_moment(seen.cpus(), at))
 }
 
 /// The point as a moment at this time begins.

@@ -1,6 +1,7 @@
 //! The lines that answer operations.
 
 ghost use Rattle.std.specs.Prelude.{◌≡◌, None, find};
+ghost use Rattle.std.specs.List.{list_any};
 ghost use Rattle.story_check.specs.Operations.{after_answer, answer_fault, answer_line_fault, answered};
 ghost use Rattle.story_check.specs.Operations.{answered_op, arm_fault, changed_cpu, comes_next, done_fault};
 ghost use Rattle.story_check.specs.Operations.{fits_wakeup, idle_fault, is_first_event, is_first_pinned};
@@ -72,6 +73,13 @@ fn is_owed_above(point: &Point, op: &Op, answered: &Op) -> bool
         }
 }
 
+/// Whether some operation is.
+fn some_owed_above(point: &Point, ops: &[Op], answered: &Op) -> bool
+    ensures { result ≡ list_any (is_owed_above point.now answered.now) ops.now }
+{
+    ops.iter().any(|op| is_owed_above(point, op, answered))
+}
+
 /// The operation that a line of a CPU answers: the next of that CPU, where none of a lower CPU is
 /// left; in the order of `play`, the next of all.
 #[tactic(auto, unfolding(crate::specs::Operations::answered_op))]
@@ -82,7 +90,7 @@ fn answered_op(script: &Script, seen: &Seen, cpu: CpuId) -> Option<Op>
     let ops = ops_now(script, seen);
     match next_of(&point, ops, cpu) {
         Some(found) => {
-            if ops.iter().any(|op| is_owed_above(&point, op, &found)) {
+            if some_owed_above(&point, ops, &found) {
                 None
             } else {
                 Some(found)
@@ -141,11 +149,18 @@ fn is_other_online(script: &Script, cpu: &CpuSeen, own: CpuId) -> bool
     cpu.cpu.0 != own.0 && cpu.state.online && !script.isolated.has(cpu.cpu)
 }
 
+/// Whether some CPU is.
+fn some_other_online(script: &Script, cpus: &[CpuSeen], own: CpuId) -> bool
+    ensures { result ≡ list_any (is_other_online script.now own) cpus.now }
+{
+    cpus.iter().any(|c| is_other_online(script, c, own))
+}
+
 /// Whether a CPU is the last of the hierarchy that is online.
 fn is_last_online(script: &Script, seen: &Seen, cpu: CpuId) -> bool
     ensures { result ≡ is_last_online script.now seen.now cpu }
 {
-    !script.isolated.has(cpu) && !seen.cpus().iter().any(|c| is_other_online(script, c, cpu))
+    !script.isolated.has(cpu) && !some_other_online(script, seen.cpus(), cpu)
 }
 
 /// The number of the refusal of an operation but for timers that are queued, or 0.
@@ -260,6 +275,13 @@ fn is_other_active(script: &Script, cpu: &CpuSeen, own: CpuId) -> bool
     cpu.cpu.0 != own.0 && is_active(script, cpu)
 }
 
+/// Whether some CPU is.
+fn some_other_active(script: &Script, cpus: &[CpuSeen], own: CpuId) -> bool
+    ensures { result ≡ list_any (is_other_active script.now own) cpus.now }
+{
+    cpus.iter().any(|c| is_other_active(script, c, own))
+}
+
 /// Whether a wakeup fits a CPU that goes idle: where another CPU of the hierarchy stays active, its
 /// first pinned event; where it is the last or isolated, no later than its first event.
 fn fits_wakeup(script: &Script, seen: &Seen, cpu: CpuId, until: Jiffy) -> bool
@@ -267,7 +289,7 @@ fn fits_wakeup(script: &Script, seen: &Seen, cpu: CpuId, until: Jiffy) -> bool
 {
     if script.isolated.has(cpu) {
         is_first_event(seen, cpu, until)
-    } else if seen.cpus().iter().any(|c| is_other_active(script, c, cpu)) {
+    } else if some_other_active(script, seen.cpus(), cpu) {
         is_first_pinned(seen, cpu, until)
     } else {
         !some_sooner(seen, cpu, until)

@@ -3,7 +3,7 @@
 ghost use Rattle.std.specs.Prelude.{◌≡◌};
 ghost use Rattle.std.specs.List.{list_any};
 ghost use Rattle.story_check.specs.Places.{ahead, clock_of, counted_in, counted_out, entered};
-ghost use Rattle.story_check.specs.Places.{explains, is_contested, is_hot, is_met, is_queued_in};
+ghost use Rattle.story_check.specs.Places.{explains, is_contested, is_hot, is_met, is_other, is_queued_in};
 ghost use Rattle.story_check.specs.Places.{is_settled, left_behind, level_at, level_by, level_in};
 ghost use Rattle.story_check.specs.Places.{level_late, names_other, ops_at, others_act, rank_of};
 ghost use Rattle.story_check.specs.Places.{requeued, same_class, timer_named, touched_by};
@@ -107,6 +107,19 @@ pub struct Asked {
     pub wheel: Jiffy,
 }
 
+/// Whether some timer does.
+fn some_explains(
+    timers: &[TimerSeen],
+    cpu: CpuId,
+    class: Class,
+    by: Jiffy,
+    asked: Asked,
+) -> bool
+    ensures { result ≡ list_any (explains cpu class by asked) timers.now }
+{
+    timers.iter().any(|t| explains(t, cpu, class, by, asked))
+}
+
 /// The level where the CPU has slept up to this moment: its global base may have handed out a timer
 /// by now or not, and a timer that is due may hold the base's clock back.
 fn level_late(seen: &Seen, cpu: CpuId, class: Class, by: Jiffy, asked: Asked) -> Option<u8>
@@ -115,7 +128,7 @@ fn level_late(seen: &Seen, cpu: CpuId, class: Class, by: Jiffy, asked: Asked) ->
     match level_by(asked.expires, by, ahead(by, 1), asked.wheel) {
         Some(level) => Some(level),
         None => {
-            if seen.timers().iter().any(|t| explains(t, cpu, class, by, asked)) {
+            if some_explains(seen.timers(), cpu, class, by, asked) {
                 Some(0)
             } else {
                 None
@@ -186,11 +199,25 @@ pub fn ops_now<'a>(script: &'a Script, seen: &Seen) -> &'a [Op]
     }
 }
 
+/// Whether an operation is that of another CPU.
+fn is_other(op: &Op, cpu: CpuId) -> bool
+    ensures { result ≡ is_other cpu op.now }
+{
+    op.cpu.0 != cpu.0
+}
+
+/// Whether some operation is.
+fn some_others(ops: &[Op], cpu: CpuId) -> bool
+    ensures { result ≡ list_any (is_other cpu) ops.now }
+{
+    ops.iter().any(|op| is_other(op, cpu))
+}
+
 /// Whether operations of other CPUs stand in the same moment, which may come before or after.
 pub fn others_act(script: &Script, seen: &Seen, cpu: CpuId) -> bool
     ensures { result ≡ others_act script.now seen.now cpu }
 {
-    !seen.point().play && ops_now(script, seen).iter().any(|op| op.cpu.0 != cpu.0)
+    !seen.point().play && some_others(ops_now(script, seen), cpu)
 }
 
 /// Whether another CPU changed a timer in this moment.

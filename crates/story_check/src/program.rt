@@ -1,7 +1,7 @@
 //! The whole program.
 
 ghost use Rattle.std.specs.Prelude.{◌≡◌, ◌≤◌, IfOk, length};
-ghost use Rattle.story_check.specs.Ends.{IsEnd, IsJudged, IsOutput, IsOutputBy, IsReportJudged, Tells};
+ghost use Rattle.story_check.specs.Ends.{IsEnd, IsJudged, IsOutput, IsOutputBy, IsReportJudged, IsTold, Tells};
 ghost use Rattle.story_check.specs.Ends.{order_of, status_of};
 
 use crate::judge::{Verdict, judge_lines};
@@ -16,6 +16,7 @@ use std::alloc::Global;
 use text_words::{cut, push_bytes};
 use tm_base::NoMemory;
 use tm_io::{ReadFault, Sink, Source, WriteCause, read_all, write_all};
+use tm_report::Line;
 use tm_script::{ReadScript, Script, read_script};
 
 /// A text, and the status where all of it is written.
@@ -67,6 +68,16 @@ fn status_of(verdict: Verdict) -> u8
     }
 }
 
+/// What is written of the lines of a report.
+fn tell(alloc: Global, script: &Script, lines: &[Line], play: bool) -> Result<Output, NoMemory>
+    ensures { IfOk result (λ o. IsTold script.now play lines.now o.text.items o.status) }
+{
+    let verdict = judge_lines(alloc, script, lines, play)?;
+    let text = verdict_text(alloc, verdict)?;
+    let status = status_of(verdict);
+    Ok(Output { text, status })
+}
+
 /// What is written of the bytes of a report.
 fn judge_report(
     alloc: Global,
@@ -78,13 +89,7 @@ fn judge_report(
         (λ o. IsReportJudged script.now play bytes.now o.text.items o.status) }
 {
     match read_report(alloc, bytes) {
-        Ok(lines) => {
-            let verdict = judge_lines(alloc, script, &lines, play)?;
-            Ok(Output {
-                text: verdict_text(alloc, verdict)?,
-                status: status_of(verdict),
-            })
-        }
+        Ok(lines) => tell(alloc, script, &lines, play),
         Err(ReadReport::Refused(fault)) => Ok(Output {
             text: report_refused(alloc, fault)?,
             status: NO_STORY,

@@ -1,6 +1,7 @@
 //! The lines of timers that ran.
 
 ghost use Rattle.std.specs.Prelude.{◌≡◌, None};
+ghost use Rattle.std.specs.List.{list_any};
 ghost use Rattle.story_check.specs.Runs.{after_run, again_level, armed_again, clocks_after};
 ghost use Rattle.story_check.specs.Runs.{handed_out, is_after, is_before, is_its_turn};
 ghost use Rattle.story_check.specs.Runs.{is_not_below, is_owed_before, is_reply, learned_run};
@@ -197,6 +198,13 @@ fn is_owed_before(point: &Point, op: &Op, runner: CpuId) -> bool
     is_after(point, op) && op.cpu.0 < runner.0
 }
 
+/// Whether some operation is.
+fn some_owed_before(point: &Point, ops: &[Op], runner: CpuId) -> bool
+    ensures { result ≡ list_any (is_owed_before point.now runner) ops.now }
+{
+    ops.iter().any(|op| is_owed_before(point, op, runner))
+}
+
 /// Whether a run of this CPU may stand here: behind the lines of lower CPUs, and before the answers
 /// of its own operations; in the order of `play` before all answers.
 fn run_may_stand(point: &Point, ops: &[Op], runner: CpuId) -> bool
@@ -206,11 +214,11 @@ fn run_may_stand(point: &Point, ops: &[Op], runner: CpuId) -> bool
         return false;
     }
     if point.answered == 0 {
-        point.play || !ops.iter().any(|op| is_owed_before(point, op, runner))
+        point.play || !some_owed_before(point, ops, runner)
     } else {
         !point.play
             && point.answered_cpu.0 < runner.0
-            && !ops.iter().any(|op| is_owed_before(point, op, runner))
+            && !some_owed_before(point, ops, runner)
     }
 }
 
