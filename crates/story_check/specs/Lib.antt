@@ -1,0 +1,12 @@
+pub mod Faults
+pub mod Sight
+pub mod Seen
+pub mod Places
+pub mod Moments
+pub mod Runs
+pub mod Operations
+pub mod Covers
+pub mod Closing
+pub mod Judge
+pub mod Texts
+pub mod Ends
