@@ -18,7 +18,7 @@
 #                                         the report, in order
 # - ```rust                               in docs/USE.md below a heading '## crate': the block's lines stand, one after the
 #                                         other, in crates/crate/src/tests.rt
-# - `NAME` under '## Examples'            in README.md: it is one of examples/, and each of examples/ is named there
+# - `NAME` first in a row                 in examples/README.md: it is one of examples/, and each of examples/ is named there
 #
 # docs/DEFINITIONS.md is printed from the definitions, by docs/print_definitions.sh, which has a check of its own.
 cd "$(dirname "$0")/.." || exit 1
@@ -200,14 +200,13 @@ def check_uses():
 
 
 def check_examples():
-    text = read("README.md")
-    part = text[text.index("## Examples"):]
-    part = part[: part.index("\n## ", 5)]
+    path = "examples/README.md"
+    part = "".join(re.findall(r"^\| `.*?\|", read(path), re.M))
     named = set(re.findall(r"`([a-z][a-z0-9-]*)`", part))
     shown = glob.glob("examples/*.report") + glob.glob("examples/*.verdict")
     there = {os.path.splitext(os.path.basename(it))[0] for it in shown}
     for name in sorted(named ^ there):
-        fault("README.md", line_of(text, text.index("## Examples")), f"examples/ and this part don't both have {name}")
+        fault(path, 1, f"examples/ and this page don't both have {name}")
 
 
 check_pictures()
