@@ -46,10 +46,11 @@ fn asked(rt: &HostRuntime) -> anyhow::Result<(u64, u64, bool)> {
 
 fn main(rt: HostRuntime) -> anyhow::Result<()> {
     let (first, rounds, told) = asked(&rt)?;
+    let each = u64::from(RUNS);
+    let episodes = rounds.div_ceil(each);
     let mut tally = Tally::new();
-    let mut made = 0u64;
-    let mut seed = first;
-    while made < rounds {
+    for place in 0..episodes {
+        let seed = first.wrapping_add(place);
         match episode(&rt, rt.alloc(), seed).map_err(no_memory)? {
             Ok(answered) => tally = tally.with(answered),
             Err(broken) => {
@@ -57,9 +58,8 @@ fn main(rt: HostRuntime) -> anyhow::Result<()> {
                 anyhow::bail!("a run isn't as it has to be");
             },
         }
-        made = made.saturating_add(u64::from(RUNS));
-        seed = seed.wrapping_add(1);
     }
+    let made = episodes.saturating_mul(each);
     println!(&rt; "runs {made}")?;
     if told {
         tell_tally(&rt, &tally)?;
