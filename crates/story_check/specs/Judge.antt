@@ -54,13 +54,16 @@ answer_told (Some (now, cpu, answer)) = Some (now, tolds.Answered cpu answer)
 
 -- a line with its time, by what it tells of an interrupt or an operation, if it does
 abbrev pub told_of : Line → Option (ℕ × Told)
-told_of (lines.Run now runner timer home wheel reply) = Some (now, tolds.Ran (record {
-  runner = runner;
-  timer = timer;
-  home = home;
-  wheel = wheel;
-  reply = reply;
-}))
+told_of (lines.Run now runner timer home wheel reply) = Some (
+  now,
+  tolds.Ran (record {
+    runner = runner;
+    timer = timer;
+    home = home;
+    wheel = wheel;
+    reply = reply;
+  }),
+)
 told_of (lines.Handed now cpu to) = Some (now, tolds.Handed cpu to)
 told_of line = answer_told (answer_of line)
 

@@ -254,8 +254,7 @@ fit_of script s timer cpu whole =
 unfoldable pub requeued : Sight → TimerId → Option Queued → CpuId → Fit → Sight
 requeued s timer place cpu fit =
     record (with_timer (entered (left_behind s (timer_at s timer).place) place)
-    (placed (timer_at s timer) place s.point.time cpu fit))
-    {
+    (placed (timer_at s timer) place s.point.time cpu fit)) {
       point = record s.point {
         unclear = unclear_after s.point.unclear (timer_at s timer).clear
             (is_settled (timer_at s timer) s.point.time fit);

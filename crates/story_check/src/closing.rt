@@ -228,13 +228,7 @@ pub fn moved_fault(seen: &Seen, moved: &MovedLine) -> Option<Fault>
                 None
             }
         }
-        None => {
-            if told.clear {
-                Some(Fault::Moved)
-            } else {
-                None
-            }
-        }
+        None => { if told.clear { Some(Fault::Moved) } else { None } }
     }
 }
 
@@ -331,7 +325,11 @@ pub fn learn_left(seen: &mut Seen, timer: TimerId)
 {
     let point = seen.point();
     seen.set_point(Point {
-        left: if timer.0 < 65535 { timer.0 + 1 } else { timer.0 },
+        left: if timer.0 < 65535 {
+            timer.0 + 1
+        } else {
+            timer.0
+        },
         ..point
     });
 }
@@ -350,4 +348,3 @@ pub fn end_fault(script: &Script, seen: &Seen, now: Jiffy) -> Option<Fault>
         None
     }
 }
-

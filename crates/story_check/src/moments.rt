@@ -38,7 +38,11 @@ fn few_interrupt(seen: &Seen, by: Jiffy) -> bool
     ensures { result ≡ few_interrupt seen.now by }
 {
     let now = seen.point().time;
-    seen.cpus().iter().filter(|c| may_interrupt(c, now, by)).count() <= 1
+    seen.cpus()
+        .iter()
+        .filter(|c| may_interrupt(c, now, by))
+        .count()
+        <= 1
 }
 
 /// Whether at most one CPU may have an interrupt in a later moment, by a time.
@@ -56,9 +60,7 @@ fn is_plain(script: &Script, seen: &Seen) -> bool
 {
     let point = seen.point();
     let ops = ops_now(script, seen);
-    point.play
-        || some_hotplug(ops)
-        || ops.len() == 0 && few_interrupt(seen, point.time)
+    point.play || some_hotplug(ops) || ops.len() == 0 && few_interrupt(seen, point.time)
 }
 
 /// Whether a CPU was active as the moment began.
@@ -264,9 +266,7 @@ fn is_moment(script: &Script, seen: &Seen, at: Jiffy) -> bool
 {
     let left = moments_left(script, &seen.point());
     at <= script.end
-        && (at == script.end
-            || is_listed(left, at)
-            || some_make_moment(seen.cpus(), at))
+        && (at == script.end || is_listed(left, at) || some_make_moment(seen.cpus(), at))
 }
 
 /// The point as a moment at this time begins.

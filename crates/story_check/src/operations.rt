@@ -13,7 +13,9 @@ ghost use Rattle.story_check.specs.Operations.{stay_fault, unless, with_state};
 
 use crate::covers::is_active;
 use crate::faults::Fault;
-use crate::places::{Asked, Fit, fit_of, ahead, is_contested, level_in, ops_now, others_act, requeue, same_class};
+use crate::places::{
+    Asked, Fit, ahead, fit_of, is_contested, level_in, ops_now, others_act, requeue, same_class,
+};
 use crate::runs::is_after;
 use crate::seen::{CpuSeen, Point, Queued, Seen, State, TimerSeen, opening_of, up};
 use tm_base::{Class, CpuId, Jiffy, NEVER, TimerId};
@@ -58,7 +60,9 @@ pub enum Answer {
 fn next_of(point: &Point, ops: &[Op], cpu: CpuId) -> Option<Op>
     ensures { result ≡ find (comes_next point.now cpu) ops.now }
 {
-    ops.iter().copied().find(|op| op.cpu.0 == cpu.0 && is_after(point, op))
+    ops.iter()
+        .copied()
+        .find(|op| op.cpu.0 == cpu.0 && is_after(point, op))
 }
 
 /// Whether an operation is to be answered before another.
@@ -105,13 +109,7 @@ fn refusal(what: What, state: State) -> u8
     ensures { result ≡ refusal what state }
 {
     match what {
-        What::Online => {
-            if state.online {
-                4
-            } else {
-                0
-            }
-        }
+        What::Online => { if state.online { 4 } else { 0 } }
         What::Wake => {
             if !state.online {
                 3
@@ -220,9 +218,7 @@ fn is_pinned_sooner(timer: &TimerSeen, cpu: CpuId, than: Jiffy) -> bool
 {
     match timer.place {
         Some(queued) => {
-            queued.home.0 == cpu.0
-                && same_class(queued.class, Class::Pinned)
-                && queued.wheel < than
+            queued.home.0 == cpu.0 && same_class(queued.class, Class::Pinned) && queued.wheel < than
         }
         None => false,
     }

@@ -108,13 +108,7 @@ pub struct Asked {
 }
 
 /// Whether some timer does.
-fn some_explains(
-    timers: &[TimerSeen],
-    cpu: CpuId,
-    class: Class,
-    by: Jiffy,
-    asked: Asked,
-) -> bool
+fn some_explains(timers: &[TimerSeen], cpu: CpuId, class: Class, by: Jiffy, asked: Asked) -> bool
     ensures { result ≡ list_any (explains cpu class by asked) timers.now }
 {
     timers.iter().any(|t| explains(t, cpu, class, by, asked))
@@ -248,7 +242,9 @@ fn is_hot(timer: &TimerSeen, now: Jiffy) -> bool
 fn is_shared(script: &Script, seen: &Seen, timer: TimerId, cpu: CpuId) -> bool
     ensures { result ≡ is_shared script.now seen.now timer cpu }
 {
-    ops_now(script, seen).iter().any(|op| names_other(op, timer, cpu))
+    ops_now(script, seen)
+        .iter()
+        .any(|op| names_other(op, timer, cpu))
 }
 
 /// Whether operations of other CPUs in this moment may have come before or after the lines of this
@@ -262,9 +258,7 @@ pub fn is_met(script: &Script, seen: &Seen, timer: TimerId, cpu: CpuId) -> bool
     if point.play {
         return false;
     }
-    !told.clear
-        || touched_other(&told, point.time, cpu)
-        || is_shared(script, seen, timer, cpu)
+    !told.clear || touched_other(&told, point.time, cpu) || is_shared(script, seen, timer, cpu)
 }
 
 /// Whether the lines of other CPUs in this moment may have come before or after those of this one,

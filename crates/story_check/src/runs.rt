@@ -11,7 +11,9 @@ ghost use Rattle.story_check.specs.Runs.{run_line_fault, run_may_stand, shows_ag
 ghost use Rattle.story_check.specs.Runs.{stands_behind, taken_out, told_place};
 
 use crate::faults::Fault;
-use crate::places::{Asked, Fit, fit_of, ahead, is_met, level_in, ops_now, rank_of, requeue, same_class};
+use crate::places::{
+    Asked, Fit, ahead, fit_of, is_met, level_in, ops_now, rank_of, requeue, same_class,
+};
 use crate::seen::{Clocks, CpuSeen, Out, Point, Queued, Seen, opening_of, up};
 use tm_base::{Class, CpuId, Jiffy, TimerId};
 use tm_report::ShownReply;
@@ -115,21 +117,13 @@ fn shows_again(script: &Script, seen: &Seen, run: &RunLine, class: Class, delay:
         ShownReply::Again {
             class: shown,
             wheel,
-        } => {
-            same_class(shown, class) && again_level(seen, run, class, delay, wheel).is_some()
-        }
+        } => { same_class(shown, class) && again_level(seen, run, class, delay, wheel).is_some() }
         ShownReply::Skip { cpu: _ } => is_met(script, seen, run.timer, run.runner),
     }
 }
 
 /// The level at which the timer is armed again.
-fn again_level(
-    seen: &Seen,
-    run: &RunLine,
-    class: Class,
-    delay: u32,
-    wheel: Jiffy,
-) -> Option<u8>
+fn again_level(seen: &Seen, run: &RunLine, class: Class, delay: u32, wheel: Jiffy) -> Option<u8>
     ensures { result ≡ again_level seen.now run.now class delay wheel }
 {
     let now = seen.point().time;
@@ -216,9 +210,7 @@ fn run_may_stand(point: &Point, ops: &[Op], runner: CpuId) -> bool
     if point.answered == 0 {
         point.play || !some_owed_before(point, ops, runner)
     } else {
-        !point.play
-            && point.answered_cpu.0 < runner.0
-            && !some_owed_before(point, ops, runner)
+        !point.play && point.answered_cpu.0 < runner.0 && !some_owed_before(point, ops, runner)
     }
 }
 

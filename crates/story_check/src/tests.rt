@@ -1,5 +1,5 @@
-use crate::seen::up;
 use super::*;
+use crate::seen::up;
 use std::alloc::Global;
 use std::test::Fail;
 use text_words::{cut, push_bytes};
@@ -39,9 +39,21 @@ fn changed(alloc: Global, number: u64, text: &[u8]) -> Result<Vec<u8>, NoMemory>
 fn a_line_that_no_run_prints_is_named_with_its_clause(rt: HostRuntime) -> Result<(), Fail> {
     let cases: [(u64, &str, &str); 22] = [
         (0, "", "story: fits, 15 lines, 2 runs\n"),
-        (1, "arm 10 0 0 global 62\n", "line 1: Journals: the timer wheel gives another expiry\n"),
-        (2, "idle 9 0 never\n", "line 2: Moments: its time is before that of the line above\n"),
-        (2, "", "line 2: Operations: it answers no operation that comes next for its CPU\n"),
+        (
+            1,
+            "arm 10 0 0 global 62\n",
+            "line 1: Journals: the timer wheel gives another expiry\n",
+        ),
+        (
+            2,
+            "idle 9 0 never\n",
+            "line 2: Moments: its time is before that of the line above\n",
+        ),
+        (
+            2,
+            "",
+            "line 2: Operations: it answers no operation that comes next for its CPU\n",
+        ),
         (
             2,
             "idle 10 0 never\nidle 10 0 never\n",
@@ -57,7 +69,11 @@ fn a_line_that_no_run_prints_is_named_with_its_clause(rt: HostRuntime) -> Result
             "refused 10 1 9 1\n",
             "line 3: Operations: it answers no operation that comes next for its CPU\n",
         ),
-        (4, "arm 10 2 1 pinned 312\n", "line 4: Operations: it answers no operation that comes next for its CPU\n"),
+        (
+            4,
+            "arm 10 2 1 pinned 312\n",
+            "line 4: Operations: it answers no operation that comes next for its CPU\n",
+        ),
         (6, "", "line 6: Idle: an idle CPU has no cover before it\n"),
         (
             6,
@@ -74,25 +90,61 @@ fn a_line_that_no_run_prints_is_named_with_its_clause(rt: HostRuntime) -> Result
             "control 20 1\n",
             "line 9: Close: it names another CPU than the one that takes over\n",
         ),
-        (10, "", "line 11: Close: a timer of a CPU that went offline has not moved before it\n"),
-        (10, "moved 20 1 2 0 312\nmoved 20 2 2 0 31\n", "line 11: Journals: another timer comes before it\n"),
-        (12, "run 32 0 2 0 31 done\n", "line 12: Runs: a timer that was due has not run before it\n"),
-        (12, "run 30 0 2 0 31 done\n", "line 12: Runs: the timer isn't due\n"),
-        (13, "run 61 1 0 0 61 done\n", "line 13: Runs: the CPU that runs it has no interrupt\n"),
-        (13, "run 61 0 0 0 61 mark 0\n", "line 13: Runs: the job of the timer replies otherwise\n"),
+        (
+            10,
+            "",
+            "line 11: Close: a timer of a CPU that went offline has not moved before it\n",
+        ),
+        (
+            10,
+            "moved 20 1 2 0 312\nmoved 20 2 2 0 31\n",
+            "line 11: Journals: another timer comes before it\n",
+        ),
+        (
+            12,
+            "run 32 0 2 0 31 done\n",
+            "line 12: Runs: a timer that was due has not run before it\n",
+        ),
+        (
+            12,
+            "run 30 0 2 0 31 done\n",
+            "line 12: Runs: the timer isn't due\n",
+        ),
+        (
+            13,
+            "run 61 1 0 0 61 done\n",
+            "line 13: Runs: the CPU that runs it has no interrupt\n",
+        ),
+        (
+            13,
+            "run 61 0 0 0 61 mark 0\n",
+            "line 13: Runs: the job of the timer replies otherwise\n",
+        ),
         (
             13,
             "run 61 0 0 0 61 done\nrun 61 0 0 0 61 done\n",
             "line 14: Runs: the timer isn't queued there with that expiry\n",
         ),
-        (13, "", "line 13: Runs: a timer that was due has not run before it\n"),
-        (14, "", "line 14: Close: a timer that is left isn't told before it\n"),
+        (
+            13,
+            "",
+            "line 13: Runs: a timer that was due has not run before it\n",
+        ),
+        (
+            14,
+            "",
+            "line 14: Close: a timer that is left isn't told before it\n",
+        ),
         (15, "end 99\n", "line 15: Moments: the run ends elsewhere\n"),
     ];
     for i in 0..cases.len() {
         let (number, text, want) = cases[i];
-        let bytes = changed(rt.alloc(), number, text.as_bytes()).ok().ok_or("no memory")?;
-        let told = judge_bytes(rt.alloc(), &bytes, false).ok().ok_or("no memory")?;
+        let bytes = changed(rt.alloc(), number, text.as_bytes())
+            .ok()
+            .ok_or("no memory")?;
+        let told = judge_bytes(rt.alloc(), &bytes, false)
+            .ok()
+            .ok_or("no memory")?;
         assert!(rt; told.text.as_slice() == want.as_bytes(), "at {i}");
         assert!(rt; (told.status == 0) == (number == 0), "at {i}");
     }
@@ -105,7 +157,9 @@ fn a_look_that_was_not_made_is_seen_in_a_plain_moment(rt: HostRuntime) -> Result
     let bytes = b"tmig 1\nnodes 1\ncpus 2\ntimers 1\nat 10\narm 1 0 global 20 0 0\nidle 1\nend 40\n\
         arm 10 1 0 global 31\nidle 10 1 never\ncover 10 1 31 migrator 0:0 0\n\
         run 32 0 0 1 31 done\nend 40\n";
-    let told = judge_bytes(rt.alloc(), bytes.as_slice(), false).ok().ok_or("no memory")?;
+    let told = judge_bytes(rt.alloc(), bytes.as_slice(), false)
+        .ok()
+        .ok_or("no memory")?;
     let want = b"line 4: Runs: a timer that was due has not run before it\n";
     assert!(rt; told.text.as_slice() == want.as_slice());
     Ok(())
@@ -117,9 +171,13 @@ fn the_lines_of_play_stand_by_the_lines_of_the_script(rt: HostRuntime) -> Result
     let bytes = b"tmig 1\nnodes 1\ncpus 3\ntimers 1\nat 10\narm 2 0 global 5 0 0\n\
         arm 1 0 global 7 0 0\nend 10\narm 10 2 0 global 16\nrefused 10 1 7 6 2\n\
         left 0 2 global 16\nend 10\n";
-    let play = judge_bytes(rt.alloc(), bytes.as_slice(), true).ok().ok_or("no memory")?;
+    let play = judge_bytes(rt.alloc(), bytes.as_slice(), true)
+        .ok()
+        .ok_or("no memory")?;
     assert!(rt; play.text.as_slice() == b"story: fits, 4 lines, 0 runs\n".as_slice());
-    let run = judge_bytes(rt.alloc(), bytes.as_slice(), false).ok().ok_or("no memory")?;
+    let run = judge_bytes(rt.alloc(), bytes.as_slice(), false)
+        .ok()
+        .ok_or("no memory")?;
     let want = b"line 1: Operations: it answers no operation that comes next for its CPU\n";
     assert!(rt; run.text.as_slice() == want.as_slice());
     Ok(())
