@@ -5,4 +5,4 @@ use Rattle.story_check.proofs.judge.fresh_cpus.Goals as goal
 pub loop-number-preserved : goal.loop-number-preserved
 loop-number-preserved c =
     one_more (λ n. active_cpu (record { 0 = n })) c.loop-number.number c.loop-number.cpus.items _ _
-    c.loop-number.invariant c.active_cpu.ensures c.in_ok-push.ensures.ok
+    c.loop-number.invariant c.active_cpu.ensures c.in_ok-push.ensures.items

@@ -6,4 +6,4 @@ pub loop-number-preserved : goal.loop-number-preserved
 loop-number-preserved c =
     one_more (λ n. fresh_timer (record { 0 = n })) c.loop-number.number
     c.loop-number.timers.items _ _ c.loop-number.invariant c.fresh_timer.ensures
-    c.in_ok-push.ensures.ok
+    c.in_ok-push.ensures.items

@@ -17,4 +17,4 @@ pub returns-in_ok-report_refused-in-Err-Refused :
 returns-in_ok-report_refused-in-Err-Refused c =
     no_report c.in-Err-Refused.fault
     (rw c.in-Err-Refused.field-0-is at c.in-Err-Refused.ensures.refused).0
-    (rw c.in-Err-Refused.field-0-is at c.in_ok-report_refused-in-Err-Refused.ensures) refl
+    c.in_ok-report_refused-in-Err-Refused.ensures refl
