@@ -21,7 +21,7 @@ use std::sync::Wait;
 use std::thread::Threads;
 use std::time::{Clock, Instant};
 use step_laws::{is_settled, run_steps};
-use table_stress::{Crew, LATEST, Plan, Ran, no_base_behind, run_plan, stored_jobs};
+use table_stress::{Crew, LATEST, Plan, Ran, no_base_behind, run_plan};
 use tm_base::{FreeGate, NoMemory};
 use wheel_base::WheelBase;
 
@@ -96,7 +96,7 @@ fn make_once<R: Threads + Wait + Sync>(
 }
 
 fn main(rt: HostRuntime) -> anyhow::Result<()> {
-    let jobs = stored_jobs(rt.alloc()).map_err(no_memory)?;
+    let jobs = JobTable::new(Vec::new(rt.alloc()));
     if env::args(&rt)?.count() < 2 {
         for case in &CASES {
             let (turns, words, steps) = make_once(&rt, rt.alloc(), case, &jobs)?;

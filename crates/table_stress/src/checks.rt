@@ -51,16 +51,16 @@ fn armed_by(entry: &Entry) -> Option<bool> {
 
 /// Notes an entry of a CPU's journal: its timer is armed there from then on, or no longer; false
 /// where it was so already, or there is no such timer.
-fn note(open: &mut [bool], entry: &Entry) -> bool
-    ensures { length open.new ≡ length open.old }
+fn note(queued: &mut [bool], entry: &Entry) -> bool
+    ensures { length queued.new ≡ length queued.old }
 {
     let timer = usize::from(entry.timer.0);
     match armed_by(entry) {
         Some(armed) => {
-            if timer >= open.len() || open[timer] == armed {
+            if timer >= queued.len() || queued[timer] == armed {
                 return false;
             }
-            open[timer] = armed;
+            queued[timer] = armed;
             true
         },
         None => true,
@@ -69,7 +69,7 @@ fn note(open: &mut [bool], entry: &Entry) -> bool
 
 /// Whether armings and ends of each timer come by turns in a CPU's journal, beginning with an
 /// arming; and then which timers are armed at its end.
-fn come_by_turns(core: &Core<WheelBase>, cpu: CpuId, open: &mut [bool]) -> bool
+fn come_by_turns(core: &Core<WheelBase>, cpu: CpuId, queued: &mut [bool]) -> bool
     requires { cpu.0 < length core.now.cpus }
 {
     let journal = core.bases(cpu).journal();
@@ -77,7 +77,7 @@ fn come_by_turns(core: &Core<WheelBase>, cpu: CpuId, open: &mut [bool]) -> bool
         let Some(entry) = journal.get(i) else {
             return false;
         };
-        if !note(open, entry) {
+        if !note(queued, entry) {
             return false;
         }
     }
@@ -94,11 +94,11 @@ fn none_armed(alloc: Global, timers: u16) -> Result<Vec<bool>, NoMemory> {
 }
 
 /// Whether each timer is queued on a CPU exactly where the CPU's journal leaves it armed.
-fn are_queued_so(core: &Core<WheelBase>, cpu: CpuId, open: &[bool]) -> bool
+fn are_queued_so(core: &Core<WheelBase>, cpu: CpuId, queued: &[bool]) -> bool
     requires { cpu.0 < length core.now.cpus }
 {
     for timer in 0..core.timers() {
-        let armed = open.get(usize::from(timer)).copied().unwrap_or(false);
+        let armed = queued.get(usize::from(timer)).copied().unwrap_or(false);
         let timer = TimerId(timer);
         let there = core.queued_on(timer) == Some(cpu);
         if there != armed || core.bases(cpu).where_is(timer).is_some() != armed {
@@ -113,11 +113,11 @@ fn are_queued_so(core: &Core<WheelBase>, cpu: CpuId, open: &[bool]) -> bool
 fn is_once(alloc: Global, core: &Core<WheelBase>) -> Result<bool, NoMemory> {
     law_once(core);
     for cpu in 0..core.count() {
-        let mut open = none_armed(alloc, core.timers())?;
-        if !come_by_turns(core, CpuId(cpu), open.as_mut_slice()) {
+        let mut queued = none_armed(alloc, core.timers())?;
+        if !come_by_turns(core, CpuId(cpu), queued.as_mut_slice()) {
             return Ok(false);
         }
-        if !are_queued_so(core, CpuId(cpu), open.as_slice()) {
+        if !are_queued_so(core, CpuId(cpu), queued.as_slice()) {
             return Ok(false);
         }
     }

@@ -1,7 +1,6 @@
 //! Lists of turns, drawn by a seed.
 
 use crate::gates::Order;
-use crate::jobs::JOBS;
 use crate::runs::Crew;
 use crate::turns::{Act, Asked, Turn};
 use std::alloc::Global;
@@ -13,6 +12,9 @@ pub const CPUS: u16 = 12;
 
 /// The timers of a machine, few enough that CPUs meet at one.
 pub const TIMERS: u16 = 10;
+
+/// How many jobs there are.
+const JOBS: u8 = 5;
 
 /// The longest delay that is drawn, in jiffies.
 const LONGEST: u16 = 60;

@@ -3,20 +3,19 @@
 use crate::checks::{Flaw, first_flaw, is_all_done, is_quiet_at};
 use crate::drawing::{CPUS, Draws, TIMERS, drawn_crew, drawn_cuts, drawn_gate, drawn_turns};
 use crate::gates::Watch;
-use crate::jobs::stored_jobs;
 use crate::noted::{are_new_entries, handed, lengths};
 use crate::runs::{LATEST, Plan, Ran, run_plan};
 use crate::tally::Tally;
 use crate::turns::{Act, Turn};
 use core_state::Core;
 use core_world::Step;
-use job_table::Jobs;
+use job_table::{Job, JobTable, Jobs, Marker, OneShot, Periodic};
 use shared_rows::{no_base_behind, start};
 use std::alloc::Global;
 use std::sync::Wait;
 use std::thread::Threads;
 use step_laws::{is_settled, run_steps};
-use tm_base::{CpuId, CpuSet, FreeGate, NoMemory};
+use tm_base::{Class, CpuId, CpuSet, FreeGate, NoMemory};
 use wheel_base::WheelBase;
 
 /// How many runs an episode has, each behind a jump of the clock.
@@ -229,13 +228,35 @@ fn drawn_isolated(draws: &mut Draws) -> CpuSet {
 }
 
 /// The runs of the episode of this seed, up to the first that isn't as it has to be; and what its
-/// CPUs were answered.
+/// CPUs were answered. Of its jobs one is done after one run, one leaves a mark, and three arm their
+/// timer again, as a global, a pinned and a deferrable one.
 pub fn episode<R: Threads + Wait + Sync>(
     rt: &R,
     alloc: Global,
     seed: u64,
 ) -> Result<Result<Tally, Broken>, NoMemory> {
-    let jobs = stored_jobs(alloc)?;
+    let mut jobs: Vec<Box<dyn Job + Send + Sync>> = Vec::new(alloc);
+    jobs.push(Box::new(alloc, OneShot)?)?;
+    jobs.push(Box::new(alloc, Marker)?)?;
+    jobs.push(Box::new(
+        alloc,
+        Periodic {
+            class: Class::Global,
+        },
+    )?)?;
+    jobs.push(Box::new(
+        alloc,
+        Periodic {
+            class: Class::Pinned,
+        },
+    )?)?;
+    jobs.push(Box::new(
+        alloc,
+        Periodic {
+            class: Class::Deferrable,
+        },
+    )?)?;
+    let jobs = JobTable::new(jobs);
     let mut draws = Draws(seed);
     let isolated = drawn_isolated(&mut draws);
     let mut core = start(alloc, 1, CPUS as u8, &isolated, TIMERS)?;

@@ -1,10 +1,10 @@
 use crate::{
     Act, Asked, CPUS, Crew, Draws, Hold, LATEST, Plan, Ran, TIMERS, Tally, Turn, agrees,
     drawn_turns, episode, is_active, is_quiet_at, judged, no_base_behind, run_plan, start,
-    stored_jobs,
 };
 use core_state::Core;
 use core_world::Step;
+use job_table::JobTable;
 use shared_table::MOST_MADE;
 use std::alloc::Global;
 use std::process::Abort;
@@ -45,7 +45,7 @@ const TURNS: u16 = 24;
 fn ten_thousand_rounds_over_one_table_leave_a_core_as_it_has_to_be(
     rt: HostRuntime,
 ) -> Result<(), Fail> {
-    let jobs = stored_jobs(rt.alloc())?;
+    let jobs = JobTable::new(Vec::new(rt.alloc()));
     let core = start(rt.alloc(), 1, CPUS as u8, &CpuSet::new(), TIMERS)?;
     let plan = Plan {
         turns: drawn_turns(rt.alloc(), &mut Draws(1), TURNS)?,
@@ -104,7 +104,7 @@ fn ran<R: Threads + Wait + Sync>(
         rounds: 1,
         crew: Crew::One,
     };
-    let jobs = stored_jobs(alloc)?;
+    let jobs = JobTable::new(Vec::new(alloc));
     Ok(Some(run_plan(rt, alloc, core, made, &plan, &jobs, &FreeGate)?))
 }
 
@@ -237,7 +237,7 @@ fn forced<R: Threads + Wait + Sync>(
         rounds: 1,
         crew: Crew::Two(9),
     };
-    let jobs = stored_jobs(alloc)?;
+    let jobs = JobTable::new(Vec::new(alloc));
     match judged(rt, alloc, core, &plan, &jobs, &gate)? {
         Ok(ran) => {
             let came = gate.came.load(Ordering::SeqCst);
