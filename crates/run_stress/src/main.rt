@@ -1,10 +1,10 @@
 //! Runs scripts that are drawn, with threads for four CPUs whose walks take turns in orders that
 //! are drawn too, and judges each report and each core.
 //!
-//! With no words it does nothing. `SEED` draws one schedule after another for a minute, and then
-//! writes how many: `runs N`. Where one fails it writes why, the seed and the schedule's number,
-//! its script, and the order of its gate, and ends with status 1. `SEED NUMBER` runs that schedule
-//! again, over and over for a minute.
+//! With no words it runs the first few schedules of one seed, and writes how many: `runs N`. `SEED`
+//! draws one schedule after another for a minute, and writes the same. Where one fails it writes
+//! why, the seed and the schedule's number, its script, and the order of its gate, and ends with
+//! status 1. `SEED NUMBER` runs that schedule again, over and over for a minute.
 #![tactic(auto)]
 
 mod drawn;
@@ -30,6 +30,10 @@ const SECONDS: u64 = 60;
 
 /// The most schedules of one call.
 const MOST: u64 = 1_000_000_000;
+
+/// The seed of the schedules that are run where no words are given, and how many there are.
+const SEED: u64 = 1;
+const FEW: u64 = 20;
 
 /// Runs a schedule, and looks what is wrong with what comes of it. The jobs are those of the program:
 /// done, again as global, again as pinned, a mark.
@@ -68,16 +72,17 @@ struct Outcome {
     failed: Option<(u64, Schedule, Flaw)>,
 }
 
-/// Runs schedules of a seed until a minute is over or one fails: this one over and over, or else
-/// one after another from the first on.
+/// Runs schedules of a seed until there were so many, a minute is over or one fails: this one over
+/// and over, or else one after another from the first on.
 fn run_all<R: Threads + Wait + Sync + Clock>(
     rt: &R,
     alloc: Global,
     seed: u64,
     one: Option<u64>,
+    most: u64,
 ) -> anyhow::Result<Outcome> {
     let from = Instant::now(rt)?;
-    for runs in 0..MOST {
+    for runs in 0..most {
         let number = match one {
             Some(number) => number,
             None => runs,
@@ -97,7 +102,7 @@ fn run_all<R: Threads + Wait + Sync + Clock>(
         }
     }
     Ok(Outcome {
-        runs: MOST,
+        runs: most,
         failed: None,
     })
 }
@@ -116,13 +121,13 @@ fn numbers(rt: &HostRuntime) -> anyhow::Result<Vec<u64>> {
 
 fn main(rt: HostRuntime) -> anyhow::Result<()> {
     let words = numbers(&rt)?;
-    let (seed, one) = match words.as_slice() {
-        [] => return Ok(()),
-        [seed] => (*seed, None),
-        [seed, number] => (*seed, Some(*number)),
+    let (seed, one, most) = match words.as_slice() {
+        [] => (SEED, None, FEW),
+        [seed] => (*seed, None, MOST),
+        [seed, number] => (*seed, Some(*number), MOST),
         _ => anyhow::bail!("usage: run_stress [SEED [NUMBER]]"),
     };
-    let Outcome { runs, failed } = run_all(&rt, rt.alloc(), seed, one)?;
+    let Outcome { runs, failed } = run_all(&rt, rt.alloc(), seed, one, most)?;
     println!(&rt; "runs {runs}")?;
     if let Some((number, schedule, flaw)) = failed {
         println!(&rt; "seed {seed} schedule {number}: {flaw:?}")?;

@@ -11,6 +11,9 @@ use tm_io::{FullSink, MemorySink, MemorySource, PlainSink, PlainSource, Sink, So
 // The first of the worked rows.
 const PLAIN: &[u8] = b"tmig 1\nnodes 1\ncpus 1\ntimers 1\nat 10\narm 0 0 global 50 0 0\nend 100\n";
 
+// What it comes to.
+const OUTPUT: &[u8] = b"arm 10 0 0 global 61\nrun 61 0 0 0 61 done\nend 100\n";
+
 // The words of a line.
 fn split(alloc: Global, line: &str) -> Result<Vec<String>, AllocError> {
     let mut words = Vec::new(alloc);
@@ -133,33 +136,59 @@ fn one_byte_too_many_is_too_long(rt: HostRuntime) -> Result<(), Fail> {
     Ok(())
 }
 
+// The first row's 67 bytes come by 16 a call: the fifth call gives the last 3, and the sixth none.
 #[test]
 fn a_source_that_fails_is_a_read_fault(rt: HostRuntime) -> Result<(), Fail> {
     let alloc = rt.alloc();
-    let mut source = MemorySource::new(PLAIN.to_vec(alloc)?, 16, [2].to_vec(alloc)?);
+    for call in 1..=6u32 {
+        let mut source = MemorySource::new(PLAIN.to_vec(alloc)?, 16, vec![in alloc; call]?);
+        let mut sink = PlainSink::new(alloc);
+        let status = ended(&rt, alloc, "play", &mut source, &mut sink)?;
+        assert!(rt; status == Status(READ_FAULT), "at call {call}");
+        assert!(rt; sink.held() == b"read fault\n".as_slice(), "at call {call}");
+    }
+    let mut source = MemorySource::new(PLAIN.to_vec(alloc)?, 16, vec![in alloc; 7]?);
     let mut sink = PlainSink::new(alloc);
     let status = ended(&rt, alloc, "play", &mut source, &mut sink)?;
-    assert_eq!(rt; status, Status(READ_FAULT));
-    assert_eq!(rt; sink.held(), b"read fault\n".as_slice());
+    assert_eq!(rt; status, Status(DONE));
+    assert_eq!(rt; sink.held(), OUTPUT);
     Ok(())
 }
 
-// The front is by hand: two pieces of 16 bytes. A sink that is full takes nothing of a piece.
+// Its 50 bytes are taken by 16 a call. A sink that is full takes nothing of a piece.
 #[test]
 fn a_sink_that_fails_or_is_full_is_a_write_fault(rt: HostRuntime) -> Result<(), Fail> {
     let alloc = rt.alloc();
-    let front = b"arm 10 0 0 global 61\nrun 61 0 0 ".as_slice();
+    for (call, written) in [(1u32, 0), (2, 16), (3, 32), (4, 48)] {
+        let mut source = PlainSource::new(PLAIN.to_vec(alloc)?);
+        let mut failing = MemorySink::new(alloc, 16, vec![in alloc; call]?);
+        let status = ended(&rt, alloc, "play", &mut source, &mut failing)?;
+        assert!(rt; status == Status(WRITE_FAULT), "at call {call}");
+        assert!(rt; failing.held() == &OUTPUT[..written], "at call {call}");
+    }
     let mut source = PlainSource::new(PLAIN.to_vec(alloc)?);
-    let mut failing = MemorySink::new(alloc, 16, [3].to_vec(alloc)?);
-    let status = ended(&rt, alloc, "play", &mut source, &mut failing)?;
-    assert_eq!(rt; status, Status(WRITE_FAULT));
-    assert_eq!(rt; failing.held(), front);
+    let mut once_more = MemorySink::new(alloc, 16, vec![in alloc; 5]?);
+    let status = ended(&rt, alloc, "play", &mut source, &mut once_more)?;
+    assert_eq!(rt; status, Status(DONE));
+    assert_eq!(rt; once_more.held(), OUTPUT);
 
     let mut source = PlainSource::new(PLAIN.to_vec(alloc)?);
-    let mut full = FullSink::new(alloc, 32);
+    let mut full = FullSink::new(alloc, 20);
     let status = ended(&rt, alloc, "play", &mut source, &mut full)?;
     assert_eq!(rt; status, Status(WRITE_FAULT));
-    assert_eq!(rt; full.held(), front);
+    assert_eq!(rt; full.held(), b"arm 10 0 0 global 61".as_slice());
+    Ok(())
+}
+
+// The words are judged before anything is written.
+#[test]
+fn words_of_no_command_are_told_though_the_sink_fails(rt: HostRuntime) -> Result<(), Fail> {
+    let alloc = rt.alloc();
+    let mut source = PlainSource::new(PLAIN.to_vec(alloc)?);
+    let mut failing = MemorySink::new(alloc, 16, vec![in alloc; 1]?);
+    let status = ended(&rt, alloc, "paly", &mut source, &mut failing)?;
+    assert_eq!(rt; status, Status(USAGE));
+    assert_eq!(rt; failing.held(), b"".as_slice());
     Ok(())
 }
 

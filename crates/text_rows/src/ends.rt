@@ -157,7 +157,7 @@ fn reading_ends_with_the_source_or_past_the_most(rt: HostRuntime) -> Result<(), 
 #[test]
 fn a_read_fails_in_mid_stream(rt: HostRuntime) -> Result<(), Fail> {
     let alloc = rt.alloc();
-    for (call, taken) in [(1, 0), (2, 16), (5, 64), (6, 67)] {
+    for (call, taken) in [(1, 0), (2, 16), (3, 32), (4, 48), (5, 64), (6, 67)] {
         let mut source = script_failing_at(alloc, call)?;
         assert!(rt;
             refuses(alloc, &mut source, 67, ReadFault::Read),
@@ -175,7 +175,7 @@ fn a_read_fails_in_mid_stream(rt: HostRuntime) -> Result<(), Fail> {
 #[test]
 fn a_write_fails_in_mid_stream(rt: HostRuntime) -> Result<(), Fail> {
     let alloc = rt.alloc();
-    for (call, written) in [(1, 0), (3, 32), (4, 48)] {
+    for (call, written) in [(1, 0), (2, 16), (3, 32), (4, 48)] {
         let mut sink = MemorySink::new(alloc, 16, vec![in alloc; call]?);
         assert!(rt;
             stops(&mut sink, REPORT, written, WriteCause::Failed),
