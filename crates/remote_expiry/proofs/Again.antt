@@ -129,6 +129,7 @@ module _ (table : TableId) (o : World) (now : ℕ) (now_is : now ≡ o.clock) (h
           opening = refl;
           cpu = refl;
           walks_are = omega arith;
+          ended = refl;
           receipts_are = refl;
           did_are = sym (append-nil p.did);
           idle = refl;
@@ -185,6 +186,7 @@ module _ (table : TableId) (o : World) (now : ℕ) (now_is : now ≡ o.clock) (h
       opening = refl;
       cpu = refl;
       walks_are = omega arith;
+      ended = refl;
       receipts_are = sym (append-nil p.receipts);
       did_are = refl;
       idle = refl;

@@ -1,5 +1,5 @@
 -- where a CPU may mark, let go, enter and end, and what its pass has gained as it entered or ended
-use Rattle.std.proofs.Common.{◌≡◌, ◌⊎◌, inl, inr, ℕ, suc, ◌^◌, ◌<◌, eq-eqb, ne_eqb}
+use Rattle.std.proofs.Common.{◌≡◌, ◌⊎◌, inl, inr, ℕ, suc, ◌+◌, ◌^◌, ◌<◌, eq-eqb, ne_eqb}
 use Rattle.std.proofs.Common.{true, false, [], ◌∷◌, Option, Some, None, Contains}
 use Rattle.std.proofs.Common.{refl, sym, ap, ◌∙◌, subst, arith}
 use Rattle.std.specs.Prelude.{◌&&◌, not}
@@ -28,7 +28,7 @@ use Rattle.shared_table.specs.Begun.{IsFree}
 use Rattle.shared_table.specs.Readied.{HasNoneBehind}
 use Rattle.timer_calls.specs.Marks.{IsTakable}
 use Rattle.walk_inactive.specs.Ends.{HasWalked, is_marked_by, reevaluated, retells_with, retold}
-use Rattle.remote_expiry.specs.Interrupts.{interrupt_fault, interrupt_fault_of}
+use Rattle.remote_expiry.specs.Interrupts.{interrupt_fault, interrupt_fault_of, own_walk}
 use Rattle.remote_expiry.specs.Pieces.{IsInside}
 use Rattle.remote_expiry.specs.Trying.{HasClosed, HasEntered}
 use Rattle.remote_expiry.proofs.Trials.{goes_on, known_by, no_mark, off_gains, place_in}
@@ -167,14 +167,14 @@ module _ (table : TableId) (part : HeldPart) (held : HeldPass) (p : PassView)
     free = none;
     gains =
         off_gains (record p { inside = true }) part.box.cpu part.box.own.bases.journal agree.journal
-        [] p.did p.marks p.marks p.walks 0 (sym (append-nil p.did)) refl (omega arith);
+        [] p.did p.marks p.marks p.walks 0 (sym (append-nil p.did)) refl (omega arith) refl;
   }
 
   -- LEFT
-  pub left : (after : HeldPass) → p.reeval ≡ false
+  pub left : (after : HeldPass) → p.reeval ≡ false → p.idle ≡ false
       → after ≡ pass_parted table held.cpu (by_pair (of_box outside_box) outside_pass both)
       → HasClosed table held after
-  left after on same =
+  left after on awake same =
       let c = part.box.cpu in
       let journal = part.box.own.bases.journal in
       record {
@@ -188,9 +188,7 @@ module _ (table : TableId) (part : HeldPart) (held : HeldPass) (p : PassView)
         cpu = ap (λ (z : HeldPass). z.cpu) same;
         opening = refl;
         same_cpu = refl;
-        walks = 0;
-        few = omega arith;
-        walks_are = omega arith;
+        walks_are = subst (λ b. p.walks ≡ p.walks + own_walk b) (sym awake) (omega arith);
         receipts_are = refl;
         did_are = refl;
         idle = refl;
@@ -204,10 +202,10 @@ module _ (table : TableId) (part : HeldPart) (held : HeldPass) (p : PassView)
       }
 
   -- or RE-EVALUATED
-  pub told_anew : (new : HeldPart) (after : HeldPass)
+  pub told_anew : (new : HeldPart) (after : HeldPass) → p.idle ≡ true
       → HasWalked kinds.Reeval reevaluated retold both new
       → after ≡ pass_parted table held.cpu new → HasClosed table held after
-  told_anew new after h same =
+  told_anew new after idle h same =
       let c = new.box.cpu in
       let journal = new.box.own.bases.journal in
       let cpu : new.box.cpu ≡ part.box.cpu = ap (λ (b : BoxView). b.cpu) h.told.box in
@@ -227,9 +225,7 @@ module _ (table : TableId) (part : HeldPart) (held : HeldPass) (p : PassView)
         cpu = ap (λ (z : HeldPass). z.cpu) same;
         opening = refl;
         same_cpu = refl;
-        walks = 1;
-        few = omega arith;
-        walks_are = omega arith;
+        walks_are = subst (λ b. suc p.walks ≡ p.walks + own_walk b) (sym idle) (omega arith);
         receipts_are = refl;
         did_are = refl;
         idle = refl;

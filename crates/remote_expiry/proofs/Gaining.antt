@@ -3,17 +3,20 @@ use Rattle.std.proofs.Common.{◌≡◌, ℕ, zero, suc, ◌+◌, ◌<◌, List,
 use Rattle.std.proofs.Common.{◌∙◌, subst, append-nil, append_assoc, arith, length, length-append}
 use Rattle.std.proofs.Common.{Some}
 use Rattle.std.specs.Prelude.{slice_get}
+use Rattle.std.proofs.lemmas.List.{map-append}
 use Rattle.std.proofs.lemmas.Option.{same_Some}
 use Rattle.atomic_table.specs.Seated.{TableId}
 use Rattle.cpu_bases.specs.declared.entry.Entry.{Entry}
 use Rattle.core_world.specs.World.{World, cpu_of}
+use Rattle.shared_rule.specs.declared.parts.Deed.{Deed}
+use Rattle.shared_rule.specs.declared.parts.Deed.TheVariants as deeds
 use Rattle.shared_rule.specs.declared.parts.Did.{Did}
 use Rattle.shared_rule.specs.declared.parts.PassView.{PassView}
 use Rattle.shared_rule.specs.declared.parts.Receipt.{Receipt}
 use Rattle.shared_rule.specs.Passes.{HeldPass, IsPassIn, Seated}
 use Rattle.shared_rule.specs.Shows.{BeginsWith}
-use Rattle.remote_expiry.specs.Interrupts.{KnowsOwn}
-use Rattle.remote_expiry.specs.Pieces.{Gains, HeldInside, Piece}
+use Rattle.remote_expiry.specs.Interrupts.{KnowsOwn, walks_by}
+use Rattle.remote_expiry.specs.Pieces.{Gains, HeldInside, Piece, deeds_of}
 
 -- a journal begins with itself
 pub begins : (j : List Entry) → BeginsWith j j
@@ -53,6 +56,15 @@ known_more p more journal begins each known =
     each_of_both (λ (r : Receipt). r.cpu.0 ≡ p.cpu → r.place < length journal) p.receipts more
     (λ i r at own. place_on journal p.journal r.place begins (known i r at own)) each
 
+-- the walks that are ended by deeds, and then by others
+walks_of_both : (xs ys : List Deed) → walks_by (xs ++ ys) ≡ walks_by xs + walks_by ys
+walks_of_both [] ys = omega arith
+walks_of_both (deeds.Saw word found ∷ xs) ys = walks_of_both xs ys
+walks_of_both (deeds.Took cpu ∷ xs) ys = walks_of_both xs ys
+walks_of_both (deeds.Carried cpu next ∷ xs) ys =
+    let rest = walks_of_both xs ys in omega (arith, rest)
+walks_of_both (deeds.Released cpu ∷ xs) ys = walks_of_both xs ys
+
 -- NOTHING: a pass that knows its CPU's journal further has gained nothing
 pub none_gained : (p : PassView) (journal : List Entry) → BeginsWith journal p.journal
     → Gains p (record p { journal = journal }) [] [] 0
@@ -60,6 +72,7 @@ none_gained p journal begins = record {
   opening = refl;
   cpu = refl;
   walks_are = omega arith;
+  ended = refl;
   receipts_are = sym (append-nil p.receipts);
   did_are = sym (append-nil p.did);
   idle = refl;
@@ -79,6 +92,11 @@ gains_then p q s receipts more did later walks others first next = record {
   opening = next.opening ∙ first.opening;
   cpu = next.cpu ∙ first.cpu;
   walks_are = (let a = first.walks_are in let b = next.walks_are in omega (arith, a, b));
+  ended =
+      (let a = first.ended in
+      let b = next.ended in
+      let c = walks_of_both (deeds_of did) (deeds_of later) in
+      let d = ap walks_by (map-append (λ (x : Did). x.deed) did later) in omega (arith, a, b, c, d));
   receipts_are =
       next.receipts_are
       ∙ (ap (λ (x : List Receipt). x ++ more) first.receipts_are

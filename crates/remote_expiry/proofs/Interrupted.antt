@@ -20,7 +20,7 @@ use Rattle.shared_rule.specs.Passes.{HeldPass}
 use Rattle.shared_table.specs.declared.ready.TheConstants.{MOST_MADE}
 use Rattle.remote_expiry.specs.declared.runs.Ran.{Ran}
 use Rattle.remote_expiry.specs.Following.{Follows}
-use Rattle.remote_expiry.specs.Interrupts.{HasGained, HasTicked, IsAtRest}
+use Rattle.remote_expiry.specs.Interrupts.{HasGained, HasTicked, IsAtRest, own_walk}
 use Rattle.remote_expiry.specs.Interrupts.{NotInterrupted, Tells, interrupt_fault, interrupt_fault_of}
 use Rattle.remote_expiry.specs.Looks.{LooksFrom}
 use Rattle.remote_expiry.specs.Pieces.{Gains, Piece, deeds_of}
@@ -103,6 +103,11 @@ entered_work table o held after may entered =
       few = (let low = free.1 in let are = gains.walks_are in omega (arith, low, are));
     }
 
+-- a CPU begins no walk of its own, or one
+at_most_one : (idle : Bool) → own_walk idle ≤ 1
+at_most_one true = omega arith
+at_most_one false = omega arith
+
 -- FROM BEGINNING TO END
 module _ (table : TableId) (o : World) (held inside mid after : HeldPass)
     (entered : HasEntered table o held inside) (rest : IsAtRest o entered.before)
@@ -124,6 +129,9 @@ module _ (table : TableId) (o : World) (held inside mid after : HeldPass)
       (subst (λ (x : PassView). Gains entered.later x receipts did walks) later
       (subst (λ (x : PassView). Gains x piece.later receipts did walks) same piece.gains))
 
+  all : new.walks ≡ closed.before.walks + own_walk old.idle
+  all = subst (λ b. new.walks ≡ closed.before.walks + own_walk b) work.idle closed.walks_are
+
   gained : HasGained old new receipts did
   gained =
       let w = work in
@@ -139,12 +147,11 @@ module _ (table : TableId) (o : World) (held inside mid after : HeldPass)
         journal =
             gaining.begins_then new.journal closed.before.journal old.journal w.journal closed.journal;
         known = λ known. closed.known (w.known known);
-        began =
-            (let a = w.walks_are in let b = closed.walks_are in omega (arith, a, b));
+        walks_are = (let a = w.walks_are in let b = all in let c = w.ended in omega (arith, a, b, c));
         few =
             (let a = w.walks_are in
             let b = closed.walks_are in
-            let c = closed.few in omega (arith, a, b, c, few));
+            let c = at_most_one closed.before.idle in omega (arith, a, b, c, few));
       }
 
 -- OK

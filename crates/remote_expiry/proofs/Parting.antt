@@ -132,6 +132,7 @@ module _ (table : TableId) (o : World) (class : Class) (part : HeldPart) (held :
               opening = refl;
               cpu = refl;
               walks_are = omega arith;
+              ended = refl;
               receipts_are = refl;
               did_are = sym (append-nil p.did);
               idle = refl;

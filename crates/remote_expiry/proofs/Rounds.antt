@@ -19,6 +19,7 @@ use Rattle.shared_rule.specs.Passes.{HeldPass, IsPassIn, with_pass}
 use Rattle.timer_calls.specs.Looks.{seen_all}
 use Rattle.timer_calls.specs.Sights.{IsOthers, ShowsDue, ShowsNothing, slot_looks, state_look}
 use Rattle.remote_expiry.specs.declared.runs.Ran.{Ran}
+use Rattle.remote_expiry.specs.Interrupts.{walks_by}
 use Rattle.remote_expiry.specs.Looks.{IsTried, saw}
 use Rattle.remote_expiry.specs.Pieces.{Piece, deeds_of}
 use Rattle.remote_expiry.specs.Trying.{BreaksOff, BreaksRound, HasTried, SeesEnd}
@@ -34,6 +35,11 @@ loads held xs = map (λ (x : Look). record { held = held; deed = saw x }) xs
 loads_deeds : (held : ℕ) (xs : List Look) → deeds_of (loads held xs) ≡ map saw xs
 loads_deeds held [] = refl
 loads_deeds held (x ∷ xs) = ap (λ (l : List Deed). saw x ∷ l) (loads_deeds held xs)
+
+-- no walk is begun by them
+no_walk : (held : ℕ) (xs : List Look) → walks_by (deeds_of (loads held xs)) ≡ 0
+no_walk held [] = refl
+no_walk held (x ∷ xs) = no_walk held xs
 
 -- a pass after loads has them behind what it did before
 seen_as : (xs : List Look) (p : PassView)
@@ -67,6 +73,7 @@ seen_piece table held after p xs is same =
             opening = refl;
             cpu = refl;
             walks_are = omega arith;
+            ended = sym (no_walk (length p.receipts) xs);
             receipts_are = sym (append-nil p.receipts);
             did_are = refl;
             idle = refl;

@@ -38,6 +38,7 @@ use Rattle.shared_rule.specs.Turns.{marks_without, released_box, released_pass, 
 use Rattle.shared_cpus.specs.Pairs.{by_pair, cpu_place, leaf_place}
 use Rattle.timer_calls.specs.Marks.{HasNoticed, IsTakable, cpu_seen, leaf_seen}
 use Rattle.walk_inactive.specs.Ends.{HasCarried, has_carried, next_of}
+use Rattle.remote_expiry.specs.Interrupts.{walks_by}
 use Rattle.remote_expiry.specs.Looks.{IsClosed, IsLeft, IsNoneDue, is_for_others, is_let_be}
 use Rattle.remote_expiry.specs.Pieces.{Gains, Piece, deeds_of}
 use Rattle.remote_expiry.specs.Trying.{HasLetGo, HasMarked, HasUnmarked, with_marks}
@@ -73,13 +74,14 @@ module _ (p : PassView) (c : ℕ) (journal : List Entry)
 
   -- what it has gained besides
   pub off_gains : (did all : List Did) (m marks : List ℕ) (w walks : ℕ) → all ≡ p.did ++ did
-      → m ≡ marks → w ≡ p.walks + walks
+      → m ≡ marks → w ≡ p.walks + walks → walks ≡ walks_by (deeds_of did)
       → Gains (with_marks marks p)
       (record p { walks = w; did = all; marks = m; journal = known_by }) [] did walks
-  off_gains did all m marks w walks did_is marks_is walks_is = record {
+  off_gains did all m marks w walks did_is marks_is walks_is ended = record {
     opening = refl;
     cpu = refl;
     walks_are = walks_is;
+    ended = ended;
     receipts_are = sym (append-nil p.receipts);
     did_are = did_is;
     idle = refl;
@@ -115,7 +117,7 @@ module _ (table : TableId) (part : HeldPart) (held after : HeldPass) (p : PassVi
         gains =
             off_gains p part.box.cpu part.box.own.bases.journal agree.journal did (p.did ++ did)
             (p.marks ++ part.box.cpu ∷ []) (part.box.cpu ∷ []) p.walks 0 refl
-            (ap (λ l. l ++ part.box.cpu ∷ []) none) (omega arith);
+            (ap (λ l. l ++ part.box.cpu ∷ []) none) (omega arith) refl;
         just = refl;
       }
 
@@ -141,7 +143,7 @@ module _ (table : TableId) (part : HeldPart) (held after : HeldPass) (p : PassVi
         gains =
             off_gains p part.box.cpu part.box.own.bases.journal agree.journal did (p.did ++ did)
             (marks_without part.box.cpu p.marks) [] p.walks 0 refl
-            (none_left part.box.cpu part.box.cpu p.marks one refl) (omega arith);
+            (none_left part.box.cpu part.box.cpu p.marks one refl) (omega arith) refl;
         just = refl;
       }
 
@@ -176,7 +178,7 @@ module _ (table : TableId) (part : HeldPart) (held after : HeldPass) (p : PassVi
               off_gains p new.box.cpu new.box.own.bases.journal
               (λ own. subst (λ j. BeginsWith j p.journal) (sym journal) (agree.journal (own ∙ cpu)))
               did (p.did ++ did) (marks_without new.box.cpu p.marks) [] (suc p.walks) 1 refl
-              (none_left new.box.cpu part.box.cpu p.marks one cpu) (omega arith);
+              (none_left new.box.cpu part.box.cpu p.marks one cpu) (omega arith) refl;
           just = ap (λ n. deeds.Carried n (next_of new.box) ∷ []) cpu;
         },
       )
@@ -217,7 +219,7 @@ module _ (table : TableId) (part : HeldPart) (held after : HeldPass) (p : PassVi
               cpu = ap (λ (z : HeldPass). z.cpu) same;
               gains =
                   off_gains p part.box.cpu part.box.own.bases.journal agree.journal did
-                  (p.did ++ did) p.marks p.marks p.walks 0 refl refl (omega arith);
+                  (p.did ++ did) p.marks p.marks p.walks 0 refl refl (omega arith) refl;
             };
         room = ap (λ (z : HeldPass). z.room) same;
         rest = [];
@@ -250,7 +252,8 @@ module _ (table : TableId) (part : HeldPart) (held after : HeldPass) (p : PassVi
               gains =
                   off_gains p part.box.cpu part.box.own.bases.journal agree.journal
                   (first ∷ second ∷ []) ((p.did ++ first ∷ []) ++ second ∷ []) p.marks p.marks
-                  p.walks 0 (append_assoc p.did (first ∷ []) (second ∷ [])) refl (omega arith);
+                  p.walks 0 (append_assoc p.did (first ∷ []) (second ∷ [])) refl (omega arith)
+                  refl;
             };
         room = ap (λ (z : HeldPass). z.room) same;
         rest = deeds.Saw leaf slot ∷ [];
@@ -401,6 +404,7 @@ gains_with marks p q receipts did walks gains = record {
   opening = gains.opening;
   cpu = gains.cpu;
   walks_are = gains.walks_are;
+  ended = gains.ended;
   receipts_are = gains.receipts_are;
   did_are = gains.did_are;
   idle = gains.idle;

@@ -1,6 +1,6 @@
 -- THE INTERRUPT of a CPU, as its pass tells it
 use Rattle.std.specs.Prelude.{◌≡◌, ◌+◌, ◌<◌, ◌≤◌, ℕ, Bool, false, not, List, [], ◌++◌}
-use Rattle.std.specs.Prelude.{Contains, MatchResult, Result, length, map, slice_get}
+use Rattle.std.specs.Prelude.{Contains, MatchResult, Result, length, map, slice_get, suc, ◌∷◌}
 use Rattle.std.specs.Prelude.{Option, Some, None, nat_le, if◌then◌else◌}
 use Rattle.atomic_table.specs.Seated.{TableId}
 use Rattle.tm_base.specs.declared.faults.OpFault.{OpFault}
@@ -12,6 +12,8 @@ use Rattle.tree_plan.specs.Paths.{level_count_of}
 use Rattle.core_world.specs.World.{World, cpu_of}
 use Rattle.job_table.specs.declared.jobs.JobCall.{JobCall}
 use Rattle.job_table.specs.declared.jobs.JobReply.{JobReply}
+use Rattle.shared_rule.specs.declared.parts.Deed.{Deed}
+use Rattle.shared_rule.specs.declared.parts.Deed.TheVariants as deeds
 use Rattle.shared_rule.specs.declared.parts.Did.{Did}
 use Rattle.shared_rule.specs.declared.parts.PassView.{PassView}
 use Rattle.shared_rule.specs.declared.parts.Receipt.{Receipt}
@@ -41,8 +43,21 @@ abbrev pub KnowsOwn : PassView → Type 0
 KnowsOwn p = (i : ℕ) (r : Receipt) → slice_get p.receipts i ≡ Some r → r.cpu.0 ≡ p.cpu
     → r.place < length p.journal
 
+-- THE WALKS that these deeds ended: one for each CPU whose next event was carried upwards
+abbrev pub walks_by : List Deed → ℕ
+walks_by [] = 0
+walks_by (deeds.Saw word found ∷ rest) = walks_by rest
+walks_by (deeds.Took cpu ∷ rest) = walks_by rest
+walks_by (deeds.Carried cpu next ∷ rest) = suc (walks_by rest)
+walks_by (deeds.Released cpu ∷ rest) = walks_by rest
+
+-- and that of the CPU itself at its end: an idle one tells its next event anew
+abbrev pub own_walk : (idle : Bool) → ℕ
+own_walk idle = if idle then 1 else 0
+
 -- what a pass has gained in an interrupt, whatever it answers: receipts and deeds at the ends; its
--- CPU is as idle as before and outside again, no mark is left, and so many walks were begun at most
+-- CPU is as idle as before and outside again, no mark is left, and just these walks were begun,
+-- which are so many at most
 pub record HasGained (p q : PassView) (receipts : List Receipt) (did : List Did) : Type 0 where
   pub opening : q.opening ≡ p.opening
   pub cpu : q.cpu ≡ p.cpu
@@ -54,7 +69,8 @@ pub record HasGained (p q : PassView) (receipts : List Receipt) (did : List Did)
   pub marks : q.marks ≡ []
   pub journal : BeginsWith q.journal p.journal
   pub known : KnowsOwn p → KnowsOwn q
-  pub began : p.walks ≤ q.walks
+  pub walks_are :
+      q.walks ≡ p.walks + (walks_by (map (λ (x : Did). x.deed) did) + own_walk p.idle)
   pub few : q.walks ≤ p.walks + most_walks
 
 -- OK: each base of the CPU was drained; the timers that were handed out are the runs, in order,

@@ -18,7 +18,7 @@ use Rattle.shared_rule.specs.Passes.{HeldPass, IsPassIn, receipts_of}
 use Rattle.shared_rule.specs.Shows.{BeginsWith}
 use Rattle.remote_expiry.specs.declared.runs.Ran.{Ran}
 use Rattle.remote_expiry.specs.Following.{Follows, RunsOfSome}
-use Rattle.remote_expiry.specs.Interrupts.{HasTicked, KnowsOwn}
+use Rattle.remote_expiry.specs.Interrupts.{HasTicked, KnowsOwn, walks_by}
 
 -- INSIDE: a pass of the run, whose CPU is online and inside its interrupt, and doesn't re-evaluate
 pub record IsInside (o : World) (p : PassView) : Type 0 where
@@ -35,12 +35,14 @@ pub record HeldInside (table : TableId) (o : World) (held : HeldPass) : Type 0 w
   pub is : IsInside o pass
 
 -- THE PASS AFTER A PIECE: these receipts and deeds stand behind the others, and so many walks more
--- were begun; the journal of its CPU may be known further, and the rest is as before
+-- were begun, those that the deeds ended; the journal of its CPU may be known further, and the rest
+-- is as before
 pub record Gains (p q : PassView) (receipts : List Receipt) (did : List Did) (walks : ℕ) : Type 0
   where
     pub opening : q.opening ≡ p.opening
     pub cpu : q.cpu ≡ p.cpu
     pub walks_are : q.walks ≡ p.walks + walks
+    pub ended : walks ≡ walks_by (map (λ (x : Did). x.deed) did)
     pub receipts_are : q.receipts ≡ p.receipts ++ receipts
     pub did_are : q.did ≡ p.did ++ did
     pub idle : q.idle ≡ p.idle

@@ -29,6 +29,7 @@ use Rattle.shared_rule.specs.Passes.{HeldPass, IsPassIn}
 use Rattle.shared_rule.specs.Shows.{BeginsWith}
 use Rattle.remote_expiry.specs.declared.runs.Ran.{Ran}
 use Rattle.remote_expiry.specs.Interrupts.{HasTicked, IsAtRest, KnowsOwn, interrupt_fault}
+use Rattle.remote_expiry.specs.Interrupts.{own_walk}
 use Rattle.remote_expiry.specs.Looks.{HasEnded, HasLooked, IsClosed, IsLeft, IsTried, LooksFrom}
 use Rattle.remote_expiry.specs.Looks.{saw}
 use Rattle.remote_expiry.specs.Pieces.{Breaks, Gains, HandsOut, IsInside, IsTimerOf, Piece, Works}
@@ -79,8 +80,8 @@ pub record HasUnmarked (table : TableId) (by : Deed) (held after : HeldPass) : T
   pub gains : Gains (with_marks [] before) later [] did walks
   pub just : deeds_of did ≡ by ∷ []
 
--- TAKEN: what a pass has gained as it set the mark of a CPU, after some loads, and then handed these
--- timers out of that CPU's global base
+-- TAKEN: what a pass has gained as it set the mark of a CPU, after some loads, and then handed
+-- these timers out of that CPU's global base
 pub record HasTaken (table : TableId) (o : World) (d : ℕ) (items : List Item)
     (held after : HeldPass) : Type 0 where
   pub before : PassView
@@ -272,7 +273,7 @@ abbrev pub IsEntered : TableId → World → (held after : HeldPass) → Result 
 IsEntered table o held after result =
     MatchResult result (λ done. HasEntered table o held after) (IsRefusedIn table held after)
 
--- LEFT AGAIN: the CPU is outside its interrupt, and at most one walk was begun
+-- LEFT AGAIN: the CPU is outside its interrupt, and one walk was begun where it is idle
 pub record HasClosed (table : TableId) (held after : HeldPass) : Type 0 where
   pub before : PassView
   pub later : PassView
@@ -281,9 +282,7 @@ pub record HasClosed (table : TableId) (held after : HeldPass) : Type 0 where
   pub cpu : after.cpu ≡ held.cpu
   pub opening : later.opening ≡ before.opening
   pub same_cpu : later.cpu ≡ before.cpu
-  pub walks : ℕ
-  pub few : walks ≤ 1
-  pub walks_are : later.walks ≡ before.walks + walks
+  pub walks_are : later.walks ≡ before.walks + own_walk before.idle
   pub receipts_are : later.receipts ≡ before.receipts
   pub did_are : later.did ≡ before.did
   pub idle : later.idle ≡ before.idle

@@ -255,7 +255,8 @@ fn inside<N: RunName, B: TimerBase, J: Jobs, G: Gate, R: Wait>(
 /// the CPU is offline, `Spent` exactly where it is online and too many walks were begun with its
 /// pass, and then what the pass knows of its CPU's journal is all that may change; after `NoMemory`
 /// the interrupt is closed as after Ok, and the runs that are told are of some of the timers that
-/// went out, in their order. At most 1,537 walks are begun. It waits for the lock of one CPU at a
+/// went out, in their order. One walk is begun for each CPU whose next event is carried upwards,
+/// and one more where the CPU itself is idle: at most 1,537. It waits for the lock of one CPU at a
 /// time, and holds none while jobs run.
 pub fn interrupt<N: RunName, B: TimerBase, J: Jobs, G: Gate, R: Wait>(
     rt: &R,

@@ -34,8 +34,8 @@ pub(crate) enum Round {
     Done,
 }
 
-/// Does nothing: its contract says that a CPU that has a group is placed, that there are at most 512
-/// CPUs, and that a tree has at most three levels.
+/// Does nothing: its contract says that a CPU that has a group is placed, that there are at most
+/// 512 CPUs, and that a tree has at most three levels.
 fn law_shape<N: RunName, B: TimerBase>(run: &Run<N, B>)
     ensures placed { (c l group : ℕ) → group_at_of N.opening.tree c l ≡ Some group
         → is_placed_in N.opening.tree c ≡ true }
@@ -47,8 +47,8 @@ fn law_shape<N: RunName, B: TimerBase>(run: &Run<N, B>)
     run.tree.cpu_count();
 }
 
-/// One round of a look at the group of a level: the first CPU that is due there and that wasn't tried
-/// yet is tried. Want of memory comes only as such a one is tried.
+/// One round of a look at the group of a level: the first CPU that is due there and that wasn't
+/// tried yet is tried. Want of memory comes only as such a one is tried.
 fn look_once<N: RunName, B: TimerBase, J: Jobs, G: Gate, R: Wait>(
     rt: &R,
     alloc: Global,

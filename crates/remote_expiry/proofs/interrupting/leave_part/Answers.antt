@@ -51,9 +51,11 @@ returns-clause-closed g c =
     let part : HeldPart = c.args.part.now in
     let held = c.args.pass.now in
     let w = c.requires.at_work in
+    let own = c.law.ensures table w.pass w.seated ∙ c.requires.own in
     let agree = agree_of table part c.bring.new.part held w.pass w.seated c.bring.ensures.part
     c.bring.ensures.agrees in
     left table part held w.pass w.seated agree c.requires.free c.part_off.new.pass w.is.goes_on
+    (agree.idle own ∙ c.requires.awake)
     (parted_by table (by_pair (of_box outside_box) outside_pass) part c.bring.new.part
     c.leave_step.new.part held c.bring.new.pass c.part_off.new.pass c.bring.ensures.pass
     c.bring.ensures.part c.leave_step.ensures c.part_off.ensures.pass)

@@ -99,7 +99,7 @@ returns-clause-closed g c =
     let on = ap (λ (z : HeldPart). retells_with z.box z.brought) c.bring.ensures.part
     ∙ retells table part held w.pass w.seated agree c.requires.free own w.marked in
     told_anew table part held w.pass w.seated agree c.requires.free c.carry.new.cpu_part
-    c.part_off.new.pass
+    c.part_off.new.pass (agree.idle own ∙ c.requires.idle)
     (subst (λ (z : HeldPart). HasWalked kinds.Reeval reevaluated retold z c.carry.new.cpu_part)
     c.bring.ensures.part (c.carry.ensures.retold on))
     (c.part_off.ensures.pass
