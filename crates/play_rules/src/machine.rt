@@ -7,17 +7,19 @@ use wheel_core::Item;
 /// A machine that plays by rules: each call is the rule of its name, on the state that the machine
 /// is in.
 ///
-/// CPUs and timers are in range. Calls that arm, cancel, hand out or move timers may want memory;
-/// what the machine is after that isn't said, and it is let go. Calls that change something are
-/// made in the right place of a moment: between operations, in a CPU's interrupt, there with
-/// another CPU taken, or where a CPU that went offline has to hand on its duty. A machine may rely
-/// on that; `Fit` says when its state fits a place.
+/// CPUs and timers are in range. Calls that arm, cancel or move a timer may want memory, and then
+/// the machine is in the state in which it was. A drain that wants memory may have taken out the
+/// first of the due timers; the others are still due. Calls that change something are made in the
+/// right place of a moment: between operations, in a CPU's interrupt, there with another CPU taken,
+/// or where a CPU that went offline has to hand on its duty. A machine may rely on that; `Fit` says
+/// when its state fits a place.
 pub trait Machine: Drop {
     ghost use Rattle.std.specs.Prelude.{◌≡◌, ◌≢◌, ◌+◌, ◌<◌, ◌≤◌, All, None, Some, false, true};
-    ghost use Rattle.std.specs.Prelude.{IfSome, OnOk, IfOk, option_map};
+    ghost use Rattle.std.specs.Prelude.{IfSome, OnErr, OnOk, IfOk, option_map};
     ghost use Rattle.tm_base.specs.declared.limits.TheConstants.{CPU_SET_SIZE, SCRIPT_TIME_LIMIT};
     ghost use Rattle.play_rules.specs.Rules.{Rules};
-    ghost use Rattle.play_rules.specs.Machines.{IsTimerOf, Same, SameFlags, SameOnline, after_move};
+    ghost use Rattle.play_rules.specs.Machines.{IsTimerOf, PartDrained, Same, SameFlags, SameOnline};
+    ghost use Rattle.play_rules.specs.Machines.{after_move};
     ghost use Rattle.play_rules.specs.Operations.{last_online};
     ghost use Rattle.play_rules.specs.Phases.{FitsSome, IsUp, MayArmIn, MayDrain, Phase, StaysFit};
     ghost use Rattle.play_rules.specs.Phases.{after_offline, handing, inside, resting, serving};
@@ -121,9 +123,12 @@ pub trait Machine: Drop {
         ensures state { OnOk result
             (world self.new ≡ (rules.drained (world self.old) home.0 class runner.0).state) }
         ensures same { OnOk result (Same rules (world self.old) (world self.new)) }
-        ensures online { OnOk result (SameOnline rules (world self.old) (world self.new)) };
+        ensures online { OnOk result (SameOnline rules (world self.old) (world self.new)) }
+        ensures kept { OnErr result
+            (PartDrained rules (world self.old) home.0 class runner.0 (world self.new)) };
 
-    /// Arms a timer that is queued nowhere, and answers its wheel expiry, in jiffies.
+    /// Arms a timer that is queued nowhere, and answers its wheel expiry, in jiffies. Want of
+    /// memory leaves all as before, here and in the two other calls of one timer.
     fn arm(&mut self, cpu: CpuId, arming: Arming) -> Result<Jiffy, NoMemory>
         requires cpu { cpu.0 < rules.cpus (world self.old) }
         requires timer { arming.timer.0 < rules.timers (world self.old) }
@@ -138,7 +143,8 @@ pub trait Machine: Drop {
         ensures state { OnOk result
             (world self.new ≡ (rules.armed (world self.old) cpu.0 arming).state) }
         ensures same { OnOk result (Same rules (world self.old) (world self.new)) }
-        ensures online { OnOk result (SameOnline rules (world self.old) (world self.new)) };
+        ensures online { OnOk result (SameOnline rules (world self.old) (world self.new)) }
+        ensures kept { OnErr result (world self.new ≡ world self.old) };
 
     /// Cancels a timer that is queued on CPU `home`.
     fn cancel(&mut self, home: CpuId, cancelling: Cancelling) -> Result<(), NoMemory>
@@ -151,7 +157,8 @@ pub trait Machine: Drop {
         ensures fit { OnOk result (Fit resting (world self.new)) }
         ensures state { OnOk result
             (world self.new ≡ rules.cancelled (world self.old) home.0 cancelling) }
-        ensures same { OnOk result (Same rules (world self.old) (world self.new)) };
+        ensures same { OnOk result (Same rules (world self.old) (world self.new)) }
+        ensures kept { OnErr result (world self.new ≡ world self.old) };
 
     /// An online CPU begins its interrupt.
     fn enter(&mut self, cpu: CpuId)
@@ -332,7 +339,8 @@ pub trait Machine: Drop {
         ensures state { OnOk result (world self.new ≡
             after_move (rules.moved (world self.old) from.0 to.0) (world self.old)) }
         ensures same { OnOk result (Same rules (world self.old) (world self.new)) }
-        ensures flags { OnOk result (SameFlags rules (world self.old) (world self.new)) };
+        ensures flags { OnOk result (SameFlags rules (world self.old) (world self.new)) }
+        ensures kept { OnErr result (world self.new ≡ world self.old) };
 
     /// What answers for the first global timer of an online idle CPU; None exactly where there is
     /// no such timer or CPU.

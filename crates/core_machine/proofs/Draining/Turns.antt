@@ -8,6 +8,7 @@ use Rattle.wheel_core.proofs.Ids.{item_holds}
 use Rattle.cpu_bases.specs.CpuBases.{base_of}
 use Rattle.cpu_bases.proofs.Drains.{one_fewer}
 use Rattle.play_rules.specs.Interrupts.{cpu_id, timer_id}
+use Rattle.play_rules.specs.Machines.{PartDrained, Same, SameOnline}
 use Rattle.play_rules.specs.Timers.{due_items}
 use Rattle.core_world.specs.declared.step.Step.TheVariants as steps
 use Rattle.core_world.specs.Enabled.{MayHand}
@@ -16,12 +17,14 @@ use Rattle.core_world.specs.Lawful.{IsLawful}
 use Rattle.core_world.specs.Steps.{stepped, with_bases}
 use Rattle.core_world.specs.World.{CpuRecord, World, cpu_of}
 use Rattle.core_laws.specs.Laws.{StepsStayLawful}
-use Rattle.step_play.specs.Rules.StepRules.{drained_by_steps, hands, items_due}
+use Rattle.step_play.specs.Rules.StepRules.{drained_by_steps, hands, items_due, step_rules}
 use Rattle.step_play.proofs.Bases.{due_last, due_more}
-use Rattle.step_play.proofs.Drains.{base_after, free_after, hand_is, is_due, left, may_after}
-use Rattle.step_play.proofs.Drains.{may_hand, rebased}
+use Rattle.step_play.proofs.Drains.{Rebases, base_after, free_after, hand_is, is_due, left}
+use Rattle.step_play.proofs.Drains.{may_after, may_hand, rebased}
 use Rattle.step_play.proofs.Worlds.{put_same}
 use Rattle.core_machine.specs.Draining.Turns.{DrainedSome, Drains, handed_each, handed_next}
+use Rattle.core_machine.proofs.Draining.Sames.{rebased_online, rebased_same, same_then}
+use Rattle.core_machine.proofs.Draining.Sames.{online_then}
 
 module _ (law : StepsStayLawful) (w : World) (home : ℕ) (class : Class) (runner : ℕ)
     (d : Drains w home class runner) (lawful : IsLawful w) where
@@ -60,6 +63,20 @@ module _ (law : StepsStayLawful) (w : World) (home : ℕ) (class : Class) (runne
           may = may_after law home runner class w lawful d.free d.may item out;
         })
 
+    -- what an item that goes out leaves as it was
+    is : Rebases w home (left law home runner class w lawful d.free d.may item out) v
+    is = record {
+      lawful =
+          law w (steps.Hand (cpu_id home) (timer_id item.id) (cpu_id runner)) lawful hands_enabled;
+      is = v_is;
+    }
+
+    pub hands_same : Same step_rules w v
+    hands_same = rebased_same w home _ v d.free.in_range is
+
+    pub hands_online : SameOnline step_rules w v
+    hands_online = rebased_online w home _ v d.free.in_range is
+
     base_is : base_of class (cpu_of v home).bases
         ≡ taken w.clock (base_of class (cpu_of w home).bases)
     base_is =
@@ -97,10 +114,22 @@ module _ (home : ℕ) (class : Class) (runner : ℕ) (start : World) where
     pub state : after_all w (hands home class runner (items_due w home class))
         ≡ (drained_by_steps start home class runner).state
     pub is : w ≡ handed_each home runner out start
+    pub same : Same step_rules start w
+    pub online : SameOnline step_rules start w
 
   pub drained_some : (w : World) (out : List Item) → DrainsSoFar w out →
       DrainedSome start home class runner w
   drained_some w out so_far = record { out = out; left = so_far.items; is = so_far.is }
+
+  pub part_drained : (w : World) (out : List Item) → DrainsSoFar w out →
+      PartDrained step_rules start home class runner w
+  part_drained w out so_far = record {
+    out = out;
+    left = so_far.items;
+    rest = so_far.state;
+    same = so_far.same;
+    online = so_far.online;
+  }
 
   each_more : (out : List Item) (item : Item) (w : World) →
       handed_each home runner (out ++ item ∷ []) w
@@ -110,9 +139,9 @@ module _ (home : ℕ) (class : Class) (runner : ℕ) (start : World) where
 
   pub drain_more : (w v : World) (out more : List Item) (item : Item) → DrainsSoFar w out →
       v ≡ handed_next w home runner (Some item) → Drains v home class runner →
-      items_due w home class ≡ item ∷ items_due v home class → more ≡ out ++ item ∷ [] →
-      DrainsSoFar v more
-  drain_more w v out more item so_far is drains due pushed = record {
+      items_due w home class ≡ item ∷ items_due v home class → Same step_rules w v →
+      SameOnline step_rules w v → more ≡ out ++ item ∷ [] → DrainsSoFar v more
+  drain_more w v out more item so_far is drains due same online pushed = record {
     drains = drains;
     items =
         ap (λ xs. xs ++ items_due v home class) pushed
@@ -126,16 +155,17 @@ module _ (home : ℕ) (class : Class) (runner : ℕ) (start : World) where
         ∙ (ap (λ u. handed_next u home runner (Some item)) so_far.is
         ∙ (sym (each_more out item start)
         ∙ ap (λ xs. handed_each home runner xs start) (sym pushed)));
+    same = same_then start w v so_far.same same;
+    online = online_then start w v so_far.online online;
   }
 
   -- an item that went out, and for which there was no room
   pub drained_more : (w v : World) (out : List Item) (item : Item) → DrainsSoFar w out →
       v ≡ handed_next w home runner (Some item) → Drains v home class runner →
-      items_due w home class ≡ item ∷ items_due v home class →
-      DrainedSome start home class runner v
-  drained_more w v out item so_far is drains due =
-      drained_some v (out ++ item ∷ [])
-      (drain_more w v out (out ++ item ∷ []) item so_far is drains due refl)
+      items_due w home class ≡ item ∷ items_due v home class → Same step_rules w v →
+      SameOnline step_rules w v → DrainsSoFar v (out ++ item ∷ [])
+  drained_more w v out item so_far is drains due same online =
+      drain_more w v out (out ++ item ∷ []) item so_far is drains due same online refl
 
   module _ (w : World) (out : List Item) (so_far : DrainsSoFar w out)
       (none : items_due w home class ≡ []) where

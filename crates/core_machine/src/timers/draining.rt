@@ -6,7 +6,7 @@ ghost use Rattle.cpu_bases.specs.CpuBases.{base_of};
 ghost use Rattle.core_world.specs.declared.step.Step.TheVariants as steps;
 ghost use Rattle.core_world.specs.Steps.{stepped};
 ghost use Rattle.core_world.specs.World.{cpu_of};
-ghost use Rattle.play_rules.specs.Machines.{IsTimerOf, Same, SameOnline};
+ghost use Rattle.play_rules.specs.Machines.{IsTimerOf, PartDrained, Same, SameOnline};
 ghost use Rattle.play_rules.specs.Phases.{FitsSome, MayDrain, StaysFit};
 ghost use Rattle.play_rules.specs.Timers.{item_then};
 ghost use Rattle.step_play.specs.Rules.Seen.{InPlay, InRun};
@@ -37,6 +37,8 @@ fn hand_next<B: TimerBase>(
     ensures fewer { IfOk result (λ item. OnSome item
         (OneFewer (base_of class (cpu_of core.old home.0).bases)
         (base_of class (cpu_of core.new home.0).bases))) }
+    ensures same { Same step_rules core.old core.new }
+    ensures online { SameOnline step_rules core.old core.new }
     ensures drains { OnOk result (Drains core.new home.0 class runner.0) }
     ensures clock { core.new.clock ≡ core.old.clock }
     ensures err { OnErr result (core.new ≡ core.old) }
@@ -67,6 +69,7 @@ fn hand_all<B: TimerBase>(
     ensures drains { OnOk result (Drains core.new home.0 class runner.0) }
     ensures clock { core.new.clock ≡ core.old.clock }
     ensures some { DrainedSome core.old home.0 class runner.0 core.new }
+    ensures part { PartDrained step_rules core.old home.0 class runner.0 core.new }
 {
     let mut items = Vec::new(alloc);
     while let Some(item) = hand_next(core, home, class, runner)? {
@@ -102,6 +105,8 @@ pub fn drain<B: TimerBase>(
     ensures online { OnOk result (SameOnline step_rules core.old core.new) }
     ensures clock { step_rules.clock core.new ≡ step_rules.clock core.old }
     ensures err { OnErr result (DrainedSome core.old home.0 class runner.0 core.new) }
+    ensures part { OnErr result
+        (PartDrained step_rules core.old home.0 class runner.0 core.new) }
 {
     law_step();
     core.tree();

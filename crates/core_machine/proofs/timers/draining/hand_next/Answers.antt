@@ -3,7 +3,10 @@ use Rattle.wheel_core.specs.PlainBase.{OneFewer}
 use Rattle.cpu_bases.specs.CpuBases.{base_of}
 use Rattle.core_world.specs.World.{World, cpu_of}
 use Rattle.step_play.specs.Rules.StepRules.{items_due}
-use Rattle.core_machine.proofs.Draining.Turns.{hands_due, hands_enabled, hands_fewer, hands_narrow, none_due}
+use Rattle.play_rules.specs.Machines.{Same, SameOnline}
+use Rattle.step_play.specs.Rules.StepRules.{step_rules}
+use Rattle.core_machine.proofs.Draining.Turns.{hands_due, hands_enabled, hands_fewer, hands_narrow}
+use Rattle.core_machine.proofs.Draining.Turns.{hands_online, hands_same, none_due}
 use Rattle.core_machine.proofs.timers.draining.hand_next.Goals as goal
 
 pub returns-in_default-clause-due : goal.returns-in_default-clause-due
@@ -36,4 +39,16 @@ returns-clause-fewer g c =
     OneFewer (base_of c.args.class (cpu_of c.args.core.now c.args.home.0).bases)
     (base_of c.args.class (cpu_of w c.args.home.0).bases)) (sym c.in_ok-hand.ensures.ok)
     (hands_fewer c.law_step.ensures c.args.core.now c.args.home.0 c.args.class c.args.runner.0
+    c.requires.drains c.tree.ensures.lawful _ (sym c.in-Some.ensures))
+
+pub returns-clause-same : goal.returns-clause-same
+returns-clause-same g c =
+    subst (Same step_rules c.args.core.now) (sym c.in_ok-hand.ensures.ok)
+    (hands_same c.law_step.ensures c.args.core.now c.args.home.0 c.args.class c.args.runner.0
+    c.requires.drains c.tree.ensures.lawful _ (sym c.in-Some.ensures))
+
+pub returns-clause-online : goal.returns-clause-online
+returns-clause-online g c =
+    subst (SameOnline step_rules c.args.core.now) (sym c.in_ok-hand.ensures.ok)
+    (hands_online c.law_step.ensures c.args.core.now c.args.home.0 c.args.class c.args.runner.0
     c.requires.drains c.tree.ensures.lawful _ (sym c.in-Some.ensures))
