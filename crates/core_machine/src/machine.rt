@@ -70,6 +70,7 @@ impl<B: TimerBase> Machine for Player<B> {
         crate::readings::next_interrupt(&self.core)
     }
 
+    #[inline(always)]
     fn drain(&mut self, home: CpuId, class: Class, runner: CpuId) -> Result<Vec<Item>, NoMemory> {
         crate::timers::drain(&mut self.core, self.alloc, home, class, runner)
     }

@@ -1,15 +1,26 @@
 //! The wheel of nine levels.
 
-ghost use Rattle.std.specs.Prelude.{◌≡◌, IfOk};
+ghost use Rattle.std.specs.Prelude.{◌≡◌, ◌≤◌, IfOk};
 ghost use Rattle.wheel_base.specs.Wheels.{no_base};
 
 use crate::marks::sooner_of;
-use crate::moves::move_all;
+use crate::moves::grow;
 use crate::outs::{first_left, next_entry};
 use crate::store::Store;
 use std::alloc::Global;
 use std::marker::Model;
 use wheel_core::{Item, NoRoom, TimerBase, wheel_expiry};
+
+/// For how many items memory is taken at least, where any is.
+const LEAST_ROOM: usize = 16;
+
+/// For how many items memory is taken where there is some for `room` and `wanted` have to fit: for
+/// twice as many at least.
+fn roomier(room: usize, wanted: usize) -> usize
+    ensures { wanted ≤ result }
+{
+    wanted.max(LEAST_ROOM.max(room.saturating_mul(2)))
+}
 
 /// A timer base that keeps its items in a wheel of nine levels of 64 buckets, each level eight
 /// times as coarse as the one below. No call but `reserve` looks at more items than a few; that
@@ -119,16 +130,15 @@ impl TimerBase for WheelBase {
         Some(item)
     }
 
+    #[inline(always)]
     fn reserve(&mut self, n: usize) -> Result<(), NoRoom> {
         let wanted = self.store.len().checked_add(n).ok_or(NoRoom)?;
         if wanted <= self.store.room() {
             self.capacity = self.capacity.max(wanted);
             return Ok(());
         }
-        let room = wanted.max(self.store.room().saturating_mul(2));
-        let mut store = Store::with_room(self.alloc, room)?;
-        move_all(&mut self.store, &mut store);
-        self.store = store;
+        let room = roomier(self.store.room(), wanted);
+        grow(&mut self.store, self.alloc, room)?;
         self.capacity = wanted;
         Ok(())
     }

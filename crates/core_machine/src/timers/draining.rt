@@ -1,7 +1,9 @@
 //! A base is drained.
 
-ghost use Rattle.std.specs.Prelude.{◌≡◌, ◌<◌, All, IfOk, None, OnErr, OnOk, OnSome};
-ghost use Rattle.wheel_core.specs.PlainBase.{OneFewer, next_out};
+ghost use Rattle.std.specs.Prelude.{◌≡◌, ◌<◌, All, IfOk, None, OnErr, OnOk, OnSome, false};
+ghost use Rattle.std.specs.Prelude.{length, nat_le};
+ghost use Rattle.std.specs.Option.{option_map_or};
+ghost use Rattle.wheel_core.specs.PlainBase.{OneFewer, least, next_out};
 ghost use Rattle.cpu_bases.specs.CpuBases.{base_of};
 ghost use Rattle.core_world.specs.declared.step.Step.TheVariants as steps;
 ghost use Rattle.core_world.specs.Steps.{stepped};
@@ -52,7 +54,9 @@ fn hand_next<B: TimerBase>(
     Ok(Some(item))
 }
 
-/// Hands all due timers of a class out.
+/// Hands all due timers of a class out. It is kept out of its caller, which mostly finds that none
+/// is due.
+#[inline(never)]
 fn hand_all<B: TimerBase>(
     core: &mut Core<B>,
     alloc: Global,
@@ -78,9 +82,53 @@ fn hand_all<B: TimerBase>(
     Ok(items)
 }
 
+/// Whether the first timer of a class on a CPU is due.
+#[inline(always)]
+fn has_due<B: TimerBase>(core: &Core<B>, home: CpuId, class: Class) -> bool
+    requires { home.0 < length core.now.cpus }
+    ensures due { result ≡ option_map_or (λ first. nat_le first core.now.clock)
+        (least (base_of class (cpu_of core.now home.0).bases).items) false }
+    ensures none { result ≡ false → next_out core.now.clock
+        (base_of class (cpu_of core.now home.0).bases) ≡ None }
+{
+    match core.bases(home).base(class).first() {
+        Some(first) => first <= core.now(),
+        None => false,
+    }
+}
+
+/// Hands all due timers of a class out, where there are any: mostly there are none, and then this is
+/// all that it costs.
+#[inline(always)]
+fn hand_due<B: TimerBase>(
+    core: &mut Core<B>,
+    alloc: Global,
+    home: CpuId,
+    class: Class,
+    runner: CpuId,
+) -> Result<Vec<Item>, NoMemory>
+    requires drains { Drains core.old home.0 class runner.0 }
+    ensures items { IfOk result (λ out. out.items ≡ items_due core.old home.0 class) }
+    ensures state { OnOk result (stepped core.new (steps.Ticked home class runner)
+        ≡ (step_rules.drained core.old home.0 class runner.0).state) }
+    ensures none { OnOk result (next_out core.new.clock
+        (base_of class (cpu_of core.new home.0).bases) ≡ None) }
+    ensures drains { OnOk result (Drains core.new home.0 class runner.0) }
+    ensures clock { core.new.clock ≡ core.old.clock }
+    ensures some { DrainedSome core.old home.0 class runner.0 core.new }
+{
+    law_step();
+    core.tree();
+    if !has_due(core, home, class) {
+        return Ok(Vec::new(alloc));
+    }
+    hand_all(core, alloc, home, class, runner)
+}
+
 /// Takes out all timers of a base of CPU `home` that are due at the clock, for CPU `runner` to run
 /// their jobs, in the order of hand-out (the kernel's `__run_timers`; of the global base of another
 /// CPU `timer_expire_remote`). After want of memory the first of them may be out.
+#[inline(always)]
 pub fn drain<B: TimerBase>(
     core: &mut Core<B>,
     alloc: Global,
@@ -111,7 +159,7 @@ pub fn drain<B: TimerBase>(
     law_step();
     core.tree();
     let _timers = core.timers();
-    let items = hand_all(core, alloc, home, class, runner)?;
+    let items = hand_due(core, alloc, home, class, runner)?;
     core.drained(home, class, runner)?;
     Ok(items)
 }

@@ -20,6 +20,7 @@ use tm_base::{CpuId, NoMemory};
 use wheel_core::TimerBase;
 
 /// A step that is enabled and wants no memory.
+#[inline(always)]
 pub fn make<B: TimerBase>(core: &mut Core<B>, step: Step)
     requires enabled { Enabled core.old step }
     requires wants_none { WantsMemory step → ⊥ }
