@@ -86,6 +86,7 @@ fn reply_to<M: Machine, J: Jobs>(
 }
 
 /// The job of an item of CPU `home` runs on CPU `runner`, with its line.
+#[inline(never)]
 fn run_job<M: Machine, J: Jobs, L: Listener>(
     machine: &mut M,
     jobs: &J,
@@ -121,6 +122,7 @@ fn run_job<M: Machine, J: Jobs, L: Listener>(
 
 /// The jobs of the items that were taken out of a base of CPU `home` run on CPU `runner`, in that
 /// order.
+#[inline(always)]
 fn run_jobs<M: Machine, J: Jobs, L: Listener>(
     machine: &mut M,
     jobs: &J,
@@ -149,6 +151,7 @@ fn run_jobs<M: Machine, J: Jobs, L: Listener>(
 }
 
 /// All that is due of a base of CPU `home` is taken out, and then its jobs run on CPU `runner`.
+#[inline(always)]
 pub(crate) fn drain<M: Machine, J: Jobs, L: Listener>(
     machine: &mut M,
     jobs: &J,
