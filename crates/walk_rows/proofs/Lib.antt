@@ -1,3 +1,4 @@
+mod Driving
 mod Halves
 mod Sends
 mod Staying

@@ -17,7 +17,7 @@ use tm_base::{Jiffy, NoMemory};
 use wheel_core::TimerBase;
 
 /// How many of so many CPUs from `first` on are below `cut`.
-fn count_below(cut: u16, first: usize, count: usize) -> usize
+pub(crate) fn count_below(cut: u16, first: usize, count: usize) -> usize
     ensures { result ≤ count }
 {
     usize::from(cut).saturating_sub(first).min(count)

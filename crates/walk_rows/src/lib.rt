@@ -2,6 +2,8 @@
 //! proved here that stands elsewhere.
 #![tactic(auto)]
 
+#[cfg(test)]
+mod by_steps;
 mod checks;
 mod crews;
 mod drawing;

@@ -1,7 +1,8 @@
+use crate::by_steps::{Stepped, run_by_steps};
 use crate::{Crew, Draws, Hold, Plan, Ran, Tally, Turn, Turnstile, Watch, agrees, run_plan};
 use core_state::Core;
 use core_world::Step;
-use shared_rows::{no_base_behind, start};
+use shared_rows::{facts_of, no_base_behind, start};
 use std::alloc::Global;
 use std::process::Abort;
 use std::sync::Wait;
@@ -184,6 +185,69 @@ fn a_stale_exchange_is_found_on_the_shared_words(rt: HostRuntime) -> Result<(), 
             assert!(&rt; agrees(&core));
         },
         None => assert!(&rt; false, "not at rest"),
+    }
+    Ok(())
+}
+
+// So many walking steps of a CPU.
+fn add_walks(steps: &mut Vec<Step>, count: u8, cpu: u16) -> Result<(), NoMemory> {
+    for _ in 0..count {
+        steps.push(Step::Walk { cpu: CpuId(cpu) })?;
+    }
+    Ok(())
+}
+
+// The core's row of a stale exchange, and the walk of CPU 8 from there to its end: two locks, a
+// look at its child, which is active again, two locks given back, and its end.
+fn stale_steps(alloc: Global) -> Result<Vec<Step>, NoMemory> {
+    let mut steps = Vec::new(alloc);
+    steps.push(Step::Idle { cpu: CpuId(9) })?;
+    add_walks(&mut steps, 8, 9)?;
+    steps.push(Step::Idle { cpu: CpuId(8) })?;
+    add_walks(&mut steps, 9, 8)?;
+    steps.push(Step::Wake { cpu: CpuId(9) })?;
+    add_walks(&mut steps, 4, 9)?;
+    add_walks(&mut steps, 3, 8)?;
+    add_walks(&mut steps, 6, 8)?;
+    Ok(steps)
+}
+
+// The same steps, by one call each: on a core, and on the shared words by one thread that has the
+// locks of CPUs 8 and 9. It answers what either core says then, and the second one with how many
+// of its steps were made; None where the core isn't at rest, or a step isn't enabled.
+fn by_calls<R: Wait>(
+    rt: &R,
+    alloc: Global,
+    steps: &[Step],
+) -> Result<Option<(Vec<u64>, Vec<u64>, Stepped)>, NoMemory> {
+    let mut plain = machine(alloc, 10, &[])?;
+    let core = machine(alloc, 10, &[])?;
+    if !is_settled(&core) || !no_base_behind(&core) || run_steps(&mut plain, steps).is_err() {
+        return Ok(None);
+    }
+    let stepped = run_by_steps(rt, alloc, core, steps, (CpuId(8), CpuId(9)))?;
+    let facts = facts_of(alloc, &plain)?;
+    let others = facts_of(alloc, &stepped.core)?;
+    Ok(Some((facts, others, stepped)))
+}
+
+// The same order by step calls of one thread: between CPU 8's reading of the top and its exchange
+// there CPU 9 wakes, and its exchange leaves the top as it was, but for the sequence. Every step is
+// made, and the core of the end is that to which the same steps bring a core.
+#[test]
+fn one_thread_forces_a_stale_exchange_by_its_steps(rt: HostRuntime) -> Result<(), Fail> {
+    let steps = stale_steps(rt.alloc())?;
+    match by_calls(&rt, rt.alloc(), steps.as_slice())? {
+        Some((facts, others, Stepped { core, made })) => {
+            assert_eq!(&rt; made, steps.len() as u64);
+            assert_eq!(&rt; facts.as_slice(), others.as_slice());
+            assert_eq!(&rt; group_says(&core, 1, 1), (2, Some(1), false));
+            assert_eq!(&rt; group_says(&core, 2, 1), (3, Some(0), false));
+            assert_eq!(&rt; cpu_says(&core, 8), (true, NEVER));
+            assert_eq!(&rt; cpu_says(&core, 9), (false, NEVER));
+            assert!(&rt; agrees(&core));
+        },
+        None => assert!(&rt; false, "a step is not enabled"),
     }
     Ok(())
 }
