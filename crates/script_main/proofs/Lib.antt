@@ -4,6 +4,7 @@ mod Replying
 mod Refusals
 mod Known
 mod OneText
+mod CheckTexts
 mod Endings
 mod Exactly
 mod Works

@@ -1,9 +1,9 @@
--- where one text is due, any two replies that are called for have it
-use Rattle.std.proofs.Common.{◌≡◌, ◌≢◌, ◌≤◌, ◌<◌, ◌+◌, ℕ, List, [], Option, Some, None, length, refl}
-use Rattle.std.proofs.Common.{sym, ◌∙◌, ap, subst, arith, inl, inr}
+-- where one text is due, any two replies that are called for have it; of `check` neither of their
+-- texts is a front of the other
+use Rattle.std.proofs.Common.{◌≡◌, ◌≢◌, ◌≤◌, ◌<◌, ◌+◌, ℕ, List, [], Option, Some, None, length}
+use Rattle.std.proofs.Common.{refl, sym, ◌∙◌, ap, subst, arith, inl, inr}
 use Rattle.std.specs.Prelude.{◌-◌, ◌^◌, take, String, Result, Ok, Err, OnErr}
 use Rattle.std.specs.declared.alloc.Global.{Global}
-use Rattle.std.proofs.lemmas.List.{length-take-le}
 use Rattle.std.proofs.lemmas.Option.{none-some, same_Some}
 use Rattle.std.specs.Io.KnownBytes.{Consumes}
 use Rattle.tm_base.specs.declared.limits.TheConstants.{MOST_BYTES}
@@ -32,34 +32,46 @@ use Rattle.script_main.specs.Replies.{RepliesToInput, reply_text}
 use Rattle.script_main.specs.Statuses.{IsAllOfNone, IsOneDue}
 use Rattle.script_main.proofs.Known.{all_known, not_both, not_many, out_knows, out_plays}
 use Rattle.script_main.proofs.Known.{plays_alone, refuses, spends_alone}
+use Rattle.script_main.proofs.CheckTexts.{FrontIsWhole, check_whole, front_apart}
+use Rattle.script_main.proofs.CheckTexts.{same_is_whole}
 
 -- ---- one text of an input
 
--- a command but `check` and `run` writes one output
-one_output : (jobs : Replies) (table : ℕ) (command : Command) (input : Input) (xs ys : List ℕ)
-    → command ≢ commands.Check → command ≢ commands.Run → IsOutput jobs table command input xs
-    → IsOutput jobs table command input ys → xs ≡ ys
-one_output jobs table commands.Play (inputs.Script script) xs ys not_check not_run x y = x.played ∙ sym y.played
-one_output jobs table commands.Play (inputs.Trace trace) xs ys not_check not_run x y = absurd x
-one_output jobs table commands.Play (inputs.Works works) xs ys not_check not_run x y = absurd x
-one_output jobs table commands.Run input xs ys not_check not_run x y = absurd (not_run refl)
-one_output jobs table commands.Tree (inputs.Script script) xs ys not_check not_run x y = x ∙ sym y
-one_output jobs table commands.Tree (inputs.Trace trace) xs ys not_check not_run x y = absurd x
-one_output jobs table commands.Tree (inputs.Works works) xs ys not_check not_run x y = absurd x
-one_output jobs table (commands.Generate recipe) (inputs.Script script) xs ys not_check not_run x y = x ∙ sym y
-one_output jobs table (commands.Generate recipe) (inputs.Trace trace) xs ys not_check not_run x y = absurd x
-one_output jobs table (commands.Generate recipe) (inputs.Works works) xs ys not_check not_run x y = absurd x
-one_output jobs table (commands.Day recipe) (inputs.Script script) xs ys not_check not_run x y =
-    x.summed ∙ sym y.summed
-one_output jobs table (commands.Day recipe) (inputs.Trace trace) xs ys not_check not_run x y = absurd x
-one_output jobs table (commands.Day recipe) (inputs.Works works) xs ys not_check not_run x y = absurd x
-one_output jobs table commands.Check input xs ys not_check not_run x y = absurd (not_check refl)
-one_output jobs table commands.Deep (inputs.Script script) xs ys not_check not_run x y = x.played ∙ sym y.played
-one_output jobs table commands.Deep (inputs.Trace trace) xs ys not_check not_run x y = absurd x
-one_output jobs table commands.Deep (inputs.Works works) xs ys not_check not_run x y = absurd x
-one_output jobs table commands.Works (inputs.Script script) xs ys not_check not_run x y = absurd x
-one_output jobs table commands.Works (inputs.Trace trace) xs ys not_check not_run x y = absurd x
-one_output jobs table commands.Works (inputs.Works works) xs ys not_check not_run x y = x.played ∙ sym y.played
+-- a command but `run` writes one output, or of `check` none that is a front of another
+whole_output : (jobs : Replies) (table : ℕ) (command : Command) (input : Input) (xs ys : List ℕ)
+    → command ≢ commands.Run → IsOutput jobs table command input xs
+    → IsOutput jobs table command input ys → FrontIsWhole xs ys
+whole_output jobs table commands.Play (inputs.Script script) xs ys not_run x y =
+    same_is_whole xs ys (x.played ∙ sym y.played)
+whole_output jobs table commands.Play (inputs.Trace trace) xs ys not_run x y = absurd x
+whole_output jobs table commands.Play (inputs.Works works) xs ys not_run x y = absurd x
+whole_output jobs table commands.Run input xs ys not_run x y = absurd (not_run refl)
+whole_output jobs table commands.Tree (inputs.Script script) xs ys not_run x y =
+    same_is_whole xs ys (x ∙ sym y)
+whole_output jobs table commands.Tree (inputs.Trace trace) xs ys not_run x y = absurd x
+whole_output jobs table commands.Tree (inputs.Works works) xs ys not_run x y = absurd x
+whole_output jobs table (commands.Generate recipe) (inputs.Script script) xs ys not_run x y =
+    same_is_whole xs ys (x ∙ sym y)
+whole_output jobs table (commands.Generate recipe) (inputs.Trace trace) xs ys not_run x y =
+    absurd x
+whole_output jobs table (commands.Generate recipe) (inputs.Works works) xs ys not_run x y =
+    absurd x
+whole_output jobs table (commands.Day recipe) (inputs.Script script) xs ys not_run x y =
+    same_is_whole xs ys (x.summed ∙ sym y.summed)
+whole_output jobs table (commands.Day recipe) (inputs.Trace trace) xs ys not_run x y = absurd x
+whole_output jobs table (commands.Day recipe) (inputs.Works works) xs ys not_run x y = absurd x
+whole_output jobs table commands.Check (inputs.Script script) xs ys not_run x y = absurd x
+whole_output jobs table commands.Check (inputs.Trace trace) xs ys not_run x y =
+    check_whole trace xs ys x y
+whole_output jobs table commands.Check (inputs.Works works) xs ys not_run x y = absurd x
+whole_output jobs table commands.Deep (inputs.Script script) xs ys not_run x y =
+    same_is_whole xs ys (x.played ∙ sym y.played)
+whole_output jobs table commands.Deep (inputs.Trace trace) xs ys not_run x y = absurd x
+whole_output jobs table commands.Deep (inputs.Works works) xs ys not_run x y = absurd x
+whole_output jobs table commands.Works (inputs.Script script) xs ys not_run x y = absurd x
+whole_output jobs table commands.Works (inputs.Trace trace) xs ys not_run x y = absurd x
+whole_output jobs table commands.Works (inputs.Works works) xs ys not_run x y =
+    same_is_whole xs ys (x.played ∙ sym y.played)
 
 same_unknown : (a b : UnknownJob) → Some a ≡ Some b → (a.line ≡ b.line) × (a.job ≡ b.job)
 same_unknown a b e =
@@ -91,8 +103,7 @@ data Answer (jobs : Replies) (table : ℕ) (command : Command) (input : Input) (
   output : IsOutput jobs table command input (reply_text reply)
       → Answer jobs table command input reply
 
-module _ (jobs : Replies) (table : ℕ) (command : Command) (no_check : command ≢ commands.Check)
-    (no_run : command ≢ commands.Run) where
+module _ (jobs : Replies) (table : ℕ) (command : Command) (no_run : command ≢ commands.Run) where
   answer : (input : Input) (reply : Reply) → IsReplyTo jobs table command input reply
       → Answer jobs table command input reply
   answer input Usage is = absurd is
@@ -105,36 +116,38 @@ module _ (jobs : Replies) (table : ℕ) (command : Command) (no_check : command 
   answer input (Played text) is = output is
   answer input (Made text) is = output is
 
-  one_answer : (input : Input) (x y : Reply) → Answer jobs table command input x
-      → Answer jobs table command input y → reply_text x ≡ reply_text y
-  one_answer input x y (lack l j plays lacks is) (lack m k plays2 lacks2 is2) =
+  whole_answer : (input : Input) (x y : Reply) → Answer jobs table command input x
+      → Answer jobs table command input y → FrontIsWhole (reply_text x) (reply_text y)
+  whole_answer input x y (lack l j plays lacks is) (lack m k plays2 lacks2 is2) =
       let same = one_lack table input l j m k lacks lacks2 in
       let texts : reply_text (JobUnknown l j) ≡ reply_text (JobUnknown m k) =
       λ i. reply_text (JobUnknown (same.0 i) (same.1 i)) in
-      ap reply_text is ∙ texts ∙ sym (ap reply_text is2)
-  one_answer input x y (lack l j plays lacks is) (spend n plays2 spent is2) =
+      same_is_whole (reply_text x) (reply_text y)
+      (ap reply_text is ∙ texts ∙ sym (ap reply_text is2))
+  whole_answer input x y (lack l j plays lacks is) (spend n plays2 spent is2) =
       absurd (not_both table input l j lacks spent.known)
-  one_answer input x y (lack l j plays lacks is) (output out) =
+  whole_answer input x y (lack l j plays lacks is) (output out) =
       absurd (not_both table input l j lacks
       (out_knows jobs table command input (reply_text y) plays out))
-  one_answer input x y (spend n plays spent is) (lack l j plays2 lacks is2) =
+  whole_answer input x y (spend n plays spent is) (lack l j plays2 lacks is2) =
       absurd (not_both table input l j lacks spent.known)
-  one_answer input x y (spend n plays spent is) (spend k plays2 spent2 is2) =
+  whole_answer input x y (spend n plays spent is) (spend k plays2 spent2 is2) =
       let same = same_Some n k (sym spent.spent ∙ spent2.spent) in
-      ap reply_text is ∙ ap (λ (c : ℕ). reply_text (WorkSpent c)) same ∙ sym (ap reply_text is2)
-  one_answer input x y (spend n plays spent is) (output out) =
+      same_is_whole (reply_text x) (reply_text y)
+      (ap reply_text is ∙ ap (λ (c : ℕ). reply_text (WorkSpent c)) same ∙ sym (ap reply_text is2))
+  whole_answer input x y (spend n plays spent is) (output out) =
       let alone = plays_alone command plays no_run in
       let within = (out_plays jobs table command input (reply_text y) alone out).within in
       absurd (none-some n (sym within ∙ spent.spent))
-  one_answer input x y (output out) (lack l j plays lacks is) =
+  whole_answer input x y (output out) (lack l j plays lacks is) =
       absurd (not_both table input l j lacks
       (out_knows jobs table command input (reply_text x) plays out))
-  one_answer input x y (output out) (spend n plays spent is) =
+  whole_answer input x y (output out) (spend n plays spent is) =
       let alone = plays_alone command plays no_run in
       let within = (out_plays jobs table command input (reply_text x) alone out).within in
       absurd (none-some n (sym within ∙ spent.spent))
-  one_answer input x y (output out) (output out2) =
-      one_output jobs table command input (reply_text x) (reply_text y) no_check no_run out out2
+  whole_answer input x y (output out) (output out2) =
+      whole_output jobs table command input (reply_text x) (reply_text y) no_run out out2
 
 -- ---- one text of a source
 
@@ -223,57 +236,65 @@ module _ (s t : SourceSeen) (known : List ℕ) (told : s.left ≡ Some known) wh
         one_fault (form_of command) y.bytes f g
         (subst Is (same_bytes x.bytes y.bytes x.read y.read) x.refusal) y.refusal
 
-    module _ (counts : s.faults ≢ 2 ^ 64 - 1) (no_check : command ≢ commands.Check)
-        (no_run : command ≢ commands.Run) where
+    module _ (counts : s.faults ≢ 2 ^ 64 - 1) (no_run : command ≢ commands.Run) where
       sure : {A : Type 0} → SourceFailed s t → SourceUnbroken s t → A
       sure fell sound = absurd (not_both_ways s t counts fell sound)
 
-      to_same : (x y : Reply) → (a : RepliesToInput jobs table command s t x)
-          → RepliesToInput jobs table command s t y → reply_text x ≡ reply_text y
-      to_same x y a b =
+      to_whole : (x y : Reply) → (a : RepliesToInput jobs table command s t x)
+          → RepliesToInput jobs table command s t y
+          → FrontIsWhole (reply_text x) (reply_text y)
+      to_whole x y a b =
           let To : Input → Type 0 = λ input. IsReplyTo jobs table command input x in
           let same =
           one_input (recipe_in command) (form_of command) a.input b.input a.brought b.brought in
-          one_answer jobs table command no_check no_run b.input x y
-          (answer jobs table command no_check no_run b.input x (subst To same a.reply_is))
-          (answer jobs table command no_check no_run b.input y b.reply_is)
+          whole_answer jobs table command no_run b.input x y
+          (answer jobs table command no_run b.input x (subst To same a.reply_is))
+          (answer jobs table command no_run b.input y b.reply_is)
 
-      one_due : (x y : Reply) → Due jobs table command s t x → Due jobs table command s t y
-          → reply_text x ≡ reply_text y
-      one_due x y (failed fell is) (failed fell2 is2) = ap reply_text (is ∙ sym is2)
-      one_due x y (failed fell is) (long reader sound count is2) = sure fell sound
-      one_due x y (failed fell is) (refused fault reader sound none is2) = sure fell sound
-      one_due x y (failed fell is) (answered r) = sure fell r.unbroken
-      one_due x y (long reader sound count is) (failed fell is2) = sure fell sound
-      one_due x y (long reader sound count is) (long r2 s2 c2 is2) = ap reply_text (is ∙ sym is2)
-      one_due x y (long reader sound count is) (refused fault r2 s2 none is2) =
+      from_same : (x y : Reply) → reply_text x ≡ reply_text y
+          → FrontIsWhole (reply_text x) (reply_text y)
+      from_same x y same = same_is_whole (reply_text x) (reply_text y) same
+
+      whole_due : (x y : Reply) → Due jobs table command s t x → Due jobs table command s t y
+          → FrontIsWhole (reply_text x) (reply_text y)
+      whole_due x y (failed fell is) (failed fell2 is2) =
+          from_same x y (ap reply_text (is ∙ sym is2))
+      whole_due x y (failed fell is) (long reader sound count is2) = sure fell sound
+      whole_due x y (failed fell is) (refused fault reader sound none is2) = sure fell sound
+      whole_due x y (failed fell is) (answered r) = sure fell r.unbroken
+      whole_due x y (long reader sound count is) (failed fell is2) = sure fell sound
+      whole_due x y (long reader sound count is) (long r2 s2 c2 is2) =
+          from_same x y (ap reply_text (is ∙ sym is2))
+      whole_due x y (long reader sound count is) (refused fault r2 s2 none is2) =
           absurd (not_many s t known told (few_known none.bytes none.read) count)
-      one_due x y (long reader sound count is) (answered r) = absurd (not_long y reader count r)
-      one_due x y (refused fault reader sound none is) (failed fell is2) = sure fell sound
-      one_due x y (refused fault reader sound none is) (long r2 s2 count is2) =
+      whole_due x y (long reader sound count is) (answered r) = absurd (not_long y reader count r)
+      whole_due x y (refused fault reader sound none is) (failed fell is2) = sure fell sound
+      whole_due x y (refused fault reader sound none is) (long r2 s2 count is2) =
           absurd (not_many s t known told (few_known none.bytes none.read) count)
-      one_due x y (refused fault reader sound none is) (refused g r2 s2 none2 is2) =
+      whole_due x y (refused fault reader sound none is) (refused g r2 s2 none2 is2) =
           let Told : ScriptFault → Reply = λ f. Refused (form_of command) f in
-          ap reply_text (is ∙ ap Told (first_fault fault g none none2) ∙ sym is2)
-      one_due x y (refused fault reader sound none is) (answered r) =
+          from_same x y
+          (ap reply_text (is ∙ ap Told (first_fault fault g none none2) ∙ sym is2))
+      whole_due x y (refused fault reader sound none is) (answered r) =
           absurd (not_none y fault reader none r)
-      one_due x y (answered r) (failed fell is2) = sure fell r.unbroken
-      one_due x y (answered r) (long reader sound count is2) = absurd (not_long x reader count r)
-      one_due x y (answered r) (refused fault reader sound none is2) =
+      whole_due x y (answered r) (failed fell is2) = sure fell r.unbroken
+      whole_due x y (answered r) (long reader sound count is2) = absurd (not_long x reader count r)
+      whole_due x y (answered r) (refused fault reader sound none is2) =
           absurd (not_none x fault reader none r)
-      one_due x y (answered a) (answered b) = to_same x y a b
+      whole_due x y (answered a) (answered b) = to_whole x y a b
 
 -- ---- one text of the words
 
 module _ (jobs : Replies) (table : ℕ) (words : List (String Global)) (s t : SourceSeen)
     (one : IsOneDue words s) where
-  one_by : (o : Option Command) → command_of words ≡ o → (x y : Reply)
+  whole_by : (o : Option Command) → command_of words ≡ o → (x y : Reply)
       → IsReplyBy jobs table o s t x → IsReplyBy jobs table o s t y
-      → reply_text x ≡ reply_text y
-  one_by None named x y a b = ap reply_text (a ∙ sym b)
-  one_by (Some command) named x y a b =
-      one_due s t one.bytes one.told jobs table command one.counts
-      (λ is. one.no_check (named ∙ ap Some is)) (λ is. one.no_run (named ∙ ap Some is)) x y
+      → FrontIsWhole (reply_text x) (reply_text y)
+  whole_by None named x y a b =
+      same_is_whole (reply_text x) (reply_text y) (ap reply_text (a ∙ sym b))
+  whole_by (Some command) named x y a b =
+      whole_due s t one.bytes one.told jobs table command one.counts
+      (λ is. one.no_run (named ∙ ap Some is)) x y
       (due s t one.bytes one.told jobs table command x a)
       (due s t one.bytes one.told jobs table command y b)
 
@@ -283,10 +304,8 @@ pub front_of_none : (jobs : Replies) (table : ℕ) (words : List (String Global)
     → count < length (reply_text reply) → IsOneDue words s
     → IsAllOfNone jobs table words s t (take count (reply_text reply))
 front_of_none jobs table words s t reply count is less one other due_too same =
-    let text = one_by jobs table words s t one (command_of words) refl reply other is due_too in
-    let long = length-take-le count (reply_text reply) (omega (arith, less)) in
-    let whole = ap (λ (xs : List ℕ). length xs) (same ∙ sym text) in
-    absurd (omega (arith, less, long, whole))
+    absurd (front_apart (reply_text other) (reply_text reply) count less
+    (whole_by jobs table words s t one (command_of words) refl other reply due_too is) same)
 
 -- ---- what was read by then
 

@@ -11,7 +11,7 @@ use Rattle.tm_script.specs.declared.faults.ScriptFault.{ScriptFault}
 use Rattle.play_rules.specs.Interrupts.{Replies}
 use Rattle.script_main.specs.declared.commands.Recipe.{Recipe}
 use Rattle.script_main.specs.declared.commands.Command.{Command}
-use Rattle.script_main.specs.declared.commands.Command.TheVariants.{Check, Run}
+use Rattle.script_main.specs.declared.commands.Command.TheVariants.{Run}
 use Rattle.script_main.specs.declared.inputs.Form.{Form}
 use Rattle.script_main.specs.declared.inputs.Form.TheVariants as forms
 use Rattle.script_main.specs.declared.inputs.Input.{Input}
@@ -79,13 +79,13 @@ pub record SaysWriteFault (jobs : Replies) (table : ℕ) (words : List (String G
   pub output : IsOutput jobs table command input text
   pub writes : WritesFront text k m
 
--- ONE TEXT IS DUE: the source tells what it has left, and its count of faults isn't at the end of
--- its type; and the words don't name `check` or `run`, of whose texts more than one may be allowed
+-- ONE TEXT IS DUE, or of `check`, which may show who answers in more than one way, one of texts
+-- that are no fronts of one another: the source tells what it has left, and its count of faults
+-- isn't at the end of its type; and the words don't name `run`
 pub record IsOneDue (words : List (String Global)) (s : SourceSeen) : Type 0 where
   pub bytes : List ℕ
   pub told : s.left ≡ Some bytes
   pub counts : s.faults ≢ 2 ^ 64 - 1
-  pub no_check : command_of words ≢ Some Check
   pub no_run : command_of words ≢ Some Run
 
 -- these bytes are all of no text of a reply that the words and the source call for
