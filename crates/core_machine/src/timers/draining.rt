@@ -116,8 +116,7 @@ fn hand_due<B: TimerBase>(
     ensures drains { OnOk result (Drains core.new home.0 class runner.0) }
     ensures clock { core.new.clock ≡ core.old.clock }
     ensures some { DrainedSome core.old home.0 class runner.0 core.new }
-    ensures part { OnErr result
-        (PartDrained step_rules core.old home.0 class runner.0 core.new) }
+    ensures part { PartDrained step_rules core.old home.0 class runner.0 core.new }
 {
     law_step();
     core.tree();
