@@ -1,2 +1,3 @@
 pub mod Verdicts
 mod Answered
+pub mod Places
