@@ -12,6 +12,7 @@ ghost use Rattle.trace_rules.specs.Judge.{told_misfit};
 ghost use Rattle.trace_rules.specs.Judge.{EachLineFits, IsFirstFault, IsFitting};
 ghost use Rattle.trace_rules.specs.Judge.{handling_fault, noted};
 ghost use Rattle.trace_rules.specs.Agrees.{EachRestAnswers};
+ghost use Rattle.trace_rules.specs.Witness.{HasOrders};
 ghost use Rattle.trace_rules.specs.Cpus.{learned_place, moved};
 ghost use Rattle.trace_seen.specs.Rests.{rest_fits};
 ghost use Rattle.trace_told.specs.Told.{told_fits};
@@ -404,6 +405,7 @@ pub fn check_trace(alloc: Global, bytes: &[u8]) -> Result<Verdict, NoMemory>
     ensures fits { IfOk result (λ v. IsFitting v ↔ EachLineFits bytes.now) }
     ensures first { IfOk result (λ v. (IsFitting v → ⊥) → IsFirstFault bytes.now v) }
     ensures answered { IfOk result (λ v. IsFitting v → EachRestAnswers bytes.now) }
+    ensures ordered { IfOk result (λ v. IsFitting v → HasOrders bytes.now) }
 {
     law_rests();
     let verdict = judge_lines(alloc, bytes)?;

@@ -191,10 +191,10 @@ impl Model for Seen {
     ghost Value = { Sight };
 
     ghost view = { λ s. record {
-        groups = s.groups.items;
-        cpus = s.cpus.items;
-        clock = s.clock;
-        late = s.late.items;
+      groups = s.groups.items;
+      cpus = s.cpus.items;
+      clock = s.clock;
+      late = s.late.items;
     } };
 }
 
