@@ -1,7 +1,7 @@
 -- what is taken stands in an order
 use Rattle.std.proofs.Common.{◌≡◌, ℕ, zero, suc, ◌+◌, ◌≤◌, Bool, true, false, List, [], ◌∷◌, ◌++◌}
 use Rattle.std.proofs.Common.{Option, Some, None, refl, sym, ◌∙◌, ap, subst, arith, inl, inr, true≢false}
-use Rattle.std.specs.Prelude.{◌==◌, ◌&&◌, ◌||◌, not, find, cond, slice_index_or}
+use Rattle.std.specs.Prelude.{◌==◌, ◌&&◌, ◌||◌, not, find, cond, length, slice_index_or}
 use Rattle.std.specs.List.{All, AllPass, list_all}
 use Rattle.std.specs.List.Sorted.{IsPermutation}
 use Rattle.std.specs.Set.{remove_key}
@@ -11,12 +11,12 @@ use Rattle.std.proofs.lemmas.List.Elements.{All-cons, All-head, All-nil, All-tai
 use Rattle.std.proofs.lemmas.List.Sums.{AllPass-from_list_all}
 use Rattle.std.proofs.lemmas.List.Sorted.{IsPermutation-append_right, IsPermutation-cons}
 use Rattle.std.proofs.lemmas.List.Sorted.{IsPermutation-middle, IsPermutation-refl}
-use Rattle.std.proofs.lemmas.List.Sorted.{IsPermutation-trans}
+use Rattle.std.proofs.lemmas.List.Sorted.{IsPermutation-trans, length_permutation}
 use Rattle.std.proofs.lemmas.Map.Views.{All-remove_key}
 use Rattle.trace_seen.specs.declared.seen.Late.{Late}
 use Rattle.trace_seen.specs.declared.seen.Word.{Word}
 use Rattle.trace_seen.specs.Words.{follows, word_after}
-use Rattle.trace_rules.specs.Orders.{Waiting, caught_up, comes_first, is_next, is_on, may_precede}
+use Rattle.trace_rules.specs.Orders.{IsCaughtUp, Waiting, caught_up, comes_first, is_next, is_on, may_precede}
 use Rattle.trace_rules.specs.Orders.{taken_next}
 use Rattle.trace_rules.specs.Witness.{IsInOrder, follows_last, may_follow}
 
@@ -177,3 +177,24 @@ module _ (all before : List Late) (group : ℕ) where
   caught (suc n) word ls order c =
       caught_by word ls order c (caught_up n group) (caught n)
       (find (is_next group word ls) ls) refl
+
+-- ---- the bound is enough
+
+module _ (group : ℕ) where
+  enough_by : (n : ℕ) (word : Word) (ls : List Late) → length ls ≤ suc n →
+      ((w : Word) (rest : List Late) → length rest ≤ n →
+      IsCaughtUp group (caught_up n group w rest)) →
+      (o : Option Late) → find (is_next group word ls) ls ≡ o →
+      IsCaughtUp group (taken_next o (is_next group word ls) word ls (caught_up n group))
+  enough_by n word ls most rest None is = is
+  enough_by n word ls most rest (Some x) is =
+      let left = remove_key (is_next group word ls) ls in
+      let fewer = length_permutation ls (x ∷ left) (without (is_next group word ls) ls x is) in
+      rest (word_after x.exchange) left (omega (arith, fewer, most))
+
+  pub enough : (n : ℕ) (word : Word) (ls : List Late) → length ls ≤ n →
+      IsCaughtUp group (caught_up n group word ls)
+  enough zero word [] most = refl
+  enough zero word (x ∷ xs) most = absurd (omega (arith, most))
+  enough (suc n) word ls most =
+      enough_by n word ls most (enough n) (find (is_next group word ls) ls) refl

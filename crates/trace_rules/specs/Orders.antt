@@ -1,6 +1,6 @@
 -- the order of a group's exchanges between CPUs, by their lines: an exchange is made between its
 -- CPU's line before and its own
-use Rattle.std.specs.Prelude.{ℕ, ◌==◌, ◌&&◌, ◌||◌, not, nat_lt, nat_le, zero, suc, Bool, true}
+use Rattle.std.specs.Prelude.{◌≡◌, ℕ, ◌==◌, ◌&&◌, ◌||◌, not, nat_lt, nat_le, zero, suc, Bool, true}
 use Rattle.std.specs.Prelude.{List, [], ◌∷◌, ◌++◌, length, find, Option, Some, None}
 use Rattle.std.specs.Prelude.{count_by, if◌then◌else◌}
 use Rattle.std.specs.List.{list_all, list_any}
@@ -54,6 +54,16 @@ caught_up zero group word ls = record { word = word; late = ls }
 caught_up (suc n) group word ls =
     taken_next (find (is_next group word ls) ls) (is_next group word ls) word ls
     (caught_up n group)
+
+-- none of these late exchanges may be made next on this group
+abbrev pub IsCaughtUp : ℕ → Waiting → Type 0
+IsCaughtUp group w = find (is_next group w.word w.late) w.late ≡ None
+
+-- IT IS ENOUGH to take as many of them as there are late ones
+abbrev pub CatchesUp : Type 0
+CatchesUp =
+    (group : ℕ) (word : Word) (ls : List Late) →
+    IsCaughtUp group (caught_up (length ls) group word ls)
 
 -- on a word that is known: an exchange that may be made next is taken, and late ones behind it;
 -- else it is late itself

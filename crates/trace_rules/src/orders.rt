@@ -4,7 +4,7 @@ ghost use Rattle.std.specs.Prelude.{◌≡◌, ◌<◌, count_by, find, length, 
 ghost use Rattle.std.specs.Prelude.{IfSome, None, OnOk};
 ghost use Rattle.std.specs.List.{list_any};
 ghost use Rattle.std.specs.Set.{remove_key};
-ghost use Rattle.trace_rules.specs.Orders.{caught_up, comes_first, first_late, is_next, is_on};
+ghost use Rattle.trace_rules.specs.Orders.{CatchesUp, caught_up, comes_first, first_late, is_next, is_on};
 ghost use Rattle.trace_rules.specs.Orders.{could_change, is_changed, late_on, may_come};
 ghost use Rattle.trace_rules.specs.Orders.{may_precede, stuck_by, stuck_rule, taken, taken_on};
 
@@ -89,6 +89,11 @@ fn catch_up(seen: &mut Seen, rounds: usize, group: u64, word: Word) -> Word
         None => word,
     }
 }
+
+/// The bound on rounds is enough: behind as many as there are late exchanges, none may be made next.
+pub fn law_caught_up()
+    ensures { CatchesUp }
+{}
 
 /// Takes an exchange on a known word with late ones behind it, or sets it aside; the group's word is
 /// then what it answers.
