@@ -1,5 +1,5 @@
 -- at each line of a trace its exchanges stand in an order
-use Rattle.std.proofs.Common.{◌≡◌, ℕ, zero, suc, ◌+◌, ◌≤◌, Bool, true, false, List, [], ◌∷◌, ◌++◌}
+use Rattle.std.proofs.Common.{◌≡◌, ℕ, ◌+◌, ◌≤◌, Bool, true, false, List, [], ◌∷◌, ◌++◌}
 use Rattle.std.proofs.Common.{Option, Some, None, refl, sym, ◌∙◌, ap, subst, arith, inl, inr}
 use Rattle.std.proofs.Common.{Result, Ok, Err, true≢false}
 use Rattle.std.specs.Prelude.{◌==◌, ◌&&◌, ◌||◌, not, nat_lt, nat_le, find, length, is_some, if◌then◌else◌}
@@ -7,7 +7,6 @@ use Rattle.std.specs.List.{All, AllPass, list_any}
 use Rattle.std.specs.List.Sorted.{IsPermutation}
 use Rattle.std.proofs.lemmas.Option.{none-some, same_Some}
 use Rattle.std.proofs.lemmas.Bool.{cases_Bool, cond-false, cond-true, eqb-true, le-leb}
-use Rattle.std.proofs.lemmas.Bool.Decides.{nat_tests}
 use Rattle.std.proofs.lemmas.List.{append_assoc}
 use Rattle.std.proofs.lemmas.List.Elements.{All-cons, All-head, All-nil, All-push, All-tail}
 use Rattle.std.proofs.lemmas.List.Elements.{All-weaker}
@@ -42,14 +41,14 @@ use Rattle.trace_rules.specs.Orders.{taken, taken_on}
 use Rattle.trace_rules.specs.Exchanges.{child_after, cpu_after, dated, group_after, learned_child}
 use Rattle.trace_rules.specs.Exchanges.{learned_exchange, learned_walk, source_seen, waiting_after}
 use Rattle.trace_rules.specs.Exchanges.{with_late, with_word, word_seen}
-use Rattle.trace_rules.specs.Cpus.{first_seen, learned_place, learned_update, look_seen, looked, moved, with_first}
+use Rattle.trace_rules.specs.Cpus.{first_seen, learned_place, learned_update, look_seen, moved, with_first}
 use Rattle.trace_rules.specs.Cpus.{with_hung, with_leaf, with_link, with_look, with_named}
 use Rattle.trace_rules.specs.Cpus.{with_writer}
-use Rattle.trace_rules.specs.Queues.{spoken, with_event, with_group_event, with_hidden}
+use Rattle.trace_rules.specs.Queues.{with_event, with_group_event, with_hidden}
 use Rattle.trace_rules.specs.Queues.{with_leaf_event}
 use Rattle.trace_rules.specs.Judge.{learned, no_sight, noted, said_after, seen_after, start, tally_after}
 use Rattle.trace_rules.specs.Judge.{text_after}
-use Rattle.trace_rules.specs.Witness.{HasOrder, HasOrders, IsInOrder, OrdersHold}
+use Rattle.trace_rules.specs.Witness.{HasOrder, IsInOrder, OrdersHold}
 use Rattle.trace_rules.specs.Witness.{exchanges_after, exchanges_by, exchanges_said, follows_last}
 use Rattle.trace_rules.specs.Witness.{may_follow}
 use Rattle.trace_rules.proofs.Frames.{Alike, alike_cpu, alike_group, alike_same, alike_then}

@@ -11,7 +11,6 @@ use Rattle.trace_seen.specs.declared.rules.Rule.TheVariants as rules
 use Rattle.trace_seen.specs.declared.seen.Word.{Word}
 use Rattle.trace_seen.specs.declared.seen.Late.{Late}
 use Rattle.trace_seen.specs.declared.seen.CpuSeen.{CpuSeen}
-use Rattle.trace_seen.specs.Seen.{Sight}
 use Rattle.trace_seen.specs.Words.{follows, word_after}
 use Rattle.trace_seen.specs.Rests.{has_bit, is_asleep, same_truth}
 use Rattle.trace_seen.specs.Tree.{parent_fits}

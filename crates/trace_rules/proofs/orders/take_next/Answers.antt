@@ -1,5 +1,4 @@
 use Rattle.std.proofs.Common.{sym, ap, ◌∙◌}
-use Rattle.trace_seen.specs.Seen.{Sight}
 use Rattle.trace_seen.specs.declared.seen.Late.{Late}
 use Rattle.std.specs.Prelude.{List, position}
 use Rattle.trace_rules.specs.Orders.{is_next}
