@@ -9,7 +9,6 @@ use Rattle.trace_lines.specs.declared.events.Line.TheVariants as lines
 use Rattle.trace_lines.specs.declared.faults.LineFault.{LineFault}
 use Rattle.trace_lines.specs.Lines.{line_of}
 use Rattle.trace_seen.specs.declared.rules.Rule.{Rule}
-use Rattle.trace_seen.specs.declared.seen.Late.{Late}
 use Rattle.trace_seen.specs.Seen.{Sight, timed}
 use Rattle.trace_seen.specs.Rests.{rest_fits}
 use Rattle.trace_seen.specs.Counts.{counted}
@@ -18,8 +17,8 @@ use Rattle.trace_told.specs.Agrees.{AnswersHold}
 use Rattle.trace_rules.specs.declared.judge.Course.{Course}
 use Rattle.trace_rules.specs.declared.judge.Misfit.{Misfit}
 use Rattle.trace_rules.specs.declared.judge.Verdict.{Verdict}
-use Rattle.trace_rules.specs.Judge.{EachFits, fault_of, late_fault, learned, line_misfit, misfit_by}
-use Rattle.trace_rules.specs.Judge.{rest_by, said_after, said_verdict}
+use Rattle.trace_rules.specs.Judge.{EachFits, fault_of, learned, line_misfit, misfit_by}
+use Rattle.trace_rules.specs.Judge.{rest_by, said_after, said_verdict, stuck_misfit}
 use Rattle.trace_rules.specs.Judge.{seen_after, text_after, text_verdict, told_misfit, verdict_of}
 use Rattle.trace_rules.specs.Judge.{IsFitting, judged, start}
 use Rattle.trace_rules.specs.Agrees.{RestAnswers, RestsAnswer}
@@ -37,17 +36,18 @@ rest_none line s true true is = refl
 rest_none line s true false is = absurd (none-some _ (sym is))
 rest_none line s false told is = absurd (none-some _ (sym is))
 
-misfit_none : (rule : Option Rule) (late : Option Late) (line : ℕ) (cpu : CpuId) (h : Happening)
-    (s : Sight) → misfit_by rule late line cpu h s ≡ None → told_fits s ≡ true
-misfit_none (Some rule) late line cpu h s is = absurd (none-some _ (sym is))
-misfit_none None (Some late) line cpu h s is = absurd (none-some _ (sym is))
+misfit_none : (rule : Option Rule) (stuck : Option Misfit) (line : ℕ) (cpu : CpuId) (h : Happening)
+    (s : Sight) → misfit_by rule stuck line cpu h s ≡ None → told_fits s ≡ true
+misfit_none (Some rule) stuck line cpu h s is = absurd (none-some _ (sym is))
+misfit_none None (Some misfit) line cpu h s is = absurd (none-some _ (sym is))
 misfit_none None None line cpu h s is = rest_none line s (rest_fits s) (told_fits s) is
 
 told_line : (s : Sight) (line : ℕ) (cpu : CpuId) (h : Happening) →
     told_misfit s line cpu h ≡ None → told_fits (learned s line cpu h) ≡ true
 unfolding told_misfit
 told_line s line cpu h is =
-    misfit_none (fault_of s cpu h) (late_fault s cpu h) line cpu h (learned s line cpu h) is
+    misfit_none (fault_of s cpu h) (stuck_misfit (learned s line cpu h) line h) line cpu h
+    (learned s line cpu h) is
 
 module _ (hold : AnswersHold) where
   by_line : (k : Course) (r : Result Line LineFault) → said_verdict k r ≡ None →

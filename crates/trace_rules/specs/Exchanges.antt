@@ -1,6 +1,7 @@
 -- exchanges on groups: the rules that one may break, and what is known after it
-use Rattle.std.specs.Prelude.{ℕ, ◌==◌, ◌&&◌, ◌||◌, not, nat_lt, Bool, true}
-use Rattle.std.specs.Prelude.{Option, Some, None, is_some, is_none, if◌then◌else◌}
+use Rattle.std.specs.Prelude.{ℕ, ◌==◌, ◌&&◌, ◌||◌, not, Bool, true, List}
+use Rattle.std.specs.Prelude.{Option, Some, None, is_none, if◌then◌else◌}
+use Rattle.std.specs.List.{list_any}
 use Rattle.tm_base.specs.declared.names.CpuId.{CpuId}
 use Rattle.trace_lines.specs.declared.events.Place.{Place}
 use Rattle.trace_lines.specs.declared.events.Exchange.{Exchange}
@@ -13,9 +14,10 @@ use Rattle.trace_seen.specs.declared.seen.Late.{Late}
 use Rattle.trace_seen.specs.declared.seen.GroupSeen.{GroupSeen}
 use Rattle.trace_seen.specs.declared.seen.CpuSeen.{CpuSeen}
 use Rattle.trace_seen.specs.Seen.{Sight, cpu_at, group_at, put_cpu, put_group}
-use Rattle.trace_seen.specs.Words.{follows, state_of, word_after}
+use Rattle.trace_seen.specs.Words.{state_of, word_after}
 use Rattle.trace_seen.specs.Tree.{bit_fits, cpus_free, groups_free, is_below, node_fits}
 use Rattle.trace_seen.specs.Tree.{parent_fits, spot_fits}
+use Rattle.trace_rules.specs.Orders.{Waiting, is_next, is_on, taken}
 use Rattle.trace_rules.specs.Queues.{event_after, first_begun}
 use Rattle.trace_seen.specs.Walks.{allows, came_from, walk_after}
 
@@ -64,30 +66,24 @@ exchange_fault s cpu e =
     else if not (bit_is_right s cpu e) then Some rules.Tree
     else None)
 
--- the word before, where the exchange follows from it
-abbrev pub word_if : Option Word → Exchange → Option Word
-word_if None e = None
-word_if (Some word) e = if follows word e then Some word else None
+-- an exchange with its line, and the number of its CPU's line before
+abbrev pub dated : Sight → ℕ → CpuId → Exchange → Late
+dated s line cpu e = record {
+  line = line;
+  before = (cpu_at s cpu).last;
+  cpu = cpu;
+  exchange = e;
+}
 
--- the word on which an exchange was made, where it is known
-abbrev pub word_before : GroupSeen → Exchange → Option Word
-word_before g e = word_if g.word e
+-- the word before, where the exchange may be made on it
+abbrev pub word_if : Option Word → ℕ → List Late → Late → Option Word
+word_if None group ls a = None
+word_if (Some word) group ls a = if is_next group word ls a then Some word else None
 
--- made before the late exchange, this one explains it
-abbrev pub is_resolved : GroupSeen → Late → CpuSeen → Exchange → Bool
-is_resolved g late own e =
-    not (own.cpu.0 == late.cpu.0) && nat_lt own.last late.line && is_some (word_before g e)
-    && follows (word_after e) late.exchange
-
--- a late exchange that this one leaves unresolved
-abbrev pub late_by : Option Late → GroupSeen → CpuSeen → Exchange → Option Late
-late_by None g own e = None
-late_by (Some late) g own e = if is_resolved g late own e then None else Some late
-
--- the group's late exchange, where this one doesn't explain it
-abbrev pub late_left : Sight → CpuId → Exchange → Option Late
-late_left s cpu e =
-    late_by (group_at s e.place.group).late (group_at s e.place.group) (cpu_at s cpu) e
+-- the word on which an exchange is made, where it is known
+unfoldable pub word_seen : Sight → ℕ → CpuId → Exchange → Option Word
+word_seen s line cpu e =
+    word_if (group_at s e.place.group).word e.place.group s.late (dated s line cpu e)
 
 -- ---- what is known afterwards
 
@@ -95,28 +91,16 @@ late_left s cpu e =
 abbrev pub spot_of : Place → Spot
 spot_of place = record { level = place.level; node = place.node }
 
--- a group after an exchange on which another one waited, or not
-abbrev pub settled_by : Option Late → GroupSeen → ℕ → CpuId → Exchange → GroupSeen
-settled_by (Some late) g line cpu e =
-    record g { word = Some (word_after late.exchange); late = None }
-settled_by None g line cpu e =
-    if is_some g.word && is_none (word_before g e)
-    then record g { late = Some (record { line = line; cpu = cpu; exchange = e }) }
-    else record g { word = Some (word_after e) }
-
--- the late exchange's word where this one explains it, its own where it follows or nothing was
--- known, and else it is late itself
-abbrev pub settled : GroupSeen → ℕ → CpuId → Exchange → GroupSeen
-settled g line cpu e = settled_by g.late g line cpu e
-
--- a group after an exchange
-unfoldable pub group_after : GroupSeen → ℕ → CpuId → Exchange → GroupSeen
-group_after g line cpu e =
-    settled (record g {
+-- a group after an exchange, of this word, while an exchange on it is late or not
+abbrev pub group_after : GroupSeen → Exchange → Word → Bool → GroupSeen
+group_after g e word late =
+    record g {
       spot = Some (spot_of e.place);
       parent = Some e.parent;
+      word = Some word;
+      late = late;
       event = event_after e g.event;
-    }) line cpu e
+    }
 
 -- its child group after it
 abbrev pub child_after : GroupSeen → Exchange → GroupSeen
@@ -144,17 +128,29 @@ learned_child s None e = s
 learned_child s (Some from) e =
     if from == 0 then s else with_group s (child_after (group_at s from) e)
 
+-- the word of its group and the late exchanges after it
+abbrev pub waiting_after : Sight → ℕ → CpuId → Exchange → Waiting
+waiting_after s line cpu e =
+    taken (group_at s e.place.group).word e.place.group s.late (dated s line cpu e)
+
+-- with these late exchanges
+abbrev pub with_late : Sight → List Late → Sight
+with_late s ls = record s { late = ls }
+
+-- .. and its group of this word
+unfoldable pub with_word : Sight → Exchange → Word → Sight
+with_word s e word =
+    with_group s
+    (group_after (group_at s e.place.group) e word (list_any (is_on e.place.group) s.late))
+
 -- .. of its group
-unfoldable pub learned_group : Sight → ℕ → CpuId → Exchange → Sight
-learned_group s line cpu e = with_group s (group_after (group_at s e.place.group) line cpu e)
+abbrev pub learned_group : Sight → ℕ → CpuId → Exchange → Sight
+learned_group s line cpu e =
+    with_word (with_late s (waiting_after s line cpu e).late) e (waiting_after s line cpu e).word
 
 -- .. of its walk
 unfoldable pub learned_walk : Sight → ℕ → CpuId → Option Word → Exchange → Sight
 learned_walk s line cpu before e = with_cpu s (cpu_after (cpu_at s cpu) line before e)
-
--- the word before an exchange, as far as it is known
-unfoldable pub word_seen : Sight → Exchange → Option Word
-word_seen s e = word_before (group_at s e.place.group) e
 
 -- from where its walk comes
 unfoldable pub source_seen : Sight → CpuId → Exchange → Option ℕ
@@ -163,5 +159,5 @@ source_seen s cpu e = came_from (cpu_at s cpu).walk e
 -- what an exchange shows of its group, of its CPU, and of the child from which it came
 abbrev pub learned_exchange : Sight → ℕ → CpuId → Exchange → Sight
 learned_exchange s line cpu e =
-    learned_child (learned_walk (learned_group s line cpu e) line cpu (word_seen s e) e)
+    learned_child (learned_walk (learned_group s line cpu e) line cpu (word_seen s line cpu e) e)
     (source_seen s cpu e) e

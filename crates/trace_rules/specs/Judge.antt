@@ -1,7 +1,7 @@
 -- the fold over the lines of a trace
 use Rattle.std.specs.Prelude.{◌≡◌, ◌⊎◌, ℕ, Bool, true, false, List, [], ◌∷◌}
-use Rattle.std.specs.Prelude.{Option, Some, None, is_some, Result, Ok, Err, if◌then◌else◌}
-use Rattle.std.specs.Prelude.{count_by}
+use Rattle.std.specs.Prelude.{Option, Some, None, Result, Ok, Err, if◌then◌else◌}
+use Rattle.std.specs.Prelude.{length}
 use Rattle.text_words.specs.Words.{lines_of}
 use Rattle.tm_base.specs.declared.names.CpuId.{CpuId}
 use Rattle.trace_lines.specs.declared.faults.LineFault.{LineFault}
@@ -21,7 +21,7 @@ use Rattle.trace_rules.specs.declared.judge.Verdict.{Verdict}
 use Rattle.trace_rules.specs.declared.judge.Verdict.TheVariants.{Fits, Broken, NoTrace}
 use Rattle.trace_seen.specs.declared.seen.Late.{Late}
 use Rattle.trace_seen.specs.declared.whom.Whom.{Whom}
-use Rattle.trace_seen.specs.Seen.{Sight, cpu_at, timed}
+use Rattle.trace_seen.specs.Seen.{Sight, cpu_at, group_at, timed}
 use Rattle.trace_runs.specs.declared.runs.Runs.{Runs}
 use Rattle.trace_runs.specs.Runs.{no_runs, runs_after}
 use Rattle.trace_runs.specs.Differences.{differences_after, no_differences}
@@ -29,7 +29,8 @@ use Rattle.trace_seen.specs.Counts.{counted, counted_if}
 use Rattle.trace_seen.specs.Whom.{edge_whom, event_whom}
 use Rattle.trace_seen.specs.Tree.{cpu_joining_fault, group_joining_fault, spot_fits}
 use Rattle.trace_seen.specs.Walks.{may_rest}
-use Rattle.trace_rules.specs.Exchanges.{exchange_fault, late_left, learned_exchange, with_cpu}
+use Rattle.trace_rules.specs.Exchanges.{exchange_fault, learned_exchange, with_cpu}
+use Rattle.trace_rules.specs.Orders.{first_late, late_on, stuck_rule}
 use Rattle.trace_rules.specs.Cpus.{cpu_fault, learned_cpu, learned_cpu_link, learned_group_link}
 use Rattle.trace_rules.specs.Cpus.{learned_place, learned_update, looked, moved, update_fault}
 use Rattle.trace_seen.specs.Rests.{at_rest, rest_fits}
@@ -50,16 +51,6 @@ fault_of s cpu (Exchanged e) = exchange_fault s cpu e
 fault_of s cpu (CpuTold t) = cpu_fault s cpu t
 fault_of s cpu (Updated u) = update_fault s cpu u
 fault_of s cpu (Handling group) = handling_fault s cpu
-
--- the late exchange that an exchange doesn't explain
-unfoldable pub late_fault : Sight → CpuId → Happening → Option Late
-late_fault s cpu (Exchanged e) = late_left s cpu e
-late_fault s cpu (GroupMade place) = None
-late_fault s cpu (GroupJoined child j) = None
-late_fault s cpu (CpuJoined joined j) = None
-late_fault s cpu (CpuTold t) = None
-late_fault s cpu (Updated u) = None
-late_fault s cpu (Handling group) = None
 
 -- what is known after an event
 unfoldable pub learned : Sight → ℕ → CpuId → Happening → Sight
@@ -90,24 +81,46 @@ rest_misfit line s = rest_by line s (rest_fits s) (told_fits s)
 abbrev pub late_whom : Late → Whom
 late_whom late = record { cpu = Some late.cpu; group = Some late.exchange.place.group }
 
--- the misfit of a line, by the first rule that it breaks; a late exchange's is that of its own line
-abbrev pub misfit_by : Option Rule → Option Late → ℕ → CpuId → Happening → Sight → Option Misfit
-misfit_by (Some rule) late line cpu h after = Some (misfit_of line rule (event_whom cpu h))
-misfit_by None (Some late) line cpu h after =
-    Some (misfit_of late.line rules.Exchange (late_whom late))
+-- the misfit of a late exchange that breaks this rule: that of its own line
+abbrev pub late_misfit : Option Rule → Late → Option Misfit
+late_misfit None late = None
+late_misfit (Some rule) late = Some (misfit_of late.line rule (late_whom late))
+
+-- the misfit of the first late exchange on a group
+abbrev pub stuck_late : Option Late → Sight → ℕ → ℕ → Option Misfit
+stuck_late None s line group = None
+stuck_late (Some late) s line group =
+    late_misfit (stuck_rule line (late_on group s.late) s.cpus (group_at s group).word late) late
+
+-- the misfit of a late exchange that stays late at this event, by what is known after it
+unfoldable pub stuck_misfit : Sight → ℕ → Happening → Option Misfit
+stuck_misfit s line (Exchanged e) =
+    stuck_late (first_late e.place.group s.late) s line e.place.group
+stuck_misfit s line (GroupMade place) = None
+stuck_misfit s line (GroupJoined child j) = None
+stuck_misfit s line (CpuJoined joined j) = None
+stuck_misfit s line (CpuTold t) = None
+stuck_misfit s line (Updated u) = None
+stuck_misfit s line (Handling group) = None
+
+-- the misfit of a line, by the first rule that it breaks
+abbrev pub misfit_by : Option Rule → Option Misfit → ℕ → CpuId → Happening → Sight → Option Misfit
+misfit_by (Some rule) stuck line cpu h after = Some (misfit_of line rule (event_whom cpu h))
+misfit_by None (Some misfit) line cpu h after = Some misfit
 misfit_by None None line cpu h after = rest_misfit line after
 
--- where an event leaves the rules: by its own line, by a late exchange that it doesn't explain, or
--- by what is known after it
+-- where an event leaves the rules: by its own line, by a late exchange that stays late, or by what
+-- is known after it
 unfoldable pub told_misfit : Sight → ℕ → CpuId → Happening → Option Misfit
 told_misfit s line cpu h =
-    misfit_by (fault_of s cpu h) (late_fault s cpu h) line cpu h (learned s line cpu h)
+    misfit_by (fault_of s cpu h) (stuck_misfit (learned s line cpu h) line h) line cpu h
+    (learned s line cpu h)
 
 -- ---- one line
 
 -- nothing is known
 abbrev pub no_sight : Sight
-no_sight = record { groups = []; cpus = []; clock = None }
+no_sight = record { groups = []; cpus = []; clock = None; late = [] }
 
 -- the number of the CPU's last line
 abbrev pub noted : Sight → ℕ → CpuId → Sight
@@ -220,9 +233,9 @@ text_verdict k text = said_verdict k (line_of text)
 unfoldable pub text_after : Course → List ℕ → Course
 text_after k text = said_after k (line_of text)
 
--- how many groups have an exchange that nothing explains yet
+-- how many exchanges are late
 abbrev pub late_count : Sight → ℕ
-late_count s = count_by (λ g. is_some g.late) s.groups
+late_count s = length s.late
 
 -- the first of two verdicts
 abbrev pub verdict_or : Option Verdict → Verdict → Verdict

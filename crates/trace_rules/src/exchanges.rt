@@ -1,13 +1,13 @@
 //! Exchanges on groups: the rules that one may break, and what is known after it.
 
 ghost use Rattle.std.specs.Prelude.{◌≡◌, OnOk};
-ghost use Rattle.trace_rules.specs.Exchanges.{bit_is_right, child_after, cpu_after, exchange_fault};
-ghost use Rattle.trace_rules.specs.Exchanges.{group_after, is_resolved, late_left};
-ghost use Rattle.trace_rules.specs.Exchanges.{learned_exchange};
-ghost use Rattle.trace_rules.specs.Exchanges.{place_fault, settled, spot_of, word_before, told_by};
+ghost use Rattle.trace_rules.specs.Exchanges.{bit_is_right, child_after, cpu_after, dated};
+ghost use Rattle.trace_rules.specs.Exchanges.{exchange_fault, group_after, learned_exchange};
+ghost use Rattle.trace_rules.specs.Exchanges.{place_fault, spot_of, told_by, word_if};
 ghost use Rattle.trace_rules.specs.Exchanges.{learned_child, learned_group, learned_walk};
-ghost use Rattle.trace_rules.specs.Exchanges.{source_seen, word_seen};
+ghost use Rattle.trace_rules.specs.Exchanges.{source_seen, with_word, word_seen};
 
+use crate::orders::{is_next, some_late, take};
 use crate::queues::{event_after, first_begun};
 use tm_base::{CpuId, NoMemory};
 use trace_lines::{Exchange, Place};
@@ -17,7 +17,7 @@ use trace_seen::tree::{
     bit_fits, cpus_free, groups_free, is_below, node_fits, parent_fits, spot_fits,
 };
 use trace_seen::walks::{allows, came_from, walk_after};
-use trace_seen::words::{follows, state_of, word_after};
+use trace_seen::words::{state_of, word_after};
 
 /// Whether the child of an exchange has the number that it was seen with, and no other has it.
 fn bit_is_right(seen: &Seen, cpu: CpuId, exchange: &Exchange) -> bool
@@ -77,15 +77,26 @@ pub fn exchange_fault(seen: &Seen, cpu: CpuId, exchange: &Exchange) -> Option<Ru
     }
 }
 
-/// The word on which an exchange was made, where it is known: the one seen before, if the exchange
-/// follows from it.
-fn word_before(group: &GroupSeen, exchange: &Exchange) -> Option<Word>
-    ensures { result ≡ word_before group.now exchange.now }
+/// An exchange with its line, and the number of its CPU's line before.
+fn dated(seen: &Seen, line: u64, cpu: CpuId, exchange: &Exchange) -> Late
+    ensures { result ≡ dated seen.now line cpu exchange.now }
 {
-    match group.word {
-        Some(word) => {
-            if follows(word, exchange) {
-                Some(word)
+    Late {
+        line,
+        before: seen.cpu(cpu).last,
+        cpu,
+        exchange: *exchange,
+    }
+}
+
+/// The word before, where the exchange may be made on it.
+fn word_if(word: Option<Word>, group: u64, waiting: &[Late], late: &Late) -> Option<Word>
+    ensures { result ≡ word_if word group waiting.now late.now }
+{
+    match word {
+        Some(known) => {
+            if is_next(group, known, waiting, late) {
+                Some(known)
             } else {
                 None
             }
@@ -94,33 +105,14 @@ fn word_before(group: &GroupSeen, exchange: &Exchange) -> Option<Word>
     }
 }
 
-/// Whether this exchange, made before the late one of its group, explains it: both then follow, and
-/// its CPU's line before stands above the late one's line.
-fn is_resolved(group: &GroupSeen, late: &Late, own: &CpuSeen, exchange: &Exchange) -> bool
-    ensures { result ≡ is_resolved group.now late.now own.now exchange.now }
-{
-    own.cpu.0 != late.cpu.0
-        && own.last < late.line
-        && word_before(group, exchange).is_some()
-        && follows(word_after(exchange), &late.exchange)
-}
-
-/// The group's late exchange, where this one doesn't explain it.
-pub fn late_left(seen: &Seen, cpu: CpuId, exchange: &Exchange) -> Option<Late>
-    ensures { result ≡ late_left seen.now cpu exchange.now }
+/// The word on which an exchange is made, where it is known.
+#[tactic(auto, unfolding(crate::specs::Exchanges::word_seen))]
+fn word_seen(seen: &Seen, line: u64, cpu: CpuId, exchange: &Exchange) -> Option<Word>
+    ensures { result ≡ word_seen seen.now line cpu exchange.now }
 {
     let group = seen.group(exchange.place.group);
-    let own = seen.cpu(cpu);
-    match group.late {
-        Some(late) => {
-            if is_resolved(&group, &late, &own, exchange) {
-                None
-            } else {
-                Some(late)
-            }
-        }
-        None => None,
-    }
+    let late = dated(seen, line, cpu, exchange);
+    word_if(group.word, exchange.place.group, seen.late(), &late)
 }
 
 /// Where a line says that a group stands.
@@ -133,47 +125,18 @@ pub fn spot_of(place: &Place) -> Spot
     }
 }
 
-/// A group with its state after an exchange: the late one's where this one explains it, its own
-/// where it follows or nothing was known, and else it is late itself.
-fn settled(group: GroupSeen, line: u64, cpu: CpuId, exchange: &Exchange) -> GroupSeen
-    ensures { result ≡ settled group line cpu exchange.now }
+/// What is known of a group after an exchange on it, of this word.
+fn group_after(group: GroupSeen, exchange: &Exchange, word: Word, late: bool) -> GroupSeen
+    ensures { result ≡ group_after group exchange.now word late }
 {
-    if let Some(late) = group.late {
-        return GroupSeen {
-            word: Some(word_after(&late.exchange)),
-            late: None,
-            ..group
-        };
-    }
-    if group.word.is_some() && word_before(&group, exchange).is_none() {
-        let late = Late {
-            line,
-            cpu,
-            exchange: *exchange,
-        };
-        return GroupSeen {
-            late: Some(late),
-            ..group
-        };
-    }
     GroupSeen {
-        word: Some(word_after(exchange)),
-        ..group
-    }
-}
-
-/// What is known of a group after an exchange on it.
-#[tactic(auto, unfolding(crate::specs::Exchanges::group_after))]
-fn group_after(group: GroupSeen, line: u64, cpu: CpuId, exchange: &Exchange) -> GroupSeen
-    ensures { result ≡ group_after group line cpu exchange.now }
-{
-    let placed = GroupSeen {
         spot: Some(spot_of(&exchange.place)),
         parent: Some(exchange.parent),
+        word: Some(word),
+        late,
         event: event_after(exchange, group.event),
         ..group
-    };
-    settled(placed, line, cpu, exchange)
+    }
 }
 
 /// What is known of a child after an exchange that came from it.
@@ -239,13 +202,25 @@ fn learn_child(seen: &mut Seen, from: Option<u64>, exchange: &Exchange) -> Resul
     seen.put_group(child_after(child, exchange))
 }
 
+/// Keeps the word of an exchange's group, and whether an exchange on it is late.
+#[tactic(auto, unfolding(crate::specs::Exchanges::with_word))]
+fn learn_word(seen: &mut Seen, exchange: &Exchange, word: Word) -> Result<(), NoMemory>
+    ensures { OnOk result (seen.new ≡ with_word seen.old exchange.now word) }
+{
+    let group = seen.group(exchange.place.group);
+    let late = some_late(seen, exchange.place.group);
+    seen.put_group(group_after(group, exchange, word, late))
+}
+
 /// Keeps what an exchange shows of its group.
-#[tactic(auto, unfolding(crate::specs::Exchanges::learned_group))]
 fn learn_group(seen: &mut Seen, line: u64, cpu: CpuId, exchange: &Exchange) -> Result<(), NoMemory>
     ensures { OnOk result (seen.new ≡ learned_group seen.old line cpu exchange.now) }
 {
     let group = seen.group(exchange.place.group);
-    seen.put_group(group_after(group, line, cpu, exchange))
+    let late = dated(seen, line, cpu, exchange);
+    let word = take(seen, group.word, exchange.place.group, late)?;
+    learn_word(seen, exchange, word)?;
+    Ok(())
 }
 
 /// Keeps what an exchange on this word shows of its CPU.
@@ -261,15 +236,6 @@ fn learn_walk(
 {
     let own = seen.cpu(cpu);
     seen.put_cpu(cpu_after(own, line, before, exchange))
-}
-
-/// The word on which an exchange is made, where it is known.
-#[tactic(auto, unfolding(crate::specs::Exchanges::word_seen))]
-fn word_seen(seen: &Seen, exchange: &Exchange) -> Option<Word>
-    ensures { result ≡ word_seen seen.now exchange.now }
-{
-    let group = seen.group(exchange.place.group);
-    word_before(&group, exchange)
 }
 
 /// The group from which an exchange comes, where it is known.
@@ -290,7 +256,7 @@ pub fn learn_exchange(
 ) -> Result<(), NoMemory>
     ensures { OnOk result (seen.new ≡ learned_exchange seen.old line cpu exchange.now) }
 {
-    let before = word_seen(seen, exchange);
+    let before = word_seen(seen, line, cpu, exchange);
     let from = source_seen(seen, cpu, exchange);
     learn_group(seen, line, cpu, exchange)?;
     learn_walk(seen, line, cpu, before, exchange)?;

@@ -4,14 +4,15 @@ ghost use Rattle.std.specs.Prelude.{◌≡◌, ◌↔◌, IfOk, OnOk, None, is_s
 ghost use Rattle.text_words.specs.Words.{lines_of};
 ghost use Rattle.trace_rules.specs.Judge.{fault_of, rest_misfit};
 ghost use Rattle.trace_rules.specs.Judge.{is_exchange, is_loss_line, is_told, judged, late_count};
-ghost use Rattle.trace_rules.specs.Judge.{late_fault, learned, line_misfit, rests_after};
-ghost use Rattle.trace_rules.specs.Judge.{seen_after};
+ghost use Rattle.trace_rules.specs.Judge.{late_misfit, learned, line_misfit, rests_after};
+ghost use Rattle.trace_rules.specs.Judge.{seen_after, stuck_late, stuck_misfit};
+ghost use Rattle.trace_rules.specs.Orders.{first_late};
 ghost use Rattle.trace_rules.specs.Judge.{start, tally_after, text_after, text_verdict};
 ghost use Rattle.trace_rules.specs.Judge.{told_misfit};
 ghost use Rattle.trace_rules.specs.Judge.{EachLineFits, IsFirstFault, IsFitting};
-ghost use Rattle.trace_rules.specs.Judge.{handling_fault, late_whom, misfit_of, noted};
-ghost use Rattle.trace_seen.specs.declared.rules.Rule.TheVariants as rules;
+ghost use Rattle.trace_rules.specs.Judge.{handling_fault, noted};
 ghost use Rattle.trace_rules.specs.Agrees.{EachRestAnswers};
+ghost use Rattle.trace_rules.specs.Witness.{HasOrders};
 ghost use Rattle.trace_rules.specs.Cpus.{learned_place, moved};
 ghost use Rattle.trace_seen.specs.Rests.{rest_fits};
 ghost use Rattle.trace_told.specs.Told.{told_fits};
@@ -20,7 +21,8 @@ use crate::cpus::{
     cpu_fault, learn_cpu, learn_cpu_link, learn_group_link, learn_place, learn_update, look_at,
     move_on, update_fault,
 };
-use crate::exchanges::{exchange_fault, late_left, learn_exchange};
+use crate::exchanges::{exchange_fault, learn_exchange};
+use crate::orders::{first_late, late_on, stuck_rule};
 use std::alloc::Global;
 use text_words::cut;
 use tm_base::{CpuId, NoMemory};
@@ -71,8 +73,8 @@ pub struct Misfit {
 /// What is said of a trace.
 #[derive(Clone, Copy)]
 pub enum Verdict {
-    /// Each line fits. In so many groups the last exchange follows from none that was seen; the
-    /// line of another may come after the trace's end.
+    /// Each line fits. So many exchanges are late at the end; the line of one that comes before them
+    /// may come after the trace's end.
     Fits(Tally, usize),
     /// A line breaks a rule.
     Broken(Misfit),
@@ -121,17 +123,6 @@ fn handling_fault(seen: &Seen, cpu: CpuId) -> Option<Rule>
     }
 }
 
-/// The late exchange that an event doesn't explain.
-#[tactic(auto, unfolding(crate::specs::Judge::late_fault))]
-fn late_fault(seen: &Seen, cpu: CpuId, happening: &Happening) -> Option<Late>
-    ensures { result ≡ late_fault seen.now cpu happening.now }
-{
-    match happening {
-        Happening::Exchanged(exchange) => late_left(seen, cpu, exchange),
-        _ => None,
-    }
-}
-
 /// Keeps where a new group stands.
 fn learn_group(seen: &mut Seen, line: u64, cpu: CpuId, place: &Place) -> Result<(), NoMemory>
     ensures { OnOk result (seen.new ≡ moved (learned_place seen.old place.now) line cpu) }
@@ -177,24 +168,52 @@ fn take_told(
         let whom = event_whom(cpu, happening);
         return Ok(Some(Misfit { line, rule, whom }));
     }
-    if let Some(late) = late_fault(seen, cpu, happening) {
-        return Ok(Some(late_misfit(&late)));
-    }
     learn(seen, line, cpu, happening)?;
+    if let Some(misfit) = stuck_misfit(seen, line, happening) {
+        return Ok(Some(misfit));
+    }
     Ok(rest_misfit(seen, line))
 }
 
-/// The misfit of a late exchange that nothing explains.
-fn late_misfit(late: &Late) -> Misfit
-    ensures { result ≡ misfit_of late.now.line rules.Exchange (late_whom late.now) }
+/// The misfit of a late exchange that breaks this rule: that of its own line.
+fn late_misfit(rule: Option<Rule>, late: &Late) -> Option<Misfit>
+    ensures { result ≡ late_misfit rule late.now }
 {
-    Misfit {
-        line: late.line,
-        rule: Rule::Exchange,
-        whom: Whom {
-            cpu: Some(late.cpu),
-            group: Some(late.exchange.place.group),
-        },
+    match rule {
+        Some(rule) => Some(Misfit {
+            line: late.line,
+            rule,
+            whom: Whom {
+                cpu: Some(late.cpu),
+                group: Some(late.exchange.place.group),
+            },
+        }),
+        None => None,
+    }
+}
+
+/// The misfit of the first late exchange on a group.
+fn stuck_late(seen: &Seen, line: u64, group: u64) -> Option<Misfit>
+    ensures { result ≡ stuck_late (first_late group seen.now.late) seen.now line group }
+{
+    match first_late(group, seen.late()) {
+        Some(late) => {
+            let count = late_on(group, seen.late());
+            let word = seen.group(group).word;
+            late_misfit(stuck_rule(line, count, seen.cpus(), word, &late), &late)
+        }
+        None => None,
+    }
+}
+
+/// The misfit of a late exchange that stays late at this event.
+#[tactic(auto, unfolding(crate::specs::Judge::stuck_misfit))]
+fn stuck_misfit(seen: &Seen, line: u64, happening: &Happening) -> Option<Misfit>
+    ensures { result ≡ stuck_misfit seen.now line happening.now }
+{
+    match happening {
+        Happening::Exchanged(exchange) => stuck_late(seen, line, exchange.place.group),
+        _ => None,
     }
 }
 
@@ -334,11 +353,11 @@ pub fn take_text(
     }
 }
 
-/// How many groups have an exchange that nothing explains yet.
+/// How many exchanges are late.
 pub fn late_count(seen: &Seen) -> usize
     ensures { result ≡ late_count seen.now }
 {
-    seen.groups().iter().filter(|g| g.late.is_some()).count()
+    seen.late().len()
 }
 
 /// Before the first line; takes no memory.
@@ -386,6 +405,7 @@ pub fn check_trace(alloc: Global, bytes: &[u8]) -> Result<Verdict, NoMemory>
     ensures fits { IfOk result (λ v. IsFitting v ↔ EachLineFits bytes.now) }
     ensures first { IfOk result (λ v. (IsFitting v → ⊥) → IsFirstFault bytes.now v) }
     ensures answered { IfOk result (λ v. IsFitting v → EachRestAnswers bytes.now) }
+    ensures ordered { IfOk result (λ v. IsFitting v → HasOrders bytes.now) }
 {
     law_rests();
     let verdict = judge_lines(alloc, bytes)?;

@@ -5,6 +5,7 @@
 pub mod cpus;
 pub mod exchanges;
 pub mod judge;
+pub mod orders;
 pub mod queues;
 
 pub use judge::{Course, Misfit, Tally, Verdict, check_trace, late_count, new_course, take_text};

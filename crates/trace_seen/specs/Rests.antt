@@ -4,7 +4,6 @@ use Rattle.std.specs.Prelude.{Option, Some, None}
 use Rattle.std.specs.Int.{bit_at}
 use Rattle.std.specs.List.{list_all}
 use Rattle.trace_seen.specs.declared.seen.Word.{Word}
-use Rattle.trace_seen.specs.declared.seen.Late.{Late}
 use Rattle.trace_seen.specs.declared.seen.GroupSeen.{GroupSeen}
 use Rattle.trace_seen.specs.declared.seen.CpuSeen.{CpuSeen}
 use Rattle.trace_seen.specs.Seen.{Sight, group_at}
@@ -21,9 +20,9 @@ is_asleep None = false
 is_asleep (Some awake) = not awake
 
 -- the word of a group, unless an exchange is late there
-abbrev pub word_unless : Option Late → Option Word → Option Word
-word_unless None word = word
-word_unless (Some late) word = None
+abbrev pub word_unless : Bool → Option Word → Option Word
+word_unless false word = word
+word_unless true word = None
 
 -- a group's word, where no exchange of it is late
 abbrev pub known_word : GroupSeen → Option Word

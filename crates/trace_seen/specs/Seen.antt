@@ -4,6 +4,7 @@ use Rattle.std.specs.Prelude.{Option, Some, None, max}
 use Rattle.tm_base.specs.declared.names.CpuId.{CpuId}
 use Rattle.trace_seen.specs.declared.seen.GroupSeen.{GroupSeen}
 use Rattle.trace_seen.specs.declared.seen.CpuSeen.{CpuSeen}
+use Rattle.trace_seen.specs.declared.seen.Late.{Late}
 use Rattle.trace_seen.specs.declared.seen.Walk.TheVariants.{Unknown}
 use Rattle.trace_seen.specs.declared.seen.Run.TheVariants as runs
 
@@ -13,6 +14,8 @@ pub record Sight : Type 0 where
   pub cpus : List CpuSeen
   -- the latest time at the head of a line, in nanoseconds
   pub clock : Option ℕ
+  -- the late exchanges on all groups, in the order of their lines
+  pub late : List Late
 
 -- a group of which nothing is known
 abbrev pub unknown_group : ℕ → GroupSeen
@@ -23,7 +26,7 @@ unknown_group pointer = record {
   bit = None;
   told = false;
   word = None;
-  late = None;
+  late = false;
   event = None;
 }
 

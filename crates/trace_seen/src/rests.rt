@@ -33,14 +33,11 @@ pub fn is_asleep(active: Option<bool>) -> bool
 pub fn known_word(group: &GroupSeen) -> Option<Word>
     ensures { result ≡ known_word group.now }
 {
-    match group.late {
-        Some(_) => None,
-        None => group.word,
-    }
+    if group.late { None } else { group.word }
 }
 
 /// Whether a set has this child.
-fn has_bit(active: u8, bit: u8) -> bool
+pub fn has_bit(active: u8, bit: u8) -> bool
     ensures { result ≡ has_bit active bit }
 {
     bit < 8 && (active >> bit) & 1 == 1

@@ -16,6 +16,9 @@ pub enum Rule {
     Walk,
     /// Each exchange follows from the state before it.
     Exchange,
+    /// The order of a group's exchanges between CPUs is found among no more than so many of them;
+    /// where it isn't, the check gives up, and there may be such an order.
+    Order,
     /// A CPU wakes where it sleeps and falls asleep where it is awake; only a sleeping CPU's timers
     /// are run by others.
     Cpu,

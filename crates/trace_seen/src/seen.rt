@@ -1,6 +1,8 @@
 //! What was seen of a machine so far. Each answer may be unknown.
 
-ghost use Rattle.std.specs.Prelude.{◌≡◌, ◌==◌, ◌<◌, [], length, position, find, IfSome, None};
+ghost use Rattle.std.specs.Prelude.{◌≡◌, ◌==◌, ◌<◌, ◌++◌, ◌∷◌, [], length, position, find};
+ghost use Rattle.std.specs.Prelude.{IfSome, None, get_or};
+ghost use Rattle.std.specs.List.{remove};
 ghost use Rattle.std.specs.Prelude.{OnErr, OnOk};
 ghost use Rattle.trace_seen.specs.Seen.{cpu_at, group_at, later, put_cpu, put_group, timed};
 ghost use Rattle.trace_seen.specs.Seen.{unknown_cpu, unknown_group};
@@ -19,12 +21,14 @@ pub struct Word {
     pub migrator: u8,
 }
 
-/// An exchange that doesn't follow from what was seen of its group before. It may have been made
-/// after one whose line is still to come, since a CPU may be held up between exchange and line.
+/// An exchange with its line. It is late where others that come before it have no line yet, since a
+/// CPU may be held up between exchange and line.
 #[derive(Clone, Copy)]
 pub struct Late {
-    /// Its line.
+    /// The number of its line.
     pub line: u64,
+    /// The number of its CPU's line before that; the exchange was made between them.
+    pub before: u64,
     /// The CPU that made it.
     pub cpu: CpuId,
     pub exchange: Exchange,
@@ -50,9 +54,10 @@ pub struct GroupSeen {
     pub bit: Option<u8>,
     /// Whether an exchange on that parent was seen that came from this group.
     pub told: bool,
-    /// Its state, before the late exchange where there is one.
+    /// Its state, before the late exchanges where there are some.
     pub word: Option<Word>,
-    pub late: Option<Late>,
+    /// Whether an exchange on it is late.
+    pub late: bool,
     /// The expiry of its event in its parent (`groupevt`); `NO_EXPIRY` where there is none or it is
     /// ignored.
     pub event: Option<u64>,
@@ -145,7 +150,7 @@ pub fn unknown_group(pointer: u64) -> GroupSeen
         bit: None,
         told: false,
         word: None,
-        late: None,
+        late: false,
         event: None,
     }
 }
@@ -177,6 +182,7 @@ pub struct Seen {
     groups: Vec<GroupSeen>,
     cpus: Vec<CpuSeen>,
     clock: Option<u64>,
+    late: Vec<Late>,
 }
 
 impl Model for Seen {
@@ -184,7 +190,12 @@ impl Model for Seen {
 
     ghost Value = { Sight };
 
-    ghost view = { λ s. record { groups = s.groups.items; cpus = s.cpus.items; clock = s.clock } };
+    ghost view = { λ s. record {
+      groups = s.groups.items;
+      cpus = s.cpus.items;
+      clock = s.clock;
+      late = s.late.items;
+    } };
 }
 
 /// The later of two times.
@@ -248,12 +259,13 @@ fn put_cpu(cpus: &mut Vec<CpuSeen>, cpu: CpuSeen) -> Result<(), NoMemory>
 impl Seen {
     /// Nothing yet; takes no memory.
     pub fn new(alloc: Global) -> Seen
-        ensures { result ≡ record { groups = []; cpus = []; clock = None } }
+        ensures { result ≡ record { groups = []; cpus = []; clock = None; late = [] } }
     {
         Seen {
             groups: Vec::new(alloc),
             cpus: Vec::new(alloc),
             clock: None,
+            late: Vec::new(alloc),
         }
     }
 
@@ -276,6 +288,33 @@ impl Seen {
         ensures { result ≡ self.now.clock }
     {
         self.clock
+    }
+
+    /// The late exchanges on all groups, in the order of their lines.
+    pub fn late(&self) -> &[Late]
+        ensures { result.now ≡ self.now.late }
+    {
+        self.late.as_slice()
+    }
+
+    /// Sets an exchange aside, behind those that are late already. Want of memory leaves all as
+    /// before.
+    pub fn set_aside(&mut self, late: Late) -> Result<(), NoMemory>
+        ensures ok { OnOk result
+            (self.new ≡ record self.old { late = self.old.late ++ late ∷ [] }) }
+        ensures err { OnErr result (self.new ≡ self.old) }
+    {
+        self.late.push(late)?;
+        Ok(())
+    }
+
+    /// Takes the late exchange at this place; there has to be one.
+    pub fn take_late(&mut self, at: usize) -> Late
+        requires { at < length self.now.late }
+        ensures value { result ≡ get_or self.old.late at result }
+        ensures left { self.new ≡ record self.old { late = remove self.old.late at } }
+    {
+        self.late.remove(at)
     }
 
     /// Keeps the time at the head of a line.

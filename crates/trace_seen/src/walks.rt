@@ -11,7 +11,7 @@ use crate::words::{named_by, same_number};
 use trace_lines::Exchange;
 
 /// Whether a walk of activation may make an exchange on this group.
-fn may_join(walk: Walk, group: u64) -> bool
+pub fn may_join(walk: Walk, group: u64) -> bool
     ensures { result ≡ may_join walk group }
 {
     match walk {
@@ -30,7 +30,7 @@ fn begins(cpu: &CpuSeen, exchange: &Exchange) -> bool
 }
 
 /// Whether a walk of deactivation may make this exchange.
-fn may_leave(cpu: &CpuSeen, exchange: &Exchange) -> bool
+pub fn may_leave(cpu: &CpuSeen, exchange: &Exchange) -> bool
     ensures { result ≡ may_leave cpu.now.walk cpu.now exchange.now }
 {
     match cpu.walk {

@@ -9,7 +9,7 @@ use Rattle.trace_lines.specs.declared.faults.LineFault.TheVariants.{BadNumber, O
 use Rattle.trace_lines.specs.declared.faults.LineFault.TheVariants.{HiddenPointer}
 use Rattle.trace_seen.specs.declared.rules.Rule.{Rule}
 use Rattle.trace_seen.specs.declared.rules.Rule.TheVariants.{Group, Tree, Node, Walk, Exchange}
-use Rattle.trace_seen.specs.declared.rules.Rule.TheVariants.{Cpu, Event, Remote, Wakeup, Rest, Told}
+use Rattle.trace_seen.specs.declared.rules.Rule.TheVariants.{Order, Cpu, Event, Remote, Wakeup, Rest, Told}
 use Rattle.trace_rules.specs.declared.judge.Tally.{Tally}
 use Rattle.trace_told.specs.declared.told.Answers.{Answers}
 use Rattle.trace_seen.specs.declared.whom.Whom.{Whom}
@@ -46,6 +46,8 @@ rule_text Node =
 rule_text Walk = codes "a walk goes on exactly where it has to (__walk_groups)"
 rule_text Exchange =
     codes "an exchange follows from the state before it (tmigr_active_up, tmigr_inactive_up)"
+rule_text Order =
+    codes "the search for an order gave up, as more than 40 exchanges on a group are late (tmigr_active_up, tmigr_inactive_up)"
 rule_text Cpu =
     codes "a CPU wakes where it sleeps, and only a sleeping one is run elsewhere (tmigr_cpu_activate, tmigr_handle_remote_cpu)"
 rule_text Remote =

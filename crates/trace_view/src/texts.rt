@@ -59,6 +59,8 @@ fn rule_text(rule: Rule) -> &'static [u8]
         Rule::Walk => b"a walk goes on exactly where it has to (__walk_groups)",
         Rule::Exchange => b"an exchange follows from the state before it (tmigr_active_up, \
               tmigr_inactive_up)",
+        Rule::Order => b"the search for an order gave up, as more than 40 exchanges on a group \
+              are late (tmigr_active_up, tmigr_inactive_up)",
         Rule::Cpu => b"a CPU wakes where it sleeps, and only a sleeping one is run elsewhere \
               (tmigr_cpu_activate, tmigr_handle_remote_cpu)",
         Rule::Remote => b"a CPU's timers are run elsewhere when its event is due \
