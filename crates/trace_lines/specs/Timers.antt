@@ -88,7 +88,7 @@ unfoldable pub arming_in : List (List ℕ) → Result Arming LineFault
 arming_in parts = do
   timer ← pointer_at (codes "timer=") parts
   expires ← number_at (codes "expires=") most parts
-  now ← jiffies_at expires parts
+  jiffies ← jiffies_at expires parts
   bucket ← number_at (codes "bucket_expiry=") most parts
   cpu ← number_at (codes "cpu=") (CPU_SET_SIZE - 1) parts
   index ← number_at (codes "idx=") LAST_BUCKET parts
@@ -96,7 +96,7 @@ arming_in parts = do
   Ok (record {
     timer = timer;
     expires = expires;
-    now = now;
+    jiffies = jiffies;
     bucket = bucket;
     cpu = record { 0 = cpu };
     index = index;
@@ -111,9 +111,9 @@ removal_in parts = pointer_at (codes "timer=") parts
 unfoldable pub expiry_in : List (List ℕ) → Result Expiry LineFault
 expiry_in parts = do
   timer ← pointer_at (codes "timer=") parts
-  now ← number_at (codes "now=") most parts
+  jiffies ← number_at (codes "now=") most parts
   clock ← number_at (codes "baseclk=") most parts
-  Ok (record { timer = timer; now = now; clock = clock })
+  Ok (record { timer = timer; jiffies = jiffies; clock = clock })
 
 -- the number of a softirq
 unfoldable pub softirq_in : List (List ℕ) → Result ℕ LineFault

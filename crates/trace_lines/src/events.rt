@@ -143,7 +143,7 @@ pub struct Arming {
     /// The expiry that is asked for, in jiffies.
     pub expires: u64,
     /// The jiffies at which the line was written, where it has them.
-    pub now: Option<u64>,
+    pub jiffies: Option<u64>,
     /// The wheel expiry, in jiffies.
     pub bucket: u64,
     /// The CPU whose base it is.
@@ -159,7 +159,7 @@ pub struct Expiry {
     /// The timer's pointer.
     pub timer: u64,
     /// The jiffies then.
-    pub now: u64,
+    pub jiffies: u64,
     /// The wheel expiry to which its base has come (`baseclk`), in jiffies.
     pub clock: u64,
 }

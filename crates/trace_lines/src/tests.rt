@@ -111,7 +111,7 @@ fn a_timer_s_lines_are_read_field_by_field(rt: HostRuntime) -> Result<(), Fail> 
     assert_eq!(rt; at, Some(5_916_105_999));
     assert_eq!(rt; arming.timer, 0xffff_ffff_b215_f720);
     assert_eq!(rt; arming.expires, 4_294_893_805);
-    assert_eq!(rt; arming.now, Some(4_294_893_690));
+    assert_eq!(rt; arming.jiffies, Some(4_294_893_690));
     assert_eq!(rt; arming.bucket, 4_294_893_808);
     assert_eq!(rt; arming.cpu.0, 2);
     assert_eq!(rt; arming.index, 94);
@@ -122,7 +122,7 @@ fn a_timer_s_lines_are_read_field_by_field(rt: HostRuntime) -> Result<(), Fail> 
         assert!(rt; false, "not read");
         return Ok(());
     };
-    assert_eq!(rt; expiry.now, 4_294_893_690);
+    assert_eq!(rt; expiry.jiffies, 4_294_893_690);
     assert_eq!(rt; expiry.clock, 4_294_893_688);
     let cancel = b" <idle>-0 [001] d.s2. 5.916065: timer_cancel: timer=ffffffffb215f720";
     let removed = 0xffff_ffff_b215_f720;
@@ -150,7 +150,7 @@ fn what_a_timer_may_do_is_told_by_its_flags_and_its_timeout(rt: HostRuntime) -> 
         assert!(rt; false, "not read");
         return Ok(());
     };
-    assert_eq!(rt; arming.now, Some(15));
+    assert_eq!(rt; arming.jiffies, Some(15));
     assert!(rt; matches!(arming.class, TimerClass::Global));
     let unsure = b"a-1 [000] 5.9: timer_start: timer=1 function=f expires=10 bucket_expiry=15 \
           cpu=0 idx=15 flags=D|P|I";
@@ -158,7 +158,7 @@ fn what_a_timer_may_do_is_told_by_its_flags_and_its_timeout(rt: HostRuntime) -> 
         assert!(rt; false, "not read");
         return Ok(());
     };
-    assert_eq!(rt; unclear.now, None);
+    assert_eq!(rt; unclear.jiffies, None);
     assert!(rt; matches!(unclear.class, TimerClass::Unknown));
     Ok(())
 }

@@ -161,7 +161,7 @@ fn read_arming(bytes: &[u8]) -> Result<Arming, LineFault>
 {
     let timer = pointer_at(bytes, b"timer=")?;
     let expires = number_at(bytes, b"expires=", u64::MAX)?;
-    let now = jiffies_at(expires, bytes)?;
+    let jiffies = jiffies_at(expires, bytes)?;
     let bucket = number_at(bytes, b"bucket_expiry=", u64::MAX)?;
     let cpu = number_at(bytes, b"cpu=", u64::from(CPU_SET_SIZE) - 1)?;
     let index = number_at(bytes, b"idx=", LAST_BUCKET)?;
@@ -169,7 +169,7 @@ fn read_arming(bytes: &[u8]) -> Result<Arming, LineFault>
     Ok(Arming {
         timer,
         expires,
-        now,
+        jiffies,
         bucket,
         cpu: CpuId(cpu as u16),
         index: index as u16,
@@ -183,9 +183,13 @@ fn read_expiry(bytes: &[u8]) -> Result<Expiry, LineFault>
     ensures { result ≡ expiry_in (parts_of bytes.now) }
 {
     let timer = pointer_at(bytes, b"timer=")?;
-    let now = number_at(bytes, b"now=", u64::MAX)?;
+    let jiffies = number_at(bytes, b"now=", u64::MAX)?;
     let clock = number_at(bytes, b"baseclk=", u64::MAX)?;
-    Ok(Expiry { timer, now, clock })
+    Ok(Expiry {
+        timer,
+        jiffies,
+        clock,
+    })
 }
 
 /// What the event of this name says.
