@@ -3,12 +3,12 @@ use Rattle.std.specs.Prelude.{ℕ, ◌+◌, ◌-◌, List, Bool, ◌||◌, ◌==
 use Rattle.std.specs.Prelude.{Option, Some, None, Result, Ok, Err, bytes_eq, if◌then◌else◌}
 use Rattle.std.specs.List.{list_any}
 use Rattle.tm_base.specs.declared.limits.TheConstants.{CPU_SET_SIZE}
+use Rattle.tm_base.specs.declared.names.Class.{Class}
+use Rattle.tm_base.specs.declared.names.Class.TheVariants.{Deferrable, Global, Pinned}
 use Rattle.trace_lines.specs.declared.faults.LineFault.{LineFault}
 use Rattle.trace_lines.specs.declared.faults.LineFault.TheVariants.{OutOfRange}
 use Rattle.trace_lines.specs.declared.events.Arming.{Arming}
 use Rattle.trace_lines.specs.declared.events.Expiry.{Expiry}
-use Rattle.trace_lines.specs.declared.events.TimerClass.{TimerClass}
-use Rattle.trace_lines.specs.declared.events.TimerClass.TheVariants.{Home, Global, Unknown}
 use Rattle.trace_lines.specs.declared.events.TimerEvent.{TimerEvent}
 use Rattle.trace_lines.specs.declared.events.TimerEvent.TheVariants.{Armed, Removed, Ran, Softirq}
 use Rattle.trace_lines.specs.declared.timers.TheConstants.{LAST_BUCKET}
@@ -68,19 +68,21 @@ unfoldable pub jiffies_at : ℕ → List (List ℕ) → Result (Option ℕ) Line
 jiffies_at expires parts =
     if has_key (codes "[timeout=") parts then jiffies_told expires parts else Ok None
 
--- a flag that keeps a timer on its CPU: D, deferrable, or P, pinned
-abbrev pub is_home_flag : ℕ → Bool
-is_home_flag byte = byte == 68 || byte == 80
+-- a flag is among these
+abbrev pub has_flag : List ℕ → ℕ → Bool
+has_flag flags flag = list_any (λ byte. byte == flag) flags
 
--- which CPUs may run a timer of these flags; a tool writes D|P|I for any
-unfoldable pub class_of : List ℕ → TimerClass
+-- the base of a timer of these flags (get_timer_cpu_base): D, deferrable; P, pinned; a tool writes
+-- D|P|I for any
+unfoldable pub class_of : List ℕ → Option Class
 class_of flags =
-    if bytes_eq flags (codes "D|P|I") then Unknown
-    else if list_any is_home_flag flags then Home
-    else Global
+    if bytes_eq flags (codes "D|P|I") then None
+    else if has_flag flags 68 then Some Deferrable
+    else if has_flag flags 80 then Some Pinned
+    else Some Global
 
 -- .. of the flags of a line
-unfoldable pub class_at : List (List ℕ) → Result TimerClass LineFault
+unfoldable pub class_at : List (List ℕ) → Result (Option Class) LineFault
 class_at parts = value_in (codes "flags=") parts >>= λ flags. Ok (class_of flags)
 
 -- a timer goes into a bucket

@@ -1,6 +1,6 @@
 //! What the lines of a trace say.
 
-use tm_base::CpuId;
+use tm_base::{Class, CpuId};
 
 /// The expiry of an event that there isn't (the kernel's `KTIME_MAX`).
 pub const NO_EXPIRY: u64 = 9_223_372_036_854_775_807;
@@ -124,17 +124,6 @@ pub enum Happening {
     Handling(u64),
 }
 
-/// Which CPUs may run a timer.
-#[derive(Clone, Copy)]
-pub enum TimerClass {
-    /// Its own alone: it is pinned (`P`) or deferrable (`D`).
-    Home,
-    /// Any that runs its CPU's timers.
-    Global,
-    /// The flags don't say.
-    Unknown,
-}
-
 /// A timer goes into a bucket (`timer_start`).
 #[derive(Clone, Copy)]
 pub struct Arming {
@@ -150,7 +139,8 @@ pub struct Arming {
     pub cpu: CpuId,
     /// The bucket's number, 0 to 575: 64 times its level and its place there.
     pub index: u16,
-    pub class: TimerClass,
+    /// Which of the CPU's bases it is, where the flags say.
+    pub class: Option<Class>,
 }
 
 /// A timer's function is about to run (`timer_expire_entry`).

@@ -16,7 +16,7 @@ mod times;
 
 pub use events::{
     Arming, CpuEvent, CpuKind, Exchange, Expiries, Expiry, Happening, Joining, Line, NO_EXPIRY,
-    Place, TimerClass, TimerEvent, Update,
+    Place, TimerEvent, Update,
 };
 pub use faults::LineFault;
 pub use lines::read_line;

@@ -1,18 +1,17 @@
 //! Reading the events of timers and of softirqs.
 
 ghost use Rattle.std.specs.Prelude.{◌≡◌};
-ghost use Rattle.std.specs.List.{list_any};
 ghost use Rattle.trace_lines.specs.Parts.{has_key, parts_of};
-ghost use Rattle.trace_lines.specs.Timers.{arming_in, class_at, class_of, expiry_in, is_home_flag};
+ghost use Rattle.trace_lines.specs.Timers.{arming_in, class_at, class_of, expiry_in, has_flag};
 ghost use Rattle.trace_lines.specs.Timers.{jiffies_at, jiffies_in, jiffies_told, removal_in, softirq_in};
 ghost use Rattle.trace_lines.specs.Timers.{time_after, time_before, timer_event_of, timer_name_of, unbracketed};
 
 use crate::LineFault;
-use crate::events::{Arming, Expiry, TimerClass, TimerEvent};
+use crate::events::{Arming, Expiry, TimerEvent};
 use crate::fields::{has_key, number_at, pointer_at};
 use crate::numbers::{Base, read_number};
 use crate::parts::{behind, value_in};
-use tm_base::{CPU_SET_SIZE, CpuId};
+use tm_base::{CPU_SET_SIZE, Class, CpuId};
 
 /// The largest number of a bucket: nine levels of 64.
 const LAST_BUCKET: u64 = 575;
@@ -116,38 +115,33 @@ fn jiffies_told(expires: u64, bytes: &[u8]) -> Result<Option<u64>, LineFault>
     Ok(Some(now))
 }
 
-/// Whether a flag keeps a timer on its CPU: `D` or `P`.
-fn is_home_flag(byte: u8) -> bool
-    ensures { result ≡ is_home_flag byte }
+/// Whether a flag is among these.
+fn has_flag(flags: &[u8], flag: u8) -> bool
+    ensures { result ≡ has_flag flags.now flag }
 {
-    byte == b'D' || byte == b'P'
+    flags.iter().any(|byte| *byte == flag)
 }
 
-/// Whether some flag does.
-fn stays_home(flags: &[u8]) -> bool
-    ensures { result ≡ list_any is_home_flag flags.now }
-{
-    flags.iter().any(|byte| is_home_flag(*byte))
-}
-
-/// Which CPUs may run a timer of these flags. `trace-cmd report` writes `D|P|I` for any flags, so
-/// these say nothing.
+/// The base of a timer of these flags (`get_timer_cpu_base`): `D` is deferrable, `P` is pinned.
+/// `trace-cmd report` writes `D|P|I` for any flags, so these say nothing.
 #[tactic(auto, unfolding(crate::specs::Timers::class_of))]
-fn class_of(flags: &[u8]) -> TimerClass
+fn class_of(flags: &[u8]) -> Option<Class>
     ensures { result ≡ class_of flags.now }
 {
     if flags == b"D|P|I".as_slice() {
-        TimerClass::Unknown
-    } else if stays_home(flags) {
-        TimerClass::Home
+        None
+    } else if has_flag(flags, b'D') {
+        Some(Class::Deferrable)
+    } else if has_flag(flags, b'P') {
+        Some(Class::Pinned)
     } else {
-        TimerClass::Global
+        Some(Class::Global)
     }
 }
 
-/// Which CPUs may run a timer.
+/// The base of a timer.
 #[tactic(auto, unfolding(crate::specs::Timers::class_at))]
-fn class_at(bytes: &[u8]) -> Result<TimerClass, LineFault>
+fn class_at(bytes: &[u8]) -> Result<Option<Class>, LineFault>
     ensures { result ≡ class_at (parts_of bytes.now) }
 {
     let flags = value_in(bytes, b"flags=")?;

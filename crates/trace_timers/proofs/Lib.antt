@@ -1,1 +1,1 @@
-mod Clocks
+mod Buckets

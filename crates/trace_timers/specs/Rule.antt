@@ -2,6 +2,8 @@
 use Rattle.std.specs.Prelude.{ℕ, ◌==◌, ◌&&◌, ◌||◌, nat_le, nat_lt, Bool, true, false}
 use Rattle.std.specs.Prelude.{Option, Some, None, if◌then◌else◌}
 use Rattle.tm_base.specs.declared.names.CpuId.{CpuId}
+use Rattle.tm_base.specs.declared.names.Class.{Class}
+use Rattle.tm_base.specs.declared.names.Class.TheVariants.{Deferrable, Global, Pinned}
 use Rattle.trace_lines.specs.declared.events.CpuEvent.{CpuEvent}
 use Rattle.trace_lines.specs.declared.events.CpuKind.{CpuKind}
 use Rattle.trace_lines.specs.declared.events.CpuKind.TheVariants.{Online, Awake, Asleep, Offline}
@@ -13,8 +15,6 @@ use Rattle.trace_lines.specs.declared.events.Happening.TheVariants.{CpuJoined, E
 use Rattle.trace_lines.specs.declared.events.Happening.TheVariants.{Updated, Handling}
 use Rattle.trace_lines.specs.declared.events.Arming.{Arming}
 use Rattle.trace_lines.specs.declared.events.Expiry.{Expiry}
-use Rattle.trace_lines.specs.declared.events.TimerClass.{TimerClass}
-use Rattle.trace_lines.specs.declared.events.TimerClass.TheVariants as classes
 use Rattle.trace_lines.specs.declared.events.TimerEvent.{TimerEvent}
 use Rattle.trace_lines.specs.declared.events.TimerEvent.TheVariants.{Armed, Removed, Ran, Softirq}
 use Rattle.trace_lines.specs.declared.events.Line.{Line}
@@ -22,8 +22,7 @@ use Rattle.trace_lines.specs.declared.events.Line.TheVariants.{Remark, Loss, For
 use Rattle.trace_lines.specs.declared.events.Line.TheVariants.{OfTimer}
 use Rattle.trace_seen.specs.declared.seen.Run.{Run}
 use Rattle.trace_seen.specs.declared.seen.Run.TheVariants as runs
-use Rattle.trace_seen.specs.Counts.{counted, counted_if}
-use Rattle.trace_timers.specs.declared.rule.TimerTally.{TimerTally}
+use Rattle.trace_seen.specs.Counts.{counted}
 use Rattle.trace_timers.specs.declared.rule.TheConstants.{TIMER_SOFTIRQ}
 use Rattle.trace_timers.specs.declared.seen.Queued.{Queued}
 use Rattle.trace_timers.specs.declared.seen.State.{State}
@@ -32,6 +31,7 @@ use Rattle.trace_timers.specs.declared.seen.TimerSeen.{TimerSeen}
 use Rattle.trace_timers.specs.Seen.{TimerSight, armed_after, no_timers, put_runner, put_timer}
 use Rattle.trace_timers.specs.Seen.{removed_after, run_after, runner_at, state_run, timer_at}
 use Rattle.trace_timers.specs.Seen.{written}
+use Rattle.trace_timers.specs.Bases.{clocks_after, least_of}
 use Rattle.trace_timers.specs.Wheel.{arming_fits}
 
 -- ---- a run
@@ -44,10 +44,11 @@ runs_for (runs.Of cpu) home = cpu.0 == home.0
 
 -- a CPU that isn't a timer's own may run it: a pinned or deferrable one never, a global one in a
 -- run for its CPU
-abbrev pub may_run : TimerClass → Run → CpuId → Bool
-may_run classes.Home run home = false
-may_run classes.Unknown run home = true
-may_run classes.Global run home = runs_for run home
+abbrev pub may_run : Option Class → Run → CpuId → Bool
+may_run None run home = true
+may_run (Some Pinned) run home = false
+may_run (Some Deferrable) run home = false
+may_run (Some Global) run home = runs_for run home
 
 -- the timer runs on its CPU, or on one that may run it
 abbrev pub place_fits : Queued → CpuId → Run → Bool
@@ -70,9 +71,13 @@ run_fits s cpu at e =
 
 -- ---- a line
 
+-- the least clock that the base of an armed timer is known to have
+abbrev pub least_known : TimerSight → CpuId → Option ℕ → Arming → ℕ
+least_known s cpu at a = least_of (runner_at s a.cpu).clocks a.class cpu at
+
 -- an event of a timer keeps the rule
 unfoldable pub event_fits : TimerSight → CpuId → Option ℕ → TimerEvent → Bool
-event_fits s cpu at (Armed a) = arming_fits a
+event_fits s cpu at (Armed a) = arming_fits (least_known s cpu at a) a
 event_fits s cpu at (Removed timer) = true
 event_fits s cpu at (Ran e) = run_fits s cpu at e
 event_fits s cpu at (Softirq vec) = true
@@ -89,16 +94,36 @@ timer_fault s (OfTimer cpu at e) = if event_fits s cpu at e then None else Some 
 unfoldable pub at_softirq : TimerSight → ℕ → CpuId → ℕ → TimerSight
 at_softirq s line cpu vec =
     if vec == TIMER_SOFTIRQ
-    then put_runner s (record { cpu = cpu; run = runs.Own; edge = line }) else s
+    then put_runner s (record (runner_at s cpu) { run = runs.Own; edge = line }) else s
 
 -- a CPU that is in the middle of its softirq
 unfoldable pub at_expiry : TimerSight → ℕ → CpuId → TimerSight
 at_expiry s line cpu = put_runner s (record (runner_at s cpu) { edge = line })
 
+-- a base has come to the jiffy behind the expiry that it runs (__run_timers)
+unfoldable pub base_learned : TimerSight → CpuId → Option ℕ → Queued → ℕ → TimerSight
+base_learned s cpu at q clock =
+    put_runner s
+    (record (runner_at s q.home) {
+      clocks = clocks_after (runner_at s q.home).clocks q.class cpu at (counted clock);
+    })
+
+-- .. where it is known which one
+abbrev pub state_learned : TimerSight → CpuId → Option ℕ → State → ℕ → TimerSight
+state_learned s cpu at Unknown clock = s
+state_learned s cpu at Gone clock = s
+state_learned s cpu at (At q) clock = base_learned s cpu at q clock
+
+-- a timer that runs is learned
+unfoldable pub timer_run : TimerSight → CpuId → Option ℕ → Expiry → TimerSight
+timer_run s cpu at e =
+    put_timer s e.timer (run_after s (written (timer_at s e.timer) cpu at) cpu)
+
 -- what is known after a run
 unfoldable pub after_expiry : TimerSight → ℕ → CpuId → Option ℕ → Expiry → TimerSight
 after_expiry s line cpu at e =
-    at_expiry (put_timer s e.timer (run_after s (written (timer_at s e.timer) cpu at) cpu)) line cpu
+    state_learned (at_expiry (timer_run s cpu at e) line cpu) cpu at (state_of_run s cpu at e)
+    e.clock
 
 -- .. after an event of a timer
 unfoldable pub timers_learned : TimerSight → ℕ → CpuId → Option ℕ → TimerEvent → TimerSight
@@ -136,48 +161,3 @@ timers_after s line Loss = no_timers
 timers_after s line (Foreign cpu) = s
 timers_after s line (Told cpu at h) = timers_told s cpu h
 timers_after s line (OfTimer cpu at e) = timers_learned s line cpu at e
-
--- ---- counts
-
--- none is counted
-abbrev pub no_timer_tally : TimerTally
-no_timer_tally = record { armed = 0; ran = 0; remote = 0; unsure = 0; forwarded = 0 }
-
--- it isn't known how the timer was queued
-abbrev pub is_unsure : State → Bool
-is_unsure Unknown = true
-is_unsure Gone = false
-is_unsure (At q) = false
-
--- the timer is another CPU's
-abbrev pub is_remote : State → CpuId → Bool
-is_remote Unknown cpu = false
-is_remote Gone cpu = false
-is_remote (At q) cpu = if q.home.0 == cpu.0 then false else true
-
--- the base's clock has gone on from the timer's bucket: it was forwarded in the middle of a run
-abbrev pub is_forwarded : State → ℕ → Bool
-is_forwarded Unknown clock = false
-is_forwarded Gone clock = false
-is_forwarded (At q) clock = nat_lt q.bucket clock
-
--- a run is counted, by how its timer was queued
-unfoldable pub run_counted : TimerTally → State → CpuId → Expiry → TimerTally
-run_counted t state cpu e = record {
-  armed = t.armed;
-  ran = counted t.ran;
-  remote = counted_if (is_remote state cpu) t.remote;
-  unsure = counted_if (is_unsure state) t.unsure;
-  forwarded = counted_if (is_forwarded state e.clock) t.forwarded;
-}
-
--- THE COUNTS after a line, by what was known before it
-unfoldable pub timer_tally_after : TimerTally → TimerSight → Line → TimerTally
-timer_tally_after t s Remark = t
-timer_tally_after t s Loss = t
-timer_tally_after t s (Foreign cpu) = t
-timer_tally_after t s (Told cpu at h) = t
-timer_tally_after t s (OfTimer cpu at (Armed a)) = record t { armed = counted t.armed }
-timer_tally_after t s (OfTimer cpu at (Removed timer)) = t
-timer_tally_after t s (OfTimer cpu at (Ran e)) = run_counted t (state_of_run s cpu at e) cpu e
-timer_tally_after t s (OfTimer cpu at (Softirq vec)) = t

@@ -1,5 +1,5 @@
 -- what was seen of timers and of the CPUs that run them
-use Rattle.std.specs.Prelude.{ℕ, ◌==◌, ◌&&◌, not, nat_lt, List, [], ◌∷◌, Bool, true, false}
+use Rattle.std.specs.Prelude.{ℕ, ◌==◌, ◌&&◌, nat_lt, List, [], ◌∷◌, Bool, true, false}
 use Rattle.std.specs.Prelude.{Option, Some, None, is_some, find, position, if◌then◌else◌}
 use Rattle.std.specs.Ordering.{nat_cmp}
 use Rattle.std.specs.BTreeMap.{insert_entry, is_at}
@@ -7,7 +7,7 @@ use Rattle.std.specs.Map.{lookup}
 use Rattle.tm_base.specs.declared.names.CpuId.{CpuId}
 use Rattle.trace_lines.specs.declared.events.Arming.{Arming}
 use Rattle.trace_seen.specs.Seen.{or_else, put_at}
-use Rattle.trace_seen.specs.Tree.{same_pointer}
+use Rattle.trace_timers.specs.Bases.{is_jumbled, unknown_clocks}
 use Rattle.trace_seen.specs.declared.seen.Run.TheVariants as runs
 use Rattle.trace_timers.specs.declared.seen.Queued.{Queued}
 use Rattle.trace_timers.specs.declared.seen.State.{State}
@@ -32,7 +32,8 @@ unknown_timer = record { state = Unknown; taken = Untaken; at = None; by = None 
 
 -- a CPU of which nothing is known
 abbrev pub unknown_runner : CpuId → Runner
-unknown_runner cpu = record { cpu = cpu; run = runs.Unknown; edge = 0 }
+unknown_runner cpu =
+    record { cpu = cpu; run = runs.Unknown; edge = 0; clocks = unknown_clocks }
 
 -- what was seen of a timer
 abbrev pub timer_at : TimerSight → ℕ → TimerSeen
@@ -53,15 +54,6 @@ put_runner s r =
 
 -- ---- the order of lines
 
--- it is this CPU
-abbrev pub is_cpu : Option CpuId → CpuId → Bool
-is_cpu None cpu = false
-is_cpu (Some other) cpu = other.0 == cpu.0
-
--- the timer's last line has the same time and is another CPU's, so that either may be the first
-unfoldable pub is_jumbled : TimerSeen → CpuId → Option ℕ → Bool
-is_jumbled t cpu at = is_some at && same_pointer t.at at && not (is_cpu t.by cpu)
-
 -- a timer of which nothing is known but when its last lines were written, by several CPUs
 abbrev pub jumbled : Option ℕ → TimerSeen
 jumbled at = record { state = Unknown; taken = Several; at = at; by = None }
@@ -69,7 +61,7 @@ jumbled at = record { state = Unknown; taken = Several; at = at; by = None }
 -- a timer once a line of this CPU at this time tells of it
 unfoldable pub written : TimerSeen → CpuId → Option ℕ → TimerSeen
 written t cpu at =
-    if is_jumbled t cpu at then jumbled at else record t { at = at; by = Some cpu }
+    if is_jumbled t.at t.by cpu at then jumbled at else record t { at = at; by = Some cpu }
 
 -- ---- a timer's lines
 

@@ -28,30 +28,41 @@ latest_of (suc level) expires bucket = expires - level_start (suc level)
 abbrev pub latest_cut : (expires bucket : ℕ) → ℕ
 latest_cut expires bucket = min (expires - cutoff) (bucket - 1 - greatest_timeout)
 
--- SOME CLOCK, up to the jiffy behind now, gives the bucket: a base that has run its timers is one
--- jiffy ahead, and one that wasn't forwarded is behind
-unfoldable pub bucket_fits : (now expires bucket index : ℕ) → Bool
-bucket_fits now expires bucket index =
+-- a base of this clock, which has come to another one before, gives this bucket
+unfoldable pub gives_past : (least expires clock bucket index : ℕ) → Bool
+gives_past least expires clock bucket index =
+    nat_le least clock && gives expires clock bucket index
+
+-- SOME CLOCK, from the least that the base may have up to the jiffy behind now, gives the bucket: a
+-- base that has run its timers is one jiffy ahead, and one that wasn't forwarded is behind
+unfoldable pub bucket_fits : (least now expires bucket index : ℕ) → Bool
+bucket_fits least now expires bucket index =
     nat_lt index BUCKETS
-    && (gives expires (min (now + 1) (latest_of (index / 64) expires bucket)) bucket index
-    || gives expires (min (now + 1) (latest_cut expires bucket)) bucket index)
+    && (gives_past least expires (min (now + 1) (latest_of (index / 64) expires bucket)) bucket index
+    || gives_past least expires (min (now + 1) (latest_cut expires bucket)) bucket index)
 
 -- times that are far from the end of the wheel's words
 abbrev pub are_near : (now expires : ℕ) → Bool
 are_near now expires = nat_le now MOST_JIFFIES && nat_le expires MOST_JIFFIES
 
 -- the bucket of an armed timer is the wheel's, at a time that its line may have
-abbrev pub fits_at : Option ℕ → Arming → Bool
-fits_at None a = true
-fits_at (Some now) a =
-    not (are_near now a.expires) || bucket_fits now a.expires a.bucket a.index
+abbrev pub fits_at : (least : ℕ) → Option ℕ → Arming → Bool
+fits_at least None a = true
+fits_at least (Some now) a =
+    not (are_near now a.expires) || bucket_fits least now a.expires a.bucket a.index
 
--- .. at its line's
-unfoldable pub arming_fits : Arming → Bool
-arming_fits a = fits_at a.jiffies a
+-- .. at its line's, in a base whose clock is at this or later
+unfoldable pub arming_fits : (least : ℕ) → Arming → Bool
+arming_fits least a = fits_at least a.jiffies a
 
--- what `bucket_fits` says: no clock up to the jiffy behind now is missed, and none is made up
+-- a clock that a base may have, by the least that it has and by the time, and that gives a bucket
+pub record Gives (least now expires bucket index clock : ℕ) : Type 0 where
+  pub from : least ≤ clock
+  pub to : clock ≤ now + 1
+  pub gives : gives expires clock bucket index ≡ true
+
+-- what `bucket_fits` says: no clock that the base may have is missed, and none is made up
 abbrev pub FindsClocks : Type 0
-FindsClocks = (now expires bucket index : ℕ)
-    → (bucket_fits now expires bucket index ≡ true)
-    ↔ ((clock : ℕ) × (clock ≤ now + 1) × (gives expires clock bucket index ≡ true))
+FindsClocks = (least now expires bucket index : ℕ)
+    → (bucket_fits least now expires bucket index ≡ true)
+    ↔ ((clock : ℕ) × Gives least now expires bucket index clock)

@@ -2,14 +2,16 @@
 //! wheel expiry, on its own CPU or in a run for that.
 #![tactic(auto)]
 
+mod bases;
 mod rule;
 mod seen;
+mod tallies;
 mod wheel;
 
-pub use rule::{
-    TIMER_SOFTIRQ, TimerTally, no_timer_tally, take_timers, timer_fault, timer_tally_after,
-};
+pub use bases::{BaseClock, Clocks};
+pub use rule::{TIMER_SOFTIRQ, take_timers, timer_fault};
 pub use seen::{Queued, Runner, State, Taken, TimerSeen, TimersSeen};
+pub use tallies::{TimerTally, no_timer_tally, timer_tally_after};
 pub use wheel::{MOST_JIFFIES, arming_fits, law_clocks};
 
 #[cfg(test)]

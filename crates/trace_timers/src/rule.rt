@@ -2,51 +2,25 @@
 
 ghost use Rattle.std.specs.Prelude.{◌≡◌, IfOk, OnOk};
 ghost use Rattle.trace_timers.specs.Rule.{after_expiry, at_expiry, at_softirq, event_fits};
-ghost use Rattle.trace_timers.specs.Rule.{is_forwarded, is_remote, is_unsure, may_run};
-ghost use Rattle.trace_timers.specs.Rule.{no_timer_tally, place_fits, run_begun, run_counted};
+ghost use Rattle.trace_timers.specs.Rule.{may_run};
+ghost use Rattle.trace_timers.specs.Rule.{place_fits, run_begun};
 ghost use Rattle.trace_timers.specs.Rule.{run_fits, runs_for, state_fits, state_of_run};
-ghost use Rattle.trace_timers.specs.Rule.{timer_fault, timer_tally_after, timers_after};
+ghost use Rattle.trace_timers.specs.Rule.{timer_fault, timers_after};
+ghost use Rattle.trace_timers.specs.Rule.{base_learned, least_known, state_learned, timer_run};
 ghost use Rattle.trace_timers.specs.Rule.{timers_learned, timers_told};
 ghost use Rattle.trace_timers.specs.Seen.{armed_after, put_timer, removed_after, timer_at, written};
 
+use crate::bases::{clocks_after, least_of};
 use crate::seen::{Queued, Runner, State, TimersSeen, armed_after, written};
 use crate::wheel::arming_fits;
 use std::alloc::Global;
-use tm_base::{CpuId, NoMemory};
-use trace_lines::{Arming, CpuEvent, CpuKind, Expiry, Happening, Line, TimerClass, TimerEvent};
-use trace_seen::counts::{counted, counted_if};
+use tm_base::{Class, CpuId, NoMemory};
+use trace_lines::{Arming, CpuEvent, CpuKind, Expiry, Happening, Line, TimerEvent};
+use trace_seen::counts::counted;
 use trace_seen::seen::Run;
 
 /// The softirq that runs timers (`TIMER_SOFTIRQ`).
 pub const TIMER_SOFTIRQ: u64 = 1;
-
-/// Lines that arm timers, and runs of timers.
-#[derive(Clone, Copy)]
-pub struct TimerTally {
-    /// Timers that went into a bucket.
-    pub armed: u64,
-    /// Timers that ran.
-    pub ran: u64,
-    /// Those among them that ran on another CPU than their own.
-    pub remote: u64,
-    /// Those of which it isn't known how they were queued.
-    pub unsure: u64,
-    /// Those whose base had gone on from their bucket: it was forwarded while its timers ran.
-    pub forwarded: u64,
-}
-
-/// Nothing is counted.
-pub fn no_timer_tally() -> TimerTally
-    ensures { result ≡ no_timer_tally }
-{
-    TimerTally {
-        armed: 0,
-        ran: 0,
-        remote: 0,
-        unsure: 0,
-        forwarded: 0,
-    }
-}
 
 /// Whether a CPU with such a run runs the timers of this one.
 fn runs_for(run: Run, home: CpuId) -> bool
@@ -60,13 +34,14 @@ fn runs_for(run: Run, home: CpuId) -> bool
 }
 
 /// Whether a CPU that isn't a timer's own may run it.
-fn may_run(class: TimerClass, run: Run, home: CpuId) -> bool
+fn may_run(class: Option<Class>, run: Run, home: CpuId) -> bool
     ensures { result ≡ may_run class run home }
 {
     match class {
-        TimerClass::Home => false,
-        TimerClass::Unknown => true,
-        TimerClass::Global => runs_for(run, home),
+        None => true,
+        Some(Class::Pinned) => false,
+        Some(Class::Deferrable) => false,
+        Some(Class::Global) => runs_for(run, home),
     }
 }
 
@@ -90,7 +65,7 @@ fn state_fits(state: State, expiry: &Expiry, cpu: CpuId, run: Run) -> bool
 
 /// How the timer of a run was queued.
 #[tactic(auto, unfolding(crate::specs::Rule::state_of_run))]
-fn state_of_run(seen: &TimersSeen, cpu: CpuId, at: Option<u64>, expiry: &Expiry) -> State
+pub fn state_of_run(seen: &TimersSeen, cpu: CpuId, at: Option<u64>, expiry: &Expiry) -> State
     ensures { result ≡ state_of_run seen.now cpu at expiry.now }
 {
     let timer = written(seen.timer(expiry.timer), cpu, at);
@@ -106,12 +81,20 @@ fn run_fits(seen: &TimersSeen, cpu: CpuId, at: Option<u64>, expiry: &Expiry) -> 
     expiry.clock <= expiry.jiffies && state_fits(state, expiry, cpu, runner.run)
 }
 
+/// The least clock that the base of an armed timer is known to have, in jiffies.
+fn least_known(seen: &TimersSeen, cpu: CpuId, at: Option<u64>, arming: &Arming) -> u64
+    ensures { result ≡ least_known seen.now cpu at arming.now }
+{
+    let base = seen.runner(arming.cpu);
+    least_of(&base.clocks, arming.class, cpu, at)
+}
+
 #[tactic(auto, unfolding(crate::specs::Rule::event_fits))]
 fn event_fits(seen: &TimersSeen, cpu: CpuId, at: Option<u64>, event: &TimerEvent) -> bool
     ensures { result ≡ event_fits seen.now cpu at event.now }
 {
     match event {
-        TimerEvent::Armed(arming) => arming_fits(arming),
+        TimerEvent::Armed(arming) => arming_fits(least_known(seen, cpu, at, arming), arming),
         TimerEvent::Removed(_) => true,
         TimerEvent::Ran(expiry) => run_fits(seen, cpu, at, expiry),
         TimerEvent::Softirq(_) => true,
@@ -143,10 +126,11 @@ fn take_softirq(seen: &mut TimersSeen, line: u64, cpu: CpuId, vec: u64) -> Resul
     ensures { OnOk result (seen.new ≡ at_softirq seen.old line cpu vec) }
 {
     if vec == TIMER_SOFTIRQ {
+        let runner = seen.runner(cpu);
         seen.put_runner(Runner {
-            cpu,
             run: Run::Own,
             edge: line,
+            ..runner
         })?;
     }
     Ok(())
@@ -194,6 +178,54 @@ fn take_removal(
     seen.put_timer(pointer, removed)
 }
 
+/// Keeps that a base has come to the jiffy behind the expiry that it runs.
+#[tactic(auto, unfolding(crate::specs::Rule::base_learned))]
+fn take_base(
+    seen: &mut TimersSeen,
+    cpu: CpuId,
+    at: Option<u64>,
+    queued: &Queued,
+    clock: u64,
+) -> Result<(), NoMemory>
+    ensures { OnOk result (seen.new ≡ base_learned seen.old cpu at queued.now clock) }
+{
+    let home = seen.runner(queued.home);
+    seen.put_runner(Runner {
+        clocks: clocks_after(home.clocks, queued.class, cpu, at, counted(clock)),
+        ..home
+    })
+}
+
+fn take_state(
+    seen: &mut TimersSeen,
+    cpu: CpuId,
+    at: Option<u64>,
+    state: State,
+    clock: u64,
+) -> Result<(), NoMemory>
+    ensures { OnOk result (seen.new ≡ state_learned seen.old cpu at state clock) }
+{
+    match state {
+        State::At(queued) => take_base(seen, cpu, at, &queued, clock),
+        _ => Ok(()),
+    }
+}
+
+/// Keeps that a timer runs.
+#[tactic(auto, unfolding(crate::specs::Rule::timer_run))]
+fn take_run_of(
+    seen: &mut TimersSeen,
+    cpu: CpuId,
+    at: Option<u64>,
+    expiry: &Expiry,
+) -> Result<(), NoMemory>
+    ensures { OnOk result (seen.new ≡ timer_run seen.old cpu at expiry.now) }
+{
+    let timer = written(seen.timer(expiry.timer), cpu, at);
+    let ran = seen.run_after(timer, cpu);
+    seen.put_timer(expiry.timer, ran)
+}
+
 /// Keeps what a run shows.
 #[tactic(auto, unfolding(crate::specs::Rule::after_expiry))]
 fn take_expiry(
@@ -205,10 +237,10 @@ fn take_expiry(
 ) -> Result<(), NoMemory>
     ensures { OnOk result (seen.new ≡ after_expiry seen.old line cpu at expiry.now) }
 {
-    let timer = written(seen.timer(expiry.timer), cpu, at);
-    let ran = seen.run_after(timer, cpu);
-    seen.put_timer(expiry.timer, ran)?;
-    take_edge(seen, line, cpu)
+    let state = state_of_run(seen, cpu, at, expiry);
+    take_run_of(seen, cpu, at, expiry)?;
+    take_edge(seen, line, cpu)?;
+    take_state(seen, cpu, at, state, expiry.clock)
 }
 
 /// Keeps what an event of a timer shows.
@@ -277,66 +309,5 @@ pub fn take_timers(
         }
         Line::Told(cpu, _, happening) => take_told(seen, *cpu, happening),
         Line::OfTimer(cpu, at, event) => take_event(seen, line, *cpu, *at, event),
-    }
-}
-
-fn is_unsure(state: State) -> bool
-    ensures { result ≡ is_unsure state }
-{
-    match state {
-        State::Unknown => true,
-        _ => false,
-    }
-}
-
-fn is_remote(state: State, cpu: CpuId) -> bool
-    ensures { result ≡ is_remote state cpu }
-{
-    match state {
-        State::At(queued) => queued.home.0 != cpu.0,
-        _ => false,
-    }
-}
-
-fn is_forwarded(state: State, clock: u64) -> bool
-    ensures { result ≡ is_forwarded state clock }
-{
-    match state {
-        State::At(queued) => queued.bucket < clock,
-        _ => false,
-    }
-}
-
-/// The counts after a run.
-#[tactic(auto, unfolding(crate::specs::Rule::run_counted))]
-fn run_counted(tally: TimerTally, state: State, cpu: CpuId, expiry: &Expiry) -> TimerTally
-    ensures { result ≡ run_counted tally state cpu expiry.now }
-{
-    TimerTally {
-        armed: tally.armed,
-        ran: counted(tally.ran),
-        remote: counted_if(is_remote(state, cpu), tally.remote),
-        unsure: counted_if(is_unsure(state), tally.unsure),
-        forwarded: counted_if(is_forwarded(state, expiry.clock), tally.forwarded),
-    }
-}
-
-/// The counts after a line, by what was known before it.
-#[tactic(auto, unfolding(crate::specs::Rule::timer_tally_after))]
-pub fn timer_tally_after(tally: TimerTally, seen: &TimersSeen, said: &Line) -> TimerTally
-    ensures { result ≡ timer_tally_after tally seen.now said.now }
-{
-    match said {
-        Line::OfTimer(cpu, at, event) => match event {
-            TimerEvent::Armed(_) => TimerTally {
-                armed: counted(tally.armed),
-                ..tally
-            },
-            TimerEvent::Ran(expiry) => {
-                run_counted(tally, state_of_run(seen, *cpu, *at, expiry), *cpu, expiry)
-            }
-            _ => tally,
-        },
-        _ => tally,
     }
 }

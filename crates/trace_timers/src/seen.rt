@@ -3,19 +3,19 @@
 ghost use Rattle.std.specs.Prelude.{◌≡◌, ◌==◌, ◌<◌, length, find, position, IfSome};
 ghost use Rattle.std.specs.Prelude.{OnErr, OnOk};
 ghost use Rattle.trace_seen.specs.Seen.{put_at};
-ghost use Rattle.trace_timers.specs.Seen.{armed_after, is_cpu, is_jumbled, is_open, is_out, jumbled};
+ghost use Rattle.trace_timers.specs.Seen.{armed_after, is_open, is_out, jumbled};
 ghost use Rattle.trace_timers.specs.Seen.{left_from, no_timers, put_runner, put_timer, queued_of};
 ghost use Rattle.trace_timers.specs.Seen.{removed_after, run_after, runner_at, state_behind};
 ghost use Rattle.trace_timers.specs.Seen.{state_left, state_run, state_taken, taken_again, taken_by};
 ghost use Rattle.trace_timers.specs.Seen.{timer_at, unknown_runner, unknown_timer, written};
 
+use crate::bases::{Clocks, is_jumbled, unknown_clocks};
 use std::alloc::Global;
 use std::collections::BTreeMap;
 use std::marker::Model;
-use tm_base::{CpuId, NoMemory};
-use trace_lines::{Arming, TimerClass};
+use tm_base::{Class, CpuId, NoMemory};
+use trace_lines::Arming;
 use trace_seen::seen::Run;
-use trace_seen::tree::same_pointer;
 
 /// Where a timer is queued.
 #[derive(Clone, Copy)]
@@ -24,8 +24,8 @@ pub struct Queued {
     pub bucket: u64,
     /// The CPU whose base it is in.
     pub home: CpuId,
-    /// Which CPUs may run it.
-    pub class: TimerClass,
+    /// Which of that CPU's bases it is, where it is known.
+    pub class: Option<Class>,
 }
 
 /// What is known of a timer.
@@ -68,6 +68,8 @@ pub struct Runner {
     /// The number of its last line that can't stand between a removal and the run that belongs to
     /// it: another run, or the begin or end of the softirq. 0 for none.
     pub edge: u64,
+    /// The clocks of its own bases.
+    pub clocks: Clocks,
 }
 
 /// A timer of which nothing was seen.
@@ -90,6 +92,7 @@ pub fn unknown_runner(cpu: CpuId) -> Runner
         cpu,
         run: Run::Unknown,
         edge: 0,
+        clocks: unknown_clocks(),
     }
 }
 
@@ -185,31 +188,13 @@ impl TimersSeen {
     }
 }
 
-fn is_cpu(known: Option<CpuId>, cpu: CpuId) -> bool
-    ensures { result ≡ is_cpu known cpu }
-{
-    match known {
-        Some(other) => other.0 == cpu.0,
-        None => false,
-    }
-}
-
-/// Whether a timer's last line has the time of this one and is another CPU's. While the kernel's
-/// clock has the resolution of a jiffy, lines of one time stand by CPU.
-#[tactic(auto, unfolding(crate::specs::Seen::is_jumbled))]
-fn is_jumbled(timer: &TimerSeen, cpu: CpuId, at: Option<u64>) -> bool
-    ensures { result ≡ is_jumbled timer.now cpu at }
-{
-    at.is_some() && same_pointer(timer.at, at) && !is_cpu(timer.by, cpu)
-}
-
 /// A timer once a line of this CPU at this time tells of it: where the order of its lines isn't
 /// known, nothing is known of it.
 #[tactic(auto, unfolding(crate::specs::Seen::written))]
 pub fn written(timer: TimerSeen, cpu: CpuId, at: Option<u64>) -> TimerSeen
     ensures { result ≡ written timer cpu at }
 {
-    if is_jumbled(&timer, cpu, at) {
+    if is_jumbled(timer.at, timer.by, cpu, at) {
         TimerSeen {
             state: State::Unknown,
             taken: Taken::Several,

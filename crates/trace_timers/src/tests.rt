@@ -1,8 +1,8 @@
 use super::*;
 use std::alloc::Global;
 use std::test::Fail;
-use tm_base::CpuId;
-use trace_lines::{Arming, TimerClass, read_line};
+use tm_base::{Class, CpuId};
+use trace_lines::{Arming, read_line};
 
 /// The CPU at fault in the last of these lines; all are taken.
 fn last_fault(alloc: Global, lines: &[&[u8]]) -> Option<u16> {
@@ -43,14 +43,14 @@ fn the_buckets_of_a_kernel_fit(rt: HostRuntime) -> Result<(), Fail> {
             bucket,
             cpu: CpuId(0),
             index,
-            class: TimerClass::Global,
+            class: Some(Class::Global),
         };
-        assert!(rt; arming_fits(&arming));
+        assert!(rt; arming_fits(0, &arming));
         let wrong = Arming {
             bucket: bucket + 1,
             ..arming
         };
-        assert!(rt; !arming_fits(&wrong));
+        assert!(rt; !arming_fits(0, &wrong));
     }
     Ok(())
 }

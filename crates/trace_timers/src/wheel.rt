@@ -3,7 +3,7 @@
 ghost use Rattle.std.specs.Prelude.{◌≡◌, ◌<◌, ◌≤◌, ◌+◌, ◌*◌, ◌/◌, ◌%◌, ◌^◌};
 ghost use Rattle.wheel_core.specs.WheelExpiry.{granularity, level_start};
 ghost use Rattle.trace_timers.specs.Wheel.{FindsClocks, are_near, arming_fits, bucket_fits, fits_at};
-ghost use Rattle.trace_timers.specs.Wheel.{gives, latest_cut, latest_of, wheel_index_of};
+ghost use Rattle.trace_timers.specs.Wheel.{gives, gives_past, latest_cut, latest_of, wheel_index_of};
 
 use trace_lines::Arming;
 use wheel_core::wheel_expiry;
@@ -55,6 +55,16 @@ fn gives(expires: u64, clock: u64, bucket: u64, index: u16) -> bool
     wheel == bucket && bucket_index(wheel, level) == u64::from(index)
 }
 
+/// Whether a base of this clock, which has come to another one before, gives this bucket.
+#[tactic(auto, unfolding(crate::specs::Wheel::gives_past))]
+fn gives_past(least: u64, expires: u64, clock: u64, bucket: u64, index: u16) -> bool
+    requires expires_in_time { expires < 2 ^ 47 }
+    requires clock_in_time { clock < 2 ^ 47 }
+    ensures { result ≡ gives_past least expires clock bucket index }
+{
+    least <= clock && gives(expires, clock, bucket, index)
+}
+
 /// The least delay of a level from 1 on, in jiffies (`LVL_START`).
 fn level_start(level: u16) -> u64
     requires { level < 9 }
@@ -92,12 +102,13 @@ fn latest_cut(expires: u64, bucket: u64) -> u64
     near.min(bucket.saturating_sub(1).saturating_sub(GREATEST_TIMEOUT))
 }
 
-/// Whether some clock up to the jiffy behind now gives the bucket.
+/// Whether some clock from the least that the base may have up to the jiffy behind now gives the
+/// bucket.
 #[tactic(auto, unfolding(crate::specs::Wheel::bucket_fits))]
-fn bucket_fits(now: u64, expires: u64, bucket: u64, index: u16) -> bool
+fn bucket_fits(least: u64, now: u64, expires: u64, bucket: u64, index: u16) -> bool
     requires now { now ≤ MOST_JIFFIES }
     requires expires { expires ≤ MOST_JIFFIES }
-    ensures { result ≡ bucket_fits now expires bucket index }
+    ensures { result ≡ bucket_fits least now expires bucket index }
 {
     if index >= BUCKETS {
         return false;
@@ -105,26 +116,27 @@ fn bucket_fits(now: u64, expires: u64, bucket: u64, index: u16) -> bool
     let last = now + 1;
     let near = last.min(latest_of(index / 64, expires, bucket));
     let far = last.min(latest_cut(expires, bucket));
-    gives(expires, near, bucket, index) || gives(expires, far, bucket, index)
+    gives_past(least, expires, near, bucket, index)
+        || gives_past(least, expires, far, bucket, index)
 }
 
 /// Whether the bucket of an armed timer is the one that the wheel gives it (`calc_wheel_index`) from
-/// some clock of its base up to the jiffy behind the line's. A line that has no jiffies, or times
-/// past `MOST_JIFFIES`, fits.
+/// some clock of its base up to the jiffy behind the line's, which is at this or later. A line that
+/// has no jiffies, or times past `MOST_JIFFIES`, fits.
 #[tactic(auto, unfolding(crate::specs::Wheel::arming_fits))]
-pub fn arming_fits(arming: &Arming) -> bool
-    ensures { result ≡ arming_fits arming.now }
+pub fn arming_fits(least: u64, arming: &Arming) -> bool
+    ensures { result ≡ arming_fits least arming.now }
 {
     match arming.jiffies {
         Some(now) => {
             !are_near(now, arming.expires)
-                || bucket_fits(now, arming.expires, arming.bucket, arming.index)
+                || bucket_fits(least, now, arming.expires, arming.bucket, arming.index)
         }
         None => true,
     }
 }
 
-/// `bucket_fits` misses no clock up to the jiffy behind now, and makes up none.
+/// `bucket_fits` misses no clock that the base may have, and makes up none.
 pub fn law_clocks()
     ensures { FindsClocks }
 {}

@@ -1,4 +1,4 @@
-use Rattle.trace_timers.proofs.Clocks.{by_shift}
+use Rattle.trace_timers.proofs.Buckets.{by_shift}
 use Rattle.trace_timers.proofs.wheel.granule.Goals as goal
 
 pub returns : goal.returns

@@ -1,4 +1,4 @@
-use Rattle.trace_timers.proofs.Clocks.{finds_clocks}
+use Rattle.trace_timers.proofs.Buckets.{finds_clocks}
 use Rattle.trace_timers.proofs.wheel.law_clocks.Goals as goal
 
 pub returns : goal.returns

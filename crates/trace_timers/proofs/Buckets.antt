@@ -1,13 +1,13 @@
 -- which clocks give a bucket
 use Rattle.std.proofs.Common.{◌≡◌, ◌↔◌, ℕ, zero, suc, ◌+◌, ◌*◌, ◌/◌, ◌%◌, ◌^◌, ◌<◌, ◌≤◌, ◌-◌, inl, inr}
-use Rattle.std.proofs.Common.{Bool, true, false, ◌==◌, ◌&&◌, ◌||◌, ◌∙◌, ap, min, arith, refl, subst, sym, nat_lt}
+use Rattle.std.proofs.Common.{Bool, true, false, ◌==◌, ◌&&◌, ◌||◌, ◌∙◌, ap, min, arith, refl, subst, sym, nat_le, nat_lt}
 use Rattle.std.proofs.Math.Nat.{le-min, le_trans, min-le_left, min-le_right}
-use Rattle.std.proofs.lemmas.Bool.{and_from, and_parts, cases_lt, eq-eqb, eqb-true, lt-ltb, or_cases}
+use Rattle.std.proofs.lemmas.Bool.{and_from, and_parts, cases_lt, eq-eqb, eqb-true, le-leb, leb-true, lt-ltb, or_cases}
 use Rattle.std.proofs.lemmas.Bool.{or_left, or_right}
 use Rattle.std.proofs.lemmas.Bool.Decides.{nat_tests}
 use Rattle.wheel_core.specs.WheelExpiry.{cutoff, granularity, granule_end, greatest_timeout}
 use Rattle.wheel_core.specs.WheelExpiry.{level_of_delay, level_start, wheel_expiry_of, wheel_level_of}
-use Rattle.trace_timers.specs.Wheel.{FindsClocks, bucket_fits, gives, latest_cut, latest_of}
+use Rattle.trace_timers.specs.Wheel.{FindsClocks, Gives, bucket_fits, gives, gives_past, latest_cut, latest_of}
 use Rattle.trace_timers.specs.Wheel.{wheel_index_of}
 
 -- shifting down by three bits a level divides by the granularity
@@ -179,16 +179,21 @@ place_level : (level place : ℕ) → level < 9
     → ((64 * level + place % 64) / 64 ≡ level) × (64 * level + place % 64 < 576)
 place_level level place l = (omega arith, omega arith)
 
+-- a clock that is tried is no sooner than one that gives the bucket, and gives it too
+record Tried (expires clock other : ℕ) : Type 0 where
+  pub later : clock ≤ other
+  pub same : Same expires clock other
+
 module _ (now expires clock : ℕ) (l : clock ≤ now + 1) where
   abbrev wheel : ℕ
   wheel = wheel_expiry_of expires clock
 
   -- the two clocks that are tried
   abbrev NearFits : ℕ → Type 0
-  NearFits level = Same expires clock (min (now + 1) (latest_of level expires wheel))
+  NearFits level = Tried expires clock (min (now + 1) (latest_of level expires wheel))
 
   abbrev FarFits : Type 0
-  FarFits = Same expires clock (min (now + 1) (latest_cut expires wheel))
+  FarFits = Tried expires clock (min (now + 1) (latest_cut expires wheel))
 
   near_zero : wheel_level_of expires clock ≡ 0 → NearFits 0
   near_zero is =
@@ -199,7 +204,10 @@ module _ (now expires clock : ℕ) (l : clock ≤ now + 1) where
             let one = next_row expires clock here near in
             omega arith
       ] in
-      zero_same expires clock (min (now + 1) wheel) is (le-min l upto) (min-le_right (now + 1) wheel)
+      record {
+        later = le-min l upto;
+        same = zero_same expires clock (min (now + 1) wheel) is (le-min l upto) (min-le_right (now + 1) wheel);
+      }
 
   near_suc : (level : ℕ) → wheel_level_of expires clock ≡ suc level → expires - clock < cutoff
       → NearFits (suc level)
@@ -210,8 +218,11 @@ module _ (now expires clock : ℕ) (l : clock ≤ now + 1) where
             let least = at_least level (expires - clock) (sym (row_level expires clock here) ∙ is) in
             omega arith
       ] in
-      suc_same level expires clock (min (now + 1) (expires - level_start (suc level))) is near
-      (le-min l upto) (min-le_right (now + 1) (expires - level_start (suc level)))
+      record {
+        later = le-min l upto;
+        same = suc_same level expires clock (min (now + 1) (expires - level_start (suc level))) is near
+            (le-min l upto) (min-le_right (now + 1) (expires - level_start (suc level)));
+      }
 
   near_fits : (level : ℕ) → wheel_level_of expires clock ≡ level → expires - clock < cutoff
       → NearFits level
@@ -223,9 +234,12 @@ module _ (now expires clock : ℕ) (l : clock ≤ now + 1) where
       let one = far_row expires clock far in
       let cut = min (expires - cutoff) (wheel - 1 - greatest_timeout) in
       let upto : clock ≤ cut = le-min (omega arith) (omega arith) in
-      far_same expires clock (min (now + 1) cut) far (le-min l upto)
-      (le_trans (min-le_right (now + 1) cut) (min-le_left (expires - cutoff) (wheel - 1 - greatest_timeout)))
-      (le_trans (min-le_right (now + 1) cut) (min-le_right (expires - cutoff) (wheel - 1 - greatest_timeout)))
+      record {
+        later = le-min l upto;
+        same = far_same expires clock (min (now + 1) cut) far (le-min l upto)
+            (le_trans (min-le_right (now + 1) cut) (min-le_left (expires - cutoff) (wheel - 1 - greatest_timeout)))
+            (le_trans (min-le_right (now + 1) cut) (min-le_right (expires - cutoff) (wheel - 1 - greatest_timeout)));
+      }
 
 -- ---- some clock gives the bucket exactly where one of the two that are tried does
 
@@ -248,51 +262,74 @@ gives_own expires clock =
     (eq-eqb (wheel_expiry_of expires clock) (wheel_expiry_of expires clock) refl)
     (eq-eqb (wheel_index_of expires clock) (wheel_index_of expires clock) refl)
 
+-- the bucket of a clock is that of a clock which is tried for it
+tried_gives : (least expires clock other : ℕ) → least ≤ clock → Tried expires clock other
+    → gives_past least expires other (wheel_expiry_of expires clock) (wheel_index_of expires clock) ≡ true
+unfolding gives_past
+tried_gives least expires clock other from tried =
+    let wheel = wheel_expiry_of expires clock in
+    let index = wheel_index_of expires clock in
+    and_from (nat_le least other) (gives expires other wheel index)
+    (le-leb least other (le_trans from tried.later))
+    (same_gives expires clock other wheel index tried.same (gives_own expires clock))
+
 -- the bucket that a clock gives is found
-found : (now expires clock : ℕ) → clock ≤ now + 1
-    → bucket_fits now expires (wheel_expiry_of expires clock) (wheel_index_of expires clock) ≡ true
+found : (least now expires clock : ℕ) → least ≤ clock → clock ≤ now + 1
+    → bucket_fits least now expires (wheel_expiry_of expires clock) (wheel_index_of expires clock) ≡ true
 unfolding bucket_fits
-found now expires clock l =
+found least now expires clock from l =
     let wheel = wheel_expiry_of expires clock in
     let level = wheel_level_of expires clock in
     let index = wheel_index_of expires clock in
     let place = place_level level (wheel / granularity level) (small_level expires clock) in
-    let own = gives_own expires clock in
-    let near = gives expires (min (now + 1) (latest_of (index / 64) expires wheel)) wheel index in
-    let far = gives expires (min (now + 1) (latest_cut expires wheel)) wheel index in
+    let near = gives_past least expires (min (now + 1) (latest_of (index / 64) expires wheel)) wheel index in
+    let far = gives_past least expires (min (now + 1) (latest_cut expires wheel)) wheel index in
     let some : (near || far) ≡ true = elim (cases_lt (expires - clock) cutoff) [
       | inl h ↦
           or_left near far
-          (subst (λ (k : ℕ). gives expires (min (now + 1) (latest_of k expires wheel)) wheel index ≡ true)
+          (subst (λ (k : ℕ). gives_past least expires (min (now + 1) (latest_of k expires wheel)) wheel index ≡ true)
           (sym place.0)
-          (same_gives expires clock (min (now + 1) (latest_of level expires wheel)) wheel index
-          (near_fits now expires clock l level refl h) own))
+          (tried_gives least expires clock (min (now + 1) (latest_of level expires wheel)) from
+          (near_fits now expires clock l level refl h)))
       | inr h ↦
           or_right near far
-          (same_gives expires clock (min (now + 1) (latest_cut expires wheel)) wheel index
-          (far_fits now expires clock l (omega arith)) own)
+          (tried_gives least expires clock (min (now + 1) (latest_cut expires wheel)) from
+          (far_fits now expires clock l (omega arith)))
     ] in
     and_from (nat_lt index 576) (near || far) (lt-ltb index 576 place.1) some
 
 -- .. and each bucket that fits is given by a clock that was tried
-given : (now expires bucket index : ℕ) → bucket_fits now expires bucket index ≡ true
-    → (clock : ℕ) × (clock ≤ now + 1) × (gives expires clock bucket index ≡ true)
+past_gives : (least now expires clock bucket index : ℕ) → clock ≤ now + 1
+    → gives_past least expires clock bucket index ≡ true
+    → (clock : ℕ) × Gives least now expires bucket index clock
+unfolding gives_past
+past_gives least now expires clock bucket index to is =
+    let both = and_parts (nat_le least clock) (gives expires clock bucket index) is in
+    (clock, record { from = leb-true least clock both.0; to = to; gives = both.1 })
+
+given : (least now expires bucket index : ℕ) → bucket_fits least now expires bucket index ≡ true
+    → (clock : ℕ) × Gives least now expires bucket index clock
 unfolding bucket_fits
-given now expires bucket index is =
+given least now expires bucket index is =
     let one = min (now + 1) (latest_of (index / 64) expires bucket) in
     let two = min (now + 1) (latest_cut expires bucket) in
     let some = (and_parts (nat_lt index 576)
-    (gives expires one bucket index || gives expires two bucket index) is).1 in
-    elim (or_cases (gives expires one bucket index) (gives expires two bucket index) some) [
-      | inl h ↦ (one, min-le_left (now + 1) (latest_of (index / 64) expires bucket), h)
-      | inr h ↦ (two, min-le_left (now + 1) (latest_cut expires bucket), h)
+    (gives_past least expires one bucket index || gives_past least expires two bucket index) is).1 in
+    elim (or_cases (gives_past least expires one bucket index)
+    (gives_past least expires two bucket index) some) [
+      | inl h ↦
+          past_gives least now expires one bucket index
+          (min-le_left (now + 1) (latest_of (index / 64) expires bucket)) h
+      | inr h ↦
+          past_gives least now expires two bucket index
+          (min-le_left (now + 1) (latest_cut expires bucket)) h
     ]
 
 pub finds_clocks : FindsClocks
-finds_clocks now expires bucket index = (
-  given now expires bucket index,
-  λ h. let parts = gives_parts expires h.0 bucket index h.2 in
-      subst (λ (b : ℕ). bucket_fits now expires b index ≡ true) parts.0
-      (subst (λ (i : ℕ). bucket_fits now expires (wheel_expiry_of expires h.0) i ≡ true) parts.1
-      (found now expires h.0 h.1)),
+finds_clocks least now expires bucket index = (
+  given least now expires bucket index,
+  λ h. let parts = gives_parts expires h.0 bucket index h.1.gives in
+      subst (λ (b : ℕ). bucket_fits least now expires b index ≡ true) parts.0
+      (subst (λ (i : ℕ). bucket_fits least now expires (wheel_expiry_of expires h.0) i ≡ true) parts.1
+      (found least now expires h.0 h.1.from h.1.to)),
 )
