@@ -1,6 +1,6 @@
 -- which clocks give a bucket
-use Rattle.std.proofs.Common.{◌≡◌, ◌↔◌, ℕ, zero, suc, ◌+◌, ◌*◌, ◌/◌, ◌%◌, ◌^◌, ◌<◌, ◌≤◌, ◌-◌, inl, inr}
-use Rattle.std.proofs.Common.{Bool, true, false, ◌==◌, ◌&&◌, ◌||◌, ◌∙◌, ap, min, arith, refl, subst, sym, nat_le, nat_lt}
+use Rattle.std.proofs.Common.{◌≡◌, ℕ, zero, suc, ◌+◌, ◌*◌, ◌/◌, ◌%◌, ◌^◌, ◌<◌, ◌≤◌, ◌-◌, inl, inr}
+use Rattle.std.proofs.Common.{true, ◌==◌, ◌||◌, ◌∙◌, ap, min, arith, refl, subst, sym, nat_le, nat_lt}
 use Rattle.std.proofs.Math.Nat.{le-min, le_trans, min-le_left, min-le_right}
 use Rattle.std.proofs.lemmas.Bool.{and_from, and_parts, cases_lt, eq-eqb, eqb-true, le-leb, leb-true, lt-ltb, or_cases}
 use Rattle.std.proofs.lemmas.Bool.{or_left, or_right}

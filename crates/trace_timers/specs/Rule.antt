@@ -1,5 +1,5 @@
 -- the rule of timers over the lines of a trace
-use Rattle.std.specs.Prelude.{ℕ, ◌==◌, ◌&&◌, ◌||◌, nat_le, nat_lt, Bool, true, false}
+use Rattle.std.specs.Prelude.{ℕ, ◌==◌, ◌&&◌, ◌||◌, nat_le, Bool, true, false}
 use Rattle.std.specs.Prelude.{Option, Some, None, if◌then◌else◌}
 use Rattle.tm_base.specs.declared.names.CpuId.{CpuId}
 use Rattle.tm_base.specs.declared.names.Class.{Class}
@@ -27,7 +27,6 @@ use Rattle.trace_timers.specs.declared.rule.TheConstants.{TIMER_SOFTIRQ}
 use Rattle.trace_timers.specs.declared.seen.Queued.{Queued}
 use Rattle.trace_timers.specs.declared.seen.State.{State}
 use Rattle.trace_timers.specs.declared.seen.State.TheVariants.{Unknown, Gone, At}
-use Rattle.trace_timers.specs.declared.seen.TimerSeen.{TimerSeen}
 use Rattle.trace_timers.specs.Seen.{TimerSight, armed_after, no_timers, put_runner, put_timer}
 use Rattle.trace_timers.specs.Seen.{removed_after, run_after, runner_at, state_run, timer_at}
 use Rattle.trace_timers.specs.Seen.{written}
@@ -100,7 +99,7 @@ at_softirq s line cpu vec =
 unfoldable pub at_expiry : TimerSight → ℕ → CpuId → TimerSight
 at_expiry s line cpu = put_runner s (record (runner_at s cpu) { edge = line })
 
--- a base has come to the jiffy behind the expiry that it runs (__run_timers)
+-- a base has come to the jiffy after the expiry that it runs (__run_timers)
 unfoldable pub base_learned : TimerSight → CpuId → Option ℕ → Queued → ℕ → TimerSight
 base_learned s cpu at q clock =
     put_runner s

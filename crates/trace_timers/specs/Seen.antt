@@ -1,5 +1,5 @@
 -- what was seen of timers and of the CPUs that run them
-use Rattle.std.specs.Prelude.{ℕ, ◌==◌, ◌&&◌, nat_lt, List, [], ◌∷◌, Bool, true, false}
+use Rattle.std.specs.Prelude.{ℕ, ◌==◌, ◌&&◌, nat_lt, List, [], Bool, true, false}
 use Rattle.std.specs.Prelude.{Option, Some, None, is_some, find, position, if◌then◌else◌}
 use Rattle.std.specs.Ordering.{nat_cmp}
 use Rattle.std.specs.BTreeMap.{insert_entry, is_at}
@@ -85,7 +85,7 @@ left_from Unknown = Unknown
 left_from Gone = Unknown
 left_from (At q) = At q
 
--- a removal behind one whose run may be to come: by which of them it runs isn't known
+-- a removal after one whose run may be to come: by which of them it runs isn't known
 unfoldable pub taken_again : Taken → CpuId → ℕ → Taken
 taken_again Untaken cpu line = Several
 taken_again Several cpu line = Several

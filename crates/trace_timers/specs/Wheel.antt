@@ -1,5 +1,5 @@
 -- the bucket of a timer, without a search over the clocks of its base
-use Rattle.std.specs.Prelude.{◌≡◌, ◌↔◌, ◌≤◌, ℕ, zero, suc, ◌+◌, ◌-◌, ◌*◌, ◌/◌, ◌%◌, ◌^◌}
+use Rattle.std.specs.Prelude.{◌≡◌, ◌↔◌, ◌≤◌, ℕ, zero, suc, ◌+◌, ◌-◌, ◌*◌, ◌/◌, ◌%◌}
 use Rattle.std.specs.Prelude.{◌==◌, ◌&&◌, ◌||◌, not, nat_le, nat_lt, min, Bool, true, Option, Some, None}
 use Rattle.trace_lines.specs.declared.events.Arming.{Arming}
 use Rattle.trace_timers.specs.declared.wheel.TheConstants.{BUCKETS, MOST_JIFFIES}
@@ -33,8 +33,8 @@ unfoldable pub gives_past : (least expires clock bucket index : ℕ) → Bool
 gives_past least expires clock bucket index =
     nat_le least clock && gives expires clock bucket index
 
--- SOME CLOCK, from the least that the base may have up to the jiffy behind now, gives the bucket: a
--- base that has run its timers is one jiffy ahead, and one that wasn't forwarded is behind
+-- SOME CLOCK, from the least that the base may have up to one jiffy past now, gives the bucket: a
+-- base that has just run its timers is one jiffy ahead, and one that wasn't forwarded is behind
 unfoldable pub bucket_fits : (least now expires bucket index : ℕ) → Bool
 bucket_fits least now expires bucket index =
     nat_lt index BUCKETS

@@ -58,7 +58,7 @@ fn is_cpu(known: Option<CpuId>, cpu: CpuId) -> bool
 }
 
 /// Whether what was written at a time by a CPU, or by several, may be later than a line of this CPU
-/// that stands behind it. While the kernel's clock has the resolution of a jiffy, lines of one time
+/// that stands after it. While the kernel's clock has the resolution of a jiffy, lines of one time
 /// stand by CPU.
 #[tactic(auto, unfolding(crate::specs::Bases::is_jumbled))]
 pub fn is_jumbled(at: Option<u64>, by: Option<CpuId>, cpu: CpuId, now: Option<u64>) -> bool

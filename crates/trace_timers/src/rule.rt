@@ -178,7 +178,7 @@ fn take_removal(
     seen.put_timer(pointer, removed)
 }
 
-/// Keeps that a base has come to the jiffy behind the expiry that it runs.
+/// Keeps that a base has come to the jiffy after the expiry that it runs.
 #[tactic(auto, unfolding(crate::specs::Rule::base_learned))]
 fn take_base(
     seen: &mut TimersSeen,

@@ -26,7 +26,7 @@ fn last_fault(alloc: Global, lines: &[&[u8]]) -> Option<u16> {
 }
 
 // Armings of traces of Linux 6.12, each of another level or with another clock of its base: the
-// jiffy itself, the one behind it, one that is past the expiry.
+// jiffy itself, or the next one (the last).
 #[test]
 fn the_buckets_of_a_kernel_fit(rt: HostRuntime) -> Result<(), Fail> {
     let cases = [

@@ -102,7 +102,7 @@ fn latest_cut(expires: u64, bucket: u64) -> u64
     near.min(bucket.saturating_sub(1).saturating_sub(GREATEST_TIMEOUT))
 }
 
-/// Whether some clock from the least that the base may have up to the jiffy behind now gives the
+/// Whether some clock from the least that the base may have up to one jiffy past now gives the
 /// bucket.
 #[tactic(auto, unfolding(crate::specs::Wheel::bucket_fits))]
 fn bucket_fits(least: u64, now: u64, expires: u64, bucket: u64, index: u16) -> bool
@@ -121,7 +121,7 @@ fn bucket_fits(least: u64, now: u64, expires: u64, bucket: u64, index: u16) -> b
 }
 
 /// Whether the bucket of an armed timer is the one that the wheel gives it (`calc_wheel_index`) from
-/// some clock of its base up to the jiffy behind the line's, which is at this or later. A line that
+/// some clock of its base up to one jiffy past the line's, which is at this or later. A line that
 /// has no jiffies, or times past `MOST_JIFFIES`, fits.
 #[tactic(auto, unfolding(crate::specs::Wheel::arming_fits))]
 pub fn arming_fits(least: u64, arming: &Arming) -> bool
