@@ -1,6 +1,7 @@
 -- all that is wrong with a trace
 use Rattle.std.specs.Prelude.{◌≡◌, ℕ, List, [], ◌∷◌, ◌++◌, Option, Some, None}
 use Rattle.trace_seen.specs.Counts.{counted}
+use Rattle.trace_timers.specs.Seen.{no_timers}
 use Rattle.trace_rules.specs.declared.judge.Course.{Course}
 use Rattle.trace_rules.specs.declared.judge.Misfit.{Misfit}
 use Rattle.trace_rules.specs.declared.judge.Tally.{Tally}
@@ -15,7 +16,11 @@ pub record AllSaid : Type 0 where
 
 -- LEARNT AGAIN: after a misfit nothing is known, as after lost lines; its line is counted
 abbrev pub forgotten : Tally → Course
-forgotten t = record { seen = no_sight; tally = record t { lines = counted t.lines } }
+forgotten t = record {
+  seen = no_sight;
+  timers = no_timers;
+  tally = record t { lines = counted t.lines };
+}
 
 -- what a line's verdict leaves, where the rest goes on so
 abbrev pub all_by : Option Verdict → Course → List Misfit → (after : Course)

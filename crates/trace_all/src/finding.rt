@@ -11,6 +11,7 @@ use tm_base::NoMemory;
 use trace_rules::{Course, Misfit, Verdict, late_count, new_course, take_text};
 use trace_seen::counts::counted;
 use trace_seen::seen::Seen;
+use trace_timers::TimersSeen;
 
 /// What was found in a trace.
 #[derive(Drop)]
@@ -26,6 +27,7 @@ fn forget(alloc: Global, course: &mut Course)
     ensures { course.new ≡ forgotten course.old.tally }
 {
     course.seen = Seen::new(alloc);
+    course.timers = TimersSeen::new(alloc);
     course.tally.lines = counted(course.tally.lines);
 }
 

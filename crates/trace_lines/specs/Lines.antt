@@ -25,8 +25,11 @@ use Rattle.trace_lines.specs.declared.events.Happening.TheVariants.{Exchanged, C
 use Rattle.trace_lines.specs.declared.events.Happening.TheVariants.{Handling}
 use Rattle.trace_lines.specs.declared.events.Line.{Line}
 use Rattle.trace_lines.specs.declared.events.Line.TheVariants.{Remark, Loss, Foreign, Told}
+use Rattle.trace_lines.specs.declared.events.Line.TheVariants.{OfTimer}
+use Rattle.trace_lines.specs.declared.timers.TimerName.{TimerName}
 use Rattle.trace_lines.specs.declared.numbers.Base.TheVariants.{Ten}
 use Rattle.trace_lines.specs.Times.{stamp_time}
+use Rattle.trace_lines.specs.Timers.{timer_event_of, timer_name_of}
 use Rattle.trace_lines.specs.Parts.{before, behind, bracketed, parts_of}
 use Rattle.trace_lines.specs.Numbers.{number_of}
 use Rattle.trace_lines.specs.Fields.{◌>>=◌, child_at, expiry_at, mask_at, number_at, place_at}
@@ -220,15 +223,22 @@ stamped_in (p ∷ q ∷ ps) =
     else if is_stamp q then Ok (stamp_time q, ps)
     else Err NoEvent
 
--- an event of this CPU at this time, where its name is known
+-- an event of a timer or a softirq, where its name is one
+abbrev pub timer_in : CpuId → Option ℕ → Option TimerName → List (List ℕ) → Result Line LineFault
+timer_in cpu at None parts = Ok (Foreign cpu)
+timer_in cpu at (Some name) parts = timer_event_of name parts >>= λ x. Ok (OfTimer cpu at x)
+
+-- an event of this CPU at this time, where its name is known; or else the line is this
 abbrev pub told_in : CpuId → Option ℕ → Option EventName → List (List ℕ) → Result Line LineFault
-told_in cpu at None parts = Ok (Foreign cpu)
-told_in cpu at (Some name) parts = happening_of name parts >>= λ x. Ok (Told cpu at x)
+    → Result Line LineFault
+told_in cpu at None parts other = other
+told_in cpu at (Some name) parts other = happening_of name parts >>= λ x. Ok (Told cpu at x)
 
 -- the parts from the name on
 abbrev pub named_in : CpuId → Option ℕ → List (List ℕ) → Result Line LineFault
 named_in cpu at [] = Ok (Foreign cpu)
-named_in cpu at (name ∷ parts) = told_in cpu at (event_of name) parts
+named_in cpu at (name ∷ parts) =
+    told_in cpu at (event_of name) parts (timer_in cpu at (timer_name_of name) parts)
 
 -- the event of a line
 abbrev pub event_in : List (List ℕ) → Result Line LineFault

@@ -1,6 +1,6 @@
 //! What the lines of a trace say.
 
-use tm_base::CpuId;
+use tm_base::{Class, CpuId};
 
 /// The expiry of an event that there isn't (the kernel's `KTIME_MAX`).
 pub const NO_EXPIRY: u64 = 9_223_372_036_854_775_807;
@@ -124,6 +124,50 @@ pub enum Happening {
     Handling(u64),
 }
 
+/// A timer goes into a bucket (`timer_start`).
+#[derive(Clone, Copy)]
+pub struct Arming {
+    /// The timer's pointer.
+    pub timer: u64,
+    /// The expiry that is asked for, in jiffies.
+    pub expires: u64,
+    /// The jiffies at which the line was written, where it has them.
+    pub jiffies: Option<u64>,
+    /// The wheel expiry, in jiffies.
+    pub bucket: u64,
+    /// The CPU whose base it is.
+    pub cpu: CpuId,
+    /// The bucket's number, 0 to 575: 64 times its level and its place there.
+    pub index: u16,
+    /// Which of the CPU's bases it is, where the flags say.
+    pub class: Option<Class>,
+}
+
+/// A timer's function is about to run (`timer_expire_entry`).
+#[derive(Clone, Copy)]
+pub struct Expiry {
+    /// The timer's pointer.
+    pub timer: u64,
+    /// The jiffies then.
+    pub jiffies: u64,
+    /// The wheel expiry to which its base has come (`baseclk`), in jiffies.
+    pub clock: u64,
+}
+
+/// What an event of a timer or of a softirq says.
+#[derive(Clone, Copy)]
+pub enum TimerEvent {
+    /// `timer_start`.
+    Armed(Arming),
+    /// `timer_cancel`: this timer, by its pointer, leaves its bucket, to be deleted, to be moved, or
+    /// to be run.
+    Removed(u64),
+    /// `timer_expire_entry`.
+    Ran(Expiry),
+    /// `softirq_entry`, `softirq_exit`: the softirq of this number begins or ends.
+    Softirq(u64),
+}
+
 /// A line of a trace.
 #[derive(Clone, Copy)]
 pub enum Line {
@@ -136,4 +180,6 @@ pub enum Line {
     /// An event of timer migration, of this CPU. The time in nanoseconds is that at the head of the
     /// line, to its microsecond's end where it has microseconds; None where it counts lines.
     Told(CpuId, Option<u64>, Happening),
+    /// An event of a timer or of a softirq, of this CPU, with the time at the head of the line.
+    OfTimer(CpuId, Option<u64>, TimerEvent),
 }

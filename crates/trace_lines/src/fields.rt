@@ -80,7 +80,7 @@ pub fn bit_at(bytes: &[u8], key: &[u8]) -> Result<u8, LineFault>
 
 /// Whether a field of this key stands there.
 #[tactic(auto, unfolding(crate::specs::Parts::has_key))]
-fn has_key(bytes: &[u8], key: &[u8]) -> bool
+pub fn has_key(bytes: &[u8], key: &[u8]) -> bool
     ensures { result ≡ has_key key.now (parts_of bytes.now) }
 {
     match value_in(bytes, key) {

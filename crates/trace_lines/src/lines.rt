@@ -8,6 +8,7 @@ ghost use Rattle.trace_lines.specs.Lines.{are_digits_or_dots, is_remark, named_i
 use crate::happenings::{event_of, read_happening};
 use crate::numbers::{Base, number};
 use crate::parts::{behind, bracketed, next_part};
+use crate::timers::{read_timer_event, timer_name_of};
 use crate::times::stamp_time;
 use crate::{Line, LineFault};
 use tm_base::{CPU_SET_SIZE, CpuId};
@@ -107,8 +108,11 @@ fn read_named(cpu: CpuId, at: Option<u64>, bytes: &[u8]) -> Result<Line, LineFau
     let Some((name, rest)) = next_part(bytes) else {
         return Ok(Line::Foreign(cpu));
     };
-    match event_of(name) {
-        Some(event) => Ok(Line::Told(cpu, at, read_happening(event, rest)?)),
+    if let Some(event) = event_of(name) {
+        return Ok(Line::Told(cpu, at, read_happening(event, rest)?));
+    }
+    match timer_name_of(name) {
+        Some(event) => Ok(Line::OfTimer(cpu, at, read_timer_event(event, rest)?)),
         None => Ok(Line::Foreign(cpu)),
     }
 }

@@ -1,5 +1,6 @@
 use super::*;
 use std::test::Fail;
+use tm_base::Class;
 
 // Lines of traces of Linux 6.12, and of a tool's report.
 #[test]
@@ -82,9 +83,83 @@ fn what_is_no_line_is_refused_with_its_cause(rt: HostRuntime) -> Result<(), Fail
             b"a-1 [001] 5.9: tmigr_cpu_idle: cpu=512 parent=1".as_slice(),
             LineFault::OutOfRange,
         ),
+        (
+            b"a-1 [001] 5.9: timer_cancel: function=f".as_slice(),
+            LineFault::FieldMissing,
+        ),
+        (
+            b"a-1 [001] 5.9: timer_start: timer=1 expires=10 [timeout=11] bucket_expiry=11".as_slice(),
+            LineFault::OutOfRange,
+        ),
     ];
     for (line, want) in cases {
         assert!(rt; matches!(read_line(line), Err(fault) if fault == want));
     }
+    Ok(())
+}
+
+// Lines of a trace of Linux 6.12.
+#[test]
+fn a_timer_s_lines_are_read_field_by_field(rt: HostRuntime) -> Result<(), Fail> {
+    let start = b"          <idle>-0       [001] d.s3.     5.916105: timer_start: \
+          timer=ffffffffb215f720 function=clocksource_watchdog expires=4294893805 [timeout=115] \
+          bucket_expiry=4294893808 cpu=2 idx=94 flags=P";
+    let Ok(Line::OfTimer(cpu, at, TimerEvent::Armed(arming))) = read_line(start) else {
+        assert!(rt; false, "not read");
+        return Ok(());
+    };
+    assert_eq!(rt; cpu.0, 1);
+    assert_eq!(rt; at, Some(5_916_105_999));
+    assert_eq!(rt; arming.timer, 0xffff_ffff_b215_f720);
+    assert_eq!(rt; arming.expires, 4_294_893_805);
+    assert_eq!(rt; arming.jiffies, Some(4_294_893_690));
+    assert_eq!(rt; arming.bucket, 4_294_893_808);
+    assert_eq!(rt; arming.cpu.0, 2);
+    assert_eq!(rt; arming.index, 94);
+    assert!(rt; arming.class == Some(Class::Pinned));
+    let run = b" <idle>-0 [001] ..s1. 5.916072: timer_expire_entry: timer=ffffffffb215f720 \
+          function=clocksource_watchdog now=4294893690 baseclk=4294893688";
+    let Ok(Line::OfTimer(_, _, TimerEvent::Ran(expiry))) = read_line(run) else {
+        assert!(rt; false, "not read");
+        return Ok(());
+    };
+    assert_eq!(rt; expiry.jiffies, 4_294_893_690);
+    assert_eq!(rt; expiry.clock, 4_294_893_688);
+    let cancel = b" <idle>-0 [001] d.s2. 5.916065: timer_cancel: timer=ffffffffb215f720";
+    let removed = 0xffff_ffff_b215_f720;
+    assert!(rt;
+        matches!(
+            read_line(cancel),
+            Ok(Line::OfTimer(_, _, TimerEvent::Removed(timer))) if timer == removed
+        )
+    );
+    let softirq = b" <idle>-0 [000] ..s1. 0.335460: softirq_exit: vec=1 [action=TIMER]";
+    assert!(rt;
+        matches!(
+            read_line(softirq),
+            Ok(Line::OfTimer(_, _, TimerEvent::Softirq(1)))
+        )
+    );
+    Ok(())
+}
+
+#[test]
+fn what_a_timer_may_do_is_told_by_its_flags_and_its_timeout(rt: HostRuntime) -> Result<(), Fail> {
+    let past = b"a-1 [000] 5.9: timer_start: timer=1 function=f expires=10 [timeout=-5] \
+          bucket_expiry=15 cpu=0 idx=15 flags=";
+    let Ok(Line::OfTimer(_, _, TimerEvent::Armed(arming))) = read_line(past) else {
+        assert!(rt; false, "not read");
+        return Ok(());
+    };
+    assert_eq!(rt; arming.jiffies, Some(15));
+    assert!(rt; arming.class == Some(Class::Global));
+    let unsure = b"a-1 [000] 5.9: timer_start: timer=1 function=f expires=10 bucket_expiry=15 \
+          cpu=0 idx=15 flags=D|P|I";
+    let Ok(Line::OfTimer(_, _, TimerEvent::Armed(unclear))) = read_line(unsure) else {
+        assert!(rt; false, "not read");
+        return Ok(());
+    };
+    assert_eq!(rt; unclear.jiffies, None);
+    assert!(rt; unclear.class.is_none());
     Ok(())
 }

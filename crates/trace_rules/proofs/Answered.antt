@@ -20,7 +20,8 @@ use Rattle.trace_rules.specs.declared.judge.Verdict.{Verdict}
 use Rattle.trace_rules.specs.Judge.{EachFits, fault_of, learned, line_misfit, misfit_by}
 use Rattle.trace_rules.specs.Judge.{rest_by, said_after, said_verdict, stuck_misfit}
 use Rattle.trace_rules.specs.Judge.{seen_after, text_after, text_verdict, told_misfit, verdict_of}
-use Rattle.trace_rules.specs.Judge.{IsFitting, judged, start}
+use Rattle.trace_rules.specs.Judge.{IsFitting, first_misfit, judged, start, timer_misfit}
+use Rattle.trace_timers.specs.Rule.{timer_fault}
 use Rattle.trace_rules.specs.Agrees.{RestAnswers, RestsAnswer}
 use Rattle.trace_rules.proofs.Verdicts.{fits_each}
 
@@ -29,6 +30,11 @@ use Rattle.trace_rules.proofs.Verdicts.{fits_each}
 verdict_none : (o : Option Misfit) → verdict_of o ≡ None → o ≡ None
 verdict_none None is = refl
 verdict_none (Some misfit) is = absurd (none-some _ (sym is))
+
+-- the first misfit is none where both are
+first_none : (a b : Option Misfit) → first_misfit a b ≡ None → a ≡ None
+first_none None b is = refl
+first_none (Some misfit) b is = absurd (none-some _ (sym is))
 
 rest_none : (line : ℕ) (s : Sight) (fits told : Bool) → rest_by line s fits told ≡ None →
     told ≡ true
@@ -57,10 +63,15 @@ module _ (hold : AnswersHold) where
   by_line k (Ok lines.Remark) is = λ rest. absurd (true≢false (sym rest))
   by_line k (Ok lines.Loss) is = λ rest. absurd (true≢false (sym rest))
   by_line k (Ok (lines.Foreign cpu)) is = λ rest. absurd (true≢false (sym rest))
+  by_line k (Ok (lines.OfTimer cpu at e)) is = λ rest. absurd (true≢false (sym rest))
   by_line k (Ok (lines.Told cpu at h)) is =
       hold (learned (timed k.seen at) (counted k.tally.lines) cpu h)
       (told_line (timed k.seen at) (counted k.tally.lines) cpu h
-      (verdict_none (told_misfit (timed k.seen at) (counted k.tally.lines) cpu h) is))
+      (first_none (told_misfit (timed k.seen at) (counted k.tally.lines) cpu h)
+      (timer_misfit (counted k.tally.lines) (timer_fault k.timers (lines.Told cpu at h)))
+      (verdict_none
+      (first_misfit (told_misfit (timed k.seen at) (counted k.tally.lines) cpu h)
+      (timer_misfit (counted k.tally.lines) (timer_fault k.timers (lines.Told cpu at h)))) is)))
 
   by_text : (k : Course) (text : List ℕ) → text_verdict k text ≡ None →
       RestAnswers (line_of text) (text_after k text).seen

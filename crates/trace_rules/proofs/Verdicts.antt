@@ -8,6 +8,8 @@ use Rattle.trace_rules.specs.declared.judge.Course.{Course}
 use Rattle.trace_rules.specs.declared.judge.Misfit.{Misfit}
 use Rattle.trace_rules.specs.declared.judge.Verdict.{Verdict}
 use Rattle.trace_rules.specs.Judge.{EachFits, IsFirstAt, IsFitting, judged, line_misfit}
+use Rattle.trace_rules.specs.Judge.{first_misfit, timer_misfit}
+use Rattle.trace_timers.specs.Rule.{timer_fault}
 use Rattle.trace_seen.specs.Counts.{counted}
 use Rattle.trace_rules.specs.Judge.{said_verdict, start, text_after, text_verdict, verdict_of}
 use Rattle.trace_rules.specs.Judge.{verdict_or}
@@ -23,7 +25,10 @@ misfit_no_fit (Some misfit) = λ h. h
 
 said_no_fit : (k : Course) (r : Result Line LineFault) → NoFit (said_verdict k r)
 said_no_fit k (Err fault) = λ h. h
-said_no_fit k (Ok said) = misfit_no_fit (line_misfit k.seen (counted k.tally.lines) said)
+said_no_fit k (Ok said) =
+    misfit_no_fit
+    (first_misfit (line_misfit k.seen (counted k.tally.lines) said)
+    (timer_misfit (counted k.tally.lines) (timer_fault k.timers said)))
 
 text_no_fit : (k : Course) (text : List ℕ) → NoFit (text_verdict k text)
 unfolding text_verdict

@@ -11,6 +11,7 @@ use Rattle.trace_lines.specs.declared.events.Happening.TheVariants.{CpuJoined, E
 use Rattle.trace_lines.specs.declared.events.Happening.TheVariants.{Updated, Handling}
 use Rattle.trace_lines.specs.declared.events.Line.{Line}
 use Rattle.trace_lines.specs.declared.events.Line.TheVariants.{Remark, Loss, Foreign, Told}
+use Rattle.trace_lines.specs.declared.events.Line.TheVariants.{OfTimer}
 use Rattle.trace_lines.specs.Lines.{line_of}
 use Rattle.trace_seen.specs.declared.rules.Rule.{Rule}
 use Rattle.trace_seen.specs.declared.rules.Rule.TheVariants as rules
@@ -25,6 +26,10 @@ use Rattle.trace_seen.specs.Seen.{Sight, cpu_at, group_at, timed}
 use Rattle.trace_runs.specs.declared.runs.Runs.{Runs}
 use Rattle.trace_runs.specs.Runs.{no_runs, runs_after}
 use Rattle.trace_runs.specs.Differences.{differences_after, no_differences}
+use Rattle.trace_timers.specs.declared.tallies.TimerTally.{TimerTally}
+use Rattle.trace_timers.specs.Seen.{no_timers}
+use Rattle.trace_timers.specs.Rule.{timer_fault, timers_after}
+use Rattle.trace_timers.specs.Tallies.{no_timer_tally, timer_tally_after}
 use Rattle.trace_seen.specs.Counts.{counted, counted_if}
 use Rattle.trace_seen.specs.Whom.{edge_whom, event_whom}
 use Rattle.trace_seen.specs.Tree.{cpu_joining_fault, group_joining_fault, spot_fits}
@@ -132,6 +137,7 @@ seen_after s line Remark = s
 seen_after s line Loss = no_sight
 seen_after s line (Foreign cpu) = noted s line cpu
 seen_after s line (Told cpu at h) = learned (timed s at) line cpu h
+seen_after s line (OfTimer cpu at e) = noted s line cpu
 
 -- the misfit of a line, if it has one
 unfoldable pub line_misfit : Sight → ℕ → Line → Option Misfit
@@ -139,6 +145,18 @@ line_misfit s line Remark = None
 line_misfit s line Loss = None
 line_misfit s line (Foreign cpu) = None
 line_misfit s line (Told cpu at h) = told_misfit (timed s at) line cpu h
+line_misfit s line (OfTimer cpu at e) = None
+
+-- the misfit of a line that breaks the rule of timers, by the CPU that wrote it
+abbrev pub timer_misfit : ℕ → Option CpuId → Option Misfit
+timer_misfit line None = None
+timer_misfit line (Some cpu) =
+    Some (misfit_of line rules.Timer (record { cpu = Some cpu; group = None }))
+
+-- the first of two misfits
+abbrev pub first_misfit : Option Misfit → Option Misfit → Option Misfit
+first_misfit None other = other
+first_misfit (Some misfit) other = Some misfit
 
 -- a line that tells an exchange
 abbrev pub is_exchange : Line → Bool
@@ -152,6 +170,7 @@ is_exchange (Told cpu at (Handling group)) = false
 is_exchange Remark = false
 is_exchange Loss = false
 is_exchange (Foreign cpu) = false
+is_exchange (OfTimer cpu at e) = false
 
 -- a line of timer migration
 abbrev pub is_told : Line → Bool
@@ -159,6 +178,7 @@ is_told (Told cpu at h) = true
 is_told Remark = false
 is_told Loss = false
 is_told (Foreign cpu) = false
+is_told (OfTimer cpu at e) = false
 
 -- a line that tells of lost ones
 abbrev pub is_loss_line : Line → Bool
@@ -166,6 +186,7 @@ is_loss_line Loss = true
 is_loss_line Remark = false
 is_loss_line (Foreign cpu) = false
 is_loss_line (Told cpu at h) = false
+is_loss_line (OfTimer cpu at e) = false
 
 -- no walk is under way after a line of timer migration
 abbrev pub rests_after : Line → Sight → Bool
@@ -173,10 +194,11 @@ rests_after (Told cpu at h) s = at_rest s
 rests_after Remark s = false
 rests_after Loss s = false
 rests_after (Foreign cpu) s = false
+rests_after (OfTimer cpu at e) s = false
 
--- the counts after a line, with these of runs, by what is known then
-unfoldable pub tally_after : Tally → Runs → Line → Sight → Tally
-tally_after t runs said s = record {
+-- the counts after a line, with these of runs and of timers, by what is known then
+unfoldable pub tally_after : Tally → Runs → TimerTally → Line → Sight → Tally
+tally_after t runs timers said s = record {
   lines = counted t.lines;
   events = counted_if (is_told said) t.events;
   exchanges = counted_if (is_exchange said) t.exchanges;
@@ -185,6 +207,7 @@ tally_after t runs said s = record {
   answers = answers_if (rests_after said s) t.answers s;
   runs = runs;
   differences = differences_after t.differences s said;
+  timers = timers;
 }
 
 -- ---- the trace
@@ -200,28 +223,34 @@ no_tally = record {
   answers = no_answers;
   runs = no_runs;
   differences = no_differences;
+  timers = no_timer_tally;
 }
 
 -- before the first line
 abbrev pub start : Course
-start = record { seen = no_sight; tally = no_tally }
+start = record { seen = no_sight; timers = no_timers; tally = no_tally }
 
 -- the verdict of a misfit
 abbrev pub verdict_of : Option Misfit → Option Verdict
 verdict_of None = None
 verdict_of (Some misfit) = Some (Broken misfit)
 
--- what a line decides; its number is one more than the lines before it
+-- what a line decides, by the rule of timers last; its number is one more than the lines before it
 abbrev pub said_verdict : Course → Result Line LineFault → Option Verdict
 said_verdict k (Err fault) = Some (NoTrace (counted k.tally.lines) fault)
-said_verdict k (Ok said) = verdict_of (line_misfit k.seen (counted k.tally.lines) said)
+said_verdict k (Ok said) =
+    verdict_of
+    (first_misfit (line_misfit k.seen (counted k.tally.lines) said)
+    (timer_misfit (counted k.tally.lines) (timer_fault k.timers said)))
 
 -- what stands after a line
 abbrev pub said_after : Course → Result Line LineFault → Course
 said_after k (Err fault) = k
 said_after k (Ok said) = record {
   seen = seen_after k.seen (counted k.tally.lines) said;
-  tally = tally_after k.tally (runs_after k.tally.runs k.seen said) said
+  timers = timers_after k.timers (counted k.tally.lines) said;
+  tally = tally_after k.tally (runs_after k.tally.runs k.seen said)
+      (timer_tally_after k.tally.timers k.timers said) said
       (seen_after k.seen (counted k.tally.lines) said);
 }
 

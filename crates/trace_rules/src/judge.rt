@@ -10,7 +10,7 @@ ghost use Rattle.trace_rules.specs.Orders.{first_late};
 ghost use Rattle.trace_rules.specs.Judge.{start, tally_after, text_after, text_verdict};
 ghost use Rattle.trace_rules.specs.Judge.{told_misfit};
 ghost use Rattle.trace_rules.specs.Judge.{EachLineFits, IsFirstFault, IsFitting};
-ghost use Rattle.trace_rules.specs.Judge.{handling_fault, noted};
+ghost use Rattle.trace_rules.specs.Judge.{handling_fault, noted, timer_misfit};
 ghost use Rattle.trace_rules.specs.Agrees.{EachRestAnswers};
 ghost use Rattle.trace_rules.specs.Witness.{HasOrders};
 ghost use Rattle.trace_rules.specs.Cpus.{learned_place, moved};
@@ -35,6 +35,9 @@ use trace_seen::tree::{cpu_joining_fault, group_joining_fault, spot_fits};
 use trace_seen::walks::may_rest;
 use trace_seen::whom::{edge_whom, event_whom};
 use trace_seen::{Rule, Whom};
+use trace_timers::{
+    TimerTally, TimersSeen, no_timer_tally, take_timers, timer_fault, timer_tally_after,
+};
 use trace_told::told::{answers_if, missing_whom, no_answers, told_fits};
 use trace_told::{Answers, law_rests};
 
@@ -57,6 +60,8 @@ pub struct Tally {
     pub runs: Runs,
     /// What Linux does otherwise.
     pub differences: Differences,
+    /// Lines that arm timers, and runs of timers.
+    pub timers: TimerTally,
 }
 
 /// Where a trace leaves the rules.
@@ -86,6 +91,7 @@ pub enum Verdict {
 #[derive(Drop)]
 pub struct Course {
     pub seen: Seen,
+    pub timers: TimersSeen,
     pub tally: Tally,
 }
 
@@ -263,6 +269,10 @@ fn take_line(
             note_line(seen, line, *cpu)?;
             Ok(None)
         }
+        Line::OfTimer(cpu, _, _) => {
+            note_line(seen, line, *cpu)?;
+            Ok(None)
+        }
         Line::Told(cpu, at, happening) => {
             seen.pass(*at);
             take_told(seen, line, *cpu, happening)
@@ -311,8 +321,8 @@ fn rests_after(said: &Line, seen: &Seen) -> bool
 
 /// The counts after a line; the runs are counted by what was seen before it.
 #[tactic(auto, unfolding(crate::specs::Judge::tally_after))]
-fn tally_after(tally: Tally, runs: Runs, said: &Line, seen: &Seen) -> Tally
-    ensures { result ≡ tally_after tally runs said.now seen.now }
+fn tally_after(tally: Tally, runs: Runs, timers: TimerTally, said: &Line, seen: &Seen) -> Tally
+    ensures { result ≡ tally_after tally runs timers said.now seen.now }
 {
     Tally {
         lines: counted(tally.lines),
@@ -323,6 +333,24 @@ fn tally_after(tally: Tally, runs: Runs, said: &Line, seen: &Seen) -> Tally
         answers: answers_if(rests_after(said, seen), tally.answers, seen),
         runs,
         differences: differences_after(tally.differences, seen, said),
+        timers,
+    }
+}
+
+/// The misfit of a line that breaks the rule of timers, by the CPU that wrote it.
+fn timer_misfit(line: u64, fault: Option<CpuId>) -> Option<Misfit>
+    ensures { result ≡ timer_misfit line fault }
+{
+    match fault {
+        Some(cpu) => Some(Misfit {
+            line,
+            rule: Rule::Timer,
+            whom: Whom {
+                cpu: Some(cpu),
+                group: None,
+            },
+        }),
+        None => None,
     }
 }
 
@@ -343,10 +371,15 @@ pub fn take_text(
     match read_line(text) {
         Ok(said) => {
             let runs = runs_after(course.tally.runs, &course.seen, &said);
+            let timers = timer_tally_after(course.tally.timers, &course.timers, &said);
             if let Some(misfit) = take_line(alloc, &mut course.seen, line, &said)? {
                 return Ok(Some(Verdict::Broken(misfit)));
             }
-            course.tally = tally_after(course.tally, runs, &said, &course.seen);
+            if let Some(misfit) = timer_misfit(line, timer_fault(&course.timers, &said)) {
+                return Ok(Some(Verdict::Broken(misfit)));
+            }
+            take_timers(alloc, &mut course.timers, line, &said)?;
+            course.tally = tally_after(course.tally, runs, timers, &said, &course.seen);
             Ok(None)
         }
         Err(fault) => Ok(Some(Verdict::NoTrace(line, fault))),
@@ -366,6 +399,7 @@ pub fn new_course(alloc: Global) -> Course
 {
     Course {
         seen: Seen::new(alloc),
+        timers: TimersSeen::new(alloc),
         tally: Tally {
             lines: 0,
             events: 0,
@@ -375,6 +409,7 @@ pub fn new_course(alloc: Global) -> Course
             answers: no_answers(),
             runs: no_runs(),
             differences: no_differences(),
+            timers: no_timer_tally(),
         },
     }
 }

@@ -50,6 +50,14 @@ fn each_wrong_line_is_named_with_its_rule(rt: HostRuntime) -> Result<(), Fail> {
             2,
             Rule::Node,
         ),
+        // A timer for jiffy 10 goes into the bucket of jiffy 12, which is one late.
+        (
+            b"a-1 [000] 1.1: timer_start: timer=a expires=10 [timeout=5] bucket_expiry=12 cpu=0 \
+              idx=12 flags="
+                .as_slice(),
+            1,
+            Rule::Timer,
+        ),
     ];
     for (bytes, line, rule) in cases {
         let verdict = check_trace(rt.alloc(), bytes).ok().ok_or("no memory")?;

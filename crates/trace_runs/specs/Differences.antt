@@ -14,6 +14,7 @@ use Rattle.trace_lines.specs.declared.events.Happening.TheVariants.{CpuJoined, E
 use Rattle.trace_lines.specs.declared.events.Happening.TheVariants.{Updated, Handling}
 use Rattle.trace_lines.specs.declared.events.Line.{Line}
 use Rattle.trace_lines.specs.declared.events.Line.TheVariants.{Remark, Loss, Foreign, Told}
+use Rattle.trace_lines.specs.declared.events.Line.TheVariants.{OfTimer}
 use Rattle.trace_runs.specs.declared.differences.Differences.{Differences}
 use Rattle.trace_seen.specs.declared.seen.GroupSeen.{GroupSeen}
 use Rattle.trace_seen.specs.declared.seen.CpuSeen.{CpuSeen}
@@ -77,3 +78,4 @@ differences_after d s (Told cpu at (CpuTold t)) =
 differences_after d s (Told cpu at (Updated u)) =
     record d { early = counted_if (is_early s u) d.early }
 differences_after d s (Told cpu at (Handling group)) = d
+differences_after d s (OfTimer cpu at e) = d

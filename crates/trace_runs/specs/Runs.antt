@@ -13,6 +13,7 @@ use Rattle.trace_lines.specs.declared.events.Happening.TheVariants.{CpuJoined, E
 use Rattle.trace_lines.specs.declared.events.Happening.TheVariants.{Updated, Handling}
 use Rattle.trace_lines.specs.declared.events.Line.{Line}
 use Rattle.trace_lines.specs.declared.events.Line.TheVariants.{Remark, Loss, Foreign, Told}
+use Rattle.trace_lines.specs.declared.events.Line.TheVariants.{OfTimer}
 use Rattle.trace_runs.specs.declared.runs.Runs.{Runs}
 use Rattle.trace_runs.specs.declared.runs.TheConstants.{LATE_1_MS, LATE_4_MS, LATE_10_MS}
 use Rattle.trace_runs.specs.declared.runs.TheConstants.{LATE_100_MS}
@@ -113,3 +114,4 @@ runs_after r s (Told cpu at (Exchanged e)) = r
 runs_after r s (Told cpu at (CpuTold t)) = run_counted t.kind r s cpu at t
 runs_after r s (Told cpu at (Updated u)) = r
 runs_after r s (Told cpu at (Handling group)) = r
+runs_after r s (OfTimer cpu at e) = r

@@ -34,4 +34,7 @@ pub enum Rule {
     Rest,
     /// While no walk is under way, each idle CPU's told expiry that is to come is answered for.
     Told,
+    /// An armed timer's bucket is the wheel's; a timer runs once its base has come to that, on its own
+    /// CPU, or in a run for that if it is global, and it is armed.
+    Timer,
 }

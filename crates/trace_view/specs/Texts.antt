@@ -1,5 +1,5 @@
 -- what tmigview writes
-use Rattle.std.specs.Prelude.{ℕ, zero, suc, ◌+◌, ◌/◌, ◌%◌, nat_lt, List, [], ◌∷◌, ◌++◌, codes}
+use Rattle.std.specs.Prelude.{ℕ, zero, suc, ◌+◌, ◌/◌, ◌%◌, nat_lt, List, [], ◌∷◌, ◌++◌, codes, ◌==◌, ◌&&◌}
 use Rattle.std.specs.Prelude.{Option, Some, None, if◌then◌else◌, flat_map, length, nat_eq}
 use Rattle.std.specs.Fmt.{decimal}
 use Rattle.tm_base.specs.declared.names.CpuId.{CpuId}
@@ -10,11 +10,13 @@ use Rattle.trace_lines.specs.declared.faults.LineFault.TheVariants.{HiddenPointe
 use Rattle.trace_seen.specs.declared.rules.Rule.{Rule}
 use Rattle.trace_seen.specs.declared.rules.Rule.TheVariants.{Group, Tree, Node, Walk, Exchange}
 use Rattle.trace_seen.specs.declared.rules.Rule.TheVariants.{Order, Cpu, Event, Remote, Wakeup, Rest, Told}
+use Rattle.trace_seen.specs.declared.rules.Rule.TheVariants.{Timer}
 use Rattle.trace_rules.specs.declared.judge.Tally.{Tally}
 use Rattle.trace_told.specs.declared.told.Answers.{Answers}
 use Rattle.trace_seen.specs.declared.whom.Whom.{Whom}
 use Rattle.trace_runs.specs.declared.runs.Runs.{Runs}
 use Rattle.trace_runs.specs.declared.differences.Differences.{Differences}
+use Rattle.trace_timers.specs.declared.tallies.TimerTally.{TimerTally}
 use Rattle.trace_view.specs.declared.statuses.TheConstants.{FITS, MISFIT, NO_TRACE}
 use Rattle.trace_view.specs.declared.texts.TheConstants.{POINTER_DIGITS}
 use Rattle.trace_rules.specs.declared.judge.Misfit.{Misfit}
@@ -59,6 +61,8 @@ rule_text Told =
     codes "each idle CPU's told timer is answered for (tmigr_update_events, tmigr_inactive_up)"
 rule_text Rest =
     codes "with no walk under way a child's bit says whether it is active (tmigr_active_up, tmigr_inactive_up)"
+rule_text Timer =
+    codes "an armed timer is in its bucket and runs at its wheel expiry, at home or in a run for its CPU (calc_wheel_index, expire_timers)"
 
 -- why a line is no line of a trace
 unfoldable pub fault_text : LineFault → List ℕ
@@ -107,24 +111,43 @@ unfoldable pub events_text : Differences → List ℕ
 events_text d =
     count_text (codes "\nlinux: early ") d.early ++ count_text (codes " twice ") d.twice
 
--- .. with runs of timers
-unfoldable pub orders_text : Runs → List ℕ
-orders_text r = count_text (codes " order ") r.queued ++ count_text (codes " own ") r.itself
+-- .. with runs of timers, of which so many were of forwarded bases
+unfoldable pub orders_text : Runs → ℕ → List ℕ
+orders_text r forwarded =
+    count_text (codes " order ") r.queued ++ count_text (codes " own ") r.itself
+    ++ count_text (codes " forwarded ") forwarded
 
 -- what isn't known at the end
 unfoldable pub open_text : Runs → ℕ → List ℕ
 open_text r late =
     count_text (codes "\nopen: late exchanges ") late
-    ++ count_text (codes " astray ") r.astray ++ codes "\nnot checked: timers\n"
+    ++ count_text (codes " astray ") r.astray
+
+-- what was counted of timers
+unfoldable pub timer_counts_text : TimerTally → List ℕ
+timer_counts_text t =
+    count_text (codes "\ntimers: armed ") t.armed ++ count_text (codes " ran ") t.ran
+    ++ count_text (codes " remote ") t.remote ++ count_text (codes " open ") t.unsure
+
+-- .. or that the trace has none of their lines
+unfoldable pub timers_text : TimerTally → List ℕ
+timers_text t =
+    if t.armed == 0 && t.ran == 0 then codes "\nnot checked: timers\n"
+    else timer_counts_text t ++ codes "\n"
 
 -- what was counted besides
 unfoldable pub others_text : Tally → List ℕ
-others_text t = runs_text t.runs ++ events_text t.differences ++ orders_text t.runs
+others_text t =
+    runs_text t.runs ++ events_text t.differences ++ orders_text t.runs t.timers.forwarded
+
+-- what stands last: what isn't known, and the timers
+unfoldable pub last_text : Tally → ℕ → List ℕ
+last_text t late = open_text t.runs late ++ timers_text t.timers
 
 -- all counts, under this heading
 unfoldable pub counts_text : List ℕ → Tally → ℕ → List ℕ
 counts_text heading t late =
-    tally_text heading t ++ answers_text t.answers ++ others_text t ++ open_text t.runs late
+    tally_text heading t ++ answers_text t.answers ++ others_text t ++ last_text t late
 
 -- the text of a trace that fits
 abbrev pub fits_text : Tally → ℕ → List ℕ

@@ -5,6 +5,7 @@
 mod commands;
 mod statuses;
 mod texts;
+mod timer_texts;
 
 pub use commands::run_view;
 pub use statuses::{

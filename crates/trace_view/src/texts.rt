@@ -8,9 +8,11 @@ ghost use Rattle.trace_view.specs.Texts.{no_trace_text, read_fault_line, too_lon
 ghost use Rattle.trace_view.specs.Texts.{rule_text, tally_text, usage_line, verdict_text};
 ghost use Rattle.trace_view.specs.Texts.{events_text, hex_digit, hex_digits};
 ghost use Rattle.trace_view.specs.Texts.{behind_text, cpu_text, late_runs_text, open_text, orders_text};
-ghost use Rattle.trace_view.specs.Texts.{others_text, runs_text, tick_runs_text, whom_text};
+ghost use Rattle.trace_view.specs.Texts.{others_text, runs_text, tick_runs_text};
+ghost use Rattle.trace_view.specs.Texts.{last_text, timers_text, whom_text};
 
 use crate::statuses::{FITS, MISFIT, NO_TRACE};
+use crate::timer_texts::push_timers;
 use std::alloc::Global;
 use text_words::{push_bytes, push_number};
 use tm_base::{CpuId, NoMemory};
@@ -70,6 +72,9 @@ fn rule_text(rule: Rule) -> &'static [u8]
               (tmigr_next_groupevt_expires)",
         Rule::Told => b"each idle CPU's told timer is answered for (tmigr_update_events, \
               tmigr_inactive_up)",
+        Rule::Timer =>
+            b"an armed timer is in its bucket and runs at its wheel expiry, at home or in \
+              a run for its CPU (calc_wheel_index, expire_timers)",
         Rule::Rest => b"with no walk under way a child's bit says whether it is active \
               (tmigr_active_up, tmigr_inactive_up)",
     }
@@ -92,7 +97,7 @@ fn fault_text(fault: LineFault) -> &'static [u8]
 
 /// A number behind these bytes.
 #[tactic(auto, using(std::proofs::lemmas::List::append_assoc), unfolding(crate::specs::Texts::count_text))]
-fn push_count(text: &mut Vec<u8>, before: &[u8], n: u64) -> Result<(), NoMemory>
+pub fn push_count(text: &mut Vec<u8>, before: &[u8], n: u64) -> Result<(), NoMemory>
     ensures { OnOk result (text.new.items ≡ text.old.items ++ count_text before.now n) }
 {
     push_bytes(text, before)?;
@@ -169,13 +174,14 @@ fn push_events(text: &mut Vec<u8>, differences: Differences) -> Result<(), NoMem
     Ok(())
 }
 
-/// .. with runs of timers.
+/// .. with runs of timers, of which so many were of forwarded bases.
 #[tactic(auto, using(std::proofs::lemmas::List::append_assoc), unfolding(crate::specs::Texts::orders_text))]
-fn push_orders(text: &mut Vec<u8>, runs: Runs) -> Result<(), NoMemory>
-    ensures { OnOk result (text.new.items ≡ text.old.items ++ orders_text runs) }
+fn push_orders(text: &mut Vec<u8>, runs: Runs, forwarded: u64) -> Result<(), NoMemory>
+    ensures { OnOk result (text.new.items ≡ text.old.items ++ orders_text runs forwarded) }
 {
     push_count(text, b" order ", runs.queued)?;
     push_count(text, b" own ", runs.itself)?;
+    push_count(text, b" forwarded ", forwarded)?;
     Ok(())
 }
 
@@ -186,7 +192,16 @@ fn push_open(text: &mut Vec<u8>, runs: Runs, late: u64) -> Result<(), NoMemory>
 {
     push_count(text, b"\nopen: late exchanges ", late)?;
     push_count(text, b" astray ", runs.astray)?;
-    push_bytes(text, b"\nnot checked: timers\n")?;
+    Ok(())
+}
+
+/// What stands last: what isn't known, and the timers.
+#[tactic(auto, using(std::proofs::lemmas::List::append_assoc), unfolding(crate::specs::Texts::last_text))]
+fn push_last(text: &mut Vec<u8>, tally: Tally, late: u64) -> Result<(), NoMemory>
+    ensures { OnOk result (text.new.items ≡ text.old.items ++ last_text tally late) }
+{
+    push_open(text, tally.runs, late)?;
+    push_timers(text, tally.timers)?;
     Ok(())
 }
 
@@ -197,7 +212,7 @@ fn push_others(text: &mut Vec<u8>, tally: Tally) -> Result<(), NoMemory>
 {
     push_runs(text, tally.runs)?;
     push_events(text, tally.differences)?;
-    push_orders(text, tally.runs)?;
+    push_orders(text, tally.runs, tally.timers.forwarded)?;
     Ok(())
 }
 
@@ -210,7 +225,7 @@ fn push_counts(text: &mut Vec<u8>, heading: &[u8], tally: Tally, late: u64) -> R
     push_tally(text, heading, tally)?;
     push_answers(text, tally.answers)?;
     push_others(text, tally)?;
-    push_open(text, tally.runs, late)?;
+    push_last(text, tally, late)?;
     Ok(())
 }
 

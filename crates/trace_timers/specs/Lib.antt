@@ -1,0 +1,5 @@
+pub mod Bases
+pub mod Seen
+pub mod Wheel
+pub mod Rule
+pub mod Tallies
