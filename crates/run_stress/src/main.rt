@@ -33,6 +33,7 @@ const MOST: u64 = 1_000_000_000;
 
 /// The seed of the schedules that are run where no words are given, and how many there are.
 const SEED: u64 = 1;
+
 const FEW: u64 = 20;
 
 /// Runs a schedule, and looks what is wrong with what comes of it. The jobs are those of the program:
