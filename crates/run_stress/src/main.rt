@@ -31,9 +31,10 @@ const SECONDS: u64 = 60;
 /// The most schedules of one call.
 const MOST: u64 = 1_000_000_000;
 
-/// The seed of the schedules that are run where no words are given, and how many there are.
+/// The seed of the schedules that are run where no words are given.
 const SEED: u64 = 1;
 
+/// How many of them are run there.
 const FEW: u64 = 20;
 
 /// Runs a schedule, and looks what is wrong with what comes of it. The jobs are those of the program:
