@@ -453,6 +453,9 @@ line_holds line s all lines.Loss h = ([], nothing_held (counted line))
 line_holds line s all (lines.Foreign cpu) h =
     holds_alike (counted line) s (noted s (counted line) cpu) all (alike_cpu s _)
     (h.0, held_later line (counted line) s all h.0 (counted_high line) h.1)
+line_holds line s all (lines.OfTimer cpu at e) h =
+    holds_alike (counted line) s (noted s (counted line) cpu) all (alike_cpu s _)
+    (h.0, held_later line (counted line) s all h.0 (counted_high line) h.1)
 line_holds line s all (lines.Told cpu at x) h =
     let timed_held = held_alike line s (timed s at) all h.0 (timed_alike s at) h.1 in
     told_holds line (counted line) s cpu at x all (counted_high line) (h.0, timed_held)

@@ -9,6 +9,7 @@ use Rattle.trace_lines.specs.declared.events.Happening.TheVariants.{CpuJoined, E
 use Rattle.trace_lines.specs.declared.events.Happening.TheVariants.{Updated, Handling}
 use Rattle.trace_lines.specs.declared.events.Line.{Line}
 use Rattle.trace_lines.specs.declared.events.Line.TheVariants.{Remark, Loss, Foreign, Told}
+use Rattle.trace_lines.specs.declared.events.Line.TheVariants.{OfTimer}
 use Rattle.trace_lines.specs.declared.faults.LineFault.{LineFault}
 use Rattle.trace_lines.specs.Lines.{line_of}
 use Rattle.trace_seen.specs.declared.seen.Late.{Late}
@@ -53,6 +54,7 @@ exchanges_by all s line (Told cpu at (Handling group)) = all
 exchanges_by all s line Remark = all
 exchanges_by all s line Loss = []
 exchanges_by all s line (Foreign cpu) = all
+exchanges_by all s line (OfTimer cpu at e) = all
 
 -- .. a text that is a line
 abbrev pub exchanges_said : List Late → Course → Result Line LineFault → List Late
