@@ -109,6 +109,7 @@ impl<B: TimerBase> Bases<B> {
 
     /// Takes memory for so many more timers in each base and so many more entries, where there is
     /// less. Want of memory leaves all as before: no more room counts than did.
+    #[inline(always)]
     pub fn reserve(&mut self, timers: usize, entries: usize) -> Result<(), NoMemory>
         ensures enough { HasRoom timers entries self.old → IsOk result }
         ensures ok { OnOk result (self.new ≡ with_room timers entries self.old) }
@@ -117,7 +118,10 @@ impl<B: TimerBase> Bases<B> {
         let Some(wanted) = self.trio.most_queued().checked_add(timers) else {
             return Err(NoMemory);
         };
-        self.trio.make_room(wanted)?;
+        // Mostly there is room, and then no base is asked for it.
+        if self.timers < wanted {
+            self.trio.make_room(wanted)?;
+        }
         self.journal.reserve(entries)?;
         self.timers = self.timers.max(wanted);
         Ok(())
@@ -179,6 +183,7 @@ impl<B: TimerBase> Bases<B> {
     /// Takes out the next timer of a class that is due, for its job to run; or, exactly where none
     /// is due, answers None and writes that the base was drained (the kernel's `__run_timers`; of
     /// the global base by another CPU `timer_expire_remote`).
+    #[inline(always)]
     pub fn take_due(&mut self, now: Jiffy, class: Class, by: CpuId) -> Option<Item>
         requires now_in_time { now < TIME_LIMIT - 1 }
         requires entry_room { length self.old.plain.journal < self.old.room.entries }

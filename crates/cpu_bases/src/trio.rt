@@ -173,6 +173,7 @@ impl<B: TimerBase> Trio<B> {
     }
 
     /// Takes out the next timer of a class that is due.
+    #[inline(always)]
     pub(crate) fn take_next(&mut self, class: Class, now: Jiffy) -> Option<Item>
         ensures item { result ≡ next_out now (of_class class self.old).plain }
         ensures due { OutIsDue now (of_class class self.old).plain.items result }
