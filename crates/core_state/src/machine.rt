@@ -68,6 +68,7 @@ impl<B: TimerBase> Core<B> {
     }
 
     /// Puts another status in the place of a CPU's: all that the CPU is besides its timers.
+    #[inline(always)]
     pub fn set(&mut self, cpu: CpuId, status: CpuStatus)
         requires cpu { cpu.0 < length self.old.cpus }
         requires in_range { IsInRange status.walk }

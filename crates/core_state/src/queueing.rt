@@ -87,6 +87,7 @@ impl<B: TimerBase> Core<B> {
     }
 
     /// Nothing of a class is due any more.
+    #[inline(always)]
     pub fn drained(&mut self, cpu: CpuId, class: Class, runner: CpuId) -> Result<(), NoMemory>
         requires { Enabled self.old (steps.Ticked cpu class runner) }
         ensures ok { OnOk result (self.new ≡ stepped self.old (steps.Ticked cpu class runner)) }

@@ -71,6 +71,7 @@ impl<B: TimerBase> CoreCpu<B> {
 
     /// Takes the next timer of a class that is due at `now`, in jiffies, or writes that none is.
     /// Want of memory leaves all as before.
+    #[inline(always)]
     pub(crate) fn drain_one(
         &mut self,
         now: Jiffy,
