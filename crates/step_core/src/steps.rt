@@ -16,6 +16,7 @@ use wheel_core::TimerBase;
 
 /// Makes a step that is enabled. Only `Arm`, `Cancel`, `Hand`, `Ticked` and `Move` may want
 /// memory, and then the core is as before.
+#[inline(always)]
 pub fn apply<B: TimerBase>(core: &mut Core<B>, step: Step) -> Result<(), NoMemory>
     requires { Enabled core.old step }
     ensures ok { OnOk result (core.new ≡ stepped core.old step) }
