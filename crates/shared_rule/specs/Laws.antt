@@ -101,7 +101,7 @@ pub record MayRise (o : World) (b : BoxView) (k : Walk) (g old new : ℕ) : Type
   pub word : IsJoinOf old (side o.tree b.cpu k.level) new
 
 -- the exchange keeps the rule, whatever word it finds, and the seat is told that its walk has gone
--- on, or that nothing has changed
+-- on, or what was found in its place
 abbrev pub RiseStays : World → Type 0
 RiseStays o = (slots id g : ℕ) (b : BoxView) (k : Walk) (ps : List PassView) (old new : ℕ) →
     MayRise o b k g old new →
@@ -117,7 +117,7 @@ pub record IsWalkAt (o : World) (b : BoxView) (k : Walk) (at : Stage) (level g :
   pub path : group_at_of o.tree b.cpu level ≡ Some g
 
 -- LOCK: the try of a walk for the lock of its child keeps the rule, and the seat is told that its
--- walk has the lock and has gone on, or that nothing has changed
+-- walk has the lock and has gone on, or the word of another one that was found
 abbrev pub LockChildStays : World → Type 0
 LockChildStays o = (slots id g : ℕ) (b : BoxView) (k : Walk) (ps : List PassView) →
     IsWalkAt o b k stages.LockChild (k.level - 1) g →

@@ -173,23 +173,44 @@ woken_pass b p =
 abbrev pub Wakes : Step → Me → ℕ → Me → Type 0
 Wakes t v found w = (w ≡ on_both woken_box woken_pass v) × Sound w
 
--- UP: a look at a group's word, which is that of a state
+-- WHAT A BOX REMEMBERS of its walk: the word that it read last
+abbrev pub reading : (found : ℕ) → BoxView → BoxView
+reading found b = record b { read = found }
+
+-- what it looked at, in order
+abbrev pub looking : (word found : ℕ) → BoxView → BoxView
+looking word found b =
+    record b { looked = b.looked ++ record { word = word; found = found } ∷ [] }
+
+-- a look with which it begins anew
+abbrev pub looking_anew : (word found : ℕ) → BoxView → BoxView
+looking_anew word found b = record b { looked = record { word = word; found = found } ∷ [] }
+
+-- UP: a look at a group's word, which is that of a state; the box remembers this look alone
 abbrev pub Looks : Step → Me → ℕ → Me → Type 0
-Looks t v found w = ((w ≡ v) × HasRoom found) × Sound w
+Looks t v found w =
+    ((w ≡ on_box (looking_anew t.word found) v) × HasRoom found) × Sound w
 
 -- the walk after its exchange of a word that was this one
 abbrev pub up_walk : ℕ → BoxView → Walk → Option Walk
 up_walk word b k =
     up_next (at_top b.opening.tree b.cpu k.level) (not (shows_migrator word)) k
 
--- the box where the exchange was made, or where it wasn't
-abbrev pub up_box : Bool → ℕ → BoxView → BoxView
-up_box true word b = by_walk (up_walk word) b
-up_box false word b = b
+-- the box after an exchange of a word that was this one, by which its walk goes on and has looked at
+-- nothing
+abbrev pub risen_box : (word : ℕ) → BoxView → BoxView
+risen_box word b = record (by_walk (up_walk word) b) { looked = [] }
 
--- the exchange of an activation was made, or nothing changed
+-- the box where the exchange at this place was made, or where it found another word than the one
+-- that was wanted, which is remembered after what was looked at
+abbrev pub up_box : Bool → (wanted place found : ℕ) → BoxView → BoxView
+up_box true wanted place found b = risen_box wanted b
+up_box false wanted place found b = looking place found b
+
+-- the exchange of an activation was made, or has found another word
 abbrev pub Rises : Step → Me → ℕ → Me → Type 0
-Rises t v found w = (w ≡ on_box (up_box (found == t.first) t.first) v) × Sound w
+Rises t v found w =
+    (w ≡ on_box (up_box (found == t.first) t.first t.word found) v) × Sound w
 
 -- LOCK: the walk that has taken the lock of its child goes on to its group's
 abbrev pub child_locked_walk : BoxView → Walk → Option Walk
@@ -199,19 +220,21 @@ child_locked_walk b k = Some (at_stage k stages.LockGroup)
 abbrev pub locked_walk : BoxView → Walk → Option Walk
 locked_walk b k = Some (at_stage k (first_sight k.level))
 
--- the box where the lock was taken, and its walk goes on, or where another walk had it
-abbrev pub lock_box : (BoxView → Walk → Option Walk) → Bool → BoxView → BoxView
-lock_box next true b = by_walk next b
-lock_box next false b = b
+-- the box where the lock was taken, and its walk goes on, or where another walk had it, whose word is
+-- remembered as the one that was read last
+abbrev pub lock_box : (BoxView → Walk → Option Walk) → Bool → (found : ℕ) → BoxView → BoxView
+lock_box next true found b = by_walk next b
+lock_box next false found b = reading found b
 
--- the exchange that takes the lock of a child was made, or nothing changed
+-- the exchange that takes the lock of a child was made, or has found it taken
 abbrev pub LocksChild : Step → Me → ℕ → Me → Type 0
 LocksChild t v found w =
-    (w ≡ on_box (lock_box child_locked_walk (found == t.first)) v) × Sound w
+    (w ≡ on_box (lock_box child_locked_walk (found == t.first) found) v) × Sound w
 
--- the exchange that takes the lock of a group was made, or nothing changed
+-- the exchange that takes the lock of a group was made, or has found it taken
 abbrev pub Locks : Step → Me → ℕ → Me → Type 0
-Locks t v found w = (w ≡ on_box (lock_box locked_walk (found == t.first)) v) × Sound w
+Locks t v found w =
+    (w ≡ on_box (lock_box locked_walk (found == t.first) found) v) × Sound w
 
 -- FREE: the walk that has given back the lock of its group gives back its child's, or at a leaf it
 -- ends or rises
@@ -268,11 +291,6 @@ scan_sight found b k = Some (scan_next (slot_of found) (slot_number k.stage) k)
 abbrev pub top_sight : (found : ℕ) → BoxView → Walk → Option Walk
 top_sight found b k = Some (first_next (slot_of found) (slot_number k.stage) k)
 
--- the box remembers what its walk looked at
-abbrev pub looking : (word found : ℕ) → BoxView → BoxView
-looking word found b =
-    record b { looked = b.looked ++ record { word = word; found = found } ∷ [] }
-
 -- the load of a child's word
 abbrev pub SeesChild : Step → Me → ℕ → Me → Type 0
 SeesChild t v found w = (w ≡ on_box (by_walk (child_sight found)) v) × Sound w
@@ -295,10 +313,6 @@ ScansTop t v found w =
 -- what it read is fresh
 abbrev pub read_walk : BoxView → Walk → Option Walk
 read_walk b k = Some (forget (read_next k))
-
--- the box keeps the word that its walk read
-abbrev pub reading : (found : ℕ) → BoxView → BoxView
-reading found b = record b { read = found }
 
 -- the load of a group's word, before its exchange
 abbrev pub ReadsGroup : Step → Me → ℕ → Me → Type 0

@@ -52,8 +52,8 @@ abbrev pub spot_at : (c : ℕ) → Class → Spot
 spot_at c class = record { cpu = record { 0 = c }; class = class }
 
 -- THE WHOLE: the core, and what only the table knows: of each group how many exchanges were made;
--- of each walk the word of a group that it read last and the words that it looked at; of each empty
--- slot whether it keeps the ignored bit; of each timer where it is queued; and the passes
+-- of each walk the word that it read last and the words that it looked at; of each empty slot
+-- whether it keeps the ignored bit; of each timer where it is queued; and the passes
 pub record Whole : Type 0 where
   pub world : World
   pub seq : ℕ → ℕ

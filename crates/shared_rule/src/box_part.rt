@@ -39,7 +39,7 @@ pub struct BoxPart<N: RunName, B: TimerBase> {
     pub bases: Bases<B>,
     /// The CPU's slot in its leaf, None where it is empty or the CPU has no group.
     pub leaf: Option<Event>,
-    /// The word of a group that the CPU's walk read last.
+    /// The word that the CPU's walk read last: a group's, or that of a lock that another walk had.
     pub read: u64,
     /// The bytes of the pass that is brought.
     pub guest: Option<Guest>,

@@ -16,8 +16,8 @@ pub struct Look {
     pub found: u64,
 }
 
-/// What lies behind a CPU's lock, with the word of a group that its walk read last and the words
-/// that its present or last walk looked at.
+/// What lies behind a CPU's lock, with the word that its walk read last and the words that its
+/// present or last walk looked at.
 pub struct BoxView {
     /// The core with which the run began.
     pub opening: Core<ListBase>,
@@ -27,9 +27,10 @@ pub struct BoxView {
     pub own: CoreCpu<ListBase>,
     /// The CPU's slot in its leaf, None where it is empty or the CPU has no group.
     pub leaf: Option<Event>,
-    /// The word of a group that the CPU's walk read last.
+    /// The word that the CPU's walk read last: a group's, or that of a lock that another walk had.
     pub read: u64,
-    /// What the walk looked at, in order: the group and the slots of the top.
+    /// What the walk looked at, in order: one that tells, the group and the slots of the top; an
+    /// activation, the group that it is about to join, and what its exchange found where it failed.
     pub looked: LinkedList<Look>,
 }
 

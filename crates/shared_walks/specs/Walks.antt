@@ -1,16 +1,17 @@
 -- what a walk's step makes of the part of its CPU, stage by stage
-use Rattle.std.specs.Prelude.{◌≡◌, ℕ, zero, suc, Bool, true, false, Some, MatchBool}
+use Rattle.std.specs.Prelude.{◌≡◌, ℕ, zero, suc, Bool, true, false, Option, Some, MatchBool}
 use Rattle.walk_rules.specs.declared.walk.Walk.{Walk}
 use Rattle.walk_rules.specs.declared.walk.Stage.{Stage}
 use Rattle.walk_rules.specs.declared.walk.Stage.TheVariants as stages
 use Rattle.core_world.specs.World.{World}
 use Rattle.shared_rule.specs.declared.parts.BoxView.{BoxView}
 use Rattle.shared_rule.specs.Plays.{by_walk, child_freed_walk, child_locked_walk, child_read_walk}
-use Rattle.shared_rule.specs.Plays.{child_sight, group_freed_walk, lock_box, locked_walk}
+use Rattle.shared_rule.specs.Plays.{child_sight, group_freed_walk, locked_walk}
 use Rattle.shared_rule.specs.Plays.{marked_walk, own_marked_box, own_read_walk, read_walk, reading}
 use Rattle.shared_rule.specs.Plays.{scan_sight, stored_box, swap_box}
 use Rattle.shared_rule.specs.Parts.{HeldPart}
-use Rattle.shared_walks.specs.Steps.{HasRisen, group_seen, on_part, top_seen}
+use Rattle.shared_walks.specs.Steps.{HasMissed, HasRisen, IsRefused, group_seen, on_part}
+use Rattle.shared_walks.specs.Steps.{top_seen}
 
 -- the box of the part has changed so
 abbrev pub Becomes : (BoxView → BoxView) → HeldPart → HeldPart → Type 0
@@ -29,18 +30,24 @@ HasReadChild (suc l) old new = BecomesBy (λ found. by_walk (child_read_walk fou
 abbrev pub HasSwapped : HeldPart → HeldPart → Type 0
 HasSwapped old new = (made : Bool) × BecomesBy (swap_box made) old new
 
--- A STEP of the walk at this stage has made this of the part; `made` is false where it has left all
--- as it was: a lock that another walk had, or a word that had changed at Up
+-- LOCKS: the walk has taken a lock and goes on, or has found it taken
+abbrev pub LockTried : (BoxView → Walk → Option Walk) → (made : Bool) → HeldPart → HeldPart → Type 0
+LockTried next made old new = MatchBool made (Becomes (by_walk next) old new) (IsRefused old new)
+
+-- A STEP of the walk at this stage has made this of the part. `made` is false where its exchange
+-- found another word than the one that was wanted, and else nowhere: at a lock a word that isn't 0,
+-- and at Up another word of the group than the one that this step had loaded
 abbrev pub StepOf : World → Walk → Stage → (made : Bool) → (old new : HeldPart) → Type 0
 StepOf o k stages.Own made old new = (made ≡ true) × Becomes own_marked_box old new
-StepOf o k stages.Up made old new = MatchBool made (HasRisen old new) (new ≡ old)
+StepOf o k stages.Up made old new =
+    MatchBool made (HasRisen old new) (HasMissed o k.level old new)
 StepOf o k (stages.Mark more) made old new = (made ≡ true) × Becomes (by_walk marked_walk) old new
 StepOf o k stages.Read made old new =
     (made ≡ true) × BecomesBy (λ found b. reading found (by_walk read_walk b)) old new
 StepOf o k stages.Child made old new = (made ≡ true) × HasReadChild k.level old new
 StepOf o k stages.Swap made old new = (made ≡ true) × HasSwapped old new
-StepOf o k stages.LockChild made old new = Becomes (lock_box child_locked_walk made) old new
-StepOf o k stages.LockGroup made old new = Becomes (lock_box locked_walk made) old new
+StepOf o k stages.LockChild made old new = LockTried child_locked_walk made old new
+StepOf o k stages.LockGroup made old new = LockTried locked_walk made old new
 StepOf o k stages.SeeChild made old new =
     (made ≡ true) × BecomesBy (λ found. by_walk (child_sight found)) old new
 StepOf o k stages.SeeGroup made old new = (made ≡ true) × BecomesBy (group_seen o k) old new
@@ -86,3 +93,17 @@ pub record GoesOn (part : HeldPart) : Type 0 where
 abbrev pub HasStepped : World → (made : Bool) → (old new : HeldPart) → Type 0
 HasStepped o made old new =
     (k : Walk) → old.box.own.walk ≡ Some k → StepOf o k k.stage made old new
+
+-- a lock is taken in the end, after tries that have read its word
+abbrev pub LockTaken : (BoxView → Walk → Option Walk) → HeldPart → HeldPart → Type 0
+LockTaken next old new = BecomesBy (λ found b. by_walk next (reading found b)) old new
+
+-- A STEP that is tried until it is made has made this of the part
+abbrev pub MadeOf : World → Walk → Stage → (old new : HeldPart) → Type 0
+MadeOf o k stages.LockChild old new = LockTaken child_locked_walk old new
+MadeOf o k stages.LockGroup old new = LockTaken locked_walk old new
+MadeOf o k other old new = StepOf o k other true old new
+
+-- the step of the part's walk, at the stage where it stood, after all that failed
+abbrev pub HasMade : World → (old new : HeldPart) → Type 0
+HasMade o old new = (k : Walk) → old.box.own.walk ≡ Some k → MadeOf o k k.stage old new

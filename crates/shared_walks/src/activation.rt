@@ -3,9 +3,9 @@
 ghost use Rattle.std.specs.Prelude.{◌≡◌, MatchBool};
 ghost use Rattle.walk_rules.specs.declared.walk.Stage.TheVariants as stages;
 ghost use Rattle.shared_rule.specs.Plays.{by_walk, marked_walk, own_marked_box};
-ghost use Rattle.shared_walks.specs.Steps.{HasRisen, WalkStands, on_part};
+ghost use Rattle.shared_walks.specs.Steps.{HasMissed, HasRisen, WalkStands, on_part};
 
-use crate::path::{at_top, group_on, side_on};
+use crate::path::{at_top, group_on, side_on, state_place};
 use crate::stages::{as_ignored, at_stage, mark_next, up_next};
 use core_state::CpuStatus;
 use shared_rule::{BoxPart, Looks, Marks, MarksOwn, Rises, Run, RunName, law_ignore, law_rise};
@@ -63,20 +63,20 @@ pub fn mark_step<N: RunName, B: TimerBase>(
 }
 
 /// The walk's child joins its group, and the walk goes on to mark its group's slot in the parent,
-/// or ends at the top; false where the group's word has changed meanwhile.
+/// or ends at the top; false where the exchange found another word than was loaded here.
 pub fn up_step<N: RunName, B: TimerBase>(
     run: &Run<N, B>,
     part: &mut BoxPart<N, B>,
     walk: Walk,
 ) -> bool
     requires { WalkStands part.old walk stages.Up }
-    ensures { MatchBool result (HasRisen part.old part.new) (part.new ≡ part.old) }
+    ensures { MatchBool result (HasRisen part.old part.new)
+        (HasMissed N.opening walk.level part.old part.new) }
 {
     law_rise();
-    let group = group_on(run, part.cpu, walk.level);
     let child = side_on(run, part.cpu, walk.level);
     let top = at_top(run, part.cpu, walk.level);
-    let place = run.layout.index(SharedWord::State(group));
+    let place = state_place(run, part.cpu, walk.level);
     let old = run.words.shared.load::<Looks>(&mut part.seat, place);
     let new = joined_word(old, child);
     let found = run

@@ -4,8 +4,9 @@
 ghost use Rattle.std.specs.Prelude.{◌≡◌};
 ghost use Rattle.walk_rules.specs.declared.walk.Stage.TheVariants as stages;
 ghost use Rattle.shared_rule.specs.Plays.{by_walk, child_freed_walk, child_locked_walk};
-ghost use Rattle.shared_rule.specs.Plays.{group_freed_walk, lock_box, locked_walk};
+ghost use Rattle.shared_rule.specs.Plays.{group_freed_walk, locked_walk};
 ghost use Rattle.shared_walks.specs.Steps.{WalkStands, on_part};
+ghost use Rattle.shared_walks.specs.Walks.{LockTried};
 
 use crate::path::{group_below, group_on};
 use crate::stages::{at_stage, first_sight, free_group_next, freed_next};
@@ -18,15 +19,15 @@ use shared_words::{SharedWord, pack_lock};
 use walk_rules::{Stage, Walk, law_hierarchy};
 use wheel_core::TimerBase;
 
-/// The walk tries to take its child's lock, and then goes on to its group's; false where another
-/// walk has it.
+/// The walk tries to take its child's lock, and then goes on to its group's; false where the
+/// exchange found that another walk has it.
 pub fn lock_child_step<N: RunName, B: TimerBase>(
     run: &Run<N, B>,
     part: &mut BoxPart<N, B>,
     walk: Walk,
 ) -> bool
     requires { WalkStands part.old walk stages.LockChild }
-    ensures { part.new ≡ on_part (lock_box child_locked_walk result) part.old }
+    ensures { LockTried child_locked_walk result part.old part.new }
 {
     law_lock_child();
     law_hierarchy();
@@ -38,6 +39,7 @@ pub fn lock_child_step<N: RunName, B: TimerBase>(
         .shared
         .compare_exchange::<LocksChild>(&mut part.seat, place, 0, mine);
     if found != 0 {
+        part.read = found;
         return false;
     }
     part.status = CpuStatus {
@@ -47,15 +49,15 @@ pub fn lock_child_step<N: RunName, B: TimerBase>(
     true
 }
 
-/// The walk tries to take its group's lock, and then goes on to look; false where another walk has
-/// it.
+/// The walk tries to take its group's lock, and then goes on to look; false where the exchange found
+/// that another walk has it.
 pub fn lock_group_step<N: RunName, B: TimerBase>(
     run: &Run<N, B>,
     part: &mut BoxPart<N, B>,
     walk: Walk,
 ) -> bool
     requires { WalkStands part.old walk stages.LockGroup }
-    ensures { part.new ≡ on_part (lock_box locked_walk result) part.old }
+    ensures { LockTried locked_walk result part.old part.new }
 {
     law_lock_group();
     let group = group_on(run, part.cpu, walk.level);
@@ -66,6 +68,7 @@ pub fn lock_group_step<N: RunName, B: TimerBase>(
         .shared
         .compare_exchange::<Locks>(&mut part.seat, place, 0, mine);
     if found != 0 {
+        part.read = found;
         return false;
     }
     part.status = CpuStatus {

@@ -2,7 +2,7 @@
 
 ghost use Rattle.std.specs.Prelude.{◌≡◌, true};
 ghost use Rattle.shared_walks.specs.Steps.{WalkStands};
-ghost use Rattle.shared_walks.specs.Walks.{GoesOn, HasReadChild, HasStepped, StepOf};
+ghost use Rattle.shared_walks.specs.Walks.{GoesOn, HasMade, HasReadChild, HasStepped, StepOf};
 ghost use Rattle.shared_walks.specs.Walks.{is_under_way};
 ghost use Rattle.walk_rules.specs.declared.walk.Stage.TheVariants as stages;
 
@@ -28,7 +28,7 @@ fn any_child_step<N: RunName, B: TimerBase>(run: &Run<N, B>, part: &mut BoxPart<
     }
 }
 
-/// The step of the walk's stage; false where it left all as it was.
+/// The step of the walk's stage; false where its exchange found another word than it wanted.
 fn step_from<N: RunName, B: TimerBase>(
     run: &Run<N, B>,
     part: &mut BoxPart<N, B>,
@@ -61,9 +61,10 @@ fn step_from<N: RunName, B: TimerBase>(
     true
 }
 
-/// The walk of a part makes its next step, where it goes on. False where it left all as it was: at
-/// a lock that another walk has, or at the word of a group that has changed as an activation was to
-/// join it. Then the step may be tried again.
+/// The walk of a part makes its next step, where it goes on. False comes only where this call's
+/// exchange found another word than it wanted: at LockChild and LockGroup the word of a lock that
+/// isn't 0, since another walk has it, and at Up another word of the group than this call had loaded.
+/// Then nothing else has changed than what the box remembers, and the step may be tried again.
 pub fn walk_step<N: RunName, B: TimerBase>(run: &Run<N, B>, part: &mut BoxPart<N, B>) -> bool
     requires { GoesOn part.old }
     ensures { HasStepped N.opening result part.old part.new }
@@ -82,7 +83,7 @@ pub fn make_step<N: RunName, B: TimerBase, R: Wait>(
     part: &mut BoxPart<N, B>,
 )
     requires { GoesOn part.old }
-    ensures { HasStepped N.opening true part.old part.new }
+    ensures { HasMade N.opening part.old part.new }
 {
     for _ in rt.forever() {
         if walk_step(run, part) {

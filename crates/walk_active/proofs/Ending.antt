@@ -83,6 +83,10 @@ module _ (part : HeldPart) (held : HeldPass) (table : TableId) (p : PassView)
   pub climbs : Climbs (woken_with part held).box.own.walk
   climbs = subst (λ (b : BoxView). Climbs b.own.walk) (sym box_woken) (woken_climbs part.box)
 
+  -- and has looked at nothing
+  pub no_looks : (woken_with part held).box.looked ≡ []
+  no_looks = ap (λ (b : BoxView). b.looked) box_woken
+
   -- THE PART in the end
   pub part_after : without_guest (arrived (woken_with part held)) ≡ activated_part part
   part_after =

@@ -1,6 +1,6 @@
 -- an activation climbs: where it stands, what its steps leave, and that it comes to its end
 use Rattle.std.proofs.Common.{◌≡◌, ℕ, suc, ◌-◌, ◌*◌, ◌<◌, Bool, true, false, true≢false}
-use Rattle.std.proofs.Common.{Option, Some, None, refl, sym, ap, ◌∙◌, subst, arith}
+use Rattle.std.proofs.Common.{[], Option, Some, None, refl, sym, ap, ◌∙◌, subst, arith}
 use Rattle.std.proofs.lemmas.Option.{none-some, same_Some}
 use Rattle.std.specs.Prelude.{not, option_map}
 use Rattle.event_queue.specs.declared.event.Event.{Event}
@@ -21,7 +21,7 @@ use Rattle.shared_rule.specs.Plays.{PartFits, WalkFits, bound_walk, by_walk, mar
 use Rattle.shared_rule.specs.Plays.{marks_more, own_marked_walk, up_walk}
 use Rattle.shared_rule.specs.Parts.{HeldPart}
 use Rattle.shared_walks.specs.Steps.{on_part}
-use Rattle.shared_walks.specs.Walks.{GoesOn, HasStepped, StepOf, is_under_way}
+use Rattle.shared_walks.specs.Walks.{GoesOn, HasMade, MadeOf, is_under_way}
 use Rattle.walk_active.specs.Climbing.{Climbs, HasClimbed, begins_at, arrived, left_at, leaf_left}
 use Rattle.walk_active.specs.Climbing.{steps_left}
 
@@ -84,7 +84,7 @@ no_walk k e = absurd (none-some k e)
 
 -- A STEP of the activation k of a part
 module _ (old new : HeldPart) (k : Walk) (has : old.box.own.walk ≡ Some k)
-    (is : k.kind ≡ kinds.Activate) (low : k.level < 3) where
+    (empty : old.box.looked ≡ []) (is : k.kind ≡ kinds.Activate) (low : k.level < 3) where
   -- which makes this of the walk and of the leaf's slot
   abbrev after : (f : BoxView → Walk → Option Walk) → Option Event → HeldPart
   after f leaf = on_part (λ b. record (by_walk f b) { leaf = leaf }) old
@@ -94,6 +94,7 @@ module _ (old new : HeldPart) (k : Walk) (has : old.box.own.walk ≡ Some k)
       → steps_left (f old.box k) < steps_left (Some k) → HasClimbed old new
   climbed f leaf made climbs left fewer = subst (HasClimbed old) (sym made) (record {
     climbs = subst (λ m. Climbs (bound_walk (f old.box) m)) (sym has) climbs;
+    looked = empty;
     same = ap (λ e. on_part (λ b. record b { own = record b.own { walk = None }; leaf = e }) old)
         (subst (λ m. leaf_left (bound_walk (f old.box) m) leaf ≡ leaf_left m old.box.leaf)
         (sym has) left);
@@ -134,7 +135,7 @@ module _ (old new : HeldPart) (k : Walk) (has : old.box.own.walk ≡ Some k)
 
   -- at each of its stages
   steps_at : (o : World) (t : Shape) (c : ℕ) (s : Stage) → FitsStage t c kinds.Activate k.level s
-      → k.stage ≡ s → StepOf o k s true old new → HasClimbed old new
+      → k.stage ≡ s → MadeOf o k s old new → HasClimbed old new
   steps_at o t c stages.Own f at s =
       climbed own_marked_walk (option_map as_ignored old.box.leaf) s.1
       (is_climbing (at_stage k stages.Up) is)
@@ -144,7 +145,9 @@ module _ (old new : HeldPart) (k : Walk) (has : old.box.own.walk ≡ Some k)
       let w : ℕ = s.0 in
       let next = after_up (at_top old.box.opening.tree old.box.cpu k.level)
       (not (shows_migrator w)) at in
-      climbed (up_walk w) old.box.leaf s.1 next.0 next.1 next.2
+      climbed (up_walk w) old.box.leaf
+      (s.1 ∙ (λ i. on_part (λ b. record (by_walk (up_walk w) b) { looked = sym empty i }) old))
+      next.0 next.1 next.2
   steps_at o t c (stages.Mark more) f at s =
       let next = after_mark (marks_more k.stage) (at ∙ ap (λ z. stages.Mark (marks_more z)) (sym at)) in
       climbed marked_walk old.box.leaf s.1 next.0 next.1 next.2
@@ -165,10 +168,10 @@ module _ (old new : HeldPart) (k : Walk) (has : old.box.own.walk ≡ Some k)
 
 -- the step that a part that fits has made
 pub climbs_on : (o : World) (old new : HeldPart) (k : Walk) → PartFits old.box
-    → old.box.own.walk ≡ Some k → k.kind ≡ kinds.Activate → HasStepped o true old new
-    → HasClimbed old new
-climbs_on o old new k fits has is made =
+    → old.box.own.walk ≡ Some k → k.kind ≡ kinds.Activate → old.box.looked ≡ []
+    → HasMade o old new → HasClimbed old new
+climbs_on o old new k fits has is empty made =
     let walk = fits.walk k has in
     let t = old.box.opening.tree in
-    steps_at old new k has is walk.low o t old.box.cpu k.stage
+    steps_at old new k has empty is walk.low o t old.box.cpu k.stage
     (stands old.box.opening old.box k walk is) refl (made k has)

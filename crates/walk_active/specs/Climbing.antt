@@ -1,5 +1,6 @@
 -- how an activation climbs (no public clause cites it)
-use Rattle.std.specs.Prelude.{◌≡◌, ℕ, suc, ◌-◌, ◌*◌, ◌<◌, Bool, true, false, Option, Some, None}
+use Rattle.std.specs.Prelude.{◌≡◌, ℕ, suc, ◌-◌, ◌*◌, ◌<◌, Bool, true, false, [], Option, Some}
+use Rattle.std.specs.Prelude.{None}
 use Rattle.tm_base.specs.declared.gates.Point.{Point}
 use Rattle.tm_base.specs.declared.gates.Point.TheVariants as points
 use Rattle.event_queue.specs.declared.event.Event.{Event}
@@ -55,8 +56,10 @@ abbrev pub steps_left : Option Walk → ℕ
 steps_left None = 0
 steps_left (Some k) = left_at k.level k.stage
 
--- a step of an activation: what it is going to leave is the same, and it has fewer steps left
+-- a step of an activation: what it is going to leave is the same, with no look to remember, and it
+-- has fewer steps left
 pub record HasClimbed (old new : HeldPart) : Type 0 where
   pub climbs : Climbs new.box.own.walk
+  pub looked : new.box.looked ≡ []
   pub same : arrived new ≡ arrived old
   pub fewer : steps_left new.box.own.walk < steps_left old.box.own.walk

@@ -1,6 +1,6 @@
 //! The climb of an activation, step by step, with a gate.
 
-ghost use Rattle.std.specs.Prelude.{◌≡◌, Some};
+ghost use Rattle.std.specs.Prelude.{◌≡◌, [], Some};
 ghost use Rattle.walk_rules.specs.declared.walk.WalkKind.TheVariants as kinds;
 ghost use Rattle.walk_active.specs.Climbing.{Climbs, HasClimbed, arrived, point_at};
 
@@ -32,6 +32,7 @@ fn climb_step<N: RunName, B: TimerBase, G: Gate, R: Wait>(
 )
     requires walk { part.old.box.own.walk ≡ Some walk }
     requires climbs { walk.kind ≡ kinds.Activate }
+    requires looked { part.old.box.looked ≡ [] }
     ensures { HasClimbed part.old part.new }
 {
     part.law();
@@ -48,7 +49,8 @@ pub(crate) fn climb<N: RunName, B: TimerBase, G: Gate, R: Wait>(
     part: &mut BoxPart<N, B>,
     gate: &G,
 )
-    requires { Climbs part.old.box.own.walk }
+    requires climbs { Climbs part.old.box.own.walk }
+    requires looked { part.old.box.looked ≡ [] }
     ensures { part.new ≡ arrived part.old }
 {
     while let Some(walk) = part.walk() {

@@ -20,7 +20,7 @@ use Rattle.shared_rule.specs.declared.parts.BoxView.{BoxView}
 use Rattle.shared_rule.specs.declared.parts.Look.{Look}
 use Rattle.shared_rule.specs.Plays.{PartFits, WalkFits}
 use Rattle.shared_rule.specs.Parts.{HeldPart}
-use Rattle.shared_walks.specs.Walks.{HasStepped, StepOf, is_under_way}
+use Rattle.shared_walks.specs.Walks.{HasMade, MadeOf, is_under_way}
 use Rattle.walk_inactive.specs.Ends.{leaf_of, told_leaf}
 use Rattle.walk_inactive.specs.Looks.{FindsFirst, HasLooked}
 use Rattle.walk_inactive.specs.Ways.{HasAdvanced, HasCome, HasSetOut, LooksAt, WalkSoFar}
@@ -135,12 +135,12 @@ comes start now new k out so_far advanced = subst (λ z. HasCome start z k) (sym
 -- a walk under way has made its step
 pub advances : (o : World) (old new : HeldPart) (k : Walk) → PartFits old.box
     → old.box.opening ≡ o → old.box.own.walk ≡ Some k → is_under_way k.stage ≡ true
-    → HasStepped o true old new → HasAdvanced true old new
+    → HasMade o old new → HasAdvanced true old new
 advances o old new k fits run has under step = record {
   fits = fits;
   went = λ j is. (
     subst (λ (z : Walk). is_under_way z.stage ≡ true) (same_Some k j (sym has ∙ is)) under,
-    subst (λ z. StepOf z j j.stage true old new) (sym run) (step j is),
+    subst (λ z. MadeOf z j j.stage old new) (sym run) (step j is),
   );
 }
 

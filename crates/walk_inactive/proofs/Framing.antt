@@ -16,15 +16,15 @@ use Rattle.core_world.specs.World.{World}
 use Rattle.shared_rule.specs.declared.parts.BoxView.{BoxView}
 use Rattle.shared_rule.specs.declared.parts.Look.{Look}
 use Rattle.shared_rule.specs.Plays.{bound_walk, by_walk, child_freed_walk, child_locked_walk}
-use Rattle.shared_rule.specs.Plays.{child_read_walk, child_sight, group_freed_walk, lock_box}
+use Rattle.shared_rule.specs.Plays.{child_read_walk, child_sight, group_freed_walk, risen_box}
 use Rattle.shared_rule.specs.Plays.{locked_walk, marked_walk, marks_more, own_marked_box}
 use Rattle.shared_rule.specs.Plays.{own_read_walk, read_walk, reading, scan_sight, stored_box}
 use Rattle.shared_rule.specs.Plays.{group_sight, own_marked_walk, stored_walk, swap_box}
-use Rattle.shared_rule.specs.Plays.{swapped_walk, top_sight, up_box, up_walk}
+use Rattle.shared_rule.specs.Plays.{swapped_walk, top_sight, up_walk}
 use Rattle.shared_rule.specs.Parts.{HeldPart}
 use Rattle.walk_inactive.specs.Frames.{IsFramed, IsSameErrand, box_with}
 use Rattle.shared_walks.specs.Steps.{group_seen, on_part, top_seen}
-use Rattle.shared_walks.specs.Walks.{HasReadChild, StepOf}
+use Rattle.shared_walks.specs.Walks.{HasReadChild, LockTaken, MadeOf}
 
 -- a change of a box that changes no more than a step of a walk may
 abbrev Frames : (BoxView → BoxView) → Type 0
@@ -77,11 +77,6 @@ group_errand : (level : ℕ) (k : Walk) → IsSameErrand k (free_group_next leve
 group_errand zero k = freed_errand k.over k
 group_errand (suc l) k = record { kind = refl; pin = refl; next = refl }
 
--- a part that has stayed as it was
-stayed : (old new : HeldPart) → new ≡ old → IsFramed old new
-stayed old new is = framed (λ b. b) old new (λ b. refl)
-    (λ b k j e f. sure k k j (sym e ∙ f) (record { kind = refl; pin = refl; next = refl })) is
-
 read_child : (level : ℕ) (old new : HeldPart) → HasReadChild level old new → IsFramed old new
 read_child zero old new e =
     framed (by_walk own_read_walk) old new (λ b. refl)
@@ -99,61 +94,56 @@ swapped false found old new e =
     framed (swap_box false found) old new (λ b. refl)
     (walked read_walk (λ b k j e. sure k _ j e (record { kind = refl; pin = refl; next = refl }))) e
 
-child_locked : (made : Bool) (old new : HeldPart)
-    → new ≡ on_part (lock_box child_locked_walk made) old → IsFramed old new
-child_locked true old new e =
-    framed (by_walk child_locked_walk) old new (λ b. refl)
-    (walked child_locked_walk (λ b k j e. sure k _ j e (record { kind = refl; pin = refl; next = refl }))) e
-child_locked false old new e = stayed old new e
+child_locked : (old new : HeldPart) → LockTaken child_locked_walk old new → IsFramed old new
+child_locked old new e =
+    framed (λ b. by_walk child_locked_walk (reading e.0 b)) old new (λ b. refl)
+    (walked child_locked_walk (λ b k j e. sure k _ j e (record { kind = refl; pin = refl; next = refl }))) e.1
 
-locked : (made : Bool) (old new : HeldPart) → new ≡ on_part (lock_box locked_walk made) old
+locked : (old new : HeldPart) → LockTaken locked_walk old new → IsFramed old new
+locked old new e =
+    framed (λ b. by_walk locked_walk (reading e.0 b)) old new (λ b. refl)
+    (walked locked_walk (λ b k j e. sure k _ j e (record { kind = refl; pin = refl; next = refl }))) e.1
+
+-- EACH STEP of a walk that is made has the frame
+pub step_framed : (o : World) (k : Walk) (at : Stage) (old new : HeldPart) → MadeOf o k at old new
     → IsFramed old new
-locked true old new e =
-    framed (by_walk locked_walk) old new (λ b. refl)
-    (walked locked_walk (λ b k j e. sure k _ j e (record { kind = refl; pin = refl; next = refl }))) e
-locked false old new e = stayed old new e
-
--- EACH STEP of a walk has the frame
-pub step_framed : (o : World) (k : Walk) (at : Stage) (made : Bool) (old new : HeldPart)
-    → StepOf o k at made old new → IsFramed old new
-step_framed o k stages.Own made old new e =
+step_framed o k stages.Own old new e =
     framed own_marked_box old new (λ b. refl)
     (walked own_marked_walk (λ b k j e. sure k _ j e (record { kind = refl; pin = refl; next = refl }))) e.1
-step_framed o k stages.Up true old new e =
-    framed (up_box true e.0) old new (λ b. refl)
+step_framed o k stages.Up old new e =
+    framed (risen_box e.0) old new (λ b. refl)
     (walked (up_walk e.0) (λ b k j. up_errand (at_top b.opening.tree b.cpu k.level)
     (not (shows_migrator e.0)) k j)) e.1
-step_framed o k stages.Up false old new e = stayed old new e
-step_framed o k (stages.Mark more) made old new e =
+step_framed o k (stages.Mark more) old new e =
     framed (by_walk marked_walk) old new (λ b. refl)
     (walked marked_walk (λ b k j. mark_errand (marks_more k.stage) k j)) e.1
-step_framed o k stages.Read made old new e =
+step_framed o k stages.Read old new e =
     framed (λ b. reading e.1.0 (by_walk read_walk b)) old new (λ b. refl)
     (walked read_walk (λ b k j e. sure k _ j e (record { kind = refl; pin = refl; next = refl }))) e.1.1
-step_framed o k stages.Child made old new e = read_child k.level old new e.1
-step_framed o k stages.Swap made old new e = swapped e.1.0 e.1.1.0 old new e.1.1.1
-step_framed o k stages.LockChild made old new e = child_locked made old new e
-step_framed o k stages.LockGroup made old new e = locked made old new e
-step_framed o k stages.SeeChild made old new e =
+step_framed o k stages.Child old new e = read_child k.level old new e.1
+step_framed o k stages.Swap old new e = swapped e.1.0 e.1.1.0 old new e.1.1.1
+step_framed o k stages.LockChild old new e = child_locked old new e
+step_framed o k stages.LockGroup old new e = locked old new e
+step_framed o k stages.SeeChild old new e =
     framed (by_walk (child_sight e.1.0)) old new (λ b. refl)
     (walked (child_sight e.1.0) (λ b k j e. sure k _ j e (child_errand _ k))) e.1.1
-step_framed o k stages.SeeGroup made old new e =
+step_framed o k stages.SeeGroup old new e =
     framed (group_seen o k e.1.0) old new (λ b. refl)
     (walked (group_sight e.1.0) (λ b k j e. sure k _ j e (record { kind = refl; pin = refl; next = refl }))) e.1.1
-step_framed o k (stages.Scan n) made old new e =
+step_framed o k (stages.Scan n) old new e =
     framed (by_walk (scan_sight e.1.0)) old new (λ b. refl)
     (walked (scan_sight e.1.0) (λ b k j e. sure k _ j e (record { kind = refl; pin = refl; next = refl }))) e.1.1
-step_framed o k stages.Store made old new e =
+step_framed o k stages.Store old new e =
     framed stored_box old new (λ b. refl)
     (walked stored_walk (λ b k j e. sure k _ j e (record { kind = refl; pin = refl; next = refl }))) e.1
-step_framed o k (stages.First n) made old new e =
+step_framed o k (stages.First n) old new e =
     framed (top_seen o k n e.1.0) old new (λ b. refl)
     (walked (top_sight e.1.0) (λ b k j e. sure k _ j e (record { kind = refl; pin = refl; next = refl }))) e.1.1
-step_framed o k stages.FreeGroup made old new e =
+step_framed o k stages.FreeGroup old new e =
     framed (by_walk group_freed_walk) old new (λ b. refl)
     (walked group_freed_walk (λ b k j e. sure k _ j e (group_errand k.level k))) e.1
-step_framed o k stages.FreeChild made old new e =
+step_framed o k stages.FreeChild old new e =
     framed (by_walk child_freed_walk) old new (λ b. refl)
     (walked child_freed_walk (λ b k j e. sure k _ j e (freed_errand k.over k))) e.1
-step_framed o k stages.Finish made old new e = absurd e
-step_framed o k stages.Handing made old new e = absurd e
+step_framed o k stages.Finish old new e = absurd e
+step_framed o k stages.Handing old new e = absurd e

@@ -20,14 +20,14 @@ use Rattle.shared_words.specs.Exchanges.{shows_migrator}
 use Rattle.shared_rule.specs.declared.parts.BoxView.{BoxView}
 use Rattle.shared_rule.specs.declared.parts.Look.{Look}
 use Rattle.shared_rule.specs.Plays.{bound_walk, by_walk, child_freed_walk, child_locked_walk}
-use Rattle.shared_rule.specs.Plays.{child_read_walk, child_sight, group_freed_walk, lock_box}
+use Rattle.shared_rule.specs.Plays.{child_read_walk, child_sight, group_freed_walk}
 use Rattle.shared_rule.specs.Plays.{locked_walk, own_read_walk, read_walk, reading, scan_sight}
 use Rattle.shared_rule.specs.Plays.{WalkFits, group_sight, slot_number, stored_box, stored_walk}
 use Rattle.shared_rule.specs.Plays.{swap_box, top_sight}
 use Rattle.shared_rule.specs.Parts.{HeldPart}
 use Rattle.walk_inactive.specs.Frames.{IsFramed, box_with}
 use Rattle.shared_walks.specs.Steps.{group_seen, on_part, slot_place, state_place, top_seen}
-use Rattle.shared_walks.specs.Walks.{HasReadChild, StepOf, is_under_way}
+use Rattle.shared_walks.specs.Walks.{HasReadChild, MadeOf, is_under_way}
 use Rattle.walk_inactive.proofs.Framing.{step_framed}
 use Rattle.shared_walks.proofs.Standing.{finishes, has_group, stands}
 use Rattle.walk_inactive.specs.Ways.{HasAdvanced, HasPassed, HasReadSlots, HasSetOut, LooksAt}
@@ -88,7 +88,7 @@ module _ (k : Walk) (old new : HeldPart) (has : old.box.own.walk ≡ Some k) whe
   -- EACH STEP KEEPS IT
   pub step_looks : (at : Stage) → k.stage ≡ at → WalkFits b.opening b k
       → HasGroup b.opening.tree b.cpu → Tells k.kind → is_under_way at ≡ true
-      → LooksAt b.opening b.cpu k b.looked at → StepOf b.opening k at true old new
+      → LooksAt b.opening b.cpu k b.looked at → MadeOf b.opening k at old new
       → Looking new.box
   step_looks stages.Own is fits group tells under looks e =
       absurd (tells (subst (FitsStage b.opening.tree b.cpu k.kind k.level) is (fits.fits group)).0)
@@ -106,11 +106,11 @@ module _ (k : Walk) (old new : HeldPart) (has : old.box.own.walk ≡ Some k) whe
   step_looks stages.Swap is fits group tells under looks e =
       swapped e.1.0 e.1.1.0 looks e.1.1.1
   step_looks stages.LockChild is fits group tells under looks e =
-      onto (lock_box child_locked_walk true) old new e
-      (went b child_locked_walk k (at_stage k stages.LockGroup) has refl looks)
+      onto (λ x. by_walk child_locked_walk (reading e.0 x)) old new e.1
+      (went (reading e.0 b) child_locked_walk k (at_stage k stages.LockGroup) has refl looks)
   step_looks stages.LockGroup is fits group tells under looks e =
-      onto (lock_box locked_walk true) old new e
-      (went b locked_walk k (at_stage k (first_sight k.level)) has refl
+      onto (λ x. by_walk locked_walk (reading e.0 x)) old new e.1
+      (went (reading e.0 b) locked_walk k (at_stage k (first_sight k.level)) has refl
       (at_first_sight b.opening b.cpu (at_stage k (first_sight k.level)) b.looked k.level looks))
   step_looks stages.SeeChild is fits group tells under looks e =
       let here = subst (FitsStage b.opening.tree b.cpu k.kind k.level) is (fits.fits group) in
@@ -236,11 +236,11 @@ keeps start old new k out so_far advanced = record {
     w : Walk
     w = so_far.walk
 
-    step : (is_under_way w.stage ≡ true) × StepOf old.box.opening w w.stage true old new
+    step : (is_under_way w.stage ≡ true) × MadeOf old.box.opening w w.stage old new
     step = advanced.went w so_far.has
 
     framed : IsFramed old new
-    framed = step_framed old.box.opening w w.stage true old new step.1
+    framed = step_framed old.box.opening w w.stage old new step.1
 
     -- opening and CPU are those with which the walk set out
     run : old.box.opening ≡ start.box.opening

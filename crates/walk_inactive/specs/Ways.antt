@@ -17,7 +17,7 @@ use Rattle.shared_rule.specs.Plays.{PartFits}
 use Rattle.shared_rule.specs.Parts.{HeldPart}
 use Rattle.walk_inactive.specs.Frames.{IsSameErrand, box_with}
 use Rattle.shared_walks.specs.Steps.{on_part}
-use Rattle.shared_walks.specs.Walks.{StepOf, is_under_way}
+use Rattle.shared_walks.specs.Walks.{MadeOf, is_under_way}
 use Rattle.walk_inactive.specs.Ends.{leaf_of, told_leaf}
 use Rattle.walk_inactive.specs.Looks.{FindsFirst, HasLooked, first_by, group_looks, reads_slots}
 use Rattle.walk_inactive.specs.Looks.{slot_looks}
@@ -104,7 +104,7 @@ pub record HasAdvanced (more : Bool) (old new : HeldPart) : Type 0 where
   pub fits : PartFits old.box
   pub went : (k : Walk) → old.box.own.walk ≡ Some k →
       MatchBool more
-      ((is_under_way k.stage ≡ true) × StepOf old.box.opening k k.stage true old new)
+      ((is_under_way k.stage ≡ true) × MadeOf old.box.opening k k.stage old new)
       ((is_under_way k.stage ≡ false) × (new ≡ old))
 
 -- THE END OF THE WAY: the walk that set out stands where it finishes, and has found and told

@@ -15,9 +15,10 @@ use Rattle.shared_rule.specs.declared.parts.PassView.{PassView}
 use Rattle.shared_rule.specs.Rule.{Each, renewed, with_journal}
 use Rattle.shared_rule.specs.Plays.{Agree, by_walk, child_freed_walk, child_locked_walk}
 use Rattle.shared_rule.specs.Plays.{child_read_walk, child_sight, group_freed_walk, head_pass}
-use Rattle.shared_rule.specs.Plays.{lock_box, locked_walk, marked_walk, own_marked_box}
+use Rattle.shared_rule.specs.Plays.{locked_walk, looking, looking_anew, marked_walk}
+use Rattle.shared_rule.specs.Plays.{own_marked_box, risen_box}
 use Rattle.shared_rule.specs.Plays.{own_read_walk, read_walk, reading, scan_sight, stored_box}
-use Rattle.shared_rule.specs.Plays.{swap_box, up_box, woken_box, woken_pass}
+use Rattle.shared_rule.specs.Plays.{swap_box, woken_box, woken_pass}
 use Rattle.shared_rule.specs.Turns.{finish_of, finished_box, idled_box, idled_pass, rested_pass}
 use Rattle.shared_rule.specs.Parts.{HasGuest, HeldPart, pass_parted, with_guest, without_guest}
 use Rattle.shared_rule.specs.Passes.{HeldPass, IsPassIn, Seated, passes_of, seated_of}
@@ -26,8 +27,8 @@ use Rattle.shared_cpus.specs.Pairs.{HasOwn, box_by, by_pair, of_box}
 use Rattle.shared_table.specs.Begun.{IsFree}
 use Rattle.shared_table.specs.Ended.{IsPassAt}
 use Rattle.shared_table.specs.Readied.{HasNoneBehind}
-use Rattle.shared_walks.specs.Steps.{group_seen, on_part, top_seen}
-use Rattle.shared_walks.specs.Walks.{HasReadChild, StepOf}
+use Rattle.shared_walks.specs.Steps.{group_seen, on_part, state_place, top_seen}
+use Rattle.shared_walks.specs.Walks.{HasReadChild, LockTried, StepOf}
 use Rattle.shared_rows.specs.Looks.{StaysAt}
 use Rattle.walk_rows.specs.Driven.{DrivenOn, IsDriven}
 use Rattle.walk_rows.specs.Standing.{IsOneOf}
@@ -42,10 +43,6 @@ record Spares (f : BoxView → BoxView) : Type 0 where
 record SparesPass (h : BoxView → PassView → PassView) : Type 0 where
   cpus : (b : BoxView) (p : PassView) → (h b p).cpu ≡ p.cpu
   insides : (b : BoxView) (p : PassView) → (h b p).inside ≡ p.inside
-
--- a part that has stayed
-stayed : (old new : HeldPart) → new ≡ old → DrivenOn old new
-stayed old new is cpu d = subst (IsDriven cpu) (sym is) d
 
 -- a part whose box has changed
 changed : (f : BoxView → BoxView) → Spares f → (old new : HeldPart) → new ≡ on_part f old
@@ -70,13 +67,12 @@ walked : (g : BoxView → Walk → Option Walk) (old new : HeldPart) → new ≡
     → DrivenOn old new
 walked g = changed (by_walk g) (walks g)
 
-risen : (made : Bool) (word : ℕ) → Spares (up_box made word)
-risen true word = record { cpus = λ b. refl; insides = λ b. refl; bases = λ b. refl }
-risen false word = record { cpus = λ b. refl; insides = λ b. refl; bases = λ b. refl }
-
-locks : (g : BoxView → Walk → Option Walk) (made : Bool) → Spares (lock_box g made)
-locks g true = walks g
-locks g false = record { cpus = λ b. refl; insides = λ b. refl; bases = λ b. refl }
+locks : (g : BoxView → Walk → Option Walk) (made : Bool) (old new : HeldPart)
+    → LockTried g made old new → DrivenOn old new
+locks g true old new s = walked g old new s
+locks g false old new s =
+    changed (reading s.found)
+    (record { cpus = λ b. refl; insides = λ b. refl; bases = λ b. refl }) old new s.box
 
 swaps : (made : Bool) (found : ℕ) → Spares (swap_box made found)
 swaps true found = record { cpus = λ b. refl; insides = λ b. refl; bases = λ b. refl }
@@ -92,8 +88,13 @@ pub step_driven : (o : World) (k : Walk) (at : Stage) (made : Bool) (old new : H
 step_driven o k stages.Own made old new s =
     changed own_marked_box
     (record { cpus = λ b. refl; insides = λ b. refl; bases = λ b. refl }) old new s.1
-step_driven o k stages.Up true old new s = changed (up_box true s.0) (risen true s.0) old new s.1
-step_driven o k stages.Up false old new s = stayed old new s
+step_driven o k stages.Up true old new s =
+    changed (risen_box s.0)
+    (record { cpus = λ b. refl; insides = λ b. refl; bases = λ b. refl }) old new s.1
+step_driven o k stages.Up false old new s =
+    changed (λ b. looking (state_place o b.cpu k.level) s.found
+    (looking_anew (state_place o b.cpu k.level) s.looked b))
+    (record { cpus = λ b. refl; insides = λ b. refl; bases = λ b. refl }) old new s.box
 step_driven o k (stages.Mark more) made old new s = walked marked_walk old new s.1
 step_driven o k stages.Read made old new s =
     changed (λ b. reading s.1.0 (by_walk read_walk b))
@@ -102,9 +103,9 @@ step_driven o k stages.Child made old new s = child_driven k.level old new s.1
 step_driven o k stages.Swap made old new s =
     changed (swap_box s.1.0 s.1.1.0) (swaps s.1.0 s.1.1.0) old new s.1.1.1
 step_driven o k stages.LockChild made old new s =
-    changed (lock_box child_locked_walk made) (locks child_locked_walk made) old new s
+    locks child_locked_walk made old new s
 step_driven o k stages.LockGroup made old new s =
-    changed (lock_box locked_walk made) (locks locked_walk made) old new s
+    locks locked_walk made old new s
 step_driven o k stages.SeeChild made old new s = walked (child_sight s.1.0) old new s.1.1
 step_driven o k stages.SeeGroup made old new s =
     changed (group_seen o k s.1.0)

@@ -1,22 +1,25 @@
-use Rattle.std.proofs.Common.{◌≡◌, ◌==◌, ◌∷◌, [], Some, refl, ap, ◌∙◌}
-use Rattle.std.proofs.Common.{subst, arith}
+use Rattle.std.proofs.Common.{◌≡◌, ◌≢◌, ◌==◌, ◌∷◌, [], ℕ, Some, true, false, refl, sym, ap, ◌∙◌}
+use Rattle.std.proofs.Common.{subst, arith, eqb, ne_eqb}
 use mathlib.Core.Option.{none}
 use prog.Atomic.{either}
 use Rattle.atomic_table.specs.Table.{step}
 use Rattle.walk_rules.specs.declared.walk.Walk.{Walk}
 use Rattle.walk_rules.specs.declared.walk.Stage.TheVariants as stages
+use Rattle.walk_rules.specs.Hierarchy.{group_on}
 use Rattle.core_world.specs.World.{World}
 use Rattle.shared_words.specs.Exchanges.{IsJoinOf}
+use Rattle.shared_rule.specs.declared.parts.BoxView.{BoxView}
 use Rattle.shared_rule.specs.Plays as plays
-use Rattle.shared_rule.specs.Rule.{seat_of}
+use Rattle.shared_rule.specs.Rule.{Me, seat_of}
 use Rattle.shared_rule.specs.Whole.{state_at}
-use Rattle.shared_rule.specs.Parts.{box_held, looked_of}
-use Rattle.shared_rule.proofs.Calls.{asks}
-use Rattle.shared_walks.proofs.Standing.{stands}
+use Rattle.shared_rule.specs.Parts.{HeldPart, box_held, guest_room, looked_of}
+use Rattle.shared_rule.proofs.Calls.{asks, place}
+use Rattle.shared_walks.specs.Steps.{on_part, state_place}
+use Rattle.shared_walks.proofs.Standing.{path_to, stands}
 use Rattle.shared_walks.proofs.activation.up_step.Goals as goal
 
-pub group_on-group-requires-clause-there : goal.group_on-group-requires-clause-there
-group_on-group-requires-clause-there g c =
+pub state_place-place-requires-clause-there : goal.state_place-place-requires-clause-there
+state_place-place-requires-clause-there g c =
     let part = c.part.inside in
     let o : World = g.N.RunName.opening in
     let b = box_held o part.cpu.0 part.status part.bases.plain part.leaf part.read
@@ -34,15 +37,17 @@ load-old-requires g c =
     let b = box_held o part.cpu.0 part.status part.bases.plain part.leaf part.read
     (looked_of part.seat.me.0.boxes) in
     let k : Walk = c.args.walk in
-    let at : b.own.walk ≡ Some k = ap (λ z. z.box.own.walk) c.part.view_is ∙ c.requires.walk in
     let ps = part.seat.me.0.passes in
-    let group = c.group_on-group.result.0 in
-    let low = c.group_on-group.ensures.group in
-    let path = c.group_on-group.ensures.path in
+    let group = group_on o.tree b.cpu k.level in
+    let low = c.state_place-place.ensures.group in
+    let same = place g.N.RunName.table o table run.words.shared.key.core run.tree run.layout
+    run.fits (state_at group) in
+    let there = ◌∙◌ {b = state_place o b.cpu k.level} c.state_place-place.ensures.place (sym same) in
     asks g.N.RunName.table o table run.words.shared.key.core run.tree run.layout run.fits
-    part.seat.table_id part.seat.id c.index-place.result part.seat.me b ps (state_at group)
+    part.seat.table_id part.seat.id c.state_place-place.result part.seat.me b ps (state_at group)
     (λ n. n) (λ i v n w. plays.Looks (step table.slots i 0 0 none) v n w)
-    (c.part.invariant.named) (c.part.invariant.seat) (c.index-place.ensures) (low) (c.law_rise.ensures.look o table.slots part.seat.id group b ps low)
+    c.part.invariant.named c.part.invariant.seat there low
+    (c.law_rise.ensures.look o table.slots part.seat.id group b ps low)
 
 pub compare_exchange-found-requires : goal.compare_exchange-found-requires
 compare_exchange-found-requires g c =
@@ -55,19 +60,26 @@ compare_exchange-found-requires g c =
     let k : Walk = c.args.walk in
     let at : b.own.walk ≡ Some k = ap (λ z. z.box.own.walk) c.part.view_is ∙ c.requires.walk in
     let ps = part.seat.me.0.passes in
-    let group = c.group_on-group.result.0 in
-    let low = c.group_on-group.ensures.group in
-    let path = c.group_on-group.ensures.path in
+    let group = group_on o.tree b.cpu k.level in
+    let path = path_to o.tree b.cpu k.level
+    (stands o b k stages.Up (c.part.invariant.fits.walk k at) c.requires.stage refl) in
+    let low = c.state_place-place.ensures.group in
+    let same = place g.N.RunName.table o table run.words.shared.key.core run.tree run.layout
+    run.fits (state_at group) in
+    let there = ◌∙◌ {b = state_place o b.cpu k.level} c.state_place-place.ensures.place (sym same) in
     let seat = c.load-old.new.seat in
     let old = c.load-old.result in
     let new = c.joined_word-new.result in
     let told = c.load-old.ensures in
-    let me : seat.me ≡ seat_of (b ∷ []) ps = told.2.0.0 ∙ c.part.invariant.seat in
+    let seen = plays.looking_anew c.state_place-place.result old b in
+    let me : seat.me ≡ seat_of (seen ∷ []) ps
+    = told.2.0.0 ∙ ap (plays.on_box (plays.looking_anew c.state_place-place.result old))
+    c.part.invariant.seat in
     asks g.N.RunName.table o table run.words.shared.key.core run.tree run.layout run.fits
-    seat.table_id seat.id c.index-place.result seat.me b ps (state_at group)
+    seat.table_id seat.id c.state_place-place.result seat.me seen ps (state_at group)
     (λ n. either (n == old) new n) (λ i v n w. plays.Rises (step table.slots i old new none) v n w)
-    (told.0 ∙ c.part.invariant.named) me c.index-place.ensures low
-    (c.law_rise.ensures.rise o table.slots seat.id group b k ps old new
+    (told.0 ∙ c.part.invariant.named) me there low
+    (c.law_rise.ensures.rise o table.slots seat.id group seen k ps old new
     (record {
       opening = refl;
       group = low;
@@ -84,3 +96,45 @@ at_top-top-requires-clause-level g c =
     let fits = c.part.invariant.fits.walk c.args.walk at in
     let low = fits.low in
     omega (arith, low)
+
+pub returns-then-found-old : goal.returns-then-found-old
+returns-then-found-old g c =
+    let part = c.part.inside in
+    let o : World = g.N.RunName.opening in
+    let b = box_held o part.cpu.0 part.status part.bases.plain part.leaf part.read
+    (looked_of part.seat.me.0.boxes) in
+    let ps = part.seat.me.0.passes in
+    let old = c.load-old.result in
+    let found = c.compare_exchange-found.result in
+    let at = c.state_place-place.result in
+    let ne : found ≢ old = c.if-found-old.true in
+    let first : c.load-old.new.seat.me ≡ plays.on_box (plays.looking_anew at old) part.seat.me
+    = c.load-old.ensures.2.0.0 in
+    let second : c.compare_exchange-found.new.seat.me
+    ≡ plays.on_box (plays.up_box false old at found) c.load-old.new.seat.me
+    = subst (λ z. c.compare_exchange-found.new.seat.me
+    ≡ plays.on_box (plays.up_box z old at found) c.load-old.new.seat.me) (ne_eqb _ _ ne)
+    c.compare_exchange-found.ensures.2.0 in
+    let both : c.compare_exchange-found.new.seat.me
+    ≡ seat_of (plays.looking at found (plays.looking_anew at old b) ∷ []) ps
+    = second ∙ ap (plays.on_box (plays.up_box false old at found))
+    (first ∙ ap (plays.on_box (plays.looking_anew at old)) c.part.invariant.seat) in
+    let shown : Me → HeldPart
+    = λ me. record {
+      box = box_held o part.cpu.0 part.status part.bases.plain part.leaf part.read
+          (looked_of me.0.boxes);
+      brought = me.0.passes;
+      room = part.bases.room;
+      receipts_room = guest_room part.guest;
+    } in
+    let missed : ℕ → BoxView → BoxView
+    = λ n x. plays.looking n found (plays.looking_anew n old x) in
+    record {
+      looked = old;
+      found = found;
+      other = ne;
+      box =
+          ap shown both
+          ∙ (ap (λ n. on_part (missed n) (shown part.seat.me)) c.state_place-place.ensures.place
+          ∙ ap (on_part (λ x. missed (state_place o x.cpu c.args.walk.level) x)) c.part.view_is);
+    }

@@ -33,8 +33,12 @@ climb-requires g c =
     let own = c.requires.own.of_run in
     let woken = c.wake_step.ensures
     ∙ ap (by_pair (of_box woken_box) woken_pass) c.bring.ensures.part in
-    subst (λ (z : HeldPart). Climbs z.box.own.walk) (sym woken)
-    (endings.climbs part held g.N.RunName.table own.0 own.1)
+    record {
+      climbs = subst (λ (z : HeldPart). Climbs z.box.own.walk) (sym woken)
+          (endings.climbs part held g.N.RunName.table own.0 own.1);
+      looked = ap (λ (z : HeldPart). z.box.looked) woken
+          ∙ endings.no_looks part held g.N.RunName.table own.0 own.1;
+    }
 
 pub part_off-requires-clause-brought : goal.part_off-requires-clause-brought
 part_off-requires-clause-brought g c =

@@ -5,11 +5,16 @@ use Rattle.walk_active.proofs.climbing.climb.Goals as goal
 pub climb_step-requires : goal.climb_step-requires
 climb_step-requires g c =
     let has = sym c.walk.ensures ∙ c.in-Some.is in
-    record { walk = has; climbs = c.loop-walk.invariant.climbs c.in-Some.walk has }
+    record {
+      walk = has;
+      climbs = c.loop-walk.invariant.climbs c.in-Some.walk has;
+      looked = c.loop-walk.invariant.looked;
+    }
 
 pub loop-walk-preserved : goal.loop-walk-preserved
 loop-walk-preserved g c = record {
   climbs = c.climb_step.ensures.climbs;
+  looked = c.climb_step.ensures.looked;
   same = c.climb_step.ensures.same ∙ c.loop-walk.invariant.same;
 }
 

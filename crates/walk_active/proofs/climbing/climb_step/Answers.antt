@@ -9,4 +9,4 @@ make_step-requires g c =
 pub returns : goal.returns
 returns g c =
     climbs_on g.N.RunName.opening c.args.part.now c.make_step.new.part c.args.walk
-    c.law.ensures.fits c.requires.walk c.requires.climbs c.make_step.ensures
+    c.law.ensures.fits c.requires.walk c.requires.climbs c.requires.looked c.make_step.ensures
