@@ -196,8 +196,8 @@ abbrev pub up_walk : ℕ → BoxView → Walk → Option Walk
 up_walk word b k =
     up_next (at_top b.opening.tree b.cpu k.level) (not (shows_migrator word)) k
 
--- the box after an exchange of a word that was this one, by which its walk goes on and has looked at
--- nothing
+-- the box after an exchange of a word that was this one, by which its walk goes on and has looked
+-- at nothing
 abbrev pub risen_box : (word : ℕ) → BoxView → BoxView
 risen_box word b = record (by_walk (up_walk word) b) { looked = [] }
 
@@ -220,8 +220,8 @@ child_locked_walk b k = Some (at_stage k stages.LockGroup)
 abbrev pub locked_walk : BoxView → Walk → Option Walk
 locked_walk b k = Some (at_stage k (first_sight k.level))
 
--- the box where the lock was taken, and its walk goes on, or where another walk had it, whose word is
--- remembered as the one that was read last
+-- the box where the lock was taken, and its walk goes on, or where another walk had it, whose word
+-- is remembered as the one that was read last
 abbrev pub lock_box : (BoxView → Walk → Option Walk) → Bool → (found : ℕ) → BoxView → BoxView
 lock_box next true found b = by_walk next b
 lock_box next false found b = reading found b

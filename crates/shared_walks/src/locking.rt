@@ -49,8 +49,8 @@ pub fn lock_child_step<N: RunName, B: TimerBase>(
     true
 }
 
-/// The walk tries to take its group's lock, and then goes on to look; false where the exchange found
-/// that another walk has it.
+/// The walk tries to take its group's lock, and then goes on to look; false where the exchange
+/// found that another walk has it.
 pub fn lock_group_step<N: RunName, B: TimerBase>(
     run: &Run<N, B>,
     part: &mut BoxPart<N, B>,

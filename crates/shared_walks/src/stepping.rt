@@ -63,8 +63,9 @@ fn step_from<N: RunName, B: TimerBase>(
 
 /// The walk of a part makes its next step, where it goes on. False comes only where this call's
 /// exchange found another word than it wanted: at LockChild and LockGroup the word of a lock that
-/// isn't 0, since another walk has it, and at Up another word of the group than this call had loaded.
-/// Then nothing else has changed than what the box remembers, and the step may be tried again.
+/// isn't 0, since another walk has it, and at Up another word of the group than this call had
+/// loaded. Then nothing else has changed than what the box remembers, and the step may be tried
+/// again.
 pub fn walk_step<N: RunName, B: TimerBase>(run: &Run<N, B>, part: &mut BoxPart<N, B>) -> bool
     requires { GoesOn part.old }
     ensures { HasStepped N.opening result part.old part.new }
