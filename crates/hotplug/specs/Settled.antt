@@ -10,7 +10,8 @@ use Rattle.cpu_bases.specs.CpuBases.{CpuBases, base_of}
 use Rattle.tree_plan.specs.Paths.{is_placed_in}
 use Rattle.play_rules.specs.Machines.{after_move}
 use Rattle.core_world.specs.World.{World, cpu_of}
-use Rattle.step_play.specs.Rules.StepRules.{gone_by_steps, handed_on_by_steps, is_waiting, made_active}
+use Rattle.step_play.specs.Rules.StepRules.{gone_by_steps, handed_on_by_steps, is_waiting}
+use Rattle.step_play.specs.Rules.StepRules.{made_active}
 use Rattle.step_play.specs.Rules.StepRules.{step_rules}
 
 -- OFFLINE: why CPU c can't leave, with CPU `to` to follow it; an isolated one needs nobody to

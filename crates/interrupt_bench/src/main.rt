@@ -1,9 +1,10 @@
 //! Times timers and interrupts on 64 CPUs: arming and cancelling on the own CPU, an interrupt that
-//! has nothing to do, one that drains 64 own timers, and one that runs 64 timers of an idle sibling.
-//! With no words it makes each once, on the shared words and as steps of the core, and writes for
-//! each case how many turns there were and how many timers ran; with any word it times them, by one
-//! thread, two and four, and writes for each round `Words CASE THREADS TURNS MICROSECONDS` and
-//! `Begin CASE MICROSECONDS`, for a run of no turns, and `Steps CASE TURNS MICROSECONDS`.
+//! has nothing to do, one that drains 64 own timers, and one that runs 64 timers of an idle
+//! sibling. With no words it makes each once, on the shared words and as steps of the core, and
+//! writes for each case how many turns there were and how many timers ran; with any word it times
+//! them, by one thread, two and four, and writes for each round `Words CASE THREADS TURNS
+//! MICROSECONDS` and `Begin CASE MICROSECONDS`, for a run of no turns, and `Steps CASE TURNS
+//! MICROSECONDS`.
 #![tactic(auto)]
 
 mod alone;

@@ -18,7 +18,8 @@ pub trait Machine: Drop {
     ghost use Rattle.std.specs.Prelude.{IfSome, OnErr, OnOk, IfOk, option_map};
     ghost use Rattle.tm_base.specs.declared.limits.TheConstants.{CPU_SET_SIZE, SCRIPT_TIME_LIMIT};
     ghost use Rattle.play_rules.specs.Rules.{Rules};
-    ghost use Rattle.play_rules.specs.Machines.{IsTimerOf, PartDrained, Same, SameFlags, SameOnline};
+    ghost use Rattle.play_rules.specs.Machines.{IsTimerOf, PartDrained, Same, SameFlags};
+    ghost use Rattle.play_rules.specs.Machines.{SameOnline};
     ghost use Rattle.play_rules.specs.Machines.{after_move};
     ghost use Rattle.play_rules.specs.Operations.{last_online};
     ghost use Rattle.play_rules.specs.Phases.{FitsSome, IsUp, MayArmIn, MayDrain, Phase, StaysFit};

@@ -1,5 +1,5 @@
-//! Makes the calls that want memory, and makes each again where memory was wanting: what it left has
-//! to be what it found, so that the second call does all. It is to be run with one allocation
+//! Makes the calls that want memory, and makes each again where memory was wanting: what it left
+//! has to be what it found, so that the second call does all. It is to be run with one allocation
 //! refused (`rt try --fail-alloc N`, or `bench/refused_memory.sh`). The status is 0 where all came
 //! to what it should, 5 where memory was wanting for what is made before the calls or beside them,
 //! and 1 where a call left something else. It writes nothing.
@@ -29,8 +29,9 @@ fn made(core: &mut Core<WheelBase>, steps: &[Step]) -> Result<bool, NoMemory> {
     }
 }
 
-/// Makes the steps; where memory was wanting for one, looks whether the core stands before that one,
-/// and makes the rest. False where it doesn't, or where the core at the end isn't as it should be.
+/// Makes the steps; where memory was wanting for one, looks whether the core stands before that
+/// one, and makes the rest. False where it doesn't, or where the core at the end isn't as it should
+/// be.
 fn steps_again(alloc: Global, core: &mut Core<WheelBase>) -> Result<bool, NoMemory> {
     let steps = script(alloc)?;
     let mut right = true;

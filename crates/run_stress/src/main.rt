@@ -37,8 +37,8 @@ const SEED: u64 = 1;
 /// How many of them are run there.
 const FEW: u64 = 20;
 
-/// Runs a schedule, and looks what is wrong with what comes of it. The jobs are those of the program:
-/// done, again as global, again as pinned, a mark.
+/// Runs a schedule, and looks what is wrong with what comes of it. The jobs are those of the
+/// program: done, again as global, again as pinned, a mark.
 fn run_one<R: Threads + Wait + Sync>(
     rt: &R,
     alloc: Global,

@@ -8,8 +8,8 @@ use tm_base::{CpuId, Gate, Point};
 const PATIENCE: u32 = 12;
 
 /// A gate at which CPUs pass by turns, each turn being that of the CPU that a list names. Who comes
-/// to the end of its patience passes the turn on: the walk whose turn it is may wait for a lock that
-/// the other one has. At the end of the list it stands open.
+/// to the end of its patience passes the turn on: the walk whose turn it is may wait for a lock
+/// that the other one has. At the end of the list it stands open.
 #[derive(Drop)]
 pub(crate) struct Turns {
     /// Whose turns these are, by the numbers of the CPUs.

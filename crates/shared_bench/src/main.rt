@@ -1,6 +1,6 @@
-//! Times the beginning and the end of a run of the shared table. With no words it does nothing; with
-//! any word it makes machines of 8, 64 and 512 CPUs with 4,096 timers queued, makes a table of each,
-//! begins a run and ends it, and writes a line for each round:
+//! Times the beginning and the end of a run of the shared table. With no words it does nothing;
+//! with any word it makes machines of 8, 64 and 512 CPUs with 4,096 timers queued, makes a table of
+//! each, begins a run and ends it, and writes a line for each round:
 //! `Run CPUS TIMERS PREPARE BEGIN FINISH`, the times in microseconds.
 #![tactic(auto)]
 

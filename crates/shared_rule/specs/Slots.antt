@@ -12,8 +12,8 @@ use Rattle.shared_rule.specs.Plays.{on_pass, seen_pass}
 abbrev pub IsGrouped : World → (c : ℕ) → Type 0
 IsGrouped o c = (c < length o.cpus) × HasGroup o.tree c
 
--- the event in the word of a slot, where there is one, is that of a CPU of the run that has a group,
--- as the first of these passes knows it
+-- the event in the word of a slot, where there is one, is that of a CPU of the run that has a
+-- group, as the first of these passes knows it
 abbrev pub HasEventOf : List PassView → (found : ℕ) → Type 0
 HasEventOf [] found = ⊥
 HasEventOf (p ∷ ps) found = (e : Event) → slot_of found ≡ Some e → IsGrouped p.opening e.cpu.0

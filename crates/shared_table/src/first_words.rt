@@ -172,8 +172,8 @@ fn push_cpus<B: TimerBase>(words: &mut Vec<u64>, core: &Core<B>, cpus: u16) -> R
     Ok(())
 }
 
-/// Adds the words of a CPU's line: its own, which says that nobody has marked it, and those that say
-/// nothing.
+/// Adds the words of a CPU's line: its own, which says that nobody has marked it, and those that
+/// say nothing.
 fn push_cpu<B: TimerBase>(words: &mut Vec<u64>, core: &Core<B>, cpu: CpuId) -> Result<(), NoMemory>
     requires rest { IsSettled core.now }
     requires low { cpu.0 < length core.now.cpus }

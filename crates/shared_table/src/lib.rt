@@ -1,5 +1,5 @@
-//! The table of a run: how it is made of a core at rest, how threads get at what it guards, and what
-//! its words say once no thread shares them any more.
+//! The table of a run: how it is made of a core at rest, how threads get at what it guards, and
+//! what its words say once no thread shares them any more.
 #![tactic(auto)]
 
 mod apart;

@@ -46,8 +46,8 @@ pub record FoundQueued (o : World) (timer : ℕ) (old new : HeldPart) (fault : O
     pub remembered :
         new ≡ record old { brought = head_pass (seen_pass (timer_word o timer) found) old.brought }
 
--- CANCEL: what has to be known of a part as a timer that is queued in it is cancelled, by the CPU of
--- the pass that is brought: there is room for the entry and the receipt
+-- CANCEL: what has to be known of a part as a timer that is queued in it is cancelled, by the CPU
+-- of the pass that is brought: there is room for the entry and the receipt
 pub record MayCancel (o : World) (part : HeldPart) (timer : TimerId) : Type 0 where
   pub pass : PassView
   pub class : Class

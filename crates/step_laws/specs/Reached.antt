@@ -7,10 +7,10 @@ use Rattle.core_world.specs.Lists.{EachEnabled, after_all}
 use Rattle.core_facts.specs.Cover.Runs.{start_with}
 use Rattle.core_state.specs.Kept.{WorldFits}
 
--- ALL THAT A CORE KEEPS holds of each world that steps reach: on every machine, after every front of
--- every list of steps from its start on, each enabled where it stands, the world is lawful, its tree
--- is planned and its time in range, its bases are what their journals make, and its walks stand at
--- levels that fit: at level 0 where a CPU has no group, and there with no event of a child
+-- ALL THAT A CORE KEEPS holds of each world that steps reach: on every machine, after every front
+-- of every list of steps from its start on, each enabled where it stands, the world is lawful, its
+-- tree is planned and its time in range, its bases are what their journals make, and its walks
+-- stand at levels that fit: at level 0 where a CPU has no group, and there with no event of a child
 abbrev pub EachReachedFits : Type 0
 EachReachedFits = (nodes cpus timers : ℕ) (isolated : Cpus) →
     IsWithinLimits nodes cpus isolated → timers < 2 ^ 16 → (steps : List Step) →

@@ -12,7 +12,8 @@ use Rattle.play_rules.specs.Play.{plain_rules, play_spent, play_start, play_text
 use Rattle.play_rules.specs.State.{State}
 use Rattle.core_world.specs.Start.{start_of}
 use Rattle.core_world.specs.World.{World}
-use Rattle.step_play.specs.Rules.Alike.{ComesAlike, EndsAlike, IdlesAlike, LetsGoAlike, OfflinesAlike}
+use Rattle.step_play.specs.Rules.Alike.{ComesAlike, EndsAlike, IdlesAlike, LetsGoAlike}
+use Rattle.step_play.specs.Rules.Alike.{OfflinesAlike}
 use Rattle.step_play.specs.Rules.Alike.{WakesAlike}
 use Rattle.step_play.specs.Rules.Runs.{IsReached, TurnsAreRuns}
 use Rattle.step_play.specs.Rules.Seen.{InPlay, resting, state_of}

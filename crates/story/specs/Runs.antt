@@ -108,9 +108,9 @@ module _ (queues : Queues) (jobs : Replies) (now runner : ℕ) where
   TellsBy MovedIn x rest owed told = ⊥
   TellsBy Ticked x rest owed told = rest owed told
 
-  -- THE RUNS of an interrupt: what its CPU wrote, from the first entry on, with the armings that are
-  -- still owed and the lines that are still to be told. Each timer that was handed out has the next
-  -- line, each arming is the first one owed, and besides there are drains alone
+  -- THE RUNS of an interrupt: what its CPU wrote, from the first entry on, with the armings that
+  -- are still owed and the lines that are still to be told. Each timer that was handed out has the
+  -- next line, each arming is the first one owed, and besides there are drains alone
   unfoldable pub TellsRuns : List Written → List Owed → List Line → Type 0
   TellsRuns [] owed told = (owed ≡ []) × (told ≡ [])
   TellsRuns (x ∷ xs) owed told = TellsBy x.entry.act x (TellsRuns xs) owed told
@@ -123,7 +123,8 @@ pub record HasTicked (cpu : ℕ) (class : Class) (wrote : List Written) : Type 0
   pub act : drain.entry.act ≡ Ticked
   pub of_class : drain.entry.class ≡ class
 
--- AN INTERRUPT: what its CPU wrote, with a drain of each of its own bases, and the lines that tell it
+-- AN INTERRUPT: what its CPU wrote, with a drain of each of its own bases, and the lines that tell
+-- it
 pub record TellsInterrupt (queues : Queues) (jobs : Replies) (now cpu : ℕ) (wrote : List Written)
     (told : List Line) : Type 0 where
   pub drained : (class : Class) → HasTicked cpu class wrote

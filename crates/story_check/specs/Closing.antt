@@ -46,8 +46,8 @@ handed_by script s cpu to (Some gone) =
     || list_any (is_lower_online script to) s.cpus then Some faults.Control
     else None
 
--- WHAT IS WRONG with the line of a first event that is handed on: it stands behind the `offline` line
--- of its CPU, and the other is the lowest that is online
+-- WHAT IS WRONG with the line of a first event that is handed on: it stands behind the `offline`
+-- line of its CPU, and the other is the lowest that is online
 unfoldable pub handed_fault : Script → Sight → (cpu to : CpuId) → Option Fault
 handed_fault script s cpu to = handed_by script s cpu to s.point.leaving
 
@@ -66,8 +66,8 @@ settled_by s (Some to) =
 unfoldable pub settled : Sight → Sight
 settled s = settled_by s s.point.handed
 
--- A CPU TAKES OVER timers: the lowest active one of the hierarchy, or where none is active the lowest
--- that is online
+-- A CPU TAKES OVER timers: the lowest active one of the hierarchy, or where none is active the
+-- lowest that is online
 unfoldable pub may_control : Script → Sight → CpuId → Bool
 may_control script s cpu =
     if is_active script (cpu_at s cpu) then not (list_any (is_lower_active script cpu) s.cpus)

@@ -280,8 +280,8 @@ abbrev pub IsFitting : Verdict → Type 0
 IsFitting (verdicts.Fits lines runs) = Unit {0}
 IsFitting (verdicts.Misfit line fault) = ⊥
 
--- THE FIRST LINE AT FAULT: this line, of this number, is the first that doesn't fit, and this is what
--- is wrong with it; or each fits and the run goes on behind the last
+-- THE FIRST LINE AT FAULT: this line, of this number, is the first that doesn't fit, and this is
+-- what is wrong with it; or each fits and the run goes on behind the last
 abbrev pub IsFirstAt : Script → Sight → (count : ℕ) → List Line → (line : ℕ) → Fault → Type 0
 IsFirstAt script s count [] line fault =
     (is_over s.point.stage ≡ false) × (line ≡ up count) × (fault ≡ faults.Unended)

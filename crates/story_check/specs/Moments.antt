@@ -49,8 +49,8 @@ makes_moment at c = c.state.online && (not c.state.idle || nat_le c.quiet at)
 abbrev pub few_come : Sight → (by : ℕ) → Bool
 few_come s by = nat_le (count_by (makes_moment by) s.cpus) 1
 
--- PLAIN: the moment is played without threads, since it has an operation that takes a CPU offline or
--- online, or none and at most one CPU with an interrupt; all moments of `play` are
+-- PLAIN: the moment is played without threads, since it has an operation that takes a CPU offline
+-- or online, or none and at most one CPU with an interrupt; all moments of `play` are
 unfoldable pub is_plain : Script → Sight → Bool
 is_plain script s =
     s.point.play
@@ -73,8 +73,8 @@ is_looked_for script s q to =
     else nat_lt (max q.wheel (ahead s.point.time 1)) to
     && (s.point.play || few_come s (max q.wheel (ahead s.point.time 1)))
 
--- a timer of an online CPU that is due before a time must have run: a pinned one always; one of a CPU
--- that had an interrupt; a global one of a CPU that sleeps where it was looked for
+-- a timer of an online CPU that is due before a time must have run: a pinned one always; one of a
+-- CPU that had an interrupt; a global one of a CPU that sleeps where it was looked for
 unfoldable pub is_missed_on : Script → Sight → CpuSeen → Queued → (to : ℕ) → Bool
 is_missed_on script s c q to =
     if same_class q.class classes.Pinned then true

@@ -148,8 +148,8 @@ is_first_pinned s cpu first =
     not (some_pinned_sooner s cpu first)
     && ((first == NEVER) || some_pinned_sooner s cpu (up first))
 
--- OPEN: the events of a CPU may be others than the lines so far tell, where other CPUs act in the same
--- moment, where it slept as the moment began, and where a timer isn't clear
+-- OPEN: the events of a CPU may be others than the lines so far tell, where other CPUs act in the
+-- same moment, where it slept as the moment began, and where a timer isn't clear
 abbrev pub is_open : Script → Sight → CpuId → Bool
 is_open script s cpu =
     nat_lt 0 s.point.unclear
@@ -160,8 +160,9 @@ is_open script s cpu =
 abbrev pub is_other_active : Script → (own : CpuId) → CpuSeen → Bool
 is_other_active script own c = not (c.cpu.0 == own.0) && is_active script c
 
--- A WAKEUP FITS a CPU that goes idle: where another CPU of the hierarchy stays active it is its first
--- pinned event; where it is the last no later than its first event, and where isolated that event
+-- A WAKEUP FITS a CPU that goes idle: where another CPU of the hierarchy stays active it is its
+-- first pinned event; where it is the last no later than its first event, and where isolated that
+-- event
 abbrev pub fits_wakeup : Script → Sight → CpuId → (until : ℕ) → Bool
 fits_wakeup script s cpu until =
     if set.contains script.isolated cpu.0 then is_first_event s cpu until
@@ -329,7 +330,8 @@ learned_arming script s op wheel turn = arming_by op.what script s op.cpu wheel 
 
 -- what an answer tells
 abbrev pub learned_by : Answer → Script → Sight → Op → (turn : ℕ) → Sight
-learned_by (answers.Armed timer class wheel) script s op turn = learned_arming script s op wheel turn
+learned_by (answers.Armed timer class wheel) script s op turn =
+    learned_arming script s op wheel turn
 learned_by (answers.Cancelled timer home) script s op turn =
     requeued s timer None op.cpu
     (fit_of script s timer op.cpu

@@ -92,8 +92,9 @@ level_late s cpu class by asked =
     level_or (level_by asked.expires by (ahead by 1) asked.wheel)
     (if list_any (explains cpu class by asked) s.timers then Some 0 else None)
 
--- AN ARMING in a base that is forwarded to a time: the level, where the wheel's rule gives the wheel
--- expiry that is shown; the base's clock is this time, or behind what it handed out in this moment
+-- AN ARMING in a base that is forwarded to a time: the level, where the wheel's rule gives the
+-- wheel expiry that is shown; the base's clock is this time, or behind what it handed out in this
+-- moment
 unfoldable pub level_in : Sight → CpuId → Class → (by : ℕ) → Asked → Option ℕ
 level_in s cpu class by asked =
     level_or
@@ -244,8 +245,8 @@ placed t place now cpu fit = record t {
   touched = now;
 }
 
--- the fit of a line that tells all of its timer, or not: where operations of other CPUs in the moment
--- are of the same timer it settles nothing
+-- the fit of a line that tells all of its timer, or not: where operations of other CPUs in the
+-- moment are of the same timer it settles nothing
 abbrev pub fit_of : Script → Sight → TimerId → CpuId → (whole : Fit) → Fit
 fit_of script s timer cpu whole =
     record whole { settles = whole.settles && not (is_shared script s timer cpu) }

@@ -45,8 +45,8 @@ interrupts opening quiet by = opening.online && (not opening.idle || nat_le quie
 abbrev pub may_interrupt : (now by : ℕ) → CpuSeen → Bool
 may_interrupt now by c = interrupts (opening_of c now) c.quiet by
 
--- A CPU MAY RUN timers of this class of that home: its own, or global ones of a CPU that slept, where
--- both are in the hierarchy
+-- A CPU MAY RUN timers of this class of that home: its own, or global ones of a CPU that slept,
+-- where both are in the hierarchy
 abbrev pub may_run : Script → Sight → RunLine → Class → Bool
 may_run script s run class =
     if run.runner.0 == run.home.0 then true
@@ -92,8 +92,8 @@ again_level s run class delay wheel =
     level_in s run.runner class s.point.time
     (record { expires = ahead s.point.time delay; wheel = wheel })
 
--- ARMED AGAIN: a reply shows the arming, on the CPU that ran the timer, in that class, that far ahead;
--- or the timer was passed over, where another CPU may have armed it
+-- ARMED AGAIN: a reply shows the arming, on the CPU that ran the timer, in that class, that far
+-- ahead; or the timer was passed over, where another CPU may have armed it
 abbrev pub shows_again : Script → Sight → RunLine → Class → (delay : ℕ) → ShownReply → Bool
 shows_again script s run class delay shown.Done = false
 shows_again script s run class delay (shown.Mark mark) = false
@@ -133,8 +133,8 @@ place_fault script s run q =
     else if not (stands_behind s run q.class) then Some faults.Order
     else None
 
--- an operation comes behind the one that was answered last: in the order of `play` by its line, else
--- by its CPU first
+-- an operation comes behind the one that was answered last: in the order of `play` by its line,
+-- else by its CPU first
 abbrev pub is_after : Point → Op → Bool
 is_after p op =
     if p.play || (op.cpu.0 == p.answered_cpu.0) then nat_lt p.answered op.line

@@ -2,9 +2,12 @@
 
 ghost use Rattle.std.specs.Prelude.{◌≡◌};
 ghost use Rattle.std.specs.List.{list_any};
-ghost use Rattle.story_check.specs.Closing.{are_ends, control_fault, end_fault, handed_fault, is_left};
-ghost use Rattle.story_check.specs.Closing.{is_lower_active, is_lower_online, is_placed_online, is_untold};
-ghost use Rattle.story_check.specs.Closing.{learned_control, learned_handed, learned_left, learned_moved};
+ghost use Rattle.story_check.specs.Closing.{are_ends, control_fault, end_fault, handed_fault};
+ghost use Rattle.story_check.specs.Closing.{is_left};
+ghost use Rattle.story_check.specs.Closing.{is_lower_active, is_lower_online, is_placed_online};
+ghost use Rattle.story_check.specs.Closing.{is_untold};
+ghost use Rattle.story_check.specs.Closing.{learned_control, learned_handed, learned_left};
+ghost use Rattle.story_check.specs.Closing.{learned_moved};
 ghost use Rattle.story_check.specs.Closing.{left_fault, may_control, moved_fault, moves_behind};
 ghost use Rattle.story_check.specs.Closing.{place_moved_fault, settled};
 

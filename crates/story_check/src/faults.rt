@@ -10,7 +10,8 @@ pub enum Clause {
     Moments,
     /// Wheel expiries are those of the timer wheel, and timers go out in its order.
     Journals,
-    /// A timer runs where it was queued, by a CPU that may run it, and none that is due is left out.
+    /// A timer runs where it was queued, by a CPU that may run it, and none that is due is left
+    /// out.
     Runs,
     /// Each operation has one line, which tells what came of it.
     Operations,

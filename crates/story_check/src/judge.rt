@@ -2,10 +2,13 @@
 
 ghost use Rattle.std.specs.Prelude.{◌≡◌, ◌↔◌, IfOk, None};
 ghost use Rattle.story_check.specs.Judge.{EachFits, IsFirstFault, IsFitting, ending};
-ghost use Rattle.story_check.specs.Judge.{active_cpu, after_last, answer_of, behind_after, behind_fault, ended};
-ghost use Rattle.story_check.specs.Judge.{closing_after, closing_fault, closing_time, come_to, first_point};
+ghost use Rattle.story_check.specs.Judge.{active_cpu, after_last, answer_of, behind_after};
+ghost use Rattle.story_check.specs.Judge.{behind_fault, ended};
+ghost use Rattle.story_check.specs.Judge.{closing_after, closing_fault, closing_time, come_to};
+ghost use Rattle.story_check.specs.Judge.{first_point};
 ghost use Rattle.story_check.specs.Judge.{fresh_cpus, fresh_timers, judged, last_fault, left_for};
-ghost use Rattle.story_check.specs.Judge.{line_after, line_fault, start, told_after, told_fault, told_of};
+ghost use Rattle.story_check.specs.Judge.{line_after, line_fault, start, told_after, told_fault};
+ghost use Rattle.story_check.specs.Judge.{told_of};
 ghost use Rattle.story_check.specs.Moments.{time_fault};
 
 use crate::closing::{
@@ -460,9 +463,9 @@ fn ending(seen: &Seen, lines: u64) -> Verdict
     }
 }
 
-/// What is said of the lines of a report: in the order of `run`, or in that of `play`. A misfit names
-/// the first line that doesn't fit, from 1, and what is wrong with it. The only error is want of
-/// memory.
+/// What is said of the lines of a report: in the order of `run`, or in that of `play`. A misfit
+/// names the first line that doesn't fit, from 1, and what is wrong with it. The only error is want
+/// of memory.
 pub fn judge_lines(
     alloc: Global,
     script: &Script,

@@ -1,11 +1,15 @@
-//! Going from one moment to the next: what must have been told by then, and which times are moments.
+//! Going from one moment to the next: what must have been told by then, and which times are
+//! moments.
 
 ghost use Rattle.std.specs.Prelude.{◌≡◌, position};
 ghost use Rattle.std.specs.List.{list_any};
 ghost use Rattle.story_check.specs.Covers.{is_owed, is_unmoved};
-ghost use Rattle.story_check.specs.Moments.{count_before, few_come, few_interrupt, gone_to, is_hotplug, is_listed};
-ghost use Rattle.story_check.specs.Moments.{is_looked_for, is_missed, is_missed_on, is_moment, is_plain};
-ghost use Rattle.story_check.specs.Moments.{later_by, leave_fault, makes_moment, moments_left, point_at};
+ghost use Rattle.story_check.specs.Moments.{count_before, few_come, few_interrupt, gone_to};
+ghost use Rattle.story_check.specs.Moments.{is_hotplug, is_listed};
+ghost use Rattle.story_check.specs.Moments.{is_looked_for, is_missed, is_missed_on, is_moment};
+ghost use Rattle.story_check.specs.Moments.{is_plain};
+ghost use Rattle.story_check.specs.Moments.{later_by, leave_fault, makes_moment, moments_left};
+ghost use Rattle.story_check.specs.Moments.{point_at};
 ghost use Rattle.story_check.specs.Moments.{has_ops, is_from, some_ops, time_fault, was_active};
 
 use crate::covers::some_uncovered;
@@ -52,8 +56,8 @@ fn few_come(seen: &Seen, by: Jiffy) -> bool
     seen.cpus().iter().filter(|c| makes_moment(c, by)).count() <= 1
 }
 
-/// Whether the moment is played as `play` does it, without threads: it has an operation that takes a
-/// CPU offline or online, or none and at most one CPU with an interrupt.
+/// Whether the moment is played as `play` does it, without threads: it has an operation that takes
+/// a CPU offline or online, or none and at most one CPU with an interrupt.
 #[tactic(auto, unfolding(crate::specs::Moments::is_plain))]
 fn is_plain(script: &Script, seen: &Seen) -> bool
     ensures { result ≡ is_plain script.now seen.now }

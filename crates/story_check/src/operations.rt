@@ -2,13 +2,20 @@
 
 ghost use Rattle.std.specs.Prelude.{◌≡◌, None, find};
 ghost use Rattle.std.specs.List.{list_any};
-ghost use Rattle.story_check.specs.Operations.{after_answer, answer_fault, answer_line_fault, answered};
-ghost use Rattle.story_check.specs.Operations.{answered_op, arm_fault, changed_cpu, comes_next, done_fault};
-ghost use Rattle.story_check.specs.Operations.{fits_wakeup, idle_fault, is_first_event, is_first_pinned};
-ghost use Rattle.story_check.specs.Operations.{is_last_online, is_nowhere, is_on, is_open, is_other_active};
-ghost use Rattle.story_check.specs.Operations.{is_other_online, is_owed_above, is_pinned_sooner, is_sooner};
-ghost use Rattle.story_check.specs.Operations.{learned_answer, learned_arming, number_of, queued_fault};
-ghost use Rattle.story_check.specs.Operations.{refusal, refused_fault, some_pinned_sooner, some_sooner};
+ghost use Rattle.story_check.specs.Operations.{after_answer, answer_fault, answer_line_fault};
+ghost use Rattle.story_check.specs.Operations.{answered};
+ghost use Rattle.story_check.specs.Operations.{answered_op, arm_fault, changed_cpu, comes_next};
+ghost use Rattle.story_check.specs.Operations.{done_fault};
+ghost use Rattle.story_check.specs.Operations.{fits_wakeup, idle_fault, is_first_event};
+ghost use Rattle.story_check.specs.Operations.{is_first_pinned};
+ghost use Rattle.story_check.specs.Operations.{is_last_online, is_nowhere, is_on, is_open};
+ghost use Rattle.story_check.specs.Operations.{is_other_active};
+ghost use Rattle.story_check.specs.Operations.{is_other_online, is_owed_above, is_pinned_sooner};
+ghost use Rattle.story_check.specs.Operations.{is_sooner};
+ghost use Rattle.story_check.specs.Operations.{learned_answer, learned_arming, number_of};
+ghost use Rattle.story_check.specs.Operations.{queued_fault};
+ghost use Rattle.story_check.specs.Operations.{refusal, refused_fault, some_pinned_sooner};
+ghost use Rattle.story_check.specs.Operations.{some_sooner};
 ghost use Rattle.story_check.specs.Operations.{stay_fault, unless, with_state};
 
 use crate::covers::is_active;
@@ -253,8 +260,8 @@ fn is_first_pinned(seen: &Seen, cpu: CpuId, first: Jiffy) -> bool
         && (first == NEVER || some_pinned_sooner(seen, cpu, up(first)))
 }
 
-/// Whether the events of a CPU may be others than the lines so far tell: where other CPUs act in the
-/// same moment, where it slept as the moment began, and where a timer isn't clear.
+/// Whether the events of a CPU may be others than the lines so far tell: where other CPUs act in
+/// the same moment, where it slept as the moment began, and where a timer isn't clear.
 fn is_open(script: &Script, seen: &Seen, cpu: CpuId) -> bool
     ensures { result ≡ is_open script.now seen.now cpu }
 {

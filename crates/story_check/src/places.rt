@@ -3,7 +3,8 @@
 ghost use Rattle.std.specs.Prelude.{◌≡◌};
 ghost use Rattle.std.specs.List.{list_any};
 ghost use Rattle.story_check.specs.Places.{ahead, clock_of, counted_in, counted_out, entered};
-ghost use Rattle.story_check.specs.Places.{explains, is_contested, is_hot, is_met, is_other, is_queued_in};
+ghost use Rattle.story_check.specs.Places.{explains, is_contested, is_hot, is_met, is_other};
+ghost use Rattle.story_check.specs.Places.{is_queued_in};
 ghost use Rattle.story_check.specs.Places.{is_settled, left_behind, level_at, level_by, level_in};
 ghost use Rattle.story_check.specs.Places.{level_late, names_other, ops_at, others_act, rank_of};
 ghost use Rattle.story_check.specs.Places.{requeued, same_class, timer_named, touched_by};
@@ -131,8 +132,8 @@ fn level_late(seen: &Seen, cpu: CpuId, class: Class, by: Jiffy, asked: Asked) ->
     }
 }
 
-/// The level at which a timer is armed in a base that is forwarded to a time, where the wheel's rule
-/// gives the wheel expiry that is shown.
+/// The level at which a timer is armed in a base that is forwarded to a time, where the wheel's
+/// rule gives the wheel expiry that is shown.
 #[tactic(auto, unfolding(crate::specs::Places::level_in))]
 pub fn level_in(seen: &Seen, cpu: CpuId, class: Class, by: Jiffy, asked: Asked) -> Option<u8>
     ensures { result ≡ level_in seen.now cpu class by asked }
@@ -367,8 +368,8 @@ pub struct Fit {
     pub settles: bool,
 }
 
-/// The fit of a line of a CPU that tells all of its timer, or not: where operations of other CPUs in
-/// the moment are of the same timer it settles nothing.
+/// The fit of a line of a CPU that tells all of its timer, or not: where operations of other CPUs
+/// in the moment are of the same timer it settles nothing.
 pub fn fit_of(script: &Script, seen: &Seen, timer: TimerId, cpu: CpuId, whole: Fit) -> Fit
     ensures { result ≡ fit_of script.now seen.now timer cpu whole }
 {

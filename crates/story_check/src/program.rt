@@ -1,7 +1,8 @@
 //! The whole program.
 
 ghost use Rattle.std.specs.Prelude.{◌≡◌, ◌≤◌, IfOk, length};
-ghost use Rattle.story_check.specs.Ends.{IsEnd, IsJudged, IsOutput, IsOutputBy, IsReportJudged, IsTold, Tells};
+ghost use Rattle.story_check.specs.Ends.{IsEnd, IsJudged, IsOutput, IsOutputBy, IsReportJudged};
+ghost use Rattle.story_check.specs.Ends.{IsTold, Tells};
 ghost use Rattle.story_check.specs.Ends.{order_of, status_of};
 
 use crate::judge::{Verdict, judge_lines};

@@ -107,8 +107,8 @@ fn rank_in(run: &RunLine, class: Class) -> u8
     }
 }
 
-/// Whether a job that armed its timer again shows the arming: on the CPU that ran it, in that class,
-/// that far ahead; or was passed over, where another CPU may have armed it.
+/// Whether a job that armed its timer again shows the arming: on the CPU that ran it, in that
+/// class, that far ahead; or was passed over, where another CPU may have armed it.
 fn shows_again(script: &Script, seen: &Seen, run: &RunLine, class: Class, delay: u32) -> bool
     ensures { result ≡ shows_again script.now seen.now run.now class delay run.now.reply }
 {

@@ -3,7 +3,8 @@
 ghost use Rattle.std.specs.Prelude.{◌≡◌, IfOk};
 ghost use Rattle.story_check.specs.Texts.{clause_text, fault_text, fits_text, misfit_text};
 ghost use Rattle.story_check.specs.Texts.{read_fault_text, report_kind_text, report_refused};
-ghost use Rattle.story_check.specs.Texts.{script_kind_text, script_refused, too_long_text, usage_text};
+ghost use Rattle.story_check.specs.Texts.{script_kind_text, script_refused, too_long_text};
+ghost use Rattle.story_check.specs.Texts.{usage_text};
 ghost use Rattle.story_check.specs.Texts.{verdict_text};
 
 use crate::faults::{Clause, Fault};

@@ -100,8 +100,8 @@ fn flaw_of(
     Ok(None)
 }
 
-/// A run over a core, whose passes begin with no walk, and its first flaw; or the flaw that the core
-/// has before it.
+/// A run over a core, whose passes begin with no walk, and its first flaw; or the flaw that the
+/// core has before it.
 pub fn judged<J: Jobs + Sync, G: Watch + Sync, R: Threads + Wait + Sync>(
     rt: &R,
     alloc: Global,
@@ -228,8 +228,8 @@ fn drawn_isolated(draws: &mut Draws) -> CpuSet {
 }
 
 /// The runs of the episode of this seed, up to the first that isn't as it has to be; and what its
-/// CPUs were answered. Of its jobs one is done after one run, one leaves a mark, and three arm their
-/// timer again, as a global, a pinned and a deferrable one.
+/// CPUs were answered. Of its jobs one is done after one run, one leaves a mark, and three arm
+/// their timer again, as a global, a pinned and a deferrable one.
 pub fn episode<R: Threads + Wait + Sync>(
     rt: &R,
     alloc: Global,

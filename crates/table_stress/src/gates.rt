@@ -24,8 +24,8 @@ impl Watch for FreeGate {
 const PATIENCE: u32 = 12;
 
 /// A gate at which threads pass in the order of a list. Who comes to the end of its patience passes
-/// the turn on: the thread whose turn it is may wait for a lock that this one has. At the end of the
-/// list it stands open.
+/// the turn on: the thread whose turn it is may wait for a lock that this one has. At the end of
+/// the list it stands open.
 #[derive(Drop)]
 pub struct Order {
     /// The thread of each CPU, by its number; other CPUs pass freely.

@@ -115,8 +115,8 @@ fn run_over<N: RunName + Send + Sync, J: Jobs + Sync, G: Watch + Sync, R: Thread
     }
 }
 
-/// A run over a core at rest, with its own clock, each of whose passes counts as having begun `made`
-/// walks.
+/// A run over a core at rest, with its own clock, each of whose passes counts as having begun
+/// `made` walks.
 pub fn run_plan<J: Jobs + Sync, G: Watch + Sync, R: Threads + Wait + Sync>(
     rt: &R,
     alloc: Global,

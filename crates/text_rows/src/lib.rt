@@ -1,5 +1,5 @@
-//! Worked rows of `tm_io`, `tm_script`, `work_script` and `tm_report`, apart from them since a crate
-//! with tests is proved twice.
+//! Worked rows of `tm_io`, `tm_script`, `work_script` and `tm_report`, apart from them since a
+//! crate with tests is proved twice.
 #![tactic(auto)]
 
 #[cfg(test)]

@@ -81,7 +81,8 @@ pub record IsCancelled (table : TableId) (o : World) (timer line : ℕ) (held af
   pub of_run : cpu.0 < length o.cpus
   pub home : HeldPart
   pub home_is : IsPartOf o cpu.0 home
-  pub taken : IsTakenOut table timer line home (with_pass (seen_pass (timer_word o timer) found) held)
+  pub taken :
+      IsTakenOut table timer line home (with_pass (seen_pass (timer_word o timer) found) held)
       after
 
 -- or named a CPU, and no more was done (no public clause cites it)
@@ -110,8 +111,8 @@ HasEnded table o timer line held after None = IsNowhere o timer held after
 HasEnded table o timer line held after (Some cpu) =
     IsCancelled table o timer line held after cpu
 
--- FOUND: earlier loads of the timer's word each named a CPU, where it wasn't by then; after the last
--- one the call ends
+-- FOUND: earlier loads of the timer's word each named a CPU, where it wasn't by then; after the
+-- last one the call ends
 pub record CameTo (table : TableId) (o : World) (timer line : ℕ) (held after : HeldPass)
     (answer : Option CpuId) : Type 0 where
   pub looks : List Look

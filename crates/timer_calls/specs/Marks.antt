@@ -27,8 +27,8 @@ abbrev pub leaf_seen : (word slot : ℕ) → HeldPart → HeldPart
 leaf_seen word slot part =
     with_seen (leaf_place part.box.opening part.box.cpu) slot (cpu_seen word part)
 
--- THE LOADS: the word of the part's CPU, and where the CPU has a group its slot there; both are what
--- the part says
+-- THE LOADS: the word of the part's CPU, and where the CPU has a group its slot there; both are
+-- what the part says
 pub record IsNoticed (part new : HeldPart) : Type 0 where
   pub word : ℕ
   pub word_is : word ≡ own_word part.box.own

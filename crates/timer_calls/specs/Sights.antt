@@ -73,8 +73,8 @@ pub record HasSeenSlots (table : TableId) (o : World) (g count : ℕ) (held afte
   pub named : (p : PassView) (k : ℕ) (e : Event) → IsPassIn table held p →
       event_at (events_in founds) k ≡ Some e → IsGrouped p.opening e.cpu.0
 
--- LOOKED AT, the group of a CPU's path at a level: its word, by which the CPU's side looks after it,
--- and then its eight slots
+-- LOOKED AT, the group of a CPU's path at a level: its word, by which the CPU's side looks after
+-- it, and then its eight slots
 pub record HasSeenGroup (o : World) (cpu level : ℕ) (held after : HeldPass) : Type 0 where
   pub group : ℕ
   pub path : group_at_of o.tree cpu level ≡ Some group
@@ -99,8 +99,8 @@ pub record ShowsNothing (o : World) (now : ℕ) (tried : Cpus) (cpu level : ℕ)
   pub seen : HasSeenGroup o cpu level held after
   pub none : NoneFits (IsDue now tried) (events_in seen.founds)
 
--- the first event that they showed due and untried is that of a CPU, which is one of the run and has
--- a group
+-- the first event that they showed due and untried is that of a CPU, which is one of the run and
+-- has a group
 pub record ShowsDue (table : TableId) (o : World) (now : ℕ) (tried : Cpus) (cpu level : ℕ)
     (held after : HeldPass) (due : CpuId) : Type 0 where
   pub seen : HasSeenGroup o cpu level held after
@@ -136,8 +136,8 @@ IsNoFurther table o now cpu level held after =
     ⊎ (HasLooked table o now empty cpu level held after answers.NoGroup
     ⊎ HasLooked table o now empty cpu level held after answers.Other)
 
--- NEEDS: below a level nothing was due, and there an event was; or there was no further group of the
--- CPU
+-- NEEDS: below a level nothing was due, and there an event was; or there was no further group of
+-- the CPU
 abbrev pub NeedsRemote : TableId → World → (now cpu : ℕ) → (held after : HeldPass) → Bool → Type 0
 NeedsRemote table o now cpu held after true =
     (l : ℕ) × (mid : HeldPass) × (due : CpuId) × NothingBelow table o now cpu l held mid

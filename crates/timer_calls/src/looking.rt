@@ -26,12 +26,12 @@ fn looks_after(word: u64, child: u8) -> bool
 }
 
 /// Looks at the group of a CPU's path at a level, from the leaf counted as 0, at `now` in jiffies:
-/// loads its word, and where the CPU's side looks after it (`tmigr_check_migrator`), its eight slots
-/// (`tmigr_handle_remote_up`). `NoGroup` comes exactly where the CPU has no group there, `Other`
-/// exactly where the group has another migrator, `Nothing` exactly where neither comes and no event
-/// that was loaded is due and of a CPU that isn't in `tried`; `Due` has the CPU of the first such
-/// event, which is one of the run and has a group. What was loaded is remembered. It takes no lock
-/// and no memory.
+/// loads its word, and where the CPU's side looks after it (`tmigr_check_migrator`), its eight
+/// slots (`tmigr_handle_remote_up`). `NoGroup` comes exactly where the CPU has no group there,
+/// `Other` exactly where the group has another migrator, `Nothing` exactly where neither comes and
+/// no event that was loaded is due and of a CPU that isn't in `tried`; `Due` has the CPU of the
+/// first such event, which is one of the run and has a group. What was loaded is remembered. It
+/// takes no lock and no memory.
 pub fn look<N: RunName, B: TimerBase>(
     run: &Run<N, B>,
     pass: &mut Pass,
@@ -59,10 +59,10 @@ pub fn look<N: RunName, B: TimerBase>(
     }
 }
 
-/// Whether a CPU has to run timers for others at `now`, in jiffies (`tmigr_requires_handle_remote`):
-/// true exactly where its pass saw an event that is due and isn't ignored, in a group that the CPU
-/// looks after. Otherwise it saw the eight slots of each such group, and nothing due. It takes no
-/// lock and no memory.
+/// Whether a CPU has to run timers for others at `now`, in jiffies
+/// (`tmigr_requires_handle_remote`): true exactly where its pass saw an event that is due and isn't
+/// ignored, in a group that the CPU looks after. Otherwise it saw the eight slots of each such
+/// group, and nothing due. It takes no lock and no memory.
 pub fn needs_remote<N: RunName, B: TimerBase>(run: &Run<N, B>, pass: &mut Pass, now: Jiffy) -> bool
     requires run { IsOfRun N.table pass.old }
     requires cpu { pass.old.cpu < length N.opening.cpus }

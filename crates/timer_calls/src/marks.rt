@@ -26,8 +26,8 @@ fn has_come(event: Event, now: Jiffy) -> bool
     !event.ignored && event.expiry <= now
 }
 
-/// The pass that is brought loads the word of the part's CPU, and where the CPU has a group, its slot
-/// there.
+/// The pass that is brought loads the word of the part's CPU, and where the CPU has a group, its
+/// slot there.
 fn notice<N: RunName, B: TimerBase>(run: &Run<N, B>, part: &mut BoxPart<N, B>)
     requires { HasOne part.old }
     ensures { IsNoticed part.old part.new }
@@ -62,9 +62,9 @@ fn is_takable<N: RunName, B: TimerBase>(run: &Run<N, B>, part: &BoxPart<N, B>, n
 
 /// Whether the CPU of a part may be marked by that of a pass at `now`, the time of the run in
 /// jiffies (`tmigr_handle_remote_cpu`): exactly where the words of the CPU show it online, idle and
-/// without a mark, and its event in its leaf as there, not ignored and not past `now`. The words are
-/// loaded by the pass, which is brought for it and remembers them, and are those of the part, and the
-/// two agree. It takes no memory.
+/// without a mark, and its event in its leaf as there, not ignored and not past `now`. The words
+/// are loaded by the pass, which is brought for it and remembers them, and are those of the part,
+/// and the two agree. It takes no memory.
 pub fn may_take<N: RunName, B: TimerBase>(
     run: &Run<N, B>,
     part: &mut BoxPart<N, B>,

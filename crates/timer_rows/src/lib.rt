@@ -1,5 +1,5 @@
-//! Worked rows of `cpu_bases` and `delayed_work`, apart from them since a crate with tests is proved
-//! twice.
+//! Worked rows of `cpu_bases` and `delayed_work`, apart from them since a crate with tests is
+//! proved twice.
 #![tactic(auto)]
 
 #[cfg(test)]

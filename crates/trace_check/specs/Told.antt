@@ -1,5 +1,6 @@
 -- how is looked for who answers; no public clause speaks of this
-use Rattle.std.specs.Prelude.{◌≡◌, ◌⊎◌, ℕ, zero, suc, ◌<◌, ◌≤◌, Option, Some, None, is_some, true, false}
+use Rattle.std.specs.Prelude.{◌≡◌, ◌⊎◌, ℕ, zero, suc, ◌<◌, ◌≤◌, Option, Some, None, is_some, true}
+use Rattle.std.specs.Prelude.{false}
 use Rattle.std.specs.Prelude.{if◌then◌else◌, length, option_and_then}
 use Rattle.event_queue.specs.EventMap.{event_at}
 use Rattle.tree_plan.specs.Paths.{group_at_of, is_placed_in}

@@ -188,8 +188,8 @@ fn a_timer_is_carried_and_then_held(rt: HostRuntime) -> Result<(), Fail> {
     Ok(())
 }
 
-// An active CPU isn't woken; a question counts as no step, and what stands behind the end of the run
-// isn't answered.
+// An active CPU isn't woken; a question counts as no step, and what stands behind the end of the
+// run isn't answered.
 #[test]
 fn the_first_step_that_is_not_enabled_is_named(rt: HostRuntime) -> Result<(), Fail> {
     let alone = with_lines(rt.alloc(), b"wake 0\nend\n")?;

@@ -16,7 +16,8 @@ use Rattle.walk_rules.specs.Hierarchy.{group_on}
 abbrev pub group_name : Shape → (g : ℕ) → List ℕ
 group_name t g = group_text (level_of t g) (place_of t g)
 
--- THE LEVEL of the group that a walk's next step names, where the walk stands at a level and a stage
+-- THE LEVEL of the group that a walk's next step names, where the walk stands at a level and a
+-- stage
 abbrev pub level_named : (level : ℕ) → Stage → Option ℕ
 level_named level stages.Own = Some 0
 level_named level stages.Up = Some level

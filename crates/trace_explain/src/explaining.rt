@@ -62,7 +62,8 @@ fn push_made<B: TimerBase>(
     push_words(text, b"\n")
 }
 
-/// Tells a step where so many were made before: how many are made then, None where it isn't enabled.
+/// Tells a step where so many were made before: how many are made then, None where it isn't
+/// enabled.
 fn tell_step<B: TimerBase>(
     alloc: Global,
     core: &mut Core<B>,
@@ -147,9 +148,10 @@ fn tell_lines<B: TimerBase>(
     })
 }
 
-/// Tells a trace step by step, from the start of its machine: what each step changes, and who answers
-/// for each waiting timer after it; an answer to each question; and at the first step that isn't
-/// enabled a fact of the machine that forbids it. The verdict is that of `trace_check::check`.
+/// Tells a trace step by step, from the start of its machine: what each step changes, and who
+/// answers for each waiting timer after it; an answer to each question; and at the first step that
+/// isn't enabled a fact of the machine that forbids it. The verdict is that of
+/// `trace_check::check`.
 pub fn explain(alloc: Global, trace: &Trace) -> Result<Explanation, NoMemory>
     requires { IsTrace trace.now }
     ensures text { IfOk result

@@ -1,5 +1,5 @@
-//! Traces told to people: what each step changes, in words, who answers for each waiting timer after
-//! it, and why the first step that can't be made can't.
+//! Traces told to people: what each step changes, in words, who answers for each waiting timer
+//! after it, and why the first step that can't be made can't.
 #![tactic(auto)]
 
 mod answers;

@@ -4,8 +4,8 @@ use trace_check::read_trace;
 
 const HEAD: &[u8] = b"trace 1\nnodes 1\ncpus 2\ntimers 1\nisolated\n";
 
-// By hand, from the stages of walks and the causes of steps: CPU 1 goes idle with a timer, and isn't
-// awake again as it is to go idle once more.
+// By hand, from the stages of walks and the causes of steps: CPU 1 goes idle with a timer, and
+// isn't awake again as it is to go idle once more.
 #[test]
 fn each_step_is_told_and_the_first_that_cannot_be_made_has_its_cause(
     rt: HostRuntime,

@@ -159,8 +159,8 @@ pub struct Expiry {
 pub enum TimerEvent {
     /// `timer_start`.
     Armed(Arming),
-    /// `timer_cancel`: this timer, by its pointer, leaves its bucket, to be deleted, to be moved, or
-    /// to be run.
+    /// `timer_cancel`: this timer, by its pointer, leaves its bucket, to be deleted, to be moved,
+    /// or to be run.
     Removed(u64),
     /// `timer_expire_entry`.
     Ran(Expiry),

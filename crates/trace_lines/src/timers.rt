@@ -3,8 +3,10 @@
 ghost use Rattle.std.specs.Prelude.{◌≡◌};
 ghost use Rattle.trace_lines.specs.Parts.{has_key, parts_of};
 ghost use Rattle.trace_lines.specs.Timers.{arming_in, class_at, class_of, expiry_in, has_flag};
-ghost use Rattle.trace_lines.specs.Timers.{jiffies_at, jiffies_in, jiffies_told, removal_in, softirq_in};
-ghost use Rattle.trace_lines.specs.Timers.{time_after, time_before, timer_event_of, timer_name_of, unbracketed};
+ghost use Rattle.trace_lines.specs.Timers.{jiffies_at, jiffies_in, jiffies_told, removal_in};
+ghost use Rattle.trace_lines.specs.Timers.{softirq_in};
+ghost use Rattle.trace_lines.specs.Timers.{time_after, time_before, timer_event_of, timer_name_of};
+ghost use Rattle.trace_lines.specs.Timers.{unbracketed};
 
 use crate::LineFault;
 use crate::events::{Arming, Expiry, TimerEvent};

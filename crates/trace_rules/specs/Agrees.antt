@@ -10,8 +10,8 @@ use Rattle.trace_told.specs.Agrees.{IsAnswered}
 use Rattle.trace_rules.specs.declared.judge.Course.{Course}
 use Rattle.trace_rules.specs.Judge.{rests_after, start, text_after}
 
--- where a line leaves no walk under way, for each CPU's told expiry that is to come somebody answers
--- in each machine that agrees with what was seen, or the answer is open
+-- where a line leaves no walk under way, for each CPU's told expiry that is to come somebody
+-- answers in each machine that agrees with what was seen, or the answer is open
 abbrev pub RestAnswers : Result Line LineFault → Sight → Type 0
 RestAnswers (Err fault) s = Unit {0}
 RestAnswers (Ok said) s = rests_after said s ≡ true → All (IsAnswered s) s.cpus

@@ -91,16 +91,16 @@ could_change c word e =
     not (e.place.level == 0)
     || (parent_fits c.leaf e.place.group && is_changed c.bit word e)
 
--- a CPU may have made an exchange before this one, and not written its line yet: it has written none
--- since, and its walk comes to that group, whose word before the late ones is this
+-- a CPU may have made an exchange before this one, and not written its line yet: it has written
+-- none since, and its walk comes to that group, whose word before the late ones is this
 abbrev pub may_come : Option Word → Late → CpuSeen → Bool
 may_come word a c =
     nat_lt c.last a.line && not (is_asleep c.active)
     && (may_join c.walk a.exchange.place.group || may_leave c.walk c a.exchange)
     && could_change c word a.exchange
 
--- the rule that the first late exchange of a group breaks, while so many are late there: no CPU that
--- was seen can come before it any more, or too many are late to look on
+-- the rule that the first late exchange of a group breaks, while so many are late there: no CPU
+-- that was seen can come before it any more, or too many are late to look on
 abbrev pub stuck_by : ℕ → List CpuSeen → Option Word → Late → Option Rule
 stuck_by count cs word a =
     if not (list_any (may_come word a) cs) then Some rules.Exchange

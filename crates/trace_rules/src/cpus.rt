@@ -3,7 +3,8 @@
 ghost use Rattle.std.specs.Prelude.{◌≡◌, OnOk};
 ghost use Rattle.trace_rules.specs.Cpus.{active_after, cpu_fault, learned_cpu};
 ghost use Rattle.trace_rules.specs.Cpus.{learned_cpu_link, learned_group_link, learned_place};
-ghost use Rattle.trace_rules.specs.Cpus.{look_seen, looked, moved, number_at, number_from, with_look};
+ghost use Rattle.trace_rules.specs.Cpus.{look_seen, looked, moved, number_at, number_from};
+ghost use Rattle.trace_rules.specs.Cpus.{with_look};
 ghost use Rattle.trace_rules.specs.Cpus.{with_hung, with_leaf, with_link, with_named, with_writer};
 ghost use Rattle.trace_rules.specs.Cpus.{hung, is_elsewhere, is_level, must_rise, state_fault};
 ghost use Rattle.trace_rules.specs.Cpus.{first_seen, learned_update, with_first};

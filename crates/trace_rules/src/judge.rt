@@ -78,8 +78,8 @@ pub struct Misfit {
 /// What is said of a trace.
 #[derive(Clone, Copy)]
 pub enum Verdict {
-    /// Each line fits. So many exchanges are late at the end; the line of one that comes before them
-    /// may come after the trace's end.
+    /// Each line fits. So many exchanges are late at the end; the line of one that comes before
+    /// them may come after the trace's end.
     Fits(Tally, usize),
     /// A line breaks a rule.
     Broken(Misfit),
@@ -354,8 +354,8 @@ fn timer_misfit(line: u64, fault: Option<CpuId>) -> Option<Misfit>
     }
 }
 
-/// Takes a line, and answers what it decides, if it does. Where it does nothing is known of what was
-/// seen, and the counts are those of before.
+/// Takes a line, and answers what it decides, if it does. Where it does nothing is known of what
+/// was seen, and the counts are those of before.
 #[tactic(auto, unfolding(crate::specs::Judge::text_verdict, crate::specs::Judge::text_after))]
 pub fn take_text(
     alloc: Global,

@@ -4,7 +4,8 @@ ghost use Rattle.std.specs.Prelude.{◌≡◌, ◌<◌, count_by, find, length, 
 ghost use Rattle.std.specs.Prelude.{IfSome, None, OnOk};
 ghost use Rattle.std.specs.List.{list_any};
 ghost use Rattle.std.specs.Set.{remove_key};
-ghost use Rattle.trace_rules.specs.Orders.{CatchesUp, caught_up, comes_first, first_late, is_next, is_on};
+ghost use Rattle.trace_rules.specs.Orders.{CatchesUp, caught_up, comes_first, first_late, is_next};
+ghost use Rattle.trace_rules.specs.Orders.{is_on};
 ghost use Rattle.trace_rules.specs.Orders.{could_change, is_changed, late_on, may_come};
 ghost use Rattle.trace_rules.specs.Orders.{may_precede, stuck_by, stuck_rule, taken, taken_on};
 
@@ -73,8 +74,8 @@ fn take_next(seen: &mut Seen, group: u64, word: Word) -> Option<Late>
     Some(seen.take_late(at))
 }
 
-/// Takes the late exchanges on a group that may be made now, one after another, at most so many; the
-/// group's word is then what it answers.
+/// Takes the late exchanges on a group that may be made now, one after another, at most so many;
+/// the group's word is then what it answers.
 fn catch_up(seen: &mut Seen, rounds: usize, group: u64, word: Word) -> Word
     ensures word { result ≡ (caught_up rounds group word seen.old.late).word }
     ensures late { seen.new ≡ record seen.old {
@@ -90,13 +91,14 @@ fn catch_up(seen: &mut Seen, rounds: usize, group: u64, word: Word) -> Word
     }
 }
 
-/// The bound on rounds is enough: behind as many as there are late exchanges, none may be made next.
+/// The bound on rounds is enough: behind as many as there are late exchanges, none may be made
+/// next.
 pub fn law_caught_up()
     ensures { CatchesUp }
 {}
 
-/// Takes an exchange on a known word with late ones behind it, or sets it aside; the group's word is
-/// then what it answers.
+/// Takes an exchange on a known word with late ones behind it, or sets it aside; the group's word
+/// is then what it answers.
 fn take_on(seen: &mut Seen, word: Word, group: u64, late: Late) -> Result<Word, NoMemory>
     ensures word { IfOk result (λ w. w ≡ (taken_on word group seen.old.late late).word) }
     ensures late { OnOk result (seen.new ≡ record seen.old {
@@ -139,8 +141,8 @@ fn is_changed(bit: Option<u8>, word: Option<Word>, exchange: &Exchange) -> bool
     }
 }
 
-/// Whether a CPU could have made an exchange before this one by the bits: at a leaf only the group's
-/// own CPUs make exchanges, each of its own bit alone.
+/// Whether a CPU could have made an exchange before this one by the bits: at a leaf only the
+/// group's own CPUs make exchanges, each of its own bit alone.
 fn could_change(cpu: &CpuSeen, word: Option<Word>, exchange: &Exchange) -> bool
     ensures { result ≡ could_change cpu.now word exchange.now }
 {
@@ -165,8 +167,8 @@ fn some_may_come(word: Option<Word>, late: &Late, cpus: &[CpuSeen]) -> bool
     cpus.iter().any(|cpu| may_come(word, late, cpu))
 }
 
-/// The rule that the first late exchange of a group breaks while so many are late there, on this word
-/// before them.
+/// The rule that the first late exchange of a group breaks while so many are late there, on this
+/// word before them.
 fn stuck_by(count: usize, cpus: &[CpuSeen], word: Option<Word>, late: &Late) -> Option<Rule>
     ensures { result ≡ stuck_by count cpus.now word late.now }
 {

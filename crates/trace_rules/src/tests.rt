@@ -66,8 +66,8 @@ fn each_wrong_line_is_named_with_its_rule(rt: HostRuntime) -> Result<(), Fail> {
     Ok(())
 }
 
-// By the rule CPUs 1, 2 and so on join {0} one by one ({0, 1} is 3, {0, 1, 2} is 7, and so on); each
-// of these lines stands behind its CPU's waking.
+// By the rule CPUs 1, 2 and so on join {0} one by one ({0, 1} is 3, {0, 1, 2} is 7, and so on);
+// each of these lines stands behind its CPU's waking.
 #[test]
 fn lines_of_several_cpus_may_stand_in_another_order(rt: HostRuntime) -> Result<(), Fail> {
     let cases = [

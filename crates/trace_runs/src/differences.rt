@@ -14,8 +14,8 @@ use trace_seen::tree::same_pointer;
 /// How often Linux did otherwise.
 #[derive(Clone, Copy)]
 pub struct Differences {
-    /// Updates after which a group's cached first expiry lies before each event that was seen in it:
-    /// an ignored event stays in the queue until it comes to the head.
+    /// Updates after which a group's cached first expiry lies before each event that was seen in
+    /// it: an ignored event stays in the queue until it comes to the head.
     pub early: u64,
     /// Idle CPUs that told a wakeup which another CPU keeps too.
     pub twice: u64,

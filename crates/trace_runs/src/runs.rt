@@ -41,8 +41,8 @@ pub struct Runs {
     pub later: u64,
     /// The event wasn't seen.
     pub unsure: u64,
-    /// Runs, among all of these, by a CPU that comes to a group which another child leads by what was
-    /// seen: the exchange that gave it the group may have its line further on.
+    /// Runs, among all of these, by a CPU that comes to a group which another child leads by what
+    /// was seen: the exchange that gave it the group may have its line further on.
     pub astray: u64,
     /// Runs by the CPU whose timers they are.
     pub itself: u64,

@@ -27,7 +27,8 @@ fn with_event(seen: &mut Seen) -> Result<(), NoMemory> {
     })
 }
 
-// A tick of a kernel with HZ = 250 is 4 ms: a run in the tick after the event is late by up to that.
+// A tick of a kernel with HZ = 250 is 4 ms: a run in the tick after the event is late by up to
+// that.
 #[test]
 fn a_run_is_counted_by_how_late_it_is(rt: HostRuntime) -> Result<(), Fail> {
     let mut seen = Seen::new(rt.alloc());

@@ -22,8 +22,8 @@ pub enum Rule {
     /// A CPU wakes where it sleeps and falls asleep where it is awake; only a sleeping CPU's timers
     /// are run by others.
     Cpu,
-    /// An event is stored for a sleeping child alone; it is the child's first, at a leaf what the CPU
-    /// tells, and no earlier than the group's.
+    /// An event is stored for a sleeping child alone; it is the child's first, at a leaf what the
+    /// CPU tells, and no earlier than the group's.
     Event,
     /// A CPU's timers are run by another one when its event in its leaf is due.
     Remote,
@@ -34,7 +34,7 @@ pub enum Rule {
     Rest,
     /// While no walk is under way, each idle CPU's told expiry that is to come is answered for.
     Told,
-    /// An armed timer's bucket is the wheel's; a timer runs once its base has come to that, on its own
-    /// CPU, or in a run for that if it is global, and it is armed.
+    /// An armed timer's bucket is the wheel's; a timer runs once its base has come to that, on its
+    /// own CPU, or in a run for that if it is global, and it is armed.
     Timer,
 }

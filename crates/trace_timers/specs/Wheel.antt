@@ -1,6 +1,7 @@
 -- the bucket of a timer, without a search over the clocks of its base
 use Rattle.std.specs.Prelude.{◌≡◌, ◌↔◌, ◌≤◌, ℕ, zero, suc, ◌+◌, ◌-◌, ◌*◌, ◌/◌, ◌%◌}
-use Rattle.std.specs.Prelude.{◌==◌, ◌&&◌, ◌||◌, not, nat_le, nat_lt, min, Bool, true, Option, Some, None}
+use Rattle.std.specs.Prelude.{◌==◌, ◌&&◌, ◌||◌, not, nat_le, nat_lt, min, Bool, true, Option, Some}
+use Rattle.std.specs.Prelude.{None}
 use Rattle.trace_lines.specs.declared.events.Arming.{Arming}
 use Rattle.trace_timers.specs.declared.wheel.TheConstants.{BUCKETS, MOST_JIFFIES}
 use Rattle.wheel_core.specs.WheelExpiry.{cutoff, granularity, greatest_timeout, level_start}
@@ -38,7 +39,8 @@ gives_past least expires clock bucket index =
 unfoldable pub bucket_fits : (least now expires bucket index : ℕ) → Bool
 bucket_fits least now expires bucket index =
     nat_lt index BUCKETS
-    && (gives_past least expires (min (now + 1) (latest_of (index / 64) expires bucket)) bucket index
+    && (gives_past least expires (min (now + 1) (latest_of (index / 64) expires bucket)) bucket
+    index
     || gives_past least expires (min (now + 1) (latest_cut expires bucket)) bucket index)
 
 -- times that are far from the end of the wheel's words

@@ -6,7 +6,8 @@ ghost use Rattle.trace_seen.specs.Seen.{put_at};
 ghost use Rattle.trace_timers.specs.Seen.{armed_after, is_open, is_out, jumbled};
 ghost use Rattle.trace_timers.specs.Seen.{left_from, no_timers, put_runner, put_timer, queued_of};
 ghost use Rattle.trace_timers.specs.Seen.{removed_after, run_after, runner_at, state_behind};
-ghost use Rattle.trace_timers.specs.Seen.{state_left, state_run, state_taken, taken_again, taken_by};
+ghost use Rattle.trace_timers.specs.Seen.{state_left, state_run, state_taken, taken_again};
+ghost use Rattle.trace_timers.specs.Seen.{taken_by};
 ghost use Rattle.trace_timers.specs.Seen.{timer_at, unknown_runner, unknown_timer, written};
 
 use crate::bases::{Clocks, is_jumbled, unknown_clocks};
@@ -168,8 +169,8 @@ impl TimersSeen {
         }
     }
 
-    /// Keeps what was seen of a timer in place of what was known of it. Want of memory leaves all as
-    /// before.
+    /// Keeps what was seen of a timer in place of what was known of it. Want of memory leaves all
+    /// as before.
     pub fn put_timer(&mut self, pointer: u64, timer: TimerSeen) -> Result<(), NoMemory>
         ensures ok { OnOk result (self.new ≡ put_timer self.old pointer timer) }
         ensures err { OnErr result (self.new ≡ self.old) }

@@ -2,8 +2,10 @@
 
 ghost use Rattle.std.specs.Prelude.{◌≡◌, ◌<◌, ◌≤◌, ◌+◌, ◌*◌, ◌/◌, ◌%◌, ◌^◌};
 ghost use Rattle.wheel_core.specs.WheelExpiry.{granularity, level_start};
-ghost use Rattle.trace_timers.specs.Wheel.{FindsClocks, are_near, arming_fits, bucket_fits, fits_at};
-ghost use Rattle.trace_timers.specs.Wheel.{gives, gives_past, latest_cut, latest_of, wheel_index_of};
+ghost use Rattle.trace_timers.specs.Wheel.{FindsClocks, are_near, arming_fits, bucket_fits};
+ghost use Rattle.trace_timers.specs.Wheel.{fits_at};
+ghost use Rattle.trace_timers.specs.Wheel.{gives, gives_past, latest_cut, latest_of};
+ghost use Rattle.trace_timers.specs.Wheel.{wheel_index_of};
 
 use trace_lines::Arming;
 use wheel_core::wheel_expiry;
@@ -120,9 +122,9 @@ fn bucket_fits(least: u64, now: u64, expires: u64, bucket: u64, index: u16) -> b
         || gives_past(least, expires, far, bucket, index)
 }
 
-/// Whether the bucket of an armed timer is the one that the wheel gives it (`calc_wheel_index`) from
-/// some clock of its base up to one jiffy past the line's, which is at this or later. A line that
-/// has no jiffies, or times past `MOST_JIFFIES`, fits.
+/// Whether the bucket of an armed timer is the one that the wheel gives it (`calc_wheel_index`)
+/// from some clock of its base up to one jiffy past the line's, which is at this or later. A line
+/// that has no jiffies, or times past `MOST_JIFFIES`, fits.
 #[tactic(auto, unfolding(crate::specs::Wheel::arming_fits))]
 pub fn arming_fits(least: u64, arming: &Arming) -> bool
     ensures { result ≡ arming_fits least arming.now }

@@ -1,5 +1,6 @@
 -- what tmigview writes
-use Rattle.std.specs.Prelude.{ℕ, zero, suc, ◌+◌, ◌/◌, ◌%◌, nat_lt, List, [], ◌∷◌, ◌++◌, codes, ◌==◌, ◌&&◌}
+use Rattle.std.specs.Prelude.{ℕ, zero, suc, ◌+◌, ◌/◌, ◌%◌, nat_lt, List, [], ◌∷◌, ◌++◌, codes, ◌==◌}
+use Rattle.std.specs.Prelude.{◌&&◌}
 use Rattle.std.specs.Prelude.{Option, Some, None, if◌then◌else◌, flat_map, length, nat_eq}
 use Rattle.std.specs.Fmt.{decimal}
 use Rattle.tm_base.specs.declared.names.CpuId.{CpuId}
@@ -9,7 +10,8 @@ use Rattle.trace_lines.specs.declared.faults.LineFault.TheVariants.{BadNumber, O
 use Rattle.trace_lines.specs.declared.faults.LineFault.TheVariants.{HiddenPointer}
 use Rattle.trace_seen.specs.declared.rules.Rule.{Rule}
 use Rattle.trace_seen.specs.declared.rules.Rule.TheVariants.{Group, Tree, Node, Walk, Exchange}
-use Rattle.trace_seen.specs.declared.rules.Rule.TheVariants.{Order, Cpu, Event, Remote, Wakeup, Rest, Told}
+use Rattle.trace_seen.specs.declared.rules.Rule.TheVariants.{Order, Cpu, Event, Remote, Wakeup}
+use Rattle.trace_seen.specs.declared.rules.Rule.TheVariants.{Rest, Told}
 use Rattle.trace_seen.specs.declared.rules.Rule.TheVariants.{Timer}
 use Rattle.trace_rules.specs.declared.judge.Tally.{Tally}
 use Rattle.trace_told.specs.declared.told.Answers.{Answers}
@@ -93,7 +95,8 @@ answers_text a =
 
 -- how many runs of other CPUs' timers were late by a tick or so
 unfoldable pub tick_runs_text : Runs → List ℕ
-tick_runs_text r = count_text (codes " 4000us ") r.in_4_ms ++ count_text (codes " 10000us ") r.in_10_ms
+tick_runs_text r =
+    count_text (codes " 4000us ") r.in_4_ms ++ count_text (codes " 10000us ") r.in_10_ms
 
 -- .. by more, or by an unknown time
 unfoldable pub late_runs_text : Runs → List ℕ

@@ -2,12 +2,14 @@
 
 ghost use Rattle.std.specs.Prelude.{◌≡◌, ◌<◌, ◌++◌, codes, IfOk, OnOk};
 ghost use Rattle.std.specs.Fmt.{decimal};
-ghost use Rattle.trace_view.specs.Texts.{all_status, all_text, answers_text, broken_text, count_text};
+ghost use Rattle.trace_view.specs.Texts.{all_status, all_text, answers_text, broken_text};
+ghost use Rattle.trace_view.specs.Texts.{count_text};
 ghost use Rattle.trace_view.specs.Texts.{counts_text, end_text, fault_text, misfits_text};
 ghost use Rattle.trace_view.specs.Texts.{no_trace_text, read_fault_line, too_long_line};
 ghost use Rattle.trace_view.specs.Texts.{rule_text, tally_text, usage_line, verdict_text};
 ghost use Rattle.trace_view.specs.Texts.{events_text, hex_digit, hex_digits};
-ghost use Rattle.trace_view.specs.Texts.{behind_text, cpu_text, late_runs_text, open_text, orders_text};
+ghost use Rattle.trace_view.specs.Texts.{behind_text, cpu_text, late_runs_text, open_text};
+ghost use Rattle.trace_view.specs.Texts.{orders_text};
 ghost use Rattle.trace_view.specs.Texts.{others_text, runs_text, tick_runs_text};
 ghost use Rattle.trace_view.specs.Texts.{last_text, timers_text, whom_text};
 

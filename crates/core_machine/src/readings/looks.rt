@@ -5,7 +5,8 @@ ghost use Rattle.tree_plan.specs.Paths.{is_placed_in};
 ghost use Rattle.play_rules.specs.Hierarchy.{looks_after};
 ghost use Rattle.step_play.specs.Rules.Live.{counting, expiry_of, live, told_by};
 ghost use Rattle.step_play.specs.Rules.Seen.{state_of};
-ghost use Rattle.step_play.specs.Rules.StepRules.{can_be_taken, is_waiting, named_at, named_by_queue};
+ghost use Rattle.step_play.specs.Rules.StepRules.{can_be_taken, is_waiting, named_at};
+ghost use Rattle.step_play.specs.Rules.StepRules.{named_by_queue};
 
 use crate::walks::goes_on;
 use core_state::Core;

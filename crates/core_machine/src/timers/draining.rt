@@ -97,8 +97,8 @@ fn has_due<B: TimerBase>(core: &Core<B>, home: CpuId, class: Class) -> bool
     }
 }
 
-/// Hands all due timers of a class out, where there are any: mostly there are none, and then this is
-/// all that it costs.
+/// Hands all due timers of a class out, where there are any: mostly there are none, and then this
+/// is all that it costs.
 #[inline(always)]
 fn hand_due<B: TimerBase>(
     core: &mut Core<B>,

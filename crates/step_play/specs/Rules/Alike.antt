@@ -9,7 +9,8 @@ use Rattle.play_rules.specs.State.{State}
 use Rattle.core_world.specs.Enabled.{MayComeOnline, MayGoOffline, MayIdle, MayWake}
 use Rattle.core_world.specs.World.{World, cpu_of}
 use Rattle.step_play.specs.Rules.Seen.{InPlay, state_of}
-use Rattle.step_play.specs.Rules.StepRules.{come_by_steps, ended_by_steps, gone_by_steps, idled_by_steps}
+use Rattle.step_play.specs.Rules.StepRules.{come_by_steps, ended_by_steps, gone_by_steps}
+use Rattle.step_play.specs.Rules.StepRules.{idled_by_steps}
 use Rattle.step_play.specs.Rules.StepRules.{is_waiting, let_go_by_steps, woken_by_steps}
 
 -- the core is in play, and Play's state of it is this one
