@@ -188,20 +188,7 @@ abbrev pub MayGoOn : World → (c : ℕ) → Walk → Stage → Type 0
 MayGoOn w c k stages.LockChild = (group_of w (child_here w c k)).lock ≡ None
 MayGoOn w c k stages.LockGroup = (group_of w (here w c k)).lock ≡ None
 MayGoOn w c k stages.Handing = ⊥
-MayGoOn w c k stages.Own = Unit {0}
-MayGoOn w c k stages.Up = Unit {0}
-MayGoOn w c k (stages.Mark more) = Unit {0}
-MayGoOn w c k stages.Read = Unit {0}
-MayGoOn w c k stages.Child = Unit {0}
-MayGoOn w c k stages.Swap = Unit {0}
-MayGoOn w c k stages.SeeChild = Unit {0}
-MayGoOn w c k stages.SeeGroup = Unit {0}
-MayGoOn w c k (stages.Scan j) = Unit {0}
-MayGoOn w c k stages.Store = Unit {0}
-MayGoOn w c k (stages.First j) = Unit {0}
-MayGoOn w c k stages.FreeGroup = Unit {0}
-MayGoOn w c k stages.FreeChild = Unit {0}
-MayGoOn w c k stages.Finish = Unit {0}
+MayGoOn w c k other = Unit {0}
 
 -- Walk: a CPU's walk makes its next step (walk_groups)
 pub record MayWalk (w : World) (c : ℕ) : Type 0 where

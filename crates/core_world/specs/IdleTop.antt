@@ -23,23 +23,10 @@ is_climbing (kinds.Remote by) = false
 
 -- at these stages at a top without migrator a walk has the event of this child still to read
 abbrev pub ReadsYet : (child : ℕ) → Stage → Type 0
-ReadsYet child stages.Own = ⊥
-ReadsYet child stages.Up = ⊥
-ReadsYet child (stages.Mark more) = ⊥
-ReadsYet child stages.Read = ⊥
-ReadsYet child stages.Child = ⊥
-ReadsYet child stages.Swap = ⊥
-ReadsYet child stages.LockChild = ⊥
-ReadsYet child stages.LockGroup = ⊥
-ReadsYet child stages.SeeChild = ⊥
-ReadsYet child stages.SeeGroup = ⊥
 ReadsYet child (stages.Scan k) = Unit {0}
 ReadsYet child stages.Store = Unit {0}
 ReadsYet child (stages.First k) = k ≤ child
-ReadsYet child stages.FreeGroup = ⊥
-ReadsYet child stages.FreeChild = ⊥
-ReadsYet child stages.Finish = ⊥
-ReadsYet child stages.Handing = ⊥
+ReadsYet child other = ⊥
 
 -- CPU d, which has a group, has this walk on its way up
 pub record IsClimbing (w : World) (d : ℕ) (k : Walk) : Type 0 where

@@ -75,23 +75,12 @@ NoWakeupAwake w = (c : ℕ) → ((cpu_of w c).online ≡ false) ⊎ (is_active (
 
 -- a stage past Store
 abbrev pub is_past_store : Stage → Bool
-is_past_store stages.Own = false
-is_past_store stages.Up = false
-is_past_store (stages.Mark more) = false
-is_past_store stages.Read = false
-is_past_store stages.Child = false
-is_past_store stages.Swap = false
-is_past_store stages.LockChild = false
-is_past_store stages.LockGroup = false
-is_past_store stages.SeeChild = false
-is_past_store stages.SeeGroup = false
-is_past_store (stages.Scan k) = false
-is_past_store stages.Store = false
 is_past_store (stages.First k) = true
 is_past_store stages.FreeGroup = true
 is_past_store stages.FreeChild = true
 is_past_store stages.Finish = true
 is_past_store stages.Handing = true
+is_past_store other = false
 
 -- OWNEVENT: from Store at the leaf on, a walk that tells has told its CPU's `next` there
 abbrev pub OwnEvent : World → Type 0

@@ -69,23 +69,9 @@ scene_of w = record {
 -- STALE READS: a walk reads the group's word at Child and Swap, and an exchange makes that reading
 -- stale
 abbrev pub is_reading : Stage → Bool
-is_reading stages.Own = false
-is_reading stages.Up = false
-is_reading (stages.Mark more) = false
-is_reading stages.Read = false
 is_reading stages.Child = true
 is_reading stages.Swap = true
-is_reading stages.LockChild = false
-is_reading stages.LockGroup = false
-is_reading stages.SeeChild = false
-is_reading stages.SeeGroup = false
-is_reading (stages.Scan k) = false
-is_reading stages.Store = false
-is_reading (stages.First k) = false
-is_reading stages.FreeGroup = false
-is_reading stages.FreeChild = false
-is_reading stages.Finish = false
-is_reading stages.Handing = false
+is_reading other = false
 
 -- the walk of CPU c reads the word of group g
 abbrev pub reads_at : Shape → (g c : ℕ) → Walk → Bool

@@ -265,23 +265,9 @@ group_sight found b k =
 
 -- the number of the slot that a walk at this stage looks at, and 0 where it looks at none
 abbrev pub slot_number : Stage → ℕ
-slot_number stages.Own = 0
-slot_number stages.Up = 0
-slot_number (stages.Mark more) = 0
-slot_number stages.Read = 0
-slot_number stages.Child = 0
-slot_number stages.Swap = 0
-slot_number stages.LockChild = 0
-slot_number stages.LockGroup = 0
-slot_number stages.SeeChild = 0
-slot_number stages.SeeGroup = 0
 slot_number (stages.Scan k) = k
-slot_number stages.Store = 0
 slot_number (stages.First k) = k
-slot_number stages.FreeGroup = 0
-slot_number stages.FreeChild = 0
-slot_number stages.Finish = 0
-slot_number stages.Handing = 0
+slot_number other = 0
 
 -- the walk that has read a slot of its child
 abbrev pub scan_sight : (found : ℕ) → BoxView → Walk → Option Walk
@@ -362,23 +348,8 @@ MarksOwn t v found w = (w ≡ on_box own_marked_box v) × Sound w
 
 -- whether a walk at this stage marks, and goes on then
 abbrev pub marks_more : Stage → Bool
-marks_more stages.Own = false
-marks_more stages.Up = false
 marks_more (stages.Mark more) = more
-marks_more stages.Read = false
-marks_more stages.Child = false
-marks_more stages.Swap = false
-marks_more stages.LockChild = false
-marks_more stages.LockGroup = false
-marks_more stages.SeeChild = false
-marks_more stages.SeeGroup = false
-marks_more (stages.Scan k) = false
-marks_more stages.Store = false
-marks_more (stages.First k) = false
-marks_more stages.FreeGroup = false
-marks_more stages.FreeChild = false
-marks_more stages.Finish = false
-marks_more stages.Handing = false
+marks_more other = false
 
 -- the walk that has marked its group's slot in the parent goes on there, or ends
 abbrev pub marked_walk : BoxView → Walk → Option Walk

@@ -65,23 +65,9 @@ StepOf o k stages.Handing made old new = ⊥
 -- whether the step at a stage is one of those on the groups: neither the end of a walk nor what
 -- comes after it
 abbrev pub is_under_way : Stage → Bool
-is_under_way stages.Own = true
-is_under_way stages.Up = true
-is_under_way (stages.Mark more) = true
-is_under_way stages.Read = true
-is_under_way stages.Child = true
-is_under_way stages.Swap = true
-is_under_way stages.LockChild = true
-is_under_way stages.LockGroup = true
-is_under_way stages.SeeChild = true
-is_under_way stages.SeeGroup = true
-is_under_way (stages.Scan j) = true
-is_under_way stages.Store = true
-is_under_way (stages.First j) = true
-is_under_way stages.FreeGroup = true
-is_under_way stages.FreeChild = true
 is_under_way stages.Finish = false
 is_under_way stages.Handing = false
+is_under_way other = true
 
 -- the part has a walk that goes on
 pub record GoesOn (part : HeldPart) : Type 0 where

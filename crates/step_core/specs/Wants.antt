@@ -4,21 +4,9 @@ use Rattle.core_world.specs.declared.step.Step.TheVariants as steps
 
 -- the steps that may want memory: those that arm, cancel, hand out, tick and move
 abbrev pub WantsMemory : Step → Type 0
-WantsMemory (steps.Clock now) = ⊥
-WantsMemory (steps.Enter cpu) = ⊥
-WantsMemory (steps.Leave cpu) = ⊥
 WantsMemory (steps.Arm cpu timer class expires job arg line) = Unit {0}
 WantsMemory (steps.Cancel cpu timer by line) = Unit {0}
 WantsMemory (steps.Hand cpu timer runner) = Unit {0}
 WantsMemory (steps.Ticked cpu class runner) = Unit {0}
 WantsMemory (steps.Move from to timer) = Unit {0}
-WantsMemory (steps.Idle cpu) = ⊥
-WantsMemory (steps.Wake cpu) = ⊥
-WantsMemory (steps.Offline cpu) = ⊥
-WantsMemory (steps.Online cpu) = ⊥
-WantsMemory (steps.Reeval cpu) = ⊥
-WantsMemory (steps.Take cpu by) = ⊥
-WantsMemory (steps.Carry cpu) = ⊥
-WantsMemory (steps.Release cpu) = ⊥
-WantsMemory (steps.Walk cpu) = ⊥
-WantsMemory (steps.HandOn cpu to) = ⊥
+WantsMemory other = ⊥

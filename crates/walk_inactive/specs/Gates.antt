@@ -12,20 +12,9 @@ lock_point (suc l) = None
 
 -- GATES: the place that a walk at this stage of a level comes to, if it is one
 abbrev pub point_at : (level : ℕ) → Stage → Option Point
-point_at level stages.Own = None
-point_at level stages.Up = None
-point_at level (stages.Mark more) = None
-point_at level stages.Read = None
 point_at level stages.Child = Some points.BeforeChildRead
 point_at level stages.Swap = Some points.BeforeSwap
 point_at level stages.LockChild = Some points.BeforeLock
 point_at level stages.LockGroup = lock_point level
-point_at level stages.SeeChild = None
-point_at level stages.SeeGroup = None
-point_at level (stages.Scan k) = None
 point_at level stages.Store = Some points.BeforeStore
-point_at level (stages.First k) = None
-point_at level stages.FreeGroup = None
-point_at level stages.FreeChild = None
-point_at level stages.Finish = None
-point_at level stages.Handing = None
+point_at level other = None

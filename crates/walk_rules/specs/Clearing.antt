@@ -89,21 +89,7 @@ abbrev pub MarksFit : Shape → Scene → (c level : ℕ) → Stage → Type 0
 MarksFit t s c level (stages.Mark more) = (g : ℕ) → group_at_of t c level ≡ Some g →
     is_on s (of_group g) ≡ true
 MarksFit t s c level stages.Own = is_on s (of_cpu c) ≡ true
-MarksFit t s c level stages.Up = Unit {0}
-MarksFit t s c level stages.Read = Unit {0}
-MarksFit t s c level stages.Child = Unit {0}
-MarksFit t s c level stages.Swap = Unit {0}
-MarksFit t s c level stages.LockChild = Unit {0}
-MarksFit t s c level stages.LockGroup = Unit {0}
-MarksFit t s c level stages.SeeChild = Unit {0}
-MarksFit t s c level stages.SeeGroup = Unit {0}
-MarksFit t s c level (stages.Scan k) = Unit {0}
-MarksFit t s c level stages.Store = Unit {0}
-MarksFit t s c level (stages.First k) = Unit {0}
-MarksFit t s c level stages.FreeGroup = Unit {0}
-MarksFit t s c level stages.FreeChild = Unit {0}
-MarksFit t s c level stages.Finish = Unit {0}
-MarksFit t s c level stages.Handing = Unit {0}
+MarksFit t s c level other = Unit {0}
 
 -- PART 6
 abbrev pub MarksHold : Shape → Scene → Type 0

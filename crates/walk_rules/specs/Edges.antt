@@ -18,21 +18,7 @@ abbrev pub edge_level : (level : ℕ) → Stage → Option ℕ
 edge_level level stages.Own = Some 0
 edge_level level stages.Up = Some level
 edge_level level (stages.Mark true) = Some (suc level)
-edge_level level (stages.Mark false) = None
-edge_level level stages.Read = None
-edge_level level stages.Child = None
-edge_level level stages.Swap = None
-edge_level level stages.LockChild = None
-edge_level level stages.LockGroup = None
-edge_level level stages.SeeChild = None
-edge_level level stages.SeeGroup = None
-edge_level level (stages.Scan k) = None
-edge_level level stages.Store = None
-edge_level level (stages.First k) = None
-edge_level level stages.FreeGroup = None
-edge_level level stages.FreeChild = None
-edge_level level stages.Finish = None
-edge_level level stages.Handing = None
+edge_level level other = None
 
 -- the level of the edge at which an activation stands, if it is one
 abbrev pub edge_of : Option Walk → Option ℕ
@@ -57,23 +43,9 @@ StandsBelow t s x = (d : ℕ) × (heading t s d ≡ Some x)
 
 -- the activation has passed the edges below this level
 abbrev pub passed_levels : (level : ℕ) → Stage → ℕ
-passed_levels level stages.Own = 0
 passed_levels level stages.Up = level
 passed_levels level (stages.Mark more) = suc level
-passed_levels level stages.Read = 0
-passed_levels level stages.Child = 0
-passed_levels level stages.Swap = 0
-passed_levels level stages.LockChild = 0
-passed_levels level stages.LockGroup = 0
-passed_levels level stages.SeeChild = 0
-passed_levels level stages.SeeGroup = 0
-passed_levels level (stages.Scan k) = 0
-passed_levels level stages.Store = 0
-passed_levels level (stages.First k) = 0
-passed_levels level stages.FreeGroup = 0
-passed_levels level stages.FreeChild = 0
-passed_levels level stages.Finish = 0
-passed_levels level stages.Handing = 0
+passed_levels level other = 0
 
 -- how many edges of its path an activation has passed
 abbrev pub passed_of : Option Walk → ℕ

@@ -106,23 +106,9 @@ FirstBelow events n best =
 
 -- how many of the child's events a walk has read
 abbrev pub read_of : Stage → Option ℕ
-read_of stages.Own = None
-read_of stages.Up = None
-read_of (stages.Mark more) = None
-read_of stages.Read = None
-read_of stages.Child = None
-read_of stages.Swap = None
-read_of stages.LockChild = None
-read_of stages.LockGroup = None
-read_of stages.SeeChild = None
-read_of stages.SeeGroup = None
 read_of (stages.Scan k) = Some k
 read_of stages.Store = Some 8
-read_of (stages.First k) = None
-read_of stages.FreeGroup = None
-read_of stages.FreeChild = None
-read_of stages.Finish = None
-read_of stages.Handing = None
+read_of other = None
 
 -- PART 5b: the first event so far
 abbrev pub BestHolds : Shape → Scene → Type 0
@@ -131,43 +117,17 @@ BestHolds t s = (c x n : ℕ) (k : Walk) → s.walk c ≡ Some k → read_of k.s
 
 -- a stage past SeeGroup in which the group's lock is held
 abbrev pub is_past_sight : Stage → Bool
-is_past_sight stages.Own = false
-is_past_sight stages.Up = false
-is_past_sight (stages.Mark more) = false
-is_past_sight stages.Read = false
-is_past_sight stages.Child = false
-is_past_sight stages.Swap = false
-is_past_sight stages.LockChild = false
-is_past_sight stages.LockGroup = false
-is_past_sight stages.SeeChild = false
-is_past_sight stages.SeeGroup = false
 is_past_sight (stages.Scan k) = true
 is_past_sight stages.Store = true
 is_past_sight (stages.First k) = true
 is_past_sight stages.FreeGroup = true
-is_past_sight stages.FreeChild = false
-is_past_sight stages.Finish = false
-is_past_sight stages.Handing = false
+is_past_sight other = false
 
 -- whether a walk at this stage is about to take a lock
 abbrev pub is_locking : Stage → Bool
-is_locking stages.Own = false
-is_locking stages.Up = false
-is_locking (stages.Mark more) = false
-is_locking stages.Read = false
-is_locking stages.Child = false
-is_locking stages.Swap = false
 is_locking stages.LockChild = true
 is_locking stages.LockGroup = true
-is_locking stages.SeeChild = false
-is_locking stages.SeeGroup = false
-is_locking (stages.Scan k) = false
-is_locking stages.Store = false
-is_locking (stages.First k) = false
-is_locking stages.FreeGroup = false
-is_locking stages.FreeChild = false
-is_locking stages.Finish = false
-is_locking stages.Handing = false
+is_locking other = false
 
 -- CPU d's walk is on its way to take the lock of group x and tell its event
 pub record IsOnItsWay (t : Shape) (s : Scene) (x d : ℕ) : Type 0 where

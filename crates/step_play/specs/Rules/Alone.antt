@@ -12,22 +12,7 @@ use Rattle.core_world.specs.World.{World, cpu_of}
 -- a walk goes on unless it has ended or waits to hand on
 abbrev pub is_handing : Stage → Bool
 is_handing stages.Handing = true
-is_handing stages.Own = false
-is_handing stages.Up = false
-is_handing (stages.Mark more) = false
-is_handing stages.Read = false
-is_handing stages.Child = false
-is_handing stages.Swap = false
-is_handing stages.LockChild = false
-is_handing stages.LockGroup = false
-is_handing stages.SeeChild = false
-is_handing stages.SeeGroup = false
-is_handing (stages.Scan k) = false
-is_handing stages.Store = false
-is_handing (stages.First k) = false
-is_handing stages.FreeGroup = false
-is_handing stages.FreeChild = false
-is_handing stages.Finish = false
+is_handing other = false
 
 -- whether a walk, where there is one, goes on: it stands at any stage but Handing
 abbrev pub goes_on : Option Walk → Bool
