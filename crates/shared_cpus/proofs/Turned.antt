@@ -10,7 +10,7 @@ use Rattle.cpu_bases.specs.CpuBases.{CpuBases, Room}
 use Rattle.core_world.specs.World.{CpuRecord, World}
 use Rattle.core_state.specs.declared.status.CpuStatus.{CpuStatus}
 use Rattle.shared_rule.specs.declared.parts.BoxView.{BoxView}
-use Rattle.shared_rule.specs.declared.parts.Look.{Look}
+use Rattle.shared_rule.specs.declared.parts.Looked.{Looked}
 use Rattle.shared_rule.specs.declared.parts.PassView.{PassView}
 use Rattle.shared_rule.specs.Plays.{PartFits, Sound, head_pass}
 use Rattle.shared_rule.specs.Rule.{Me, seat_of}
@@ -39,7 +39,7 @@ pub path_on : (t : Shape) (c g : ℕ) → group_at_of t c 0 ≡ Some g
 path_on t c g is = is ∙ ap Some (sym (ap (λ (m : Option ℕ). unwrap_or m 0) is))
 
 module _ (name table : TableId) (o : World) (cpu : ℕ) (status : CpuStatus) (bases : CpuBases)
-    (leaf : Option Event) (read : ℕ) (looked : List Look) (guest : Option Guest) (m : Me)
+    (leaf : Option Event) (read : ℕ) (looked : Looked) (guest : Option Guest) (m : Me)
     (f : BoxView → PassView → BoxView) (h : BoxView → PassView → PassView) (b : BoxView)
     (p : PassView) (is : m ≡ seat_of (f b p ∷ []) (h b p ∷ []))
     (same : box_held o cpu status bases leaf read looked ≡ f b p) where

@@ -19,7 +19,7 @@ use Rattle.shared_rule.specs.declared.parts.BoxView.{BoxView}
 use Rattle.shared_rule.specs.declared.parts.Deed.TheVariants as deeds
 use Rattle.shared_rule.specs.declared.parts.PassView.{PassView}
 use Rattle.shared_rule.specs.CoreLaws.{CoreLaws}
-use Rattle.shared_rule.specs.Whole.{box_of, cpu_at, own_word, quiet}
+use Rattle.shared_rule.specs.Whole.{box_of, cpu_at, no_looks, own_word, quiet}
 use Rattle.shared_rule.specs.Shows.{is_reeval, reevaluates}
 use Rattle.shared_rule.specs.Rule.{Goes, seat_of}
 use Rattle.shared_rule.specs.Turns.{carried, carried_box, carried_pass, carry_ended_box}
@@ -63,7 +63,7 @@ carries law o slots id b p may =
       walk = begun_where (is_some (group_at_of (h.same.tree i) c 0)) (kinds.Remote by)
           stages.LockGroup pin next;
     }) in
-    remarks law o s h c y p (carried_pass b p) [] (λ n. n)
+    remarks law o s h c y p (carried_pass b p) no_looks (λ n. n)
     (λ n v. v ≡ on_pair carried_box carried_pass (seat_of (box_of o s c ∷ []) (p ∷ [])))
     (record {
       step = steps.Carry (record { 0 = c });
@@ -106,7 +106,7 @@ carries law o slots id b p may =
       other = λ i ne. h.marked c i;
       others = λ d ne. ((λ x. x), (λ x. x));
       word = refl;
-      told = λ i. seat_of (record (box_of o s c) { own = box_is i; looked = [] } ∷ [])
+      told = λ i. seat_of (record (box_of o s c) { own = box_is i; looked = no_looks } ∷ [])
           (carried_pass b p ∷ []);
     })))
 

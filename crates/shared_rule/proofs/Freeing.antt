@@ -70,7 +70,7 @@ module _ (law : CoreLaws) (o : World) (s : Whole) (c g : ℕ) (k j : Walk) (ps :
       → Goes o s (box_of o s c) ps (lock_at g) (λ n. 0)
       (λ n v. v ≡ on_box (by_walk next) (seat_of (box_of o s c ∷ []) ps))
   frees q may is kind reads owed walk =
-      relocked law o s q.shown c g j k None ps _ _ q.cpu q.group q.known q.walk may is kind reads
+      relocked law o s q.shown c g j k None (s.looked c) ps _ _ q.cpu q.group q.known q.walk may is kind reads
       owed refl
       (λ i. seat_of (record (box_of o s c) {
         own = walk_is o s c k j next q.walk walk i;

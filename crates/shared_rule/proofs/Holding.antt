@@ -6,7 +6,7 @@ use Rattle.cpu_bases.specs.CpuBases.{CpuBases}
 use Rattle.core_world.specs.World.{World}
 use Rattle.core_state.specs.declared.status.CpuStatus.{CpuStatus}
 use Rattle.shared_rule.specs.declared.parts.BoxView.{BoxView}
-use Rattle.shared_rule.specs.declared.parts.Look.{Look}
+use Rattle.shared_rule.specs.declared.parts.Looked.{Looked}
 use Rattle.shared_rule.specs.declared.parts.PassView.{PassView}
 use Rattle.shared_rule.specs.Rule.{HasFirst, Me, pass_cpu, renewed_pass}
 use Rattle.shared_rule.specs.Rule.{seat_of, together, with_journal}
@@ -16,7 +16,7 @@ use Rattle.shared_rule.specs.Parts.{Hosts, IsGuest, PartHolds, box_held, looked_
 
 -- bytes that are those of the seat's box, of which its step told that it is sound
 pub holds : (name table : TableId) (o : World) (cpu : ℕ) (status : CpuStatus) (bases : CpuBases)
-    (leaf : Option Event) (read : ℕ) (looked : List Look) (m : Me) (guest : Option Guest)
+    (leaf : Option Event) (read : ℕ) (looked : Looked) (m : Me) (guest : Option Guest)
     (ps : List PassView) → table ≡ name
     → m ≡ seat_of (box_held o cpu status bases leaf read looked ∷ []) ps → Sound m → Hosts guest ps
     → PartHolds name table (box_held o cpu status bases leaf read (looked_of m.0.boxes)) guest m

@@ -1,6 +1,6 @@
 -- for crates above: a walk's step that takes or gives back a group's lock
 use Rattle.std.proofs.Common.{◌≡◌, ◌↔◌, ℕ, zero, suc, ◌+◌, ◌-◌, ◌<◌, ◌≤◌, eqb, eq-eqb, ne_eqb}
-use Rattle.std.proofs.Common.{true, false, true≢false, List, [], ◌∷◌, length, Option}
+use Rattle.std.proofs.Common.{true, false, true≢false, List, [], ◌∷◌, ◌++◌, length, Option}
 use Rattle.std.proofs.Common.{Some, None, refl, sym, ap, ◌∙◌, subst, inl, inr, arith}
 use Rattle.std.specs.Prelude.{Contains, nat_le, unwrap_or}
 use Rattle.std.proofs.lemmas.Bool.{cases_eq}
@@ -21,19 +21,22 @@ use Rattle.shared_words.specs.Words.{lock_word}
 use Rattle.shared_rule.specs.declared.parts.BoxView.{BoxView}
 use Rattle.shared_rule.specs.declared.parts.PassView.{PassView}
 use Rattle.shared_rule.specs.CoreLaws.{CoreLaws}
-use Rattle.shared_rule.specs.Whole.{Whole, box_as, box_of, group_word, leaf_of, lock_at, quiet}
-use Rattle.shared_rule.specs.Shows.{IsShown, ReadsOf, is_reeval, owes, reevaluates}
+use Rattle.shared_words.specs.Layout.{index_of}
+use Rattle.shared_rule.specs.declared.parts.Looked.{Looked}
+use Rattle.shared_rule.specs.Whole.{Whole, box_as, box_of, layout_of, leaf_of, lock_at, quiet}
+use Rattle.shared_rule.specs.Shows.{IsShown, is_reeval, owes, reevaluates}
 use Rattle.shared_rule.specs.Rule.{Each, Goes, Me, seat_of}
-use Rattle.shared_rule.specs.Plays.{child_locked_walk, lock_box, locked_walk, on_box, reading}
+use Rattle.shared_rule.specs.Plays.{child_locked_walk, lock_box, locked_walk, on_box}
 use Rattle.shared_rule.specs.Laws.{LockChildStays, LockStays}
 use Rattle.shared_rule.proofs.Made.{made}
 use Rattle.shared_rule.proofs.Moving.{cpu_field, leaf_stays}
 use Rattle.shared_rule.proofs.Owing.{owes_kept}
 use Rattle.shared_rule.proofs.Rising.{as_they_were, notes}
-use Rattle.shared_rule.proofs.Walking.{WalksAt, at_walk, no_reads, walk_is}
+use Rattle.shared_rule.proofs.Walking.{WalksAt, at_walk, walk_is}
 
 module _ (law : CoreLaws) (o : World) (s : Whole) (h : IsShown o s) (c g : ℕ) (j k : Walk)
-    (l : Option ℕ) (ps : List PassView) (f : ℕ → ℕ) (then : ℕ → Me → Type 0) where
+    (l : Option ℕ) (looked : Looked) (ps : List PassView) (f : ℕ → ℕ)
+    (then : ℕ → Me → Type 0) where
   abbrev w : World
   w = s.world
 
@@ -54,7 +57,7 @@ module _ (law : CoreLaws) (o : World) (s : Whole) (h : IsShown o s) (c g : ℕ) 
       → ((m : ℕ) → owes o.tree m c (Some j) ≤ owes o.tree m c (Some k))
       → lock_word l ≡ f (lock_word (group_of s.world g).lock)
       → then (lock_word (group_of s.world g).lock)
-      (seat_of (box_as o c y (leaf_of s.world c) (s.read c) (s.looked c) ∷ []) ps)
+      (seat_of (box_as o c y (leaf_of s.world c) (s.read c) looked ∷ []) ps)
       → Goes o s (box_of o s c) ps (lock_at g) f then
   relocked hc hg known at may is kind reads_not owed word told =
       let hc' : c < length w.cpus = omega (arith, hc, h.same.cpus) in
@@ -66,7 +69,7 @@ module _ (law : CoreLaws) (o : World) (s : Whole) (h : IsShown o s) (c g : ℕ) 
       = λ z e rd. true≢false
       (sym rd ∙ (ap (λ (u : Walk). is_reading u.stage) (sym (same_Some _ _ e))
       ∙ reads_not)) in
-      made law o s h c g x y false (s.read c) s.stray (s.looked c) s.pass ps ps (lock_at g) f then
+      made law o s h c g x y false (s.read c) s.stray looked s.pass ps ps (lock_at g) f then
       (record {
         step = steps.Walk (record { 0 = c });
         enabled = record { in_range = hc'; made = k; walk = at; may_go_on = may };
@@ -133,6 +136,10 @@ sight_past : (l : ℕ) → nat_le 5 (place_of (first_sight l)) ≡ true
 sight_past zero = refl
 sight_past (suc l) = refl
 
+-- the place of the word of a group's lock
+abbrev place_of_lock : World → ℕ → ℕ
+place_of_lock o g = index_of (layout_of o) (lock_at g)
+
 -- a walk's try for a lock, by which it goes on to j where the lock is free
 module _ (law : CoreLaws) (o : World) (s : Whole) (c g : ℕ) (k j : Walk) (ps : List PassView)
     (at : Stage) (level : ℕ) (next : BoxView → Walk → Option Walk) where
@@ -140,17 +147,21 @@ module _ (law : CoreLaws) (o : World) (s : Whole) (c g : ℕ) (k j : Walk) (ps :
       → ((group_of s.world g).lock ≡ None → MayGoOn s.world c k k.stage)
       → walked s.world c k k.stage
       ≡ walks_at s.world c g (with_lock (group_of s.world g) (Some c)) j
-      → j.kind ≡ k.kind → j.level ≡ k.level → is_reading k.stage ≡ false
-      → is_reading j.stage ≡ false
+      → j.kind ≡ k.kind → j.level ≡ k.level → is_reading j.stage ≡ false
       → nat_le 5 (place_of j.stage) ≡ nat_le 5 (place_of k.stage)
       → next (box_of o s c) (forget k) ≡ Some (forget j)
       → Goes o s (box_of o s c) ps (lock_at g) (λ n. either (eqb n 0) (1 + c) n)
-      (λ n v. v ≡ on_box (lock_box next (eqb n 0) n) (seat_of (box_of o s c ∷ []) ps))
-  tries q may is kind same_level before reads place walk =
+      (λ n v. v
+      ≡ on_box (lock_box next (eqb n 0) (place_of_lock o g) n) (seat_of (box_of o s c ∷ []) ps))
+  tries q may is kind same_level reads place walk =
       let lock = lock_word (group_of s.world g).lock in
+      let untried : Looked = record (s.looked c) { tried = [] } in
+      let more : Looked = record (s.looked c) {
+        tried = (s.looked c).tried ++ record { word = place_of_lock o g; found = lock } ∷ [];
+      } in
       elim (cases_eq (lock_word (group_of s.world g).lock) 0) [
         | inl e ↦
-            relocked law o s q.shown c g j k (Some c) ps _ _ q.cpu q.group q.known q.walk
+            relocked law o s q.shown c g j k (Some c) untried ps _ _ q.cpu q.group q.known q.walk
             (may (no_lock _ e)) is kind reads
             (λ m. owes_kept o.tree m c j k kind same_level place)
             (sym (ap (λ b. either b (1 + c) (lock_word (group_of s.world g).lock))
@@ -158,25 +169,27 @@ module _ (law : CoreLaws) (o : World) (s : Whole) (c g : ℕ) (k j : Walk) (ps :
             (subst (λ b. ◌≡◌ {A = Me}
             (seat_of (record (box_of o s c) {
               own = quiet (with_walk (cpu_of s.world c) (Some j));
+              looked = untried;
             } ∷ []) ps)
-            (on_box (lock_box next b lock) (seat_of (box_of o s c ∷ []) ps))) (sym (eq-eqb _ _ e))
+            (on_box (lock_box next b (place_of_lock o g) lock) (seat_of (box_of o s c ∷ []) ps)))
+            (sym (eq-eqb _ _ e))
             (λ i. seat_of (record (box_of o s c) {
               own = walk_is o s c k j next q.walk walk i;
+              looked = untried;
             } ∷ []) ps))
         | inr ne ↦
-            notes o s q.shown c lock (s.looked c)
-            (subst (λ z. ReadsOf s.world.tree c z lock (group_word s) s.seq) (sym q.walk)
-            (no_reads s.world.tree c k lock (group_word s) s.seq before)) ps (lock_at g) _ _ q.known
+            notes o s q.shown c more ps (lock_at g) _ _ q.known
             (ap (λ z. either z (1 + c) lock) (ne_eqb _ _ ne))
-            (subst (λ z. ◌≡◌ {A = Me} (seat_of (reading lock (box_of o s c) ∷ []) ps)
-            (on_box (lock_box next z lock) (seat_of (box_of o s c ∷ []) ps)))
+            (subst (λ z. ◌≡◌ {A = Me}
+            (seat_of (record (box_of o s c) { looked = more } ∷ []) ps)
+            (on_box (lock_box next z (place_of_lock o g) lock) (seat_of (box_of o s c ∷ []) ps)))
             (sym (ne_eqb _ _ ne)) refl)
       ]
 
 pub locks : (law : CoreLaws) (o : World) → LockStays o
 locks law o slots id g b k ps may =
     at_walk law o slots id b k ps (lock_at g) (λ n. either (eqb n 0) (1 + b.cpu) n)
-    (λ z n v. v ≡ on_box (lock_box locked_walk (eqb n 0) n) (seat_of (z ∷ []) ps))
+    (λ z n v. v ≡ on_box (lock_box locked_walk (eqb n 0) (place_of_lock o g) n) (seat_of (z ∷ []) ps))
     stages.LockGroup (λ l. l) g may.group may
     (λ s j is same q.
     let w = s.world in
@@ -187,13 +200,14 @@ locks law o slots id g b k ps may =
     (ap (walked w b.cpu j) q.stage
     ∙ (λ i. walks_at w b.cpu (at_g i) (with_lock (group_of w (at_g i)) (Some b.cpu))
     (at_stage j (first_sight j.level))))
-    refl refl (ap is_reading q.stage) (sight_reads j.level)
+    refl refl (sight_reads j.level)
     (sight_past j.level ∙ ap (λ z. nat_le 5 (place_of z)) (sym q.stage)) refl)
 
 pub locks_child : (law : CoreLaws) (o : World) → LockChildStays o
 locks_child law o slots id g b k ps may =
     at_walk law o slots id b k ps (lock_at g) (λ n. either (eqb n 0) (1 + b.cpu) n)
-    (λ z n v. v ≡ on_box (lock_box child_locked_walk (eqb n 0) n) (seat_of (z ∷ []) ps))
+    (λ z n v. v
+    ≡ on_box (lock_box child_locked_walk (eqb n 0) (place_of_lock o g) n) (seat_of (z ∷ []) ps))
     stages.LockChild (λ l. l - 1) g may.group may
     (λ s j is same q.
     let w = s.world in
@@ -204,4 +218,4 @@ locks_child law o slots id g b k ps may =
     (ap (walked w b.cpu j) q.stage
     ∙ (λ i. walks_at w b.cpu (at_g i) (with_lock (group_of w (at_g i)) (Some b.cpu))
     (at_stage j stages.LockGroup)))
-    refl refl (ap is_reading q.stage) refl (ap (λ z. nat_le 5 (place_of z)) (sym q.stage)) refl)
+    refl refl refl (ap (λ z. nat_le 5 (place_of z)) (sym q.stage)) refl)

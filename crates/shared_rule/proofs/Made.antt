@@ -27,7 +27,7 @@ use Rattle.core_facts.specs.Played.{AllPlayed}
 use Rattle.core_facts.specs.Levels.{LevelsFit}
 use Rattle.core_state.specs.Kept.{WorldFits}
 use Rattle.shared_rule.specs.declared.parts.PassView.{PassView}
-use Rattle.shared_rule.specs.declared.parts.Look.{Look}
+use Rattle.shared_rule.specs.declared.parts.Looked.{Looked}
 use Rattle.shared_rule.specs.CoreLaws.{CoreLaws}
 use Rattle.shared_words.specs.declared.layout.SharedWord.{SharedWord}
 use Rattle.shared_words.specs.declared.layout.SharedWord.TheVariants.{State, Lock, Slot, Cpu, Timer}
@@ -56,7 +56,7 @@ pub record IsPlain (r : Reach) : Type 0 where
 
 -- what such a step by the seat of CPU c's box has to show, with the passes ps that become qs
 pub record Made (o : World) (s : Whole) (c g : ℕ) (x : Group) (y : CpuRecord) (r : Bool) (n : ℕ)
-    (stray : ℕ → ℕ → Bool) (looked : List Look) (pass : ℕ → PassView) (ps qs : List PassView)
+    (stray : ℕ → ℕ → Bool) (looked : Looked) (pass : ℕ → PassView) (ps qs : List PassView)
     (p : SharedWord) (f : ℕ → ℕ) (then : ℕ → Me → Type 0) : Type 0 where
   pub step : Step
   pub enabled : Enabled s.world step
@@ -104,7 +104,7 @@ pub record Made (o : World) (s : Whole) (c g : ℕ) (x : Group) (y : CpuRecord) 
 
 module _ (law : CoreLaws) (o : World) (s : Whole) (h : IsShown o s) (c g : ℕ) (x : Group)
     (y : CpuRecord) (r : Bool) (n : ℕ) (stray : ℕ → ℕ → Bool)
-    (looked : List Look) (pass : ℕ → PassView)
+    (looked : Looked) (pass : ℕ → PassView)
     (ps qs : List PassView) (p : SharedWord) (f : ℕ → ℕ) (then : ℕ → Me → Type 0)
     (q : Made o s c g x y r n stray looked pass ps qs p f then) where
   abbrev v : World

@@ -2,7 +2,8 @@
 use Rattle.std.proofs.Common.{◌≡◌, ◌≢◌, ℕ, suc, ◌^◌, ◌<◌, ◌≤◌, Bool, true, false}
 use Rattle.std.proofs.Common.{[]}
 use Rattle.std.proofs.Common.{◌∷◌, length, Option, Some, bit_or, refl, sym, ap, ◌∙◌, subst}
-use Rattle.std.proofs.Common.{arith}
+use Rattle.std.proofs.Common.{List, eq-eqb, ne_eqb, inl, inr, arith}
+use Rattle.std.proofs.lemmas.Bool.{cases_eq}
 use Rattle.std.specs.Prelude.{nat_le, option_map, unwrap_or}
 use Rattle.std.proofs.lemmas.Option.{none-some, same_Some}
 use Rattle.event_queue.specs.declared.event.Event.{Event}
@@ -18,19 +19,23 @@ use Rattle.core_world.specs.Enabled.{MayGoOn}
 use Rattle.core_world.specs.Steps.{walked, walks_at, with_walk}
 use Rattle.core_world.specs.World.{World, CpuRecord, cpu_of, group_of, is_reading, moved}
 use Rattle.core_facts.specs.Exchanges.{place_of}
+use Rattle.shared_words.specs.declared.layout.SharedWord.{SharedWord}
 use Rattle.shared_words.specs.Words.{word_of_slot}
 use Rattle.shared_words.proofs.Back.{mark_slot}
 use Rattle.shared_rule.specs.CoreLaws.{CoreLaws}
 use Rattle.shared_rule.specs.Whole.{Whole, box_of, leaf_in, leaf_of, slot_at, word_at}
 use Rattle.shared_rule.specs.Shows.{IsShown, is_reeval, owes, reevaluates}
-use Rattle.shared_rule.specs.Rule.{Goes, seat_of}
-use Rattle.shared_rule.specs.Plays.{by_walk, marked_walk, marks_more, on_box, own_marked_box}
-use Rattle.shared_rule.specs.Plays.{own_marked_walk}
-use Rattle.shared_rule.specs.Laws.{MarkOwnStays, MarkStays}
+use Rattle.shared_rule.specs.declared.parts.BoxView.{BoxView}
+use Rattle.shared_rule.specs.declared.parts.PassView.{PassView}
+use Rattle.shared_rule.specs.Rule.{Goes, Me, seat_of}
+use Rattle.shared_rule.specs.Plays.{by_walk, is_marked, marked_walk, marked_where, marks_more}
+use Rattle.shared_rule.specs.Plays.{on_box, own_marked_box, own_marked_walk}
+use Rattle.shared_rule.specs.Laws.{FindMarkStays, MarkOwnStays, MarkStays}
 use Rattle.shared_rule.proofs.Fits.{event_fits}
 use Rattle.shared_rule.proofs.Owing.{owes_higher, owes_kept}
+use Rattle.shared_rule.proofs.Rising.{still}
 use Rattle.shared_rule.proofs.Slotting.{leaf_else, leaf_now, no_leaf, sides_apart, slotted}
-use Rattle.shared_rule.proofs.Walking.{at_walk, walk_ends, walk_is}
+use Rattle.shared_rule.proofs.Walking.{WalksAt, at_walk, walk_ends, walk_is}
 
 -- a walk that has marked its group goes on or ends
 mark_kind : (more : Bool) (k z : Walk) → mark_next more k ≡ Some z → z.kind ≡ k.kind
@@ -142,13 +147,17 @@ marks_own law o slots id g b k ps low may =
       } ∷ []) ps;
     })))
 
-pub marks : (law : CoreLaws) (o : World) → MarkStays o
-marks law o slots id g more b k ps low may =
-    at_walk law o slots id b k ps (slot_at g (side o.tree b.cpu (suc k.level)))
-    (λ n. bit_or n (2 ^ 58))
-    (λ z n v. v ≡ on_box (by_walk marked_walk) (seat_of (z ∷ []) ps))
-    (stages.Mark more) suc g (may.group, low) may
-    (λ s j is same q.
+-- the place of a group's slot in its parent, on the path of a box's walk
+abbrev parent_slot : World → BoxView → Walk → (g : ℕ) → SharedWord
+parent_slot o b k g = slot_at g (side o.tree b.cpu (suc k.level))
+
+-- the marking of that slot, as a step of the whole
+mark_goes : (law : CoreLaws) (o : World) (g : ℕ) (more : Bool) (b : BoxView) (k : Walk)
+    (ps : List PassView) → side o.tree b.cpu (suc k.level) < 8 → (s : Whole) (j : Walk)
+    → forget j ≡ k → WalksAt o s b.cpu ps j (stages.Mark more) (suc j.level) g
+    → Goes o s (box_of o s b.cpu) ps (parent_slot o b k g) (λ n. bit_or n (2 ^ 58))
+    (λ n v. v ≡ on_box (by_walk marked_walk) (seat_of (box_of o s b.cpu ∷ []) ps))
+mark_goes law o g more b k ps low s j same q =
     let w = s.world in
     let c = b.cpu in
     let h = q.shown in
@@ -196,7 +205,7 @@ marks law o slots id g more b k ps low may =
       told = λ i. seat_of (record (box_of o s c) {
         own = walk_ends o s c j to marked_walk q.walk (forget_mark on j) i;
       } ∷ []) ps;
-    }))))
+    })))
   where
     not_end : (m : Bool) → stages.Mark m ≡ stages.Finish → ⊥
     not_end m z = cc
@@ -205,3 +214,45 @@ marks law o slots id g more b k ps low may =
         → owes o.tree x c (mark_next m j) ≤ owes o.tree x c (Some j)
     mark_owes o c true j x = owes_higher o.tree x c j stages.Up
     mark_owes o c false j x = omega arith
+
+pub marks : (law : CoreLaws) (o : World) → MarkStays o
+marks law o slots id g more b k ps low may =
+    at_walk law o slots id b k ps (parent_slot o b k g) (λ n. bit_or n (2 ^ 58))
+    (λ z n v. v ≡ on_box (by_walk marked_walk) (seat_of (z ∷ []) ps))
+    (stages.Mark more) suc g (may.group, low) may
+    (λ s j is same q. mark_goes law o g more b k ps low s j same q)
+
+-- where the mark is there, the look at it is the marking
+pub finds_mark : (law : CoreLaws) (o : World) → FindMarkStays o
+finds_mark law o slots id g more b k ps low may =
+    at_walk law o slots id b k ps (parent_slot o b k g) (λ n. n)
+    (λ z n v. v ≡ on_box (marked_where (is_marked n)) (seat_of (z ∷ []) ps))
+    (stages.Mark more) suc g (may.group, low) may
+    (λ s j is same q.
+    let word = word_at s (parent_slot o b k g) in
+    let box = box_of o s b.cpu in
+    elim (cases_eq (bit_or word (2 ^ 58)) word) [
+      | inl there ↦
+          let made = mark_goes law o g more b k ps low s j same q in
+          record {
+            next = made.next;
+            box = made.box;
+            passes = made.passes;
+            shown = made.shown;
+            word = made.word ∙ there;
+            words = made.words;
+            own = made.own;
+            boxes = made.boxes;
+            same = made.same;
+            brought = made.brought;
+            others = made.others;
+            told =
+                subst (λ m. seat_of (made.box ∷ []) made.passes
+                ≡ on_box (marked_where m) (seat_of (box ∷ []) ps)) (sym (eq-eqb _ _ there))
+                made.told;
+          }
+      | inr ne ↦
+          still o s b.cpu ps (parent_slot o b k g) _ _ q.shown q.known refl
+          (subst (λ m. ◌≡◌ {A = Me} (seat_of (box ∷ []) ps)
+          (on_box (marked_where m) (seat_of (box ∷ []) ps))) (sym (ne_eqb _ _ ne)) refl)
+    ])

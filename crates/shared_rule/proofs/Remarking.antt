@@ -14,7 +14,7 @@ use Rattle.core_world.specs.World.{World, CpuRecord, cpu_of, group_of, is_readin
 use Rattle.core_world.proofs.Moves.{cpu_same, cpu_else}
 use Rattle.core_facts.specs.Reach.{reach_of}
 use Rattle.shared_rule.specs.declared.parts.Did.{Did}
-use Rattle.shared_rule.specs.declared.parts.Look.{Look}
+use Rattle.shared_rule.specs.declared.parts.Looked.{Looked}
 use Rattle.shared_rule.specs.declared.parts.PassView.{PassView}
 use Rattle.shared_rule.specs.CoreLaws.{CoreLaws}
 use Rattle.shared_rule.specs.Whole.{Whole, box_as, box_of, cpu_at, leaf_of, own_word}
@@ -28,7 +28,7 @@ use Rattle.shared_rule.proofs.Slotting.{none_read}
 
 -- what such a step has to show, by which CPU c becomes y, and pass p becomes q
 pub record Remarked (o : World) (s : Whole) (c : ℕ) (y : CpuRecord) (p q : PassView)
-    (looked : List Look) (f : ℕ → ℕ) (then : ℕ → Me → Type 0) : Type 0 where
+    (looked : Looked) (f : ℕ → ℕ) (then : ℕ → Me → Type 0) : Type 0 where
   pub step : Step
   pub enabled : Enabled s.world step
   pub is : stepped s.world step ≡ own s.world c y
@@ -63,7 +63,7 @@ pub record Remarked (o : World) (s : Whole) (c : ℕ) (y : CpuRecord) (p q : Pas
       (seat_of (box_as o c y (leaf_of s.world c) (s.read c) looked ∷ []) (q ∷ []))
 
 module _ (law : CoreLaws) (o : World) (s : Whole) (h : IsShown o s) (c : ℕ) (y : CpuRecord)
-    (p q : PassView) (looked : List Look) (f : ℕ → ℕ) (then : ℕ → Me → Type 0)
+    (p q : PassView) (looked : Looked) (f : ℕ → ℕ) (then : ℕ → Me → Type 0)
     (t : Remarked o s c y p q looked f then) where
   abbrev w : World
   w = s.world

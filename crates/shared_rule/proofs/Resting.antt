@@ -17,7 +17,7 @@ use Rattle.core_world.specs.Steps.{begun_where}
 use Rattle.core_world.specs.World.{World, CpuRecord, cpu_of, is_active, is_reading}
 use Rattle.shared_rule.specs.declared.parts.BoxView.{BoxView}
 use Rattle.shared_rule.specs.CoreLaws.{CoreLaws}
-use Rattle.shared_rule.specs.Whole.{box_of, own_word, quiet}
+use Rattle.shared_rule.specs.Whole.{box_of, no_looks, own_word, quiet}
 use Rattle.shared_rule.specs.Shows.{reevaluates}
 use Rattle.shared_rule.specs.Rule.{seat_of}
 use Rattle.shared_rule.specs.Plays.{on_both}
@@ -102,7 +102,7 @@ idles law o slots id b p new may rest =
       walk = begun_where (is_some (group_at_of (h.same.tree i) c 0)) kinds.Deactivate stages.Read
           pin next;
     }) in
-    turns law o s h c y p (idled_pass b p) [] (λ n. new)
+    turns law o s h c y p (idled_pass b p) no_looks (λ n. new)
     (λ n v. v ≡ on_both idled_box idled_pass (seat_of (box_of o s c ∷ []) (p ∷ [])))
     (record {
       step = steps.Idle (record { 0 = c });
@@ -140,7 +140,7 @@ idles law o slots id b p new may rest =
         reeval = idle_reeval pin next has;
       };
       word = sym (may.word ∙ ap (λ (z : BoxView). own_word (idled o c z.own)) q.box);
-      told = λ i. seat_of (record (box_of o s c) { own = box_is i; looked = [] } ∷ [])
+      told = λ i. seat_of (record (box_of o s c) { own = box_is i; looked = no_looks } ∷ [])
           (idled_pass b p ∷ []);
     }))
 
@@ -163,7 +163,7 @@ retells law o slots id b p may again =
       walk = begun_where (is_some (group_at_of (h.same.tree i) c 0)) kinds.Reeval
           stages.LockGroup pin next;
     }) in
-    turns law o s h c y p (retold_pass b p) [] (λ n. n)
+    turns law o s h c y p (retold_pass b p) no_looks (λ n. n)
     (λ n v. v ≡ on_both retold_box retold_pass (seat_of (box_of o s c ∷ []) (p ∷ [])))
     (record {
       step = steps.Reeval (record { 0 = c });
@@ -200,6 +200,6 @@ retells law o slots id b p may again =
         reeval = retold_reeval pin next has;
       };
       word = refl;
-      told = λ i. seat_of (record (box_of o s c) { own = box_is i; looked = [] } ∷ [])
+      told = λ i. seat_of (record (box_of o s c) { own = box_is i; looked = no_looks } ∷ [])
           (retold_pass b p ∷ []);
     }))

@@ -30,14 +30,14 @@ use Rattle.shared_rule.specs.CoreLaws.{CoreLaws}
 use Rattle.shared_words.specs.declared.layout.SharedWord.{SharedWord}
 use Rattle.shared_words.specs.declared.layout.SharedWord.TheVariants.{State, Lock, Slot, Cpu, Timer}
 use Rattle.shared_words.specs.Layout.{index_of}
-use Rattle.shared_rule.specs.declared.parts.Look.{Look}
+use Rattle.shared_rule.specs.declared.parts.Looked.{Looked}
 use Rattle.shared_words.specs.Exchanges.{HasRoom, IsJoinOf, shows_migrator}
 use Rattle.shared_words.proofs.Back.{migrator_shown}
 use Rattle.shared_rule.specs.Whole.{state_at, Whole, word_at, box_of, quiet, group_word}
 use Rattle.shared_rule.specs.Whole.{group_state, layout_of, leaf_of, leaf_in}
-use Rattle.shared_rule.specs.Shows.{IsShown, ReadsOf, reevaluates, is_reeval, owes, raised, set_at}
+use Rattle.shared_rule.specs.Shows.{IsShown, reevaluates, is_reeval, owes, raised, set_at}
 use Rattle.shared_rule.specs.Rule.{Each, Me, seat_of, Goes}
-use Rattle.shared_rule.specs.Plays.{on_box, up_box, up_walk, bound_walk, looking, looking_anew}
+use Rattle.shared_rule.specs.Plays.{on_box, up_box, up_walk, bound_walk, trying}
 use Rattle.shared_rule.specs.Laws.{LookStays, RiseStays}
 use Rattle.shared_rule.proofs.Owing.{up_owes}
 use Rattle.shared_rule.proofs.Moving.{field_else, set_else, set_here}
@@ -71,25 +71,23 @@ still o s c ps p f then h known same told = record {
   told = told;
 }
 
--- the whole in which the box of c remembers this
-abbrev pub remembering : Whole → (c read : ℕ) → List Look → Whole
-remembering s c read looked =
-    record s { read = set_at c read s.read; looked = set_at c looked s.looked }
+-- the whole in which the walk of c has found out this
+abbrev pub remembering : Whole → (c : ℕ) → Looked → Whole
+remembering s c looked = record s { looked = set_at c looked s.looked }
 
--- what a box remembers is no part of any word
-pub words_remain : (s : Whole) (c read : ℕ) (looked : List Look) (m : SharedWord)
-    → word_at (remembering s c read looked) m ≡ word_at s m
-words_remain s c read looked (State g) = refl
-words_remain s c read looked (Lock g) = refl
-words_remain s c read looked (Slot g k) = refl
-words_remain s c read looked (Cpu d) = refl
-words_remain s c read looked (Timer t) = refl
+-- what a walk has found out is no part of any word
+pub words_remain : (s : Whole) (c : ℕ) (looked : Looked) (m : SharedWord)
+    → word_at (remembering s c looked) m ≡ word_at s m
+words_remain s c looked (State g) = refl
+words_remain s c looked (Lock g) = refl
+words_remain s c looked (Slot g k) = refl
+words_remain s c looked (Cpu d) = refl
+words_remain s c looked (Timer t) = refl
 
--- a step after which the box of c remembers something else, and by which nothing of the core changes
-module _ (o : World) (s : Whole) (h : IsShown o s) (c read : ℕ) (looked : List Look)
-    (reads : ReadsOf s.world.tree c (cpu_of s.world c).walk read (group_word s) s.seq) where
+-- a step by which the walk of c finds something out, and nothing of the core changes
+module _ (o : World) (s : Whole) (h : IsShown o s) (c : ℕ) (looked : Looked) where
   abbrev next : Whole
-  next = remembering s c read looked
+  next = remembering s c looked
 
   remembers : IsShown o next
   remembers = record {
@@ -99,18 +97,7 @@ module _ (o : World) (s : Whole) (h : IsShown o s) (c read : ℕ) (looked : List
     clock = h.clock;
     online = h.online;
     staying = h.staying;
-    reads = λ d. elim (cases_eq d c) [
-      | inl is ↦
-          let r = subst (λ n. ReadsOf s.world.tree n (cpu_of s.world n).walk (next.read n)
-          (group_word s) s.seq) (sym is)
-          (subst (λ n. ReadsOf s.world.tree c (cpu_of s.world c).walk n (group_word s) s.seq)
-          (sym (set_here c read s.read)) reads) in
-          record { fresh = r.fresh; before = r.before; good = r.good }
-      | inr ne ↦
-          let r = subst (λ n. ReadsOf s.world.tree d (cpu_of s.world d).walk n (group_word s) s.seq)
-          (sym (set_else c read s.read d ne)) (h.reads d) in
-          record { fresh = r.fresh; before = r.before; good = r.good }
-    ];
+    reads = λ d. let r = h.reads d in record { fresh = r.fresh; before = r.before; good = r.good };
     bound = h.bound;
     few = h.few;
     opened = h.opened;
@@ -130,23 +117,17 @@ module _ (o : World) (s : Whole) (h : IsShown o s) (c read : ℕ) (looked : List
   pub notes : (ps : List PassView) (p : SharedWord) (f : ℕ → ℕ) (then : ℕ → Me → Type 0)
       → Each (λ x. (x.cpu < length o.cpus) × (x ≡ s.pass x.cpu)) ps
       → f (word_at s p) ≡ word_at s p
-      → then (word_at s p) (seat_of (record (box_of o s c) { read = read; looked = looked } ∷ []) ps)
+      → then (word_at s p) (seat_of (record (box_of o s c) { looked = looked } ∷ []) ps)
       → Goes o s (box_of o s c) ps p f then
   notes ps p f then known same told = record {
     next = next;
-    box = record (box_of o s c) { read = read; looked = looked };
+    box = record (box_of o s c) { looked = looked };
     passes = ps;
     shown = remembers;
-    word = words_remain s c read looked p ∙ sym same;
-    words = λ q low ne. words_remain s c read looked q;
-    own = λ i. record (box_of o s c) {
-      read = sym (set_here c read s.read) i;
-      looked = sym (set_here c looked s.looked) i;
-    };
-    boxes = λ d ne i. record (box_of o s d) {
-      read = set_else c read s.read d ne i;
-      looked = set_else c looked s.looked d ne i;
-    };
+    word = words_remain s c looked p ∙ sym same;
+    words = λ q low ne. words_remain s c looked q;
+    own = λ i. record (box_of o s c) { looked = sym (set_here c looked s.looked) i };
+    boxes = λ d ne i. record (box_of o s d) { looked = set_else c looked s.looked d ne i };
     same = refl;
     brought = as_they_were o s ps known;
     others = λ d ne. refl;
@@ -157,19 +138,24 @@ module _ (o : World) (s : Whole) (h : IsShown o s) (c read : ℕ) (looked : List
 abbrev place_of_state : World → ℕ → ℕ
 place_of_state o g = index_of (layout_of o) (state_at g)
 
--- a look, which is remembered alone
+-- what the walk of c has found out, with the word of a group besides
+abbrev trying_too : World → Whole → (c g found : ℕ) → Looked
+trying_too o s c g found = record (s.looked c) {
+  tried = (s.looked c).tried ++ record { word = place_of_state o g; found = found } ∷ [];
+}
+
+-- a look at the word of a group
 pub look : (law : CoreLaws) (o : World) → LookStays o
 look law o slots id g b ps low =
     allows law o slots id b ps (state_at g) (λ n. n)
-    (λ n v. (v ≡ on_box (looking_anew (place_of_state o g) n) (seat_of (b ∷ []) ps)) × HasRoom n)
+    (λ n v. (v ≡ on_box (trying (place_of_state o g) n) (seat_of (b ∷ []) ps)) × HasRoom n)
     low
     (λ s h hc is known fits.
     subst (λ (z : BoxView). Goes o s z ps (state_at g) (λ n. n)
-    (λ n v. (v ≡ on_box (looking_anew (place_of_state o g) n) (seat_of (z ∷ []) ps))
+    (λ n v. (v ≡ on_box (trying (place_of_state o g) n) (seat_of (z ∷ []) ps))
     × HasRoom n)) (sym is)
-    (notes o s h b.cpu (s.read b.cpu)
-    (record { word = place_of_state o g; found = group_word s g } ∷ [])
-    (h.reads b.cpu) ps (state_at g) _ _ known refl (refl, good_word law o s h g)))
+    (notes o s h b.cpu (trying_too o s b.cpu g (group_word s g)) ps (state_at g) _ _ known refl
+    (refl, good_word law o s h g)))
 
 -- a word says whether its state has no migrator
 not_some : (m : Option ℕ) → not (is_some m) ≡ is_none m
@@ -247,7 +233,8 @@ rise_hit law o s c gg j ps old new h hc known at is_up path_o join e =
           ∙ field_else (λ v. v.mark) (λ v m. refl) w.tree true gg d (cpu_of w d)
     ] in
     let none_there : not (shows_migrator old) ≡ more = none_in old _ spelled in
-    made law o s h c gg x y true (s.read c) s.stray [] s.pass ps ps (state_at gg) _ _
+    let untried : Looked = record (s.looked c) { tried = [] } in
+    made law o s h c gg x y true (s.read c) s.stray untried s.pass ps ps (state_at gg) _ _
     (record {
       step = steps.Walk (record { 0 = c });
       enabled = record {
@@ -311,26 +298,26 @@ rise_hit law o s c gg j ps old new h hc known at is_up path_o join e =
       brought = as_they_were o s ps known;
       others = λ d ne. refl;
       told = subst (λ b. ◌≡◌ {A = Me}
-          (seat_of (record (box_of o s c) { own = quiet y; looked = [] } ∷ []) ps)
+          (seat_of (record (box_of o s c) { own = quiet y; looked = untried } ∷ []) ps)
           (on_box (up_box b old (place_of_state o gg) (group_word s gg))
           (seat_of (box_of o s c ∷ []) ps))) (sym (eq-eqb _ _ e))
           ((λ i. (seat_of (record (box_of o s c) {
             own = record y0 { walk = forget_up top more j i };
-            looked = [];
+            looked = untried;
           } ∷ []) ps))
           ∙ ((λ i. (seat_of (record (box_of o s c) {
             own = record y0 {
               walk = up_next
                   (at_top (t i) c l) (sym none_there i) (forget j);
             };
-            looked = [];
+            looked = untried;
           } ∷ []) ps))
           ∙ (λ i. (seat_of (record (box_of o s c) {
             own = record y0 {
               walk = bound_walk
                   (up_walk old (box_of o s c)) (option_map forget (sym at i));
             };
-            looked = [];
+            looked = untried;
           } ∷ []) ps))));
     })
   where
@@ -368,12 +355,10 @@ rise law o slots id g b k ps old new may =
           (ap (λ n. group_at_of o.tree b.cpu n) (sym lv) ∙ may.path)
           (subst (λ n. IsJoinOf old (side o.tree b.cpu n) new) lv may.word) e
       | inr ne ↦
-          notes o s h b.cpu (s.read b.cpu)
-          (s.looked b.cpu ++ record { word = place_of_state o g; found = group_word s g } ∷ [])
-          (h.reads b.cpu) ps (state_at g) _ _ known
+          notes o s h b.cpu (trying_too o s b.cpu g (group_word s g)) ps (state_at g) _ _ known
           (ap (λ z. either z new (group_word s g)) (ne_eqb _ _ ne))
           (subst (λ z. ◌≡◌ {A = Me}
-          (seat_of (looking (place_of_state o g) (group_word s g) (box_of o s b.cpu) ∷ []) ps)
+          (seat_of (trying (place_of_state o g) (group_word s g) (box_of o s b.cpu) ∷ []) ps)
           (on_box (up_box z old (place_of_state o g) (group_word s g))
           (seat_of (box_of o s b.cpu ∷ []) ps)))
           (sym (ne_eqb _ _ ne)) refl)

@@ -22,7 +22,7 @@ use Rattle.shared_words.specs.Exchanges.{shows_migrator}
 use Rattle.shared_words.specs.Layout.{index_of}
 use Rattle.shared_words.proofs.Back.{migrator_shown, slot_back}
 use Rattle.shared_rule.specs.declared.parts.BoxView.{BoxView}
-use Rattle.shared_rule.specs.declared.parts.Look.{Look}
+use Rattle.shared_rule.specs.declared.parts.Looked.{Looked}
 use Rattle.shared_rule.specs.declared.parts.PassView.{PassView}
 use Rattle.shared_rule.specs.CoreLaws.{CoreLaws}
 use Rattle.shared_rule.specs.Whole.{Whole, box_as, box_of, group_state, group_word, layout_of}
@@ -48,8 +48,10 @@ module _ (law : CoreLaws) (o : World) (s : Whole) (c g : ℕ) (k j : Walk) (ps :
   then_box false n b = by_walk (next n) b
 
   -- what the walk has looked at
-  abbrev looks : Bool → List Look
-  looks true = s.looked c ++ record { word = index_of (layout_of o) p; found = found } ∷ []
+  abbrev looks : Bool → Looked
+  looks true = record (s.looked c) {
+    seen = (s.looked c).seen ++ record { word = index_of (layout_of o) p; found = found } ∷ [];
+  }
   looks false = s.looked c
 
   sees : (keeps : Bool) → WalksAt o s c ps k at level g → MayGoOn s.world c k k.stage

@@ -18,7 +18,7 @@ use Rattle.core_world.proofs.Quiet.{own_field}
 use Rattle.core_facts.specs.Reach.{reach_of}
 use Rattle.shared_words.specs.Layout.{index_of}
 use Rattle.shared_rule.specs.declared.parts.BoxView.{BoxView}
-use Rattle.shared_rule.specs.declared.parts.Look.{Look}
+use Rattle.shared_rule.specs.declared.parts.Looked.{Looked}
 use Rattle.shared_rule.specs.declared.parts.PassView.{PassView}
 use Rattle.shared_rule.specs.declared.parts.Said.{Said}
 use Rattle.shared_rule.specs.declared.parts.View.{View}
@@ -39,7 +39,7 @@ use Rattle.shared_rule.proofs.Waking.{none_shown}
 
 -- what such a step has to show, by which CPU c becomes y, and its pass p becomes q
 pub record Turned (o : World) (s : Whole) (c : ℕ) (y : CpuRecord) (p q : PassView)
-    (looked : List Look) (f : ℕ → ℕ) (then : ℕ → Me → Type 0) : Type 0 where
+    (looked : Looked) (f : ℕ → ℕ) (then : ℕ → Me → Type 0) : Type 0 where
   pub step : Step
   pub enabled : Enabled s.world step
   pub is : stepped s.world step ≡ own s.world c y
@@ -65,7 +65,7 @@ pub record Turned (o : World) (s : Whole) (c : ℕ) (y : CpuRecord) (p q : PassV
       (seat_of (box_as o c y (leaf_of s.world c) (s.read c) looked ∷ []) (q ∷ []))
 
 module _ (law : CoreLaws) (o : World) (s : Whole) (h : IsShown o s) (c : ℕ) (y : CpuRecord)
-    (p q : PassView) (looked : List Look) (f : ℕ → ℕ) (then : ℕ → Me → Type 0)
+    (p q : PassView) (looked : Looked) (f : ℕ → ℕ) (then : ℕ → Me → Type 0)
     (t : Turned o s c y p q looked f then) where
   here : p ≡ s.pass c
   here = t.brought ∙ ap s.pass t.whose

@@ -21,7 +21,7 @@ use Rattle.core_world.proofs.Quiet.{own_field}
 use Rattle.shared_rule.specs.declared.parts.BoxView.{BoxView}
 use Rattle.shared_rule.specs.declared.parts.PassView.{PassView}
 use Rattle.shared_rule.specs.CoreLaws.{CoreLaws}
-use Rattle.shared_rule.specs.Whole.{cpu_at, Whole, box_of, quiet, own_word, leaf_of}
+use Rattle.shared_rule.specs.Whole.{cpu_at, Whole, box_of, no_looks, quiet, own_word, leaf_of}
 use Rattle.shared_rule.specs.Shows.{IsShown, FlagsOf, reevaluates, owes, set_at}
 use Rattle.shared_rule.specs.Rule.{seat_of, Goes}
 use Rattle.shared_rule.specs.Plays.{on_both, woken, woken_box, woken_pass}
@@ -81,7 +81,7 @@ wake_goes law o s c p new h hc is mine free online idle few new_is =
     let nxt = (events_of y0.bases).next in
     let b = is_some (group_at_of w.tree c 0) in
     let hw : c < length w.cpus = omega (arith, hc, h.same.cpus) in
-    made law o s h c 0 (group_of w 0) y false (s.read c) s.stray [] (set_at c q s.pass) (p ∷ [])
+    made law o s h c 0 (group_of w 0) y false (s.read c) s.stray no_looks (set_at c q s.pass) (p ∷ [])
     (q ∷ [])
     (cpu_at c) _ _ (record {
       step = steps.Wake (record { 0 = c });
@@ -163,7 +163,7 @@ wake_goes law o s c p new h hc is mine free online idle few new_is =
         own = record y0 { idle = false; wakeup = NEVER; walk = forget_begun pin nxt b i };
         leaf = leaf_of w c;
         read = s.read c;
-        looked = [];
+        looked = no_looks;
       } ∷ []) (q ∷ [])))
           ∙ (λ i. (seat_of (record {
             opening = o;
@@ -176,7 +176,7 @@ wake_goes law o s c p new h hc is mine free online idle few new_is =
             };
             leaf = leaf_of w c;
             read = s.read c;
-            looked = [];
+            looked = no_looks;
           } ∷ []) (q ∷ [])));
     })
 

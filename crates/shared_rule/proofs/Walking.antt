@@ -22,7 +22,7 @@ use Rattle.shared_words.specs.declared.layout.SharedWord.TheVariants.{State, Loc
 use Rattle.shared_words.specs.Layout.{IsWordOf, index_of}
 use Rattle.shared_words.specs.Words.{lock_word, word_of_slot}
 use Rattle.shared_rule.specs.declared.parts.BoxView.{BoxView}
-use Rattle.shared_rule.specs.declared.parts.Look.{Look}
+use Rattle.shared_rule.specs.declared.parts.Looked.{Looked}
 use Rattle.shared_rule.specs.declared.parts.PassView.{PassView}
 use Rattle.shared_rule.specs.declared.parts.Said.{Said}
 use Rattle.shared_rule.specs.declared.parts.View.{View}
@@ -110,7 +110,7 @@ no_reads t c j n word seq not =
     }
 
 module _ (law : CoreLaws) (o : World) (s : Whole) (h : IsShown o s) (c : ℕ) (j k : Walk) (n : ℕ)
-    (looked : List Look) (ps : List PassView) (p : SharedWord) (f : ℕ → ℕ)
+    (looked : Looked) (ps : List PassView) (p : SharedWord) (f : ℕ → ℕ)
     (then : ℕ → Me → Type 0) where
   abbrev w : World
   w = s.world

@@ -29,7 +29,8 @@ use Rattle.shared_rule.specs.Rule.{HasFirstBox, HasFirstPass, Holds, Me, Shows, 
 use Rattle.shared_rule.specs.Rule.{first_pass, nothing, renewed_pass, seat_of, together}
 use Rattle.shared_rule.specs.Rule.{without_box, without_pass}
 use Rattle.shared_rule.specs.Starts.{EndsAs, HasAll, first_view, first_whole}
-use Rattle.shared_rule.specs.Plays.{FreesChild, FreesGroup, Locks, LocksChild, Looks, Marks}
+use Rattle.shared_rule.specs.Plays.{FindsMark, FreesChild, FreesGroup, Locks, LocksChild}
+use Rattle.shared_rule.specs.Plays.{Looks, Marks}
 use Rattle.shared_rule.specs.Plays.{MarksOwn, ReadsChild, ReadsGroup, ReadsOwn, Rises, Scans}
 use Rattle.shared_rule.specs.Plays.{ScansTop, Sees, SeesChild, SeesGroup, SeesState}
 use Rattle.shared_rule.specs.Plays.{SeesTimer, Stores, Swaps}
@@ -228,6 +229,15 @@ MarkStays o = (slots id g : ℕ) (more : Bool) (b : BoxView) (k : Walk) (ps : Li
     Stays o slots id b ps (slot_at g (side o.tree b.cpu (suc k.level))) (λ n. bit_or n (2 ^ 58))
     (Marks (step slots (index_of (layout_of o) (slot_at g (side o.tree b.cpu (suc k.level))))
     (2 ^ 58) 0 none) (seat_of (b ∷ []) ps))
+
+-- and its look at that slot, by which the seat is told that its walk has gone on where the mark is
+-- there, and else that nothing has changed
+abbrev pub FindMarkStays : World → Type 0
+FindMarkStays o = (slots id g : ℕ) (more : Bool) (b : BoxView) (k : Walk) (ps : List PassView) →
+    side o.tree b.cpu (suc k.level) < 8 → IsWalkAt o b k (stages.Mark more) (suc k.level) g →
+    Stays o slots id b ps (slot_at g (side o.tree b.cpu (suc k.level))) (λ n. n)
+    (FindsMark (step slots (index_of (layout_of o) (slot_at g (side o.tree b.cpu (suc k.level)))) 0
+    0 none) (seat_of (b ∷ []) ps))
 
 -- STORE: a walk's store of the event that it tells keeps the rule, and the seat is told that its
 -- walk has gone on

@@ -8,7 +8,8 @@ use Rattle.core_state.specs.declared.status.CpuStatus.{CpuStatus}
 use Rattle.core_state.specs.Status.{record_of}
 use Rattle.shared_rule.specs.declared.parts.BoxView.{BoxView}
 use Rattle.shared_rule.specs.declared.parts.PassView.{PassView}
-use Rattle.shared_rule.specs.declared.parts.Look.{Look}
+use Rattle.shared_rule.specs.declared.parts.Looked.{Looked}
+use Rattle.shared_rule.specs.Whole.{no_looks}
 use Rattle.shared_rule.specs.Rule.{Each, Me, Step, renewed, seat_of}
 use Rattle.shared_rule.specs.Plays.{Agree, PartFits, Sound}
 use Rattle.shared_rule.specs.Passes.{HeldPass, passes_of, seated_of}
@@ -22,14 +23,14 @@ pub record HeldPart : Type 0 where
   pub room : Room
   pub receipts_room : ℕ
 
--- what the walk of the first box looked at
-abbrev pub looked_of : List BoxView → List Look
-looked_of [] = []
+-- what the walk of the first box has found out
+abbrev pub looked_of : List BoxView → Looked
+looked_of [] = no_looks
 looked_of (b ∷ bs) = b.looked
 
 -- the box part that these bytes are, and what its seat alone remembers
 abbrev pub box_held : World → (cpu : ℕ) → CpuStatus → CpuBases → (leaf : Option Event)
-    → (read : ℕ) → List Look → BoxView
+    → (read : ℕ) → Looked → BoxView
 box_held o cpu status bases leaf read looked = record {
   opening = o;
   cpu = cpu;

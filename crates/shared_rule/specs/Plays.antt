@@ -1,6 +1,7 @@
 -- what each step tells the seat that makes it
 use Rattle.std.specs.Prelude.{◌≡◌, ◌↔◌, ◌≢◌, ℕ, zero, suc, not, ◌^◌, ◌<◌, ◌≤◌, ◌==◌, Contains}
-use Rattle.std.specs.Prelude.{Bool, option_map, true, false, List, [], ◌∷◌, ◌++◌, length, Option}
+use Rattle.std.specs.Prelude.{Bool, bit_or, option_map, true, false, List, [], ◌∷◌, ◌++◌, length}
+use Rattle.std.specs.Prelude.{Option}
 use Rattle.std.specs.Prelude.{Some, None, is_some}
 use Rattle.std.specs.Option.{ForSome}
 use Rattle.tm_base.specs.declared.names.TheConstants.{NEVER}
@@ -35,6 +36,7 @@ use Rattle.shared_words.specs.Words.{spot_of}
 use Rattle.shared_rule.specs.declared.parts.BoxView.{BoxView}
 use Rattle.shared_rule.specs.declared.parts.PassView.{PassView}
 use Rattle.shared_rule.specs.declared.parts.Deed.TheVariants as deeds
+use Rattle.shared_rule.specs.Whole.{no_looks}
 use Rattle.shared_rule.specs.Shows.{BeginsWith, reevaluates}
 use Rattle.shared_rule.specs.Rule.{Each, Me, Step}
 
@@ -162,7 +164,7 @@ woken o c y = record y {
 
 -- its box
 abbrev pub woken_box : BoxView → BoxView
-woken_box b = record b { own = woken b.opening b.cpu b.own; looked = [] }
+woken_box b = record b { own = woken b.opening b.cpu b.own; looked = no_looks }
 
 -- its own pass, with which one walk more was begun
 abbrev pub woken_pass : BoxView → PassView → PassView
@@ -179,33 +181,42 @@ reading found b = record b { read = found }
 
 -- what it looked at, in order
 abbrev pub looking : (word found : ℕ) → BoxView → BoxView
-looking word found b =
-    record b { looked = b.looked ++ record { word = word; found = found } ∷ [] }
+looking word found b = record b {
+  looked = record b.looked {
+    seen = b.looked.seen ++ record { word = word; found = found } ∷ [];
+  };
+}
 
--- a look with which it begins anew
-abbrev pub looking_anew : (word found : ℕ) → BoxView → BoxView
-looking_anew word found b = record b { looked = record { word = word; found = found } ∷ [] }
+-- what it found as it tried its step, in order
+abbrev pub trying : (word found : ℕ) → BoxView → BoxView
+trying word found b = record b {
+  looked = record b.looked {
+    tried = b.looked.tried ++ record { word = word; found = found } ∷ [];
+  };
+}
 
--- UP: a look at a group's word, which is that of a state; the box remembers this look alone
+-- and nothing of that any more, as the step is made
+abbrev pub done_trying : BoxView → BoxView
+done_trying b = record b { looked = record b.looked { tried = [] } }
+
+-- UP: a look at a group's word, which is that of a state
 abbrev pub Looks : Step → Me → ℕ → Me → Type 0
-Looks t v found w =
-    ((w ≡ on_box (looking_anew t.word found) v) × HasRoom found) × Sound w
+Looks t v found w = ((w ≡ on_box (trying t.word found) v) × HasRoom found) × Sound w
 
 -- the walk after its exchange of a word that was this one
 abbrev pub up_walk : ℕ → BoxView → Walk → Option Walk
 up_walk word b k =
     up_next (at_top b.opening.tree b.cpu k.level) (not (shows_migrator word)) k
 
--- the box after an exchange of a word that was this one, by which its walk goes on and has looked
--- at nothing
+-- the box after an exchange of a word that was this one, by which its walk goes on
 abbrev pub risen_box : (word : ℕ) → BoxView → BoxView
-risen_box word b = record (by_walk (up_walk word) b) { looked = [] }
+risen_box word b = done_trying (by_walk (up_walk word) b)
 
 -- the box where the exchange at this place was made, or where it found another word than the one
--- that was wanted, which is remembered after what was looked at
+-- that was wanted
 abbrev pub up_box : Bool → (wanted place found : ℕ) → BoxView → BoxView
 up_box true wanted place found b = risen_box wanted b
-up_box false wanted place found b = looking place found b
+up_box false wanted place found b = trying place found b
 
 -- the exchange of an activation was made, or has found another word
 abbrev pub Rises : Step → Me → ℕ → Me → Type 0
@@ -220,21 +231,25 @@ child_locked_walk b k = Some (at_stage k stages.LockGroup)
 abbrev pub locked_walk : BoxView → Walk → Option Walk
 locked_walk b k = Some (at_stage k (first_sight k.level))
 
--- the box where the lock was taken, and its walk goes on, or where another walk had it, whose word
--- is remembered as the one that was read last
-abbrev pub lock_box : (BoxView → Walk → Option Walk) → Bool → (found : ℕ) → BoxView → BoxView
-lock_box next true found b = by_walk next b
-lock_box next false found b = reading found b
+-- the box after the lock was taken, by which its walk goes on
+abbrev pub taken_lock : (BoxView → Walk → Option Walk) → BoxView → BoxView
+taken_lock next b = done_trying (by_walk next b)
+
+-- the box where the lock at this place was taken, or where it was found to be another walk's
+abbrev pub lock_box : (BoxView → Walk → Option Walk) → Bool → (place found : ℕ) → BoxView
+    → BoxView
+lock_box next true place found b = taken_lock next b
+lock_box next false place found b = trying place found b
 
 -- the exchange that takes the lock of a child was made, or has found it taken
 abbrev pub LocksChild : Step → Me → ℕ → Me → Type 0
 LocksChild t v found w =
-    (w ≡ on_box (lock_box child_locked_walk (found == t.first) found) v) × Sound w
+    (w ≡ on_box (lock_box child_locked_walk (found == t.first) t.word found) v) × Sound w
 
 -- the exchange that takes the lock of a group was made, or has found it taken
 abbrev pub Locks : Step → Me → ℕ → Me → Type 0
 Locks t v found w =
-    (w ≡ on_box (lock_box locked_walk (found == t.first) found) v) × Sound w
+    (w ≡ on_box (lock_box locked_walk (found == t.first) t.word found) v) × Sound w
 
 -- FREE: the walk that has given back the lock of its group gives back its child's, or at a leaf it
 -- ends or rises
@@ -358,6 +373,19 @@ marked_walk b k = mark_next (marks_more k.stage) k
 -- the marking of a group's slot in its parent
 abbrev pub Marks : Step → Me → ℕ → Me → Type 0
 Marks t v found w = (w ≡ on_box (by_walk marked_walk) v) × Sound w
+
+-- the word of a slot whose event is marked as ignored already
+abbrev pub is_marked : (word : ℕ) → Bool
+is_marked word = bit_or word (2 ^ 58) == word
+
+-- the box where the mark was there, which is as good as marking it, or where it wasn't
+abbrev pub marked_where : Bool → BoxView → BoxView
+marked_where true b = by_walk marked_walk b
+marked_where false b = b
+
+-- a look at a group's slot in its parent, before it is marked
+abbrev pub FindsMark : Step → Me → ℕ → Me → Type 0
+FindsMark t v found w = (w ≡ on_box (marked_where (is_marked found)) v) × Sound w
 
 -- STORE: the CPU's slot in its leaf after a store at a level
 abbrev pub leaf_after : (level : ℕ) → (stored old : Option Event) → Option Event

@@ -25,7 +25,7 @@ use Rattle.shared_words.specs.Exchanges.{HasRoom}
 use Rattle.shared_words.specs.Layout.{index_of}
 use Rattle.shared_words.specs.Words.{spot_of}
 use Rattle.shared_rule.specs.declared.parts.PassView.{PassView}
-use Rattle.shared_rule.specs.declared.parts.Look.{Look}
+use Rattle.shared_rule.specs.declared.parts.Looked.{Looked}
 use Rattle.shared_rule.specs.declared.parts.Receipt.{Receipt}
 use Rattle.shared_rule.specs.declared.parts.Did.{Did}
 use Rattle.shared_rule.specs.declared.parts.Deed.{Deed}
@@ -229,7 +229,7 @@ abbrev pub set_at : {X : Type 0} → ℕ → X → (ℕ → X) → ℕ → X
 set_at c x f d = if d == c then x else f d
 
 -- the whole after a step of the core on the group g and the CPU c that leaves all timers
-abbrev pub after : Whole → ℕ → Group → ℕ → CpuRecord → Bool → ℕ → (ℕ → ℕ → Bool) → List Look
+abbrev pub after : Whole → ℕ → Group → ℕ → CpuRecord → Bool → ℕ → (ℕ → ℕ → Bool) → Looked
     → (ℕ → PassView) → Whole
 after s g x c y r n stray looked pass = record s {
   world = moved s.world g x c y r;

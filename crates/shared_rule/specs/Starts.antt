@@ -10,7 +10,7 @@ use Rattle.shared_words.specs.declared.spot.Spot.{Spot}
 use Rattle.shared_rule.specs.declared.parts.BoxView.{BoxView}
 use Rattle.shared_rule.specs.declared.parts.PassView.{PassView}
 use Rattle.shared_rule.specs.declared.parts.View.{View}
-use Rattle.shared_rule.specs.Whole.{Spell, Whole, box_of, layout_of, spot_at}
+use Rattle.shared_rule.specs.Whole.{Spell, Whole, box_of, layout_of, no_looks, spot_at}
 use Rattle.shared_rule.specs.Shows.{IsShown, journal_of}
 use Rattle.shared_rule.specs.Rule.{Each, box_cpu, pass_cpu, seen}
 
@@ -52,7 +52,7 @@ first_whole o made = record {
   read = λ c. 0;
   stray = λ g k. false;
   spot = spot_in o;
-  looked = λ c. [];
+  looked = λ c. no_looks;
   pass = first_pass_of o made;
 }
 

@@ -16,7 +16,7 @@ use Rattle.core_world.specs.World.{World, CpuRecord}
 use Rattle.shared_rule.specs.declared.parts.BoxView.{BoxView}
 use Rattle.shared_rule.specs.declared.parts.PassView.{PassView}
 use Rattle.shared_rule.specs.declared.parts.Deed.TheVariants as deeds
-use Rattle.shared_rule.specs.Whole.{own_word}
+use Rattle.shared_rule.specs.Whole.{no_looks, own_word}
 use Rattle.shared_rule.specs.Shows.{receipt_of}
 use Rattle.shared_rule.specs.Rule.{Me, Step}
 use Rattle.shared_rule.specs.Plays.{Sound, by_box, on_both, on_pass, seen_pass}
@@ -110,7 +110,7 @@ idled o c y = record y { idle = true; walk = begun o c y kinds.Deactivate stages
 
 -- its box
 abbrev pub idled_box : BoxView → BoxView
-idled_box b = record b { own = idled b.opening b.cpu b.own; looked = [] }
+idled_box b = record b { own = idled b.opening b.cpu b.own; looked = no_looks }
 
 -- its pass, with which one walk more was begun
 abbrev pub idled_pass : BoxView → PassView → PassView
@@ -126,7 +126,7 @@ retold o c y = record y { walk = begun o c y kinds.Reeval stages.LockGroup }
 
 -- its box
 abbrev pub retold_box : BoxView → BoxView
-retold_box b = record b { own = retold b.opening b.cpu b.own; looked = [] }
+retold_box b = record b { own = retold b.opening b.cpu b.own; looked = no_looks }
 
 -- its pass, with which one walk more was begun
 abbrev pub retold_pass : BoxView → PassView → PassView
@@ -220,7 +220,7 @@ carried o c by y =
 
 -- its box
 abbrev pub carried_box : BoxView → PassView → BoxView
-carried_box b p = record b { own = carried b.opening b.cpu p.cpu b.own; looked = [] }
+carried_box b p = record b { own = carried b.opening b.cpu p.cpu b.own; looked = no_looks }
 
 -- the pass that makes it, with which one walk more was begun
 abbrev pub carried_pass : BoxView → PassView → PassView

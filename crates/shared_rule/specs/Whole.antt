@@ -1,5 +1,5 @@
 -- the core with what the table knows beside it, and the word that stands at each place
-use Rattle.std.specs.Prelude.{◌≡◌, ℕ, Bool, List, Option}
+use Rattle.std.specs.Prelude.{◌≡◌, ℕ, Bool, List, [], Option}
 use Rattle.std.specs.Prelude.{Some, None, length, slice_index, option_map}
 use Rattle.tm_base.specs.declared.names.Class.{Class}
 use Rattle.event_queue.specs.declared.event.Event.{Event}
@@ -21,7 +21,7 @@ use Rattle.shared_words.specs.Layout.{IsWordOf, count_of, index_of}
 use Rattle.shared_words.specs.Words.{lock_word, spot_word, word_of_slot}
 use Rattle.shared_rule.specs.declared.parts.BoxView.{BoxView}
 use Rattle.shared_rule.specs.declared.parts.PassView.{PassView}
-use Rattle.shared_rule.specs.declared.parts.Look.{Look}
+use Rattle.shared_rule.specs.declared.parts.Looked.{Looked}
 
 -- PLACES: a word by the number of its group, CPU or timer
 abbrev pub state_at : ℕ → SharedWord
@@ -51,8 +51,12 @@ layout_of w = record { groups = length w.groups; cpus = length w.cpus; timers = 
 abbrev pub spot_at : (c : ℕ) → Class → Spot
 spot_at c class = record { cpu = record { 0 = c }; class = class }
 
+-- a walk that has found out nothing
+abbrev pub no_looks : Looked
+no_looks = record { seen = []; tried = [] }
+
 -- THE WHOLE: the core, and what only the table knows: of each group how many exchanges were made;
--- of each walk the word that it read last and the words that it looked at; of each empty slot
+-- of each walk the word of a group that it read last and what it has found out; of each empty slot
 -- whether it keeps the ignored bit; of each timer where it is queued; and the passes
 pub record Whole : Type 0 where
   pub world : World
@@ -60,7 +64,7 @@ pub record Whole : Type 0 where
   pub read : ℕ → ℕ
   pub stray : ℕ → ℕ → Bool
   pub spot : ℕ → Option Spot
-  pub looked : ℕ → List Look
+  pub looked : ℕ → Looked
   pub pass : ℕ → PassView
 
 -- a group's state, with its sequence
@@ -102,7 +106,7 @@ abbrev pub leaf_of : World → ℕ → Option Event
 leaf_of w c = leaf_in w c (group_at_of w.tree c 0)
 
 -- a box part, of its fields
-abbrev pub box_as : World → ℕ → CpuRecord → Option Event → ℕ → List Look → BoxView
+abbrev pub box_as : World → ℕ → CpuRecord → Option Event → ℕ → Looked → BoxView
 box_as o c y leaf read looked = record {
   opening = o;
   cpu = c;

@@ -39,7 +39,7 @@ pub struct BoxPart<N: RunName, B: TimerBase> {
     pub bases: Bases<B>,
     /// The CPU's slot in its leaf, None where it is empty or the CPU has no group.
     pub leaf: Option<Event>,
-    /// The word that the CPU's walk read last: a group's, or that of a lock that another walk had.
+    /// The word of a group that the CPU's walk read last.
     pub read: u64,
     /// The bytes of the pass that is brought.
     pub guest: Option<Guest>,
@@ -84,6 +84,7 @@ fn cpu_of_number(number: Option<u16>) -> Option<CpuId>
 }
 
 impl<N: RunName, B: TimerBase> BoxPart<N, B> {
+    ghost use Rattle.shared_rule.specs.Whole.{no_looks};
     ghost use Rattle.shared_rule.specs.Parts.{box_held};
 
     /// The CPU.
@@ -143,9 +144,9 @@ impl<N: RunName, B: TimerBase> BoxPart<N, B> {
         requires table { seat.table_id ≡ N.table }
         requires cpu { cpu.0 < length N.opening.cpus }
         requires view { seat.me ≡ seat_of (box_held N.opening cpu.0 status bases.plain leaf 0
-            [] ∷ []) [] }
+            no_looks ∷ []) [] }
         ensures { result ≡ record {
-          box = box_held N.opening cpu.0 status bases.plain leaf 0 [];
+          box = box_held N.opening cpu.0 status bases.plain leaf 0 no_looks;
           brought = [];
           room = bases.room;
           receipts_room = 0;

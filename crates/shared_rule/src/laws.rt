@@ -4,7 +4,8 @@ ghost use Rattle.shared_rule.specs.CoreLaws.{CoreLaws};
 ghost use Rattle.core_world.specs.World.{World};
 ghost use Rattle.shared_rule.specs.Laws.{Begins, Ends, FreeChildStays, FreeGroupStays};
 ghost use Rattle.shared_rule.specs.Laws.{LockChildStays, LockStays, LookStays, ReadChildStays};
-ghost use Rattle.shared_rule.specs.Laws.{MarkOwnStays, MarkStays, ReadGroupStays, ReadOwnStays};
+ghost use Rattle.shared_rule.specs.Laws.{FindMarkStays, MarkOwnStays, MarkStays};
+ghost use Rattle.shared_rule.specs.Laws.{ReadGroupStays, ReadOwnStays};
 ghost use Rattle.shared_rule.specs.Laws.{RiseStays, StoreStays, SwapStays};
 ghost use Rattle.shared_rule.specs.Laws.{ScanStays, ScanTopStays, SeatsStay, SeeChildStays};
 ghost use Rattle.shared_rule.specs.Laws.{SeeGroupStays, SeeStateStays, SeeStays, SeeTimerStays};
@@ -143,10 +144,12 @@ pub fn law_leave()
 }
 
 /// Does nothing: its contract says that the rule stays as an activation marks its CPU's slot in the
-/// leaf as ignored, and its group's in the parent (`tmigr_cpu_activate`, `tmigr_active_up`).
+/// leaf as ignored, and its group's in the parent, and as it looks whether that one is marked
+/// already (`tmigr_cpu_activate`, `tmigr_active_up`).
 pub fn law_ignore()
     ensures own { (o : World) → MarkOwnStays o }
     ensures group { (o : World) → MarkStays o }
+    ensures look { (o : World) → FindMarkStays o }
 {
     core_laws();
 }

@@ -25,15 +25,15 @@ pub use laws::{
 };
 pub use loading::SeesSlot;
 pub use meeting::Meets;
-pub use parts::{BoxView, Deed, Did, Look, PassView, Receipt, Said, View};
+pub use parts::{BoxView, Deed, Did, Look, Looked, PassView, Receipt, Said, View};
 pub use pass::Pass;
 pub use receipts::Receipts;
 pub use run::{Run, RunName};
 pub use table::{
-    Arms, BoxOff, Cancels, Carries, CarryEnds, Enters, Exits, FreesChild, FreesGroup, Hands, Idles,
-    Locks, LocksChild, Looks, Marks, MarksOwn, Opening, PassOff, PassRenewed, ReadsChild,
-    ReadsGroup, ReadsOwn, Reevaluates, Releases, Rests, Retells, Rises, Scans, ScansTop, Seat,
-    Sees, SeesChild, SeesCpu, SeesGroup, SeesLeaf, SeesState, SeesTimer, Shown, Stores, Swaps,
-    Takes, TicksDeferrable, TicksGlobal, TicksPinned, Together, Wakes, Words,
+    Arms, BoxOff, Cancels, Carries, CarryEnds, Enters, Exits, FindsMark, FreesChild, FreesGroup,
+    Hands, Idles, Locks, LocksChild, Looks, Marks, MarksOwn, Opening, PassOff, PassRenewed,
+    ReadsChild, ReadsGroup, ReadsOwn, Reevaluates, Releases, Rests, Retells, Rises, Scans,
+    ScansTop, Seat, Sees, SeesChild, SeesCpu, SeesGroup, SeesLeaf, SeesState, SeesTimer, Shown,
+    Stores, Swaps, Takes, TicksDeferrable, TicksGlobal, TicksPinned, Together, Wakes, Words,
 };
 pub use visiting::visit;

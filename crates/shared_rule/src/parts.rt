@@ -16,8 +16,18 @@ pub struct Look {
     pub found: u64,
 }
 
-/// What lies behind a CPU's lock, with the word that its walk read last and the words that its
-/// present or last walk looked at.
+/// What a walk has found out by its loads and exchanges.
+pub struct Looked {
+    /// What it looked at, in order: the group and the slots of the top.
+    pub seen: LinkedList<Look>,
+    /// What it found as it tried the step of the stage where it stands, in order: the word of a
+    /// lock that another walk had; where it joins a group the word that it loaded, and the one that
+    /// its exchange found in place of that.
+    pub tried: LinkedList<Look>,
+}
+
+/// What lies behind a CPU's lock, with the word of a group that its walk read last and what its
+/// present or last walk has found out.
 pub struct BoxView {
     /// The core with which the run began.
     pub opening: Core<ListBase>,
@@ -27,11 +37,10 @@ pub struct BoxView {
     pub own: CoreCpu<ListBase>,
     /// The CPU's slot in its leaf, None where it is empty or the CPU has no group.
     pub leaf: Option<Event>,
-    /// The word that the CPU's walk read last: a group's, or that of a lock that another walk had.
+    /// The word of a group that the CPU's walk read last.
     pub read: u64,
-    /// What the walk looked at, in order: one that tells, the group and the slots of the top; an
-    /// activation, the group that it is about to join, and what its exchange found where it failed.
-    pub looked: LinkedList<Look>,
+    /// What the walk has found out.
+    pub looked: Looked,
 }
 
 /// An entry of a journal that a pass wrote.

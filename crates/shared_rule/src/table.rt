@@ -221,6 +221,13 @@ impl Play<Said, View> for Marks {
     ghost then = { plays.Marks };
 }
 
+/// An activation looks whether its group's slot in the parent is marked as ignored already.
+pub struct FindsMark;
+
+impl Play<Said, View> for FindsMark {
+    ghost then = { plays.FindsMark };
+}
+
 /// A walk stores the event that it tells.
 pub struct Stores;
 

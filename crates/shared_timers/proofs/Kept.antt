@@ -10,7 +10,7 @@ use Rattle.cpu_bases.specs.CpuBases.{CpuBases, Room}
 use Rattle.core_world.specs.World.{World}
 use Rattle.core_state.specs.declared.status.CpuStatus.{CpuStatus}
 use Rattle.shared_rule.specs.declared.parts.BoxView.{BoxView}
-use Rattle.shared_rule.specs.declared.parts.Look.{Look}
+use Rattle.shared_rule.specs.declared.parts.Looked.{Looked}
 use Rattle.shared_rule.specs.declared.parts.PassView.{PassView}
 use Rattle.shared_rule.specs.Rule.{Me, seat_of}
 use Rattle.shared_rule.specs.Plays.{Sound}
@@ -24,7 +24,7 @@ use Rattle.shared_timers.specs.Entries.{on_both_of, with_receipt}
 
 -- a part, of its bytes and its seat
 abbrev pub shown : World → (cpu : ℕ) → CpuStatus → CpuBases → Option Event → (read : ℕ)
-    → List Look → List PassView → Room → ℕ → HeldPart
+    → Looked → List PassView → Room → ℕ → HeldPart
 shown o cpu status bases leaf read looked ps room capacity = record {
   box = box_held o cpu status bases leaf read looked;
   brought = ps;
@@ -45,7 +45,7 @@ guest_of guest ps p hosts is =
 
 -- bytes with one more receipt are those of the pass with it
 pub kept : (name table : TableId) (o : World) (cpu : ℕ) (status : CpuStatus)
-    (bases new : CpuBases) (leaf : Option Event) (read : ℕ) (looked : List Look) (e : Entry)
+    (bases new : CpuBases) (leaf : Option Event) (read : ℕ) (looked : Looked) (e : Entry)
     (p : PassView) (guest : Guest) (m : Me) → table ≡ name
     → m ≡ seat_of (with_box_bases (box_held o cpu status bases leaf read looked) new ∷ [])
     (noted_at (box_held o cpu status bases leaf read looked) e p ∷ [])
@@ -68,7 +68,7 @@ kept name table o cpu status bases new leaf read looked e p guest m named is sou
 
 -- the same, for bases and bytes that come to be so
 pub kept_by : (name table : TableId) (o : World) (cpu : ℕ) (status : CpuStatus)
-    (bases new : CpuBases) (leaf : Option Event) (read : ℕ) (looked : List Look) (e : Entry)
+    (bases new : CpuBases) (leaf : Option Event) (read : ℕ) (looked : Looked) (e : Entry)
     (p : PassView) (guest : Guest) (m : Me) → table ≡ name
     → m ≡ seat_of (with_box_bases (box_held o cpu status bases leaf read looked) new ∷ [])
     (noted_at (box_held o cpu status bases leaf read looked) e p ∷ [])
@@ -86,7 +86,7 @@ kept_by name table o cpu status bases new leaf read looked e p guest m named is 
 
 -- and the part is then the one that was, with box and pass changed so
 pub shown_by : (o : World) (cpu : ℕ) (status : CpuStatus) (bases new : CpuBases)
-    (leaf : Option Event) (read : ℕ) (looked : List Look) (p : PassView) (ps : List PassView)
+    (leaf : Option Event) (read : ℕ) (looked : Looked) (p : PassView) (ps : List PassView)
     (room : Room) (capacity : ℕ) (m : Me) (f : BoxView → PassView → BoxView)
     (h : BoxView → PassView → PassView) → ps ≡ p ∷ []
     → m ≡ seat_of (f (box_held o cpu status bases leaf read looked) p ∷ [])
@@ -114,7 +114,7 @@ shown_by o cpu status bases new leaf read looked p ps room capacity m f h one is
 
 -- a step of a seat with the box of a part and one pass: it changes both, the box in its bases
 module _ (name table : TableId) (o : World) (cpu : ℕ) (status : CpuStatus)
-    (bases new : CpuBases) (leaf : Option Event) (read : ℕ) (looked : List Look) (p : PassView)
+    (bases new : CpuBases) (leaf : Option Event) (read : ℕ) (looked : Looked) (p : PassView)
     (ps : List PassView) (m : Me) (f : BoxView → PassView → BoxView)
     (h : BoxView → PassView → PassView) (one : ps ≡ p ∷ [])
     (is : m ≡ seat_of (f (box_held o cpu status bases leaf read looked) p ∷ [])

@@ -1,39 +1,41 @@
 -- a step that is tried until it is made: what the tries leave, and what it has made in the end
-use Rattle.std.proofs.Common.{◌≡◌, ℕ, true, false, true≢false, List, [], ◌∷◌, Some, refl, sym}
-use Rattle.std.proofs.Common.{ap, ◌∙◌, subst}
+use Rattle.std.proofs.Common.{◌≡◌, ◌-◌, true, false, true≢false, List, [], ◌∷◌, ◌++◌, Some}
+use Rattle.std.proofs.Common.{refl, sym, ap, ◌∙◌, subst}
 use Rattle.walk_rules.specs.declared.walk.Walk.{Walk}
 use Rattle.walk_rules.specs.declared.walk.Stage.{Stage}
 use Rattle.walk_rules.specs.declared.walk.Stage.TheVariants as stages
 use Rattle.core_world.specs.World.{World}
 use Rattle.shared_rule.specs.declared.parts.BoxView.{BoxView}
 use Rattle.shared_rule.specs.declared.parts.Look.{Look}
-use Rattle.shared_rule.specs.Plays.{by_walk, child_locked_walk, locked_walk, reading}
-use Rattle.shared_rule.specs.Plays.{risen_box}
+use Rattle.shared_rule.specs.Plays.{child_locked_walk, locked_walk, risen_box, taken_lock}
+use Rattle.shared_rule.specs.Plays.{trying}
 use Rattle.shared_rule.specs.Parts.{HeldPart}
-use Rattle.shared_walks.specs.Steps.{on_part, state_place}
-use Rattle.shared_walks.specs.Walks.{GoesOn, HasMade, HasStepped, MadeOf, StepOf}
+use Rattle.shared_walks.specs.Steps.{lock_place, on_part, state_place}
+use Rattle.shared_walks.specs.Walks.{GoesOn, HasStepped, StepOf}
 
--- a box that remembers these looks alone
-abbrev pub with_looks : List Look → BoxView → BoxView
-with_looks looks b = record b { looked = looks }
+-- a box that has found this as it tried
+abbrev pub having_tried : List Look → BoxView → BoxView
+having_tried found b = record b { looked = record b.looked { tried = found } }
 
 -- what tries at this stage may leave of a part
 abbrev pub TriedAt : Stage → (start now : HeldPart) → Type 0
-TriedAt stages.Up start now = (looks : List Look) × (now ≡ on_part (with_looks looks) start)
-TriedAt stages.LockChild start now = (found : ℕ) × (now ≡ on_part (reading found) start)
-TriedAt stages.LockGroup start now = (found : ℕ) × (now ≡ on_part (reading found) start)
+TriedAt stages.Up start now = (found : List Look) × (now ≡ on_part (having_tried found) start)
+TriedAt stages.LockChild start now =
+    (found : List Look) × (now ≡ on_part (having_tried found) start)
+TriedAt stages.LockGroup start now =
+    (found : List Look) × (now ≡ on_part (having_tried found) start)
 TriedAt other start now = now ≡ start
 
 -- nothing was tried yet
 pub begins : (at : Stage) (start : HeldPart) → TriedAt at start start
 begins stages.Own start = refl
-begins stages.Up start = (start.box.looked, refl)
+begins stages.Up start = (start.box.looked.tried, refl)
 begins (stages.Mark more) start = refl
 begins stages.Read start = refl
 begins stages.Child start = refl
 begins stages.Swap start = refl
-begins stages.LockChild start = (start.box.read, refl)
-begins stages.LockGroup start = (start.box.read, refl)
+begins stages.LockChild start = (start.box.looked.tried, refl)
+begins stages.LockGroup start = (start.box.looked.tried, refl)
 begins stages.SeeChild start = refl
 begins stages.SeeGroup start = refl
 begins (stages.Scan j) start = refl
@@ -70,18 +72,25 @@ pub tried : (o : World) (k : Walk) (at : Stage) (start now new : HeldPart) → T
     → StepOf o k at false now new → TriedAt at start new
 tried o k stages.Own start now new t s = absurd (true≢false (sym s.0))
 tried o k stages.Up start now new t s =
-    let place = state_place o now.box.cpu k.level in
-    let looks : List Look
-    = record { word = place; found = s.looked } ∷ record { word = place; found = s.found } ∷ [] in
-    (looks, s.box ∙ ap (on_part (with_looks looks)) t.1)
+    let place = state_place o start.box.cpu k.level in (
+      (t.0 ++ record { word = place; found = s.loaded } ∷ [])
+          ++ record { word = place; found = s.found } ∷ [],
+      s.box
+          ∙ ap (on_part (λ b. trying (state_place o b.cpu k.level) s.found
+          (trying (state_place o b.cpu k.level) s.loaded b))) t.1,
+    )
 tried o k (stages.Mark more) start now new t s = absurd (true≢false (sym s.0))
 tried o k stages.Read start now new t s = absurd (true≢false (sym s.0))
 tried o k stages.Child start now new t s = absurd (true≢false (sym s.0))
 tried o k stages.Swap start now new t s = absurd (true≢false (sym s.0))
-tried o k stages.LockChild start now new t s =
-    (s.found, s.box ∙ ap (on_part (reading s.found)) t.1)
-tried o k stages.LockGroup start now new t s =
-    (s.found, s.box ∙ ap (on_part (reading s.found)) t.1)
+tried o k stages.LockChild start now new t s = (
+  t.0 ++ record { word = lock_place o start.box.cpu (k.level - 1); found = s.found } ∷ [],
+  s.box ∙ ap (on_part (λ b. trying (lock_place o b.cpu (k.level - 1)) s.found b)) t.1,
+)
+tried o k stages.LockGroup start now new t s = (
+  t.0 ++ record { word = lock_place o start.box.cpu k.level; found = s.found } ∷ [],
+  s.box ∙ ap (on_part (λ b. trying (lock_place o b.cpu k.level) s.found b)) t.1,
+)
 tried o k stages.SeeChild start now new t s = absurd (true≢false (sym s.0))
 tried o k stages.SeeGroup start now new t s = absurd (true≢false (sym s.0))
 tried o k (stages.Scan j) start now new t s = absurd (true≢false (sym s.0))
@@ -94,7 +103,7 @@ tried o k stages.Handing start now new t s = absurd s
 
 -- and the one that was made
 pub made_of : (o : World) (k : Walk) (at : Stage) (start now new : HeldPart)
-    → TriedAt at start now → StepOf o k at true now new → MadeOf o k at start new
+    → TriedAt at start now → StepOf o k at true now new → StepOf o k at true start new
 made_of o k stages.Own start now new is s = subst (λ z. StepOf o k stages.Own true z new) is s
 made_of o k stages.Up start now new t s =
     (s.0, s.1 ∙ ap (on_part (risen_box s.0)) t.1)
@@ -104,9 +113,9 @@ made_of o k stages.Read start now new is s = subst (λ z. StepOf o k stages.Read
 made_of o k stages.Child start now new is s = subst (λ z. StepOf o k stages.Child true z new) is s
 made_of o k stages.Swap start now new is s = subst (λ z. StepOf o k stages.Swap true z new) is s
 made_of o k stages.LockChild start now new t s =
-    (t.0, s ∙ ap (on_part (by_walk child_locked_walk)) t.1)
+    s ∙ ap (on_part (taken_lock child_locked_walk)) t.1
 made_of o k stages.LockGroup start now new t s =
-    (t.0, s ∙ ap (on_part (by_walk locked_walk)) t.1)
+    s ∙ ap (on_part (taken_lock locked_walk)) t.1
 made_of o k stages.SeeChild start now new is s =
     subst (λ z. StepOf o k stages.SeeChild true z new) is s
 made_of o k stages.SeeGroup start now new is s =
@@ -144,7 +153,7 @@ tried_more o start now new t s k has =
 
 -- and the one that was made
 pub made_in_the_end : (o : World) (start now new : HeldPart) → HasTried start now
-    → HasStepped o true now new → HasMade o start new
+    → HasStepped o true now new → HasStepped o true start new
 made_in_the_end o start now new t s k has =
     made_of o k k.stage start now new (t k has)
     (s k (walk_kept k.stage start now (t k has) ∙ has))

@@ -1,5 +1,5 @@
 -- what a walk's step makes of the part of its CPU, stage by stage
-use Rattle.std.specs.Prelude.{◌≡◌, ℕ, zero, suc, Bool, true, false, Option, Some, MatchBool}
+use Rattle.std.specs.Prelude.{◌≡◌, ℕ, zero, suc, ◌-◌, Bool, true, false, Some, MatchBool}
 use Rattle.walk_rules.specs.declared.walk.Walk.{Walk}
 use Rattle.walk_rules.specs.declared.walk.Stage.{Stage}
 use Rattle.walk_rules.specs.declared.walk.Stage.TheVariants as stages
@@ -10,7 +10,7 @@ use Rattle.shared_rule.specs.Plays.{child_sight, group_freed_walk, locked_walk}
 use Rattle.shared_rule.specs.Plays.{marked_walk, own_marked_box, own_read_walk, read_walk, reading}
 use Rattle.shared_rule.specs.Plays.{scan_sight, stored_box, swap_box}
 use Rattle.shared_rule.specs.Parts.{HeldPart}
-use Rattle.shared_walks.specs.Steps.{HasMissed, HasRisen, IsRefused, group_seen, on_part}
+use Rattle.shared_walks.specs.Steps.{HasMissed, HasRisen, LockTried, group_seen, on_part}
 use Rattle.shared_walks.specs.Steps.{top_seen}
 
 -- the box of the part has changed so
@@ -30,10 +30,6 @@ HasReadChild (suc l) old new = BecomesBy (λ found. by_walk (child_read_walk fou
 abbrev pub HasSwapped : HeldPart → HeldPart → Type 0
 HasSwapped old new = (made : Bool) × BecomesBy (swap_box made) old new
 
--- LOCKS: the walk has taken a lock and goes on, or has found it taken
-abbrev pub LockTried : (BoxView → Walk → Option Walk) → (made : Bool) → HeldPart → HeldPart → Type 0
-LockTried next made old new = MatchBool made (Becomes (by_walk next) old new) (IsRefused old new)
-
 -- A STEP of the walk at this stage has made this of the part. `made` is false where its exchange
 -- found another word than the one that was wanted, and else nowhere: at a lock a word that isn't 0,
 -- and at Up another word of the group than the one that this step had loaded
@@ -46,8 +42,9 @@ StepOf o k stages.Read made old new =
     (made ≡ true) × BecomesBy (λ found b. reading found (by_walk read_walk b)) old new
 StepOf o k stages.Child made old new = (made ≡ true) × HasReadChild k.level old new
 StepOf o k stages.Swap made old new = (made ≡ true) × HasSwapped old new
-StepOf o k stages.LockChild made old new = LockTried child_locked_walk made old new
-StepOf o k stages.LockGroup made old new = LockTried locked_walk made old new
+StepOf o k stages.LockChild made old new =
+    LockTried o child_locked_walk (k.level - 1) made old new
+StepOf o k stages.LockGroup made old new = LockTried o locked_walk k.level made old new
 StepOf o k stages.SeeChild made old new =
     (made ≡ true) × BecomesBy (λ found. by_walk (child_sight found)) old new
 StepOf o k stages.SeeGroup made old new = (made ≡ true) × BecomesBy (group_seen o k) old new
@@ -79,17 +76,3 @@ pub record GoesOn (part : HeldPart) : Type 0 where
 abbrev pub HasStepped : World → (made : Bool) → (old new : HeldPart) → Type 0
 HasStepped o made old new =
     (k : Walk) → old.box.own.walk ≡ Some k → StepOf o k k.stage made old new
-
--- a lock is taken in the end, after tries that have read its word
-abbrev pub LockTaken : (BoxView → Walk → Option Walk) → HeldPart → HeldPart → Type 0
-LockTaken next old new = BecomesBy (λ found b. by_walk next (reading found b)) old new
-
--- A STEP that is tried until it is made has made this of the part
-abbrev pub MadeOf : World → Walk → Stage → (old new : HeldPart) → Type 0
-MadeOf o k stages.LockChild old new = LockTaken child_locked_walk old new
-MadeOf o k stages.LockGroup old new = LockTaken locked_walk old new
-MadeOf o k other old new = StepOf o k other true old new
-
--- the step of the part's walk, at the stage where it stood, after all that failed
-abbrev pub HasMade : World → (old new : HeldPart) → Type 0
-HasMade o old new = (k : Walk) → old.box.own.walk ≡ Some k → MadeOf o k k.stage old new

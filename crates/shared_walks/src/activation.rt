@@ -8,7 +8,9 @@ ghost use Rattle.shared_walks.specs.Steps.{HasMissed, HasRisen, WalkStands, on_p
 use crate::path::{at_top, group_on, side_on, state_place};
 use crate::stages::{as_ignored, at_stage, mark_next, up_next};
 use core_state::CpuStatus;
-use shared_rule::{BoxPart, Looks, Marks, MarksOwn, Rises, Run, RunName, law_ignore, law_rise};
+use shared_rule::{
+    BoxPart, FindsMark, Looks, Marks, MarksOwn, Rises, Run, RunName, law_ignore, law_rise,
+};
 use shared_words::{SharedWord, has_migrator, joined_word};
 use walk_rules::{Stage, Walk};
 use wheel_core::TimerBase;
@@ -36,8 +38,8 @@ pub fn own_step<N: RunName, B: TimerBase>(run: &Run<N, B>, part: &mut BoxPart<N,
     };
 }
 
-/// The slot of the walk's group in its parent is marked as ignored, and the walk goes on there, or
-/// ends where the group had a migrator before.
+/// The slot of the walk's group in its parent is marked as ignored, unless it is so already, and
+/// the walk goes on there, or ends where the group had a migrator before.
 pub fn mark_step<N: RunName, B: TimerBase>(
     run: &Run<N, B>,
     part: &mut BoxPart<N, B>,
@@ -53,11 +55,21 @@ pub fn mark_step<N: RunName, B: TimerBase>(
     let group = group_on(run, part.cpu, level);
     let child = side_on(run, part.cpu, level);
     let place = run.layout.index(SharedWord::Slot(group, child));
+    let next = mark_next(more, walk);
+    // Mostly the mark is there already, and then nobody else's line of the cache is taken for it.
+    let found = run.words.shared.load::<FindsMark>(&mut part.seat, place);
+    if found | IGNORED == found {
+        part.status = CpuStatus {
+            walk: next,
+            ..part.status
+        };
+        return;
+    }
     run.words
         .shared
         .fetch_or::<Marks>(&mut part.seat, place, IGNORED);
     part.status = CpuStatus {
-        walk: mark_next(more, walk),
+        walk: next,
         ..part.status
     };
 }

@@ -1,14 +1,13 @@
 //! A walk takes the locks of its child and of its group, and gives them back
 //! (`raw_spin_lock` and `raw_spin_unlock` in `tmigr_update_events`).
 
-ghost use Rattle.std.specs.Prelude.{◌≡◌};
+ghost use Rattle.std.specs.Prelude.{◌≡◌, ◌-◌};
 ghost use Rattle.walk_rules.specs.declared.walk.Stage.TheVariants as stages;
 ghost use Rattle.shared_rule.specs.Plays.{by_walk, child_freed_walk, child_locked_walk};
 ghost use Rattle.shared_rule.specs.Plays.{group_freed_walk, locked_walk};
-ghost use Rattle.shared_walks.specs.Steps.{WalkStands, on_part};
-ghost use Rattle.shared_walks.specs.Walks.{LockTried};
+ghost use Rattle.shared_walks.specs.Steps.{LockTried, WalkStands, on_part};
 
-use crate::path::{group_below, group_on};
+use crate::path::{group_below, group_on, lock_below, lock_place};
 use crate::stages::{at_stage, first_sight, free_group_next, freed_next};
 use core_state::CpuStatus;
 use shared_rule::{
@@ -20,26 +19,24 @@ use walk_rules::{Stage, Walk, law_hierarchy};
 use wheel_core::TimerBase;
 
 /// The walk tries to take its child's lock, and then goes on to its group's; false where the
-/// exchange found that another walk has it.
+/// exchange found another word than 0 there, since another walk has it.
 pub fn lock_child_step<N: RunName, B: TimerBase>(
     run: &Run<N, B>,
     part: &mut BoxPart<N, B>,
     walk: Walk,
 ) -> bool
     requires { WalkStands part.old walk stages.LockChild }
-    ensures { LockTried child_locked_walk result part.old part.new }
+    ensures { LockTried N.opening child_locked_walk (walk.level - 1) result part.old part.new }
 {
     law_lock_child();
     law_hierarchy();
-    let group = group_below(run, part.cpu, walk.level);
-    let place = run.layout.index(SharedWord::Lock(group));
+    let place = lock_below(run, part.cpu, walk.level);
     let mine = pack_lock(Some(part.cpu));
     let found = run
         .words
         .shared
         .compare_exchange::<LocksChild>(&mut part.seat, place, 0, mine);
     if found != 0 {
-        part.read = found;
         return false;
     }
     part.status = CpuStatus {
@@ -50,25 +47,23 @@ pub fn lock_child_step<N: RunName, B: TimerBase>(
 }
 
 /// The walk tries to take its group's lock, and then goes on to look; false where the exchange
-/// found that another walk has it.
+/// found another word than 0 there, since another walk has it.
 pub fn lock_group_step<N: RunName, B: TimerBase>(
     run: &Run<N, B>,
     part: &mut BoxPart<N, B>,
     walk: Walk,
 ) -> bool
     requires { WalkStands part.old walk stages.LockGroup }
-    ensures { LockTried locked_walk result part.old part.new }
+    ensures { LockTried N.opening locked_walk walk.level result part.old part.new }
 {
     law_lock_group();
-    let group = group_on(run, part.cpu, walk.level);
-    let place = run.layout.index(SharedWord::Lock(group));
+    let place = lock_place(run, part.cpu, walk.level);
     let mine = pack_lock(Some(part.cpu));
     let found = run
         .words
         .shared
         .compare_exchange::<Locks>(&mut part.seat, place, 0, mine);
     if found != 0 {
-        part.read = found;
         return false;
     }
     part.status = CpuStatus {

@@ -5,7 +5,7 @@ ghost use Rattle.tm_base.specs.Children.{of_cpu};
 ghost use Rattle.tree_plan.specs.Paths.{bit_of, cpu_count_of, group_at_of};
 ghost use Rattle.walk_rules.specs.Hierarchy.{at_top, group_on, side};
 ghost use Rattle.core_state.specs.Kept.{HasLevel};
-ghost use Rattle.shared_walks.specs.Steps.{slot_place, state_place};
+ghost use Rattle.shared_walks.specs.Steps.{lock_place, slot_place, state_place};
 
 use shared_rule::{Run, RunName};
 use shared_words::SharedWord;
@@ -37,6 +37,27 @@ pub(crate) fn state_place<N: RunName, B: TimerBase>(run: &Run<N, B>, cpu: CpuId,
 {
     let group = group_on(run, cpu, level);
     run.layout.index(SharedWord::State(group))
+}
+
+/// Where the word of the lock of that group stands, where the path has such a group.
+pub(crate) fn lock_place<N: RunName, B: TimerBase>(run: &Run<N, B>, cpu: CpuId, level: u8) -> usize
+    requires cpu { cpu.0 < length N.opening.cpus }
+    requires there { HasLevel N.opening.tree cpu.0 level }
+    ensures place { result ≡ lock_place N.opening cpu.0 level }
+    ensures group { group_on N.opening.tree cpu.0 level < length N.opening.groups }
+{
+    let group = group_on(run, cpu, level);
+    run.layout.index(SharedWord::Lock(group))
+}
+
+/// Where that of the group one level below stands, where the path has such a group.
+pub(crate) fn lock_below<N: RunName, B: TimerBase>(run: &Run<N, B>, cpu: CpuId, level: u8) -> usize
+    requires cpu { cpu.0 < length N.opening.cpus }
+    requires there { HasLevel N.opening.tree cpu.0 (level - 1) }
+    ensures place { result ≡ lock_place N.opening cpu.0 (level - 1) }
+    ensures group { group_on N.opening.tree cpu.0 (level - 1) < length N.opening.groups }
+{
+    lock_place(run, cpu, level.saturating_sub(1))
 }
 
 /// Where a slot of the group of a CPU's path at a level stands, where it has such a group.

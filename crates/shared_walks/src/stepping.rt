@@ -2,7 +2,7 @@
 
 ghost use Rattle.std.specs.Prelude.{◌≡◌, true};
 ghost use Rattle.shared_walks.specs.Steps.{WalkStands};
-ghost use Rattle.shared_walks.specs.Walks.{GoesOn, HasMade, HasReadChild, HasStepped, StepOf};
+ghost use Rattle.shared_walks.specs.Walks.{GoesOn, HasReadChild, HasStepped, StepOf};
 ghost use Rattle.shared_walks.specs.Walks.{is_under_way};
 ghost use Rattle.walk_rules.specs.declared.walk.Stage.TheVariants as stages;
 
@@ -64,7 +64,7 @@ fn step_from<N: RunName, B: TimerBase>(
 /// The walk of a part makes its next step, where it goes on. False comes only where this call's
 /// exchange found another word than it wanted: at LockChild and LockGroup the word of a lock that
 /// isn't 0, since another walk has it, and at Up another word of the group than this call had
-/// loaded. Then nothing else has changed than what the box remembers, and the step may be tried
+/// loaded. The part remembers these words; nothing else has changed, and the step may be tried
 /// again.
 pub fn walk_step<N: RunName, B: TimerBase>(run: &Run<N, B>, part: &mut BoxPart<N, B>) -> bool
     requires { GoesOn part.old }
@@ -84,7 +84,7 @@ pub fn make_step<N: RunName, B: TimerBase, R: Wait>(
     part: &mut BoxPart<N, B>,
 )
     requires { GoesOn part.old }
-    ensures { HasMade N.opening part.old part.new }
+    ensures { HasStepped N.opening true part.old part.new }
 {
     for _ in rt.forever() {
         if walk_step(run, part) {

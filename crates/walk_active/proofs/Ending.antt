@@ -12,6 +12,7 @@ use Rattle.walk_rules.specs.declared.walk.Stage.TheVariants as stages
 use Rattle.core_world.specs.Steps.{begun_where}
 use Rattle.shared_rule.specs.declared.parts.BoxView.{BoxView}
 use Rattle.shared_rule.specs.declared.parts.PassView.{PassView}
+use Rattle.shared_rule.specs.Whole.{no_looks}
 use Rattle.shared_rule.specs.Rule.{renewed}
 use Rattle.shared_rule.specs.Plays.{head_pass, woken_box, woken_pass}
 use Rattle.shared_rule.specs.Parts.{HeldPart, HasGuest, pass_parted, with_guest, without_guest}
@@ -83,9 +84,9 @@ module _ (part : HeldPart) (held : HeldPass) (table : TableId) (p : PassView)
   pub climbs : Climbs (woken_with part held).box.own.walk
   climbs = subst (λ (b : BoxView). Climbs b.own.walk) (sym box_woken) (woken_climbs part.box)
 
-  -- and has looked at nothing
-  pub no_looks : (woken_with part held).box.looked ≡ []
-  no_looks = ap (λ (b : BoxView). b.looked) box_woken
+  -- and has nothing to remember
+  pub nothing_looked : (woken_with part held).box.looked ≡ no_looks
+  nothing_looked = ap (λ (b : BoxView). b.looked) box_woken
 
   -- THE PART in the end
   pub part_after : without_guest (arrived (woken_with part held)) ≡ activated_part part

@@ -17,11 +17,13 @@ use Rattle.walk_rules.specs.Stages.{at_stage, higher, mark_next, up_next}
 use Rattle.core_world.specs.World.{World}
 use Rattle.shared_words.specs.Exchanges.{shows_migrator}
 use Rattle.shared_rule.specs.declared.parts.BoxView.{BoxView}
+use Rattle.shared_rule.specs.declared.parts.Looked.{Looked}
+use Rattle.shared_rule.specs.Whole.{no_looks}
 use Rattle.shared_rule.specs.Plays.{PartFits, WalkFits, bound_walk, by_walk, marked_walk}
 use Rattle.shared_rule.specs.Plays.{marks_more, own_marked_walk, up_walk}
 use Rattle.shared_rule.specs.Parts.{HeldPart}
 use Rattle.shared_walks.specs.Steps.{on_part}
-use Rattle.shared_walks.specs.Walks.{GoesOn, HasMade, MadeOf, is_under_way}
+use Rattle.shared_walks.specs.Walks.{GoesOn, HasStepped, StepOf, is_under_way}
 use Rattle.walk_active.specs.Climbing.{Climbs, HasClimbed, begins_at, arrived, left_at, leaf_left}
 use Rattle.walk_active.specs.Climbing.{steps_left}
 
@@ -84,7 +86,7 @@ no_walk k e = absurd (none-some k e)
 
 -- A STEP of the activation k of a part
 module _ (old new : HeldPart) (k : Walk) (has : old.box.own.walk ≡ Some k)
-    (empty : old.box.looked ≡ []) (is : k.kind ≡ kinds.Activate) (low : k.level < 3) where
+    (empty : old.box.looked ≡ no_looks) (is : k.kind ≡ kinds.Activate) (low : k.level < 3) where
   -- which makes this of the walk and of the leaf's slot
   abbrev after : (f : BoxView → Walk → Option Walk) → Option Event → HeldPart
   after f leaf = on_part (λ b. record (by_walk f b) { leaf = leaf }) old
@@ -135,7 +137,7 @@ module _ (old new : HeldPart) (k : Walk) (has : old.box.own.walk ≡ Some k)
 
   -- at each of its stages
   steps_at : (o : World) (t : Shape) (c : ℕ) (s : Stage) → FitsStage t c kinds.Activate k.level s
-      → k.stage ≡ s → MadeOf o k s old new → HasClimbed old new
+      → k.stage ≡ s → StepOf o k s true old new → HasClimbed old new
   steps_at o t c stages.Own f at s =
       climbed own_marked_walk (option_map as_ignored old.box.leaf) s.1
       (is_climbing (at_stage k stages.Up) is)
@@ -146,7 +148,11 @@ module _ (old new : HeldPart) (k : Walk) (has : old.box.own.walk ≡ Some k)
       let next = after_up (at_top old.box.opening.tree old.box.cpu k.level)
       (not (shows_migrator w)) at in
       climbed (up_walk w) old.box.leaf
-      (s.1 ∙ (λ i. on_part (λ b. record (by_walk (up_walk w) b) { looked = sym empty i }) old))
+      (s.1
+      ∙ (ap (λ (z : Looked). on_part (λ b. record (by_walk (up_walk w) b) {
+        looked = record z { tried = [] };
+      }) old) empty
+      ∙ ap (λ z. on_part (λ b. record (by_walk (up_walk w) b) { looked = z }) old) (sym empty)))
       next.0 next.1 next.2
   steps_at o t c (stages.Mark more) f at s =
       let next = after_mark (marks_more k.stage) (at ∙ ap (λ z. stages.Mark (marks_more z)) (sym at)) in
@@ -168,8 +174,8 @@ module _ (old new : HeldPart) (k : Walk) (has : old.box.own.walk ≡ Some k)
 
 -- the step that a part that fits has made
 pub climbs_on : (o : World) (old new : HeldPart) (k : Walk) → PartFits old.box
-    → old.box.own.walk ≡ Some k → k.kind ≡ kinds.Activate → old.box.looked ≡ []
-    → HasMade o old new → HasClimbed old new
+    → old.box.own.walk ≡ Some k → k.kind ≡ kinds.Activate → old.box.looked ≡ no_looks
+    → HasStepped o true old new → HasClimbed old new
 climbs_on o old new k fits has is empty made =
     let walk = fits.walk k has in
     let t = old.box.opening.tree in

@@ -8,6 +8,7 @@ use Rattle.tree_plan.specs.Paths.{group_at_of}
 use Rattle.core_world.specs.World.{CpuRecord}
 use Rattle.shared_rule.specs.declared.parts.BoxView.{BoxView}
 use Rattle.shared_rule.specs.declared.parts.PassView.{PassView}
+use Rattle.shared_rule.specs.Whole.{no_looks}
 use Rattle.shared_rule.specs.Plays.{woken_pass}
 use Rattle.shared_rule.specs.Parts.{HeldPart, without_guest}
 use Rattle.shared_rule.specs.Passes.{HeldPass, IsOfRun, IsPassIn}
@@ -23,12 +24,12 @@ ignored_where true e = option_map as_ignored e
 ignored_where false e = e
 
 -- its box: the CPU's slot in its leaf is marked as ignored, where the CPU has a group, and the walk
--- has looked at nothing
+-- has nothing to remember
 abbrev pub activated_box : BoxView → BoxView
 activated_box b = record b {
   own = activated b.own;
   leaf = ignored_where (is_some (group_at_of b.opening.tree b.cpu 0)) b.leaf;
-  looked = [];
+  looked = no_looks;
 }
 
 -- its part, in which no pass is

@@ -9,6 +9,7 @@ use Rattle.walk_rules.specs.declared.walk.WalkKind.TheVariants as kinds
 use Rattle.walk_rules.specs.declared.walk.Stage.{Stage}
 use Rattle.walk_rules.specs.declared.walk.Stage.TheVariants as stages
 use Rattle.shared_rule.specs.declared.parts.BoxView.{BoxView}
+use Rattle.shared_rule.specs.Whole.{no_looks}
 use Rattle.shared_rule.specs.Parts.{HeldPart}
 use Rattle.shared_walks.specs.Steps.{on_part}
 use Rattle.walk_active.specs.Activated.{ignored_where}
@@ -56,10 +57,10 @@ abbrev pub steps_left : Option Walk → ℕ
 steps_left None = 0
 steps_left (Some k) = left_at k.level k.stage
 
--- a step of an activation: what it is going to leave is the same, with no look to remember, and it
+-- a step of an activation: what it is going to leave is the same, with nothing to remember, and it
 -- has fewer steps left
 pub record HasClimbed (old new : HeldPart) : Type 0 where
   pub climbs : Climbs new.box.own.walk
-  pub looked : new.box.looked ≡ []
+  pub looked : new.box.looked ≡ no_looks
   pub same : arrived new ≡ arrived old
   pub fewer : steps_left new.box.own.walk < steps_left old.box.own.walk

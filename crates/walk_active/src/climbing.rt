@@ -1,7 +1,8 @@
 //! The climb of an activation, step by step, with a gate.
 
-ghost use Rattle.std.specs.Prelude.{◌≡◌, [], Some};
+ghost use Rattle.std.specs.Prelude.{◌≡◌, Some};
 ghost use Rattle.walk_rules.specs.declared.walk.WalkKind.TheVariants as kinds;
+ghost use Rattle.shared_rule.specs.Whole.{no_looks};
 ghost use Rattle.walk_active.specs.Climbing.{Climbs, HasClimbed, arrived, point_at};
 
 use shared_rule::{BoxPart, Run, RunName};
@@ -32,7 +33,7 @@ fn climb_step<N: RunName, B: TimerBase, G: Gate, R: Wait>(
 )
     requires walk { part.old.box.own.walk ≡ Some walk }
     requires climbs { walk.kind ≡ kinds.Activate }
-    requires looked { part.old.box.looked ≡ [] }
+    requires looked { part.old.box.looked ≡ no_looks }
     ensures { HasClimbed part.old part.new }
 {
     part.law();
@@ -50,7 +51,7 @@ pub(crate) fn climb<N: RunName, B: TimerBase, G: Gate, R: Wait>(
     gate: &G,
 )
     requires climbs { Climbs part.old.box.own.walk }
-    requires looked { part.old.box.looked ≡ [] }
+    requires looked { part.old.box.looked ≡ no_looks }
     ensures { part.new ≡ arrived part.old }
 {
     while let Some(walk) = part.walk() {

@@ -17,10 +17,10 @@ use Rattle.walk_rules.specs.Stages.{leaf_event}
 use Rattle.core_facts.specs.Told.{SaysOf}
 use Rattle.core_world.specs.World.{World}
 use Rattle.shared_rule.specs.declared.parts.BoxView.{BoxView}
-use Rattle.shared_rule.specs.declared.parts.Look.{Look}
+use Rattle.shared_rule.specs.declared.parts.Looked.{Looked}
 use Rattle.shared_rule.specs.Plays.{PartFits, WalkFits}
 use Rattle.shared_rule.specs.Parts.{HeldPart}
-use Rattle.shared_walks.specs.Walks.{HasMade, MadeOf, is_under_way}
+use Rattle.shared_walks.specs.Walks.{HasStepped, StepOf, is_under_way}
 use Rattle.walk_inactive.specs.Ends.{leaf_of, told_leaf}
 use Rattle.walk_inactive.specs.Looks.{FindsFirst, HasLooked}
 use Rattle.walk_inactive.specs.Ways.{HasAdvanced, HasCome, HasSetOut, LooksAt, WalkSoFar}
@@ -113,16 +113,16 @@ comes start now new k out so_far advanced = subst (λ z. HasCome start z k) (sym
     no_group is g = none-some g.0 (sym is ∙ g.1)
 
     found : (m : Option ℕ) → leaf_of start.box ≡ m
-        → FindsFirst m start.box.opening start.box.cpu k.kind k.next now.box.looked w.first
+        → FindsFirst m start.box.opening start.box.cpu k.kind k.next now.box.looked.seen w.first
     found None is =
         let still = so_far.unmoved (no_group is) in (
-          ap (λ z. z.box.looked) still ∙ out.none,
+          ap (λ z. z.box.looked.seen) still ∙ ap (λ (z : Looked). z.seen) out.none,
           (fits.alone (λ g. none-some g.0 (sym (path None is) ∙ g.1))).own ∙ so_far.errand.next,
         )
     found (Some g) is =
-        subst (λ z. HasLooked start.box.opening start.box.cpu z now.box.looked w.first)
+        subst (λ z. HasLooked start.box.opening start.box.cpu z now.box.looked.seen w.first)
         so_far.errand.kind
-        (subst (LooksAt start.box.opening start.box.cpu w now.box.looked) end
+        (subst (LooksAt start.box.opening start.box.cpu w now.box.looked.seen) end
         (so_far.looks (g, is)))
 
     leaf : (m : Option ℕ) → leaf_of start.box ≡ m
@@ -135,12 +135,12 @@ comes start now new k out so_far advanced = subst (λ z. HasCome start z k) (sym
 -- a walk under way has made its step
 pub advances : (o : World) (old new : HeldPart) (k : Walk) → PartFits old.box
     → old.box.opening ≡ o → old.box.own.walk ≡ Some k → is_under_way k.stage ≡ true
-    → HasMade o old new → HasAdvanced true old new
+    → HasStepped o true old new → HasAdvanced true old new
 advances o old new k fits run has under step = record {
   fits = fits;
   went = λ j is. (
     subst (λ (z : Walk). is_under_way z.stage ≡ true) (same_Some k j (sym has ∙ is)) under,
-    subst (λ z. MadeOf z j j.stage old new) (sym run) (step j is),
+    subst (λ z. StepOf z j j.stage true old new) (sym run) (step j is),
   );
 }
 

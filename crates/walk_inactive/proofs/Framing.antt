@@ -1,5 +1,5 @@
 -- what a walk's step leaves of the part of its CPU
-use Rattle.std.proofs.Common.{◌≡◌, ◌≢◌, ℕ, zero, suc, Bool, true, false, true≢false, List, Option}
+use Rattle.std.proofs.Common.{◌≡◌, ◌≢◌, ℕ, zero, suc, ◌-◌, Bool, true, false, true≢false, Option}
 use Rattle.std.proofs.Common.{Some, None, refl, sym, ap, ◌∙◌, subst}
 use Rattle.std.specs.Prelude.{not}
 use Rattle.std.proofs.lemmas.Option.{none-some, same_Some}
@@ -14,17 +14,17 @@ use Rattle.walk_rules.specs.Stages.{see_child_next, up_next}
 use Rattle.shared_words.specs.Exchanges.{shows_migrator}
 use Rattle.core_world.specs.World.{World}
 use Rattle.shared_rule.specs.declared.parts.BoxView.{BoxView}
-use Rattle.shared_rule.specs.declared.parts.Look.{Look}
 use Rattle.shared_rule.specs.Plays.{bound_walk, by_walk, child_freed_walk, child_locked_walk}
-use Rattle.shared_rule.specs.Plays.{child_read_walk, child_sight, group_freed_walk, risen_box}
+use Rattle.shared_rule.specs.Plays.{child_read_walk, child_sight, group_freed_walk, taken_lock}
 use Rattle.shared_rule.specs.Plays.{locked_walk, marked_walk, marks_more, own_marked_box}
 use Rattle.shared_rule.specs.Plays.{own_read_walk, read_walk, reading, scan_sight, stored_box}
 use Rattle.shared_rule.specs.Plays.{group_sight, own_marked_walk, stored_walk, swap_box}
-use Rattle.shared_rule.specs.Plays.{swapped_walk, top_sight, up_walk}
+use Rattle.shared_rule.specs.Plays.{risen_box, swapped_walk, top_sight, trying, up_walk}
 use Rattle.shared_rule.specs.Parts.{HeldPart}
 use Rattle.walk_inactive.specs.Frames.{IsFramed, IsSameErrand, box_with}
-use Rattle.shared_walks.specs.Steps.{group_seen, on_part, top_seen}
-use Rattle.shared_walks.specs.Walks.{HasReadChild, LockTaken, MadeOf}
+use Rattle.shared_walks.specs.Steps.{LockTried, group_seen, lock_place, on_part, state_place}
+use Rattle.shared_walks.specs.Steps.{top_seen}
+use Rattle.shared_walks.specs.Walks.{HasReadChild, StepOf}
 
 -- a change of a box that changes no more than a step of a walk may
 abbrev Frames : (BoxView → BoxView) → Type 0
@@ -77,6 +77,13 @@ group_errand : (level : ℕ) (k : Walk) → IsSameErrand k (free_group_next leve
 group_errand zero k = freed_errand k.over k
 group_errand (suc l) k = record { kind = refl; pin = refl; next = refl }
 
+-- a part whose walk has found a word as it tried, and stands where it stood
+tried : (place found : ℕ) (old new : HeldPart) → new ≡ on_part (trying place found) old
+    → IsFramed old new
+tried place found old new is =
+    framed (trying place found) old new (λ b. refl)
+    (λ b k j e f. sure k k j (sym e ∙ f) (record { kind = refl; pin = refl; next = refl })) is
+
 read_child : (level : ℕ) (old new : HeldPart) → HasReadChild level old new → IsFramed old new
 read_child zero old new e =
     framed (by_walk own_read_walk) old new (λ b. refl)
@@ -94,56 +101,64 @@ swapped false found old new e =
     framed (swap_box false found) old new (λ b. refl)
     (walked read_walk (λ b k j e. sure k _ j e (record { kind = refl; pin = refl; next = refl }))) e
 
-child_locked : (old new : HeldPart) → LockTaken child_locked_walk old new → IsFramed old new
-child_locked old new e =
-    framed (λ b. by_walk child_locked_walk (reading e.0 b)) old new (λ b. refl)
-    (walked child_locked_walk (λ b k j e. sure k _ j e (record { kind = refl; pin = refl; next = refl }))) e.1
+child_locked : (o : World) (level : ℕ) (made : Bool) (old new : HeldPart)
+    → LockTried o child_locked_walk level made old new → IsFramed old new
+child_locked o level true old new e =
+    framed (taken_lock child_locked_walk) old new (λ b. refl)
+    (walked child_locked_walk (λ b k j e. sure k _ j e (record { kind = refl; pin = refl; next = refl }))) e
+child_locked o level false old new e = tried (lock_place o old.box.cpu level) e.found old new e.box
 
-locked : (old new : HeldPart) → LockTaken locked_walk old new → IsFramed old new
-locked old new e =
-    framed (λ b. by_walk locked_walk (reading e.0 b)) old new (λ b. refl)
-    (walked locked_walk (λ b k j e. sure k _ j e (record { kind = refl; pin = refl; next = refl }))) e.1
+locked : (o : World) (level : ℕ) (made : Bool) (old new : HeldPart)
+    → LockTried o locked_walk level made old new → IsFramed old new
+locked o level true old new e =
+    framed (taken_lock locked_walk) old new (λ b. refl)
+    (walked locked_walk (λ b k j e. sure k _ j e (record { kind = refl; pin = refl; next = refl }))) e
+locked o level false old new e = tried (lock_place o old.box.cpu level) e.found old new e.box
 
--- EACH STEP of a walk that is made has the frame
-pub step_framed : (o : World) (k : Walk) (at : Stage) (old new : HeldPart) → MadeOf o k at old new
-    → IsFramed old new
-step_framed o k stages.Own old new e =
+-- EACH STEP of a walk has the frame
+pub step_framed : (o : World) (k : Walk) (at : Stage) (made : Bool) (old new : HeldPart)
+    → StepOf o k at made old new → IsFramed old new
+step_framed o k stages.Own made old new e =
     framed own_marked_box old new (λ b. refl)
     (walked own_marked_walk (λ b k j e. sure k _ j e (record { kind = refl; pin = refl; next = refl }))) e.1
-step_framed o k stages.Up old new e =
+step_framed o k stages.Up true old new e =
     framed (risen_box e.0) old new (λ b. refl)
     (walked (up_walk e.0) (λ b k j. up_errand (at_top b.opening.tree b.cpu k.level)
     (not (shows_migrator e.0)) k j)) e.1
-step_framed o k (stages.Mark more) old new e =
+step_framed o k stages.Up false old new e =
+    let place = state_place o old.box.cpu k.level in
+    framed (λ b. trying place e.found (trying place e.loaded b)) old new (λ b. refl)
+    (λ b k j f g. sure k k j (sym f ∙ g) (record { kind = refl; pin = refl; next = refl })) e.box
+step_framed o k (stages.Mark more) made old new e =
     framed (by_walk marked_walk) old new (λ b. refl)
     (walked marked_walk (λ b k j. mark_errand (marks_more k.stage) k j)) e.1
-step_framed o k stages.Read old new e =
+step_framed o k stages.Read made old new e =
     framed (λ b. reading e.1.0 (by_walk read_walk b)) old new (λ b. refl)
     (walked read_walk (λ b k j e. sure k _ j e (record { kind = refl; pin = refl; next = refl }))) e.1.1
-step_framed o k stages.Child old new e = read_child k.level old new e.1
-step_framed o k stages.Swap old new e = swapped e.1.0 e.1.1.0 old new e.1.1.1
-step_framed o k stages.LockChild old new e = child_locked old new e
-step_framed o k stages.LockGroup old new e = locked old new e
-step_framed o k stages.SeeChild old new e =
+step_framed o k stages.Child made old new e = read_child k.level old new e.1
+step_framed o k stages.Swap made old new e = swapped e.1.0 e.1.1.0 old new e.1.1.1
+step_framed o k stages.LockChild made old new e = child_locked o (k.level - 1) made old new e
+step_framed o k stages.LockGroup made old new e = locked o k.level made old new e
+step_framed o k stages.SeeChild made old new e =
     framed (by_walk (child_sight e.1.0)) old new (λ b. refl)
     (walked (child_sight e.1.0) (λ b k j e. sure k _ j e (child_errand _ k))) e.1.1
-step_framed o k stages.SeeGroup old new e =
+step_framed o k stages.SeeGroup made old new e =
     framed (group_seen o k e.1.0) old new (λ b. refl)
     (walked (group_sight e.1.0) (λ b k j e. sure k _ j e (record { kind = refl; pin = refl; next = refl }))) e.1.1
-step_framed o k (stages.Scan n) old new e =
+step_framed o k (stages.Scan n) made old new e =
     framed (by_walk (scan_sight e.1.0)) old new (λ b. refl)
     (walked (scan_sight e.1.0) (λ b k j e. sure k _ j e (record { kind = refl; pin = refl; next = refl }))) e.1.1
-step_framed o k stages.Store old new e =
+step_framed o k stages.Store made old new e =
     framed stored_box old new (λ b. refl)
     (walked stored_walk (λ b k j e. sure k _ j e (record { kind = refl; pin = refl; next = refl }))) e.1
-step_framed o k (stages.First n) old new e =
+step_framed o k (stages.First n) made old new e =
     framed (top_seen o k n e.1.0) old new (λ b. refl)
     (walked (top_sight e.1.0) (λ b k j e. sure k _ j e (record { kind = refl; pin = refl; next = refl }))) e.1.1
-step_framed o k stages.FreeGroup old new e =
+step_framed o k stages.FreeGroup made old new e =
     framed (by_walk group_freed_walk) old new (λ b. refl)
     (walked group_freed_walk (λ b k j e. sure k _ j e (group_errand k.level k))) e.1
-step_framed o k stages.FreeChild old new e =
+step_framed o k stages.FreeChild made old new e =
     framed (by_walk child_freed_walk) old new (λ b. refl)
     (walked child_freed_walk (λ b k j e. sure k _ j e (freed_errand k.over k))) e.1
-step_framed o k stages.Finish old new e = absurd e
-step_framed o k stages.Handing old new e = absurd e
+step_framed o k stages.Finish made old new e = absurd e
+step_framed o k stages.Handing made old new e = absurd e

@@ -18,7 +18,8 @@ use Rattle.walk_rules.specs.Standing.{Tells, is_leaving}
 use Rattle.core_world.specs.Steps.{begun_where, with_walk}
 use Rattle.core_world.specs.World.{CpuRecord, World}
 use Rattle.shared_rule.specs.declared.parts.BoxView.{BoxView}
-use Rattle.shared_rule.specs.declared.parts.Look.{Look}
+use Rattle.shared_rule.specs.declared.parts.Looked.{Looked}
+use Rattle.shared_rule.specs.Whole.{no_looks}
 use Rattle.shared_rule.specs.declared.parts.PassView.{PassView}
 use Rattle.shared_rule.specs.Plays.{head_pass}
 use Rattle.shared_rule.specs.Turns.{begun, idled, idled_box, idled_pass}
@@ -67,7 +68,7 @@ first_next false kind stage pin next = refl
 -- a part as a walk begins there: its CPU is this, with this pass
 abbrev pub begun_part : HeldPart → CpuRecord → PassView → HeldPart
 begun_part part y p =
-    record part { box = record part.box { own = y; looked = [] }; brought = p ∷ [] }
+    record part { box = record part.box { own = y; looked = no_looks }; brought = p ∷ [] }
 
 -- a part whose one pass has changed with it
 pub with_one : (f : BoxView → PassView → BoxView) (h : BoxView → PassView → PassView)
@@ -87,7 +88,7 @@ module _ (part : HeldPart) (kind : WalkKind) (stage : Stage) (pin next : ℕ) wh
 
   pub sets_out : Tells kind
       → part.box.own.walk ≡ begun_where (is_some (leaf_of part.box)) kind stage pin next
-      → part.box.looked ≡ []
+      → part.box.looked ≡ no_looks
       → LooksAt part.box.opening part.box.cpu (started kind stage pin next NEVER) [] stage
       → HasSetOut part begins
   sets_out tells is none looks = record {
@@ -101,7 +102,7 @@ module _ (part : HeldPart) (kind : WalkKind) (stage : Stage) (pin next : ℕ) wh
 
 -- a part whose walk has come to its end
 abbrev pub come_part : HeldPart → CpuRecord → PassView → Walk → Option Event → (read : ℕ)
-    → List Look → HeldPart
+    → Looked → HeldPart
 come_part part y p w leaf read looked =
     on_part (λ b. box_with b (Some w) leaf read looked) (begun_part part y p)
 
@@ -165,11 +166,11 @@ module _ (old : HeldPart) (p : PassView) (end new : HeldPart) (k : Walk)
       first = come.walk.first;
       found =
           subst (λ z. FindsFirst (leaf_of old.box) old.box.opening old.box.cpu kinds.Deactivate
-          (next_of old.box) z come.walk.first) (sym (ap (λ z. z.box.looked) final))
+          (next_of old.box) z come.walk.first) (sym (ap (λ z. z.box.looked.seen) final))
           (subst (λ z. FindsFirst (leaf_of old.box) old.box.opening old.box.cpu kinds.Deactivate z
-          end.box.looked come.walk.first) next
+          end.box.looked.seen come.walk.first) next
           (subst (λ z. FindsFirst (leaf_of old.box) old.box.opening old.box.cpu z k.next
-          end.box.looked come.walk.first) of_kind come.found));
+          end.box.looked.seen come.walk.first) of_kind come.found));
       box =
           ap (λ z. z.box) final
           ∙ (λ i. record old.box {

@@ -44,7 +44,7 @@ ended_part old end own passes = record old {
 walked_so : (old end new : HeldPart) (k w : Walk) (kind : WalkKind)
     (change : ℕ → CpuRecord → CpuRecord) (with_it : BoxView → PassView → PassView)
     (own : CpuRecord) (passes : List PassView) → new ≡ ended_part old end own passes
-    → FindsFirst (leaf_of old.box) old.box.opening old.box.cpu k.kind k.next end.box.looked w.first
+    → FindsFirst (leaf_of old.box) old.box.opening old.box.cpu k.kind k.next end.box.looked.seen w.first
     → k.kind ≡ kind → k.next ≡ next_of old.box
     → end.box.leaf ≡ told_leaf (leaf_of old.box) old.box.cpu k.next old.box.leaf
     → own ≡ change w.first old.box.own
@@ -56,11 +56,11 @@ walked_so old end new k w kind change with_it own passes final found of_kind nex
         first = w.first;
         found =
             subst (λ z. FindsFirst (leaf_of old.box) old.box.opening old.box.cpu kind (next_of old.box)
-            z w.first) (ap (λ z. z.box.looked) back)
+            z w.first) (ap (λ z. z.box.looked.seen) back)
             (subst (λ z. FindsFirst (leaf_of old.box) old.box.opening old.box.cpu kind z
-            end.box.looked w.first) next
+            end.box.looked.seen w.first) next
             (subst (λ z. FindsFirst (leaf_of old.box) old.box.opening old.box.cpu z k.next
-            end.box.looked w.first) of_kind found));
+            end.box.looked.seen w.first) of_kind found));
         box =
             ap (λ z. z.box) final
             ∙ (λ i. record old.box {

@@ -20,14 +20,14 @@ use Rattle.shared_words.specs.Exchanges.{shows_migrator}
 use Rattle.shared_rule.specs.declared.parts.BoxView.{BoxView}
 use Rattle.shared_rule.specs.declared.parts.Look.{Look}
 use Rattle.shared_rule.specs.Plays.{bound_walk, by_walk, child_freed_walk, child_locked_walk}
-use Rattle.shared_rule.specs.Plays.{child_read_walk, child_sight, group_freed_walk}
+use Rattle.shared_rule.specs.Plays.{child_read_walk, child_sight, group_freed_walk, taken_lock}
 use Rattle.shared_rule.specs.Plays.{locked_walk, own_read_walk, read_walk, reading, scan_sight}
 use Rattle.shared_rule.specs.Plays.{WalkFits, group_sight, slot_number, stored_box, stored_walk}
 use Rattle.shared_rule.specs.Plays.{swap_box, top_sight}
 use Rattle.shared_rule.specs.Parts.{HeldPart}
 use Rattle.walk_inactive.specs.Frames.{IsFramed, box_with}
 use Rattle.shared_walks.specs.Steps.{group_seen, on_part, slot_place, state_place, top_seen}
-use Rattle.shared_walks.specs.Walks.{HasReadChild, MadeOf, is_under_way}
+use Rattle.shared_walks.specs.Walks.{HasReadChild, StepOf, is_under_way}
 use Rattle.walk_inactive.proofs.Framing.{step_framed}
 use Rattle.shared_walks.proofs.Standing.{finishes, has_group, stands}
 use Rattle.walk_inactive.specs.Ways.{HasAdvanced, HasPassed, HasReadSlots, HasSetOut, LooksAt}
@@ -40,7 +40,7 @@ use Rattle.walk_inactive.proofs.Looking.{slot_read, stored_at}
 pub record Looking (b : BoxView) : Type 0 where
   pub walk : Walk
   pub has : b.own.walk ≡ Some walk
-  pub looks : LooksAt b.opening b.cpu walk b.looked walk.stage
+  pub looks : LooksAt b.opening b.cpu walk b.looked.seen walk.stage
 
 -- the box of a part that has changed so
 onto : (f : BoxView → BoxView) (old new : HeldPart) → new ≡ on_part f old → Looking (f old.box)
@@ -54,7 +54,7 @@ goes_as b g k i has next = ap (bound_walk (g b)) has ∙ next
 
 -- a walk that goes on in its box
 went : (b : BoxView) (g : BoxView → Walk → Option Walk) (k i : Walk) → b.own.walk ≡ Some k
-    → g b k ≡ Some i → LooksAt b.opening b.cpu i b.looked i.stage → Looking (by_walk g b)
+    → g b k ≡ Some i → LooksAt b.opening b.cpu i b.looked.seen i.stage → Looking (by_walk g b)
 went b g k i has next looks = record { walk = i; has = goes_as b g k i has next; looks = looks }
 
 module _ (k : Walk) (old new : HeldPart) (has : old.box.own.walk ≡ Some k) where
@@ -62,7 +62,7 @@ module _ (k : Walk) (old new : HeldPart) (has : old.box.own.walk ≡ Some k) whe
   b = old.box
 
   abbrev Passed : Type 0
-  Passed = HasPassed b.opening b.cpu k.level b.looked k.first
+  Passed = HasPassed b.opening b.cpu k.level b.looked.seen k.first
 
   read_child : (level : ℕ) → Passed → HasReadChild level old new → Looking new.box
   read_child zero looks e =
@@ -77,7 +77,7 @@ module _ (k : Walk) (old new : HeldPart) (has : old.box.own.walk ≡ Some k) whe
   swapped true found looks e =
       onto (swap_box true found) old new e
       (went b (λ x j. Some (swap_next true j)) k (swap_next true k) has refl
-      (at_first_lock b.opening b.cpu (swap_next true k) b.looked k.level looks))
+      (at_first_lock b.opening b.cpu (swap_next true k) b.looked.seen k.level looks))
   swapped false found looks e =
       onto (swap_box false found) old new e (record {
         walk = forget (read_next k);
@@ -88,7 +88,7 @@ module _ (k : Walk) (old new : HeldPart) (has : old.box.own.walk ≡ Some k) whe
   -- EACH STEP KEEPS IT
   pub step_looks : (at : Stage) → k.stage ≡ at → WalkFits b.opening b k
       → HasGroup b.opening.tree b.cpu → Tells k.kind → is_under_way at ≡ true
-      → LooksAt b.opening b.cpu k b.looked at → MadeOf b.opening k at old new
+      → LooksAt b.opening b.cpu k b.looked.seen at → StepOf b.opening k at true old new
       → Looking new.box
   step_looks stages.Own is fits group tells under looks e =
       absurd (tells (subst (FitsStage b.opening.tree b.cpu k.kind k.level) is (fits.fits group)).0)
@@ -106,17 +106,24 @@ module _ (k : Walk) (old new : HeldPart) (has : old.box.own.walk ≡ Some k) whe
   step_looks stages.Swap is fits group tells under looks e =
       swapped e.1.0 e.1.1.0 looks e.1.1.1
   step_looks stages.LockChild is fits group tells under looks e =
-      onto (λ x. by_walk child_locked_walk (reading e.0 x)) old new e.1
-      (went (reading e.0 b) child_locked_walk k (at_stage k stages.LockGroup) has refl looks)
+      let next = at_stage k stages.LockGroup in
+      onto (taken_lock child_locked_walk) old new e (record {
+        walk = next;
+        has = goes_as b child_locked_walk k next has refl;
+        looks = looks;
+      })
   step_looks stages.LockGroup is fits group tells under looks e =
-      onto (λ x. by_walk locked_walk (reading e.0 x)) old new e.1
-      (went (reading e.0 b) locked_walk k (at_stage k (first_sight k.level)) has refl
-      (at_first_sight b.opening b.cpu (at_stage k (first_sight k.level)) b.looked k.level looks))
+      let next = at_stage k (first_sight k.level) in
+      onto (taken_lock locked_walk) old new e (record {
+        walk = next;
+        has = goes_as b locked_walk k next has refl;
+        looks = at_first_sight b.opening b.cpu next b.looked.seen k.level looks;
+      })
   step_looks stages.SeeChild is fits group tells under looks e =
       let here = subst (FitsStage b.opening.tree b.cpu k.kind k.level) is (fits.fits group) in
       onto (by_walk (child_sight e.1.0)) old new e.1.1
       (went b (child_sight e.1.0) k (see_child_next (shows_migrator e.1.0) k) has refl
-      (child_seen_at b.opening b.cpu k b.looked (shows_migrator e.1.0) here.1
+      (child_seen_at b.opening b.cpu k b.looked.seen (shows_migrator e.1.0) here.1
       (stands b.opening b k stages.SeeChild fits is refl) looks))
   step_looks stages.SeeGroup is fits group tells under looks e =
       let next = see_group_next (shows_migrator e.1.0) (at_top b.opening.tree b.cpu k.level) k in
@@ -125,13 +132,13 @@ module _ (k : Walk) (old new : HeldPart) (has : old.box.own.walk ≡ Some k) whe
         has = goes_as b (group_sight e.1.0) k next has refl;
         looks =
             at_after_sight b.opening b.cpu next _ k.level
-            (seen_at b.opening b.cpu k.level e.1.0 k.first b.looked looks);
+            (seen_at b.opening b.cpu k.level e.1.0 k.first b.looked.seen looks);
       })
   step_looks (stages.Scan n) is fits group tells under looks e =
       let next = scan_next (slot_of e.1.0) (slot_number k.stage) k in
       onto (by_walk (scan_sight e.1.0)) old new e.1.1
       (went b (scan_sight e.1.0) k next has refl
-      (at_scan b.opening b.cpu next b.looked _ _ looks))
+      (at_scan b.opening b.cpu next b.looked.seen _ _ looks))
   step_looks stages.Store is fits group tells under looks e =
       let flags = subst (FlagsAt (at_top b.opening.tree b.cpu k.level) k.on k.over) is
       (fits.flags group) in
@@ -139,7 +146,7 @@ module _ (k : Walk) (old new : HeldPart) (has : old.box.own.walk ≡ Some k) whe
       onto stored_box old new e.1 (record {
         walk = next;
         has = goes_as b stored_walk k next has refl;
-        looks = stored_at b.opening b.cpu k b.looked flags looks;
+        looks = stored_at b.opening b.cpu k b.looked.seen flags looks;
       })
   step_looks (stages.First n) is fits group tells under looks e =
       let flags = subst (FlagsAt (at_top b.opening.tree b.cpu k.level) k.on k.over) is
@@ -151,16 +158,16 @@ module _ (k : Walk) (old new : HeldPart) (has : old.box.own.walk ≡ Some k) whe
         has = goes_as b (top_sight e.1.0) k next has (ap (λ m. Some (first_next (slot_of e.1.0) m k)) number);
         looks =
             read_at b.opening b.cpu next _ n flags.1
-            (slot_read b.opening b.cpu k.level n e.1.0 k.first k.kind b.looked looks);
+            (slot_read b.opening b.cpu k.level n e.1.0 k.first k.kind b.looked.seen looks);
       })
   step_looks stages.FreeGroup is fits group tells under looks e =
       onto (by_walk group_freed_walk) old new e.1
       (went b group_freed_walk k (free_group_next k.level k) has refl
-      (group_freed_at b.opening b.cpu k b.looked k.level tells looks))
+      (group_freed_at b.opening b.cpu k b.looked.seen k.level tells looks))
   step_looks stages.FreeChild is fits group tells under looks e =
       onto (by_walk child_freed_walk) old new e.1
       (went b child_freed_walk k (freed_next k.over k) has refl
-      (freed_at b.opening b.cpu k b.looked tells looks))
+      (freed_at b.opening b.cpu k b.looked.seen tells looks))
   step_looks stages.Finish is fits group tells under looks e = absurd e
   step_looks stages.Handing is fits group tells under looks e = absurd e
 
@@ -227,7 +234,7 @@ keeps start old new k out so_far advanced = record {
       };
   looks = λ g.
       elsewhere new.box.opening start.box.opening new.box.cpu start.box.cpu after.walk
-      new.box.looked after.walk.stage (new_run ∙ run) (new_cpu ∙ cpu) after.looks;
+      new.box.looked.seen after.walk.stage (new_run ∙ run) (new_cpu ∙ cpu) after.looks;
   unmoved = λ none.
       absurd (none (same_group old.box.opening start.box.opening old.box.cpu start.box.cpu run cpu
       group));
@@ -236,11 +243,11 @@ keeps start old new k out so_far advanced = record {
     w : Walk
     w = so_far.walk
 
-    step : (is_under_way w.stage ≡ true) × MadeOf old.box.opening w w.stage old new
+    step : (is_under_way w.stage ≡ true) × StepOf old.box.opening w w.stage true old new
     step = advanced.went w so_far.has
 
     framed : IsFramed old new
-    framed = step_framed old.box.opening w w.stage old new step.1
+    framed = step_framed old.box.opening w w.stage true old new step.1
 
     -- opening and CPU are those with which the walk set out
     run : old.box.opening ≡ start.box.opening
@@ -267,7 +274,7 @@ keeps start old new k out so_far advanced = record {
     after =
         step_looks w old new so_far.has w.stage refl (advanced.fits.walk w so_far.has) group tells
         step.0
-        (elsewhere start.box.opening old.box.opening start.box.cpu old.box.cpu w old.box.looked
+        (elsewhere start.box.opening old.box.opening start.box.cpu old.box.cpu w old.box.looked.seen
         w.stage (sym run) (sym cpu)
         (so_far.looks (same_group old.box.opening start.box.opening old.box.cpu start.box.cpu run
         cpu group))) step.1

@@ -36,7 +36,7 @@ told_leaf (Some leaf) cpu next old = leaf_event cpu next
 pub record HasTold (kind : WalkKind) (change : (first : ℕ) → CpuRecord → CpuRecord)
     (old new : BoxView) : Type 0 where
   pub first : ℕ
-  pub found : FindsFirst (leaf_of old) old.opening old.cpu kind (next_of old) new.looked first
+  pub found : FindsFirst (leaf_of old) old.opening old.cpu kind (next_of old) new.looked.seen first
   pub box : new ≡ record old {
     own = change first old.own;
     leaf = told_leaf (leaf_of old) old.cpu (next_of old) old.leaf;

@@ -1,15 +1,15 @@
 -- what every step of a walk leaves of the part of its CPU (no public clause cites it)
-use Rattle.std.specs.Prelude.{◌≡◌, ℕ, List, Option, Some}
+use Rattle.std.specs.Prelude.{◌≡◌, ℕ, Option, Some}
 use Rattle.event_queue.specs.declared.event.Event.{Event}
 use Rattle.walk_rules.specs.declared.walk.Walk.{Walk}
 use Rattle.core_world.specs.Steps.{with_walk}
 use Rattle.shared_rule.specs.declared.parts.BoxView.{BoxView}
-use Rattle.shared_rule.specs.declared.parts.Look.{Look}
+use Rattle.shared_rule.specs.declared.parts.Looked.{Looked}
 use Rattle.shared_rule.specs.Parts.{HeldPart}
 use Rattle.shared_walks.specs.Steps.{on_part}
 
 -- a box with this walk, or none, and with what else a step of a walk changes
-abbrev pub box_with : BoxView → Option Walk → Option Event → (read : ℕ) → List Look → BoxView
+abbrev pub box_with : BoxView → Option Walk → Option Event → (read : ℕ) → Looked → BoxView
 box_with b m leaf read looked =
     record b { own = with_walk b.own m; leaf = leaf; read = read; looked = looked }
 
@@ -20,7 +20,7 @@ pub record IsSameErrand (k j : Walk) : Type 0 where
   pub next : j.next ≡ k.next
 
 -- THE FRAME of a step: all stays but the walk, the CPU's slot in its leaf, the word that was read
--- and what was looked at, and the walk is for what it was for
+-- and what was found out, and the walk is for what it was for
 pub record IsFramed (old new : HeldPart) : Type 0 where
   pub rest : new
       ≡ on_part (λ b. box_with b new.box.own.walk new.box.leaf new.box.read new.box.looked) old

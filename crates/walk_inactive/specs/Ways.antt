@@ -14,10 +14,11 @@ use Rattle.core_world.specs.World.{World}
 use Rattle.shared_words.specs.Exchanges.{shows_migrator}
 use Rattle.shared_rule.specs.declared.parts.Look.{Look}
 use Rattle.shared_rule.specs.Plays.{PartFits}
+use Rattle.shared_rule.specs.Whole.{no_looks}
 use Rattle.shared_rule.specs.Parts.{HeldPart}
 use Rattle.walk_inactive.specs.Frames.{IsSameErrand, box_with}
 use Rattle.shared_walks.specs.Steps.{on_part}
-use Rattle.shared_walks.specs.Walks.{MadeOf, is_under_way}
+use Rattle.shared_walks.specs.Walks.{StepOf, is_under_way}
 use Rattle.walk_inactive.specs.Ends.{leaf_of, told_leaf}
 use Rattle.walk_inactive.specs.Looks.{FindsFirst, HasLooked, first_by, group_looks, reads_slots}
 use Rattle.walk_inactive.specs.Looks.{slot_looks}
@@ -83,7 +84,7 @@ LooksAt o cpu k looked stages.Handing = Unit {0}
 pub record HasSetOut (part : HeldPart) (k : Walk) : Type 0 where
   pub walk : part.box.own.walk ≡ Some k
   pub tells : Tells k.kind
-  pub none : part.box.looked ≡ []
+  pub none : part.box.looked ≡ no_looks
   pub looks : HasGroup part.box.opening.tree part.box.cpu →
       LooksAt part.box.opening part.box.cpu k [] k.stage
 
@@ -96,7 +97,7 @@ pub record WalkSoFar (start now : HeldPart) (k : Walk) : Type 0 where
       ≡ on_part (λ b. box_with b now.box.own.walk now.box.leaf now.box.read now.box.looked) start
   pub errand : IsSameErrand k walk
   pub looks : HasGroup start.box.opening.tree start.box.cpu →
-      LooksAt start.box.opening start.box.cpu walk now.box.looked walk.stage
+      LooksAt start.box.opening start.box.cpu walk now.box.looked.seen walk.stage
   pub unmoved : (HasGroup start.box.opening.tree start.box.cpu → ⊥) → now ≡ start
 
 -- the walk of a part has made its step, or has come to its end
@@ -104,7 +105,7 @@ pub record HasAdvanced (more : Bool) (old new : HeldPart) : Type 0 where
   pub fits : PartFits old.box
   pub went : (k : Walk) → old.box.own.walk ≡ Some k →
       MatchBool more
-      ((is_under_way k.stage ≡ true) × MadeOf old.box.opening k k.stage old new)
+      ((is_under_way k.stage ≡ true) × StepOf old.box.opening k k.stage true old new)
       ((is_under_way k.stage ≡ false) × (new ≡ old))
 
 -- THE END OF THE WAY: the walk that set out stands where it finishes, and has found and told
@@ -116,5 +117,5 @@ pub record HasCome (start end : HeldPart) (k : Walk) : Type 0 where
   pub errand : IsSameErrand k walk
   pub stage : walk.stage ≡ stages.Finish
   pub found : FindsFirst (leaf_of start.box) start.box.opening start.box.cpu k.kind k.next
-      end.box.looked walk.first
+      end.box.looked.seen walk.first
   pub leaf : end.box.leaf ≡ told_leaf (leaf_of start.box) start.box.cpu k.next start.box.leaf

@@ -1,6 +1,7 @@
 -- the steps of a CPU leave its part driven, from the call that brings its pass to the one that
 -- parts it off
-use Rattle.std.proofs.Common.{◌≡◌, ℕ, zero, suc, ◌+◌, ◌^◌, ◌<◌, Bool, true, false, Option, Some}
+use Rattle.std.proofs.Common.{◌≡◌, ℕ, zero, suc, ◌+◌, ◌-◌, ◌^◌, ◌<◌, Bool, true, false, Option}
+use Rattle.std.proofs.Common.{Some}
 use Rattle.std.proofs.Common.{None, [], ◌∷◌, refl, sym, ap, ◌∙◌, subst}
 use Rattle.std.proofs.lemmas.Option.{same_Some}
 use Rattle.atomic_table.specs.Seated.{TableId}
@@ -15,10 +16,9 @@ use Rattle.shared_rule.specs.declared.parts.PassView.{PassView}
 use Rattle.shared_rule.specs.Rule.{Each, renewed, with_journal}
 use Rattle.shared_rule.specs.Plays.{Agree, by_walk, child_freed_walk, child_locked_walk}
 use Rattle.shared_rule.specs.Plays.{child_read_walk, child_sight, group_freed_walk, head_pass}
-use Rattle.shared_rule.specs.Plays.{locked_walk, looking, looking_anew, marked_walk}
-use Rattle.shared_rule.specs.Plays.{own_marked_box, risen_box}
+use Rattle.shared_rule.specs.Plays.{locked_walk, marked_walk, own_marked_box, risen_box}
 use Rattle.shared_rule.specs.Plays.{own_read_walk, read_walk, reading, scan_sight, stored_box}
-use Rattle.shared_rule.specs.Plays.{swap_box, woken_box, woken_pass}
+use Rattle.shared_rule.specs.Plays.{swap_box, taken_lock, trying, woken_box, woken_pass}
 use Rattle.shared_rule.specs.Turns.{finish_of, finished_box, idled_box, idled_pass, rested_pass}
 use Rattle.shared_rule.specs.Parts.{HasGuest, HeldPart, pass_parted, with_guest, without_guest}
 use Rattle.shared_rule.specs.Passes.{HeldPass, IsPassIn, Seated, passes_of, seated_of}
@@ -27,8 +27,9 @@ use Rattle.shared_cpus.specs.Pairs.{HasOwn, box_by, by_pair, of_box}
 use Rattle.shared_table.specs.Begun.{IsFree}
 use Rattle.shared_table.specs.Ended.{IsPassAt}
 use Rattle.shared_table.specs.Readied.{HasNoneBehind}
-use Rattle.shared_walks.specs.Steps.{group_seen, on_part, state_place, top_seen}
-use Rattle.shared_walks.specs.Walks.{HasReadChild, LockTried, StepOf}
+use Rattle.shared_walks.specs.Steps.{LockTried, group_seen, lock_place, on_part, state_place}
+use Rattle.shared_walks.specs.Steps.{top_seen}
+use Rattle.shared_walks.specs.Walks.{HasReadChild, StepOf}
 use Rattle.shared_rows.specs.Looks.{StaysAt}
 use Rattle.walk_rows.specs.Driven.{DrivenOn, IsDriven}
 use Rattle.walk_rows.specs.Standing.{IsOneOf}
@@ -67,11 +68,13 @@ walked : (g : BoxView → Walk → Option Walk) (old new : HeldPart) → new ≡
     → DrivenOn old new
 walked g = changed (by_walk g) (walks g)
 
-locks : (g : BoxView → Walk → Option Walk) (made : Bool) (old new : HeldPart)
-    → LockTried g made old new → DrivenOn old new
-locks g true old new s = walked g old new s
-locks g false old new s =
-    changed (reading s.found)
+locks : (o : World) (g : BoxView → Walk → Option Walk) (level : ℕ) (made : Bool)
+    (old new : HeldPart) → LockTried o g level made old new → DrivenOn old new
+locks o g level true old new s =
+    changed (taken_lock g)
+    (record { cpus = λ b. refl; insides = λ b. refl; bases = λ b. refl }) old new s
+locks o g level false old new s =
+    changed (trying (lock_place o old.box.cpu level) s.found)
     (record { cpus = λ b. refl; insides = λ b. refl; bases = λ b. refl }) old new s.box
 
 swaps : (made : Bool) (found : ℕ) → Spares (swap_box made found)
@@ -92,8 +95,8 @@ step_driven o k stages.Up true old new s =
     changed (risen_box s.0)
     (record { cpus = λ b. refl; insides = λ b. refl; bases = λ b. refl }) old new s.1
 step_driven o k stages.Up false old new s =
-    changed (λ b. looking (state_place o b.cpu k.level) s.found
-    (looking_anew (state_place o b.cpu k.level) s.looked b))
+    let place = state_place o old.box.cpu k.level in
+    changed (λ b. trying place s.found (trying place s.loaded b))
     (record { cpus = λ b. refl; insides = λ b. refl; bases = λ b. refl }) old new s.box
 step_driven o k (stages.Mark more) made old new s = walked marked_walk old new s.1
 step_driven o k stages.Read made old new s =
@@ -103,9 +106,8 @@ step_driven o k stages.Child made old new s = child_driven k.level old new s.1
 step_driven o k stages.Swap made old new s =
     changed (swap_box s.1.0 s.1.1.0) (swaps s.1.0 s.1.1.0) old new s.1.1.1
 step_driven o k stages.LockChild made old new s =
-    locks child_locked_walk made old new s
-step_driven o k stages.LockGroup made old new s =
-    locks locked_walk made old new s
+    locks o child_locked_walk (k.level - 1) made old new s
+step_driven o k stages.LockGroup made old new s = locks o locked_walk k.level made old new s
 step_driven o k stages.SeeChild made old new s = walked (child_sight s.1.0) old new s.1.1
 step_driven o k stages.SeeGroup made old new s =
     changed (group_seen o k s.1.0)

@@ -8,7 +8,7 @@ use Rattle.core_state.specs.Shown.{as_cpu}
 use Rattle.core_world.specs.World.{World}
 use Rattle.shared_rule.specs.Turns as turns
 use Rattle.shared_rule.specs.Rule.{seat_of}
-use Rattle.shared_rule.specs.Whole.{cpu_at}
+use Rattle.shared_rule.specs.Whole.{cpu_at, no_looks}
 use Rattle.shared_rule.specs.declared.box_part.Guest.{Guest}
 use Rattle.shared_rule.specs.Parts.{HeldPart, Hosts, box_held, guest_room, looked_of}
 use Rattle.shared_rule.proofs.Calls.{asks}
@@ -66,11 +66,11 @@ invariant_of-part g c =
     let same : box_held o part.cpu.0 (record part.status {
       walk =
           c.begun-walk.result;
-    }) part.bases.plain part.leaf part.read [] ≡ turns.carried_box b p =
+    }) part.bases.plain part.leaf part.read no_looks ≡ turns.carried_box b p =
     ap (λ (z : Option Walk). box_held o part.cpu.0 (record part.status {
       walk =
           z;
-    }) part.bases.plain part.leaf part.read [])
+    }) part.bases.plain part.leaf part.read no_looks)
     (c.begun-walk.ensures ∙ ap (λ (z : HeldPart). turns.begun o z.box.cpu z.box.own
     (kinds.Remote c.guest_cpu-by.result) stages.LockGroup) (sym c.part.view_is)
     ∙ ap (λ n. turns.begun o b.cpu b.own (kinds.Remote (as_cpu n)) stages.LockGroup) (sym by)) in
@@ -78,7 +78,7 @@ invariant_of-part g c =
       walk =
           c.begun-walk.result;
     })
-    part.bases.plain part.leaf part.read [] c.count_walk.new.guest m (turns.carried_box)
+    part.bases.plain part.leaf part.read no_looks c.count_walk.new.guest m (turns.carried_box)
     (turns.carried_pass) b p is same
     (c.load.ensures.0 ∙ c.part.invariant.named) c.load.ensures.2.1
     (subst (λ (z : Option Guest). Hosts z (turns.carried_pass b p ∷ [])) (sym c.count_walk.ensures)
@@ -105,11 +105,11 @@ returns g c =
     let same : box_held o part.cpu.0 (record part.status {
       walk =
           c.begun-walk.result;
-    }) part.bases.plain part.leaf part.read [] ≡ turns.carried_box b p =
+    }) part.bases.plain part.leaf part.read no_looks ≡ turns.carried_box b p =
     ap (λ (z : Option Walk). box_held o part.cpu.0 (record part.status {
       walk =
           z;
-    }) part.bases.plain part.leaf part.read [])
+    }) part.bases.plain part.leaf part.read no_looks)
     (c.begun-walk.ensures ∙ ap (λ (z : HeldPart). turns.begun o z.box.cpu z.box.own
     (kinds.Remote c.guest_cpu-by.result) stages.LockGroup) (sym c.part.view_is)
     ∙ ap (λ n. turns.begun o b.cpu b.own (kinds.Remote (as_cpu n)) stages.LockGroup) (sym by)) in
@@ -117,7 +117,7 @@ returns g c =
       walk =
           c.begun-walk.result;
     })
-    part.bases.plain part.leaf part.read [] c.count_walk.new.guest m (turns.carried_box)
+    part.bases.plain part.leaf part.read no_looks c.count_walk.new.guest m (turns.carried_box)
     (turns.carried_pass) b p is same
     part.bases.room (guest_room part.guest) part.seat.me.0.passes
     (ap guest_room c.count_walk.ensures ∙ same_room part.guest) can.brought

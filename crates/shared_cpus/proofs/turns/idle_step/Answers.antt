@@ -9,7 +9,7 @@ use Rattle.core_world.specs.World.{World}
 use Rattle.shared_rule.specs.Plays as plays
 use Rattle.shared_rule.specs.Turns as turns
 use Rattle.shared_rule.specs.Rule.{seat_of}
-use Rattle.shared_rule.specs.Whole.{cpu_at}
+use Rattle.shared_rule.specs.Whole.{cpu_at, no_looks}
 use Rattle.shared_rule.specs.declared.box_part.Guest.{Guest}
 use Rattle.shared_rule.specs.Parts.{HeldPart, Hosts, box_held, guest_room, looked_of}
 use Rattle.shared_rule.proofs.Calls.{asks}
@@ -68,12 +68,12 @@ invariant_of-part g c =
       idle = true;
       walk =
           c.begun-walk.result;
-    }) part.bases.plain part.leaf part.read [] ≡ of_box turns.idled_box b p =
+    }) part.bases.plain part.leaf part.read no_looks ≡ of_box turns.idled_box b p =
     ap (λ (z : Option Walk). box_held o part.cpu.0 (record part.status {
       idle = true;
       walk =
           z;
-    }) part.bases.plain part.leaf part.read [])
+    }) part.bases.plain part.leaf part.read no_looks)
     (c.begun-walk.ensures ∙ ap (λ (z : HeldPart). turns.begun o z.box.cpu z.box.own
     kinds.Deactivate stages.Read) (sym c.part.view_is)) in
     keeps g.N.RunName.table c.store.new.seat.table_id o part.cpu.0 (record part.status {
@@ -81,7 +81,7 @@ invariant_of-part g c =
           true;
       walk = c.begun-walk.result;
     })
-    part.bases.plain part.leaf part.read [] c.count_walk.new.guest m (of_box turns.idled_box)
+    part.bases.plain part.leaf part.read no_looks c.count_walk.new.guest m (of_box turns.idled_box)
     (turns.idled_pass) b p is same
     (c.store.ensures.0 ∙ c.part.invariant.named) c.store.ensures.2.1
     (subst (λ (z : Option Guest). Hosts z (turns.idled_pass b p ∷ [])) (sym c.count_walk.ensures)
@@ -106,12 +106,12 @@ returns g c =
       idle = true;
       walk =
           c.begun-walk.result;
-    }) part.bases.plain part.leaf part.read [] ≡ of_box turns.idled_box b p =
+    }) part.bases.plain part.leaf part.read no_looks ≡ of_box turns.idled_box b p =
     ap (λ (z : Option Walk). box_held o part.cpu.0 (record part.status {
       idle = true;
       walk =
           z;
-    }) part.bases.plain part.leaf part.read [])
+    }) part.bases.plain part.leaf part.read no_looks)
     (c.begun-walk.ensures ∙ ap (λ (z : HeldPart). turns.begun o z.box.cpu z.box.own
     kinds.Deactivate stages.Read) (sym c.part.view_is)) in
     shows g.N.RunName.table c.store.new.seat.table_id o part.cpu.0 (record part.status {
@@ -119,7 +119,7 @@ returns g c =
           true;
       walk = c.begun-walk.result;
     })
-    part.bases.plain part.leaf part.read [] c.count_walk.new.guest m (of_box turns.idled_box)
+    part.bases.plain part.leaf part.read no_looks c.count_walk.new.guest m (of_box turns.idled_box)
     (turns.idled_pass) b p is same
     part.bases.room (guest_room part.guest) part.seat.me.0.passes
     (ap guest_room c.count_walk.ensures ∙ same_room part.guest) can.turn.brought

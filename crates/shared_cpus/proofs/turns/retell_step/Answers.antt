@@ -8,7 +8,7 @@ use Rattle.core_world.specs.World.{World}
 use Rattle.shared_rule.specs.Plays as plays
 use Rattle.shared_rule.specs.Turns as turns
 use Rattle.shared_rule.specs.Rule.{seat_of}
-use Rattle.shared_rule.specs.Whole.{cpu_at}
+use Rattle.shared_rule.specs.Whole.{cpu_at, no_looks}
 use Rattle.shared_rule.specs.declared.box_part.Guest.{Guest}
 use Rattle.shared_rule.specs.Parts.{HeldPart, Hosts, box_held, guest_room, looked_of}
 use Rattle.shared_rule.proofs.Calls.{asks}
@@ -65,18 +65,18 @@ invariant_of-part g c =
     let same : box_held o part.cpu.0 (record part.status {
       walk =
           c.begun-walk.result;
-    }) part.bases.plain part.leaf part.read [] ≡ of_box turns.retold_box b p =
+    }) part.bases.plain part.leaf part.read no_looks ≡ of_box turns.retold_box b p =
     ap (λ (z : Option Walk). box_held o part.cpu.0 (record part.status {
       walk =
           z;
-    }) part.bases.plain part.leaf part.read [])
+    }) part.bases.plain part.leaf part.read no_looks)
     (c.begun-walk.ensures ∙ ap (λ (z : HeldPart). turns.begun o z.box.cpu z.box.own kinds.Reeval
     stages.LockGroup) (sym c.part.view_is)) in
     keeps g.N.RunName.table c.load.new.seat.table_id o part.cpu.0 (record part.status {
       walk =
           c.begun-walk.result;
     })
-    part.bases.plain part.leaf part.read [] c.count_walk.new.guest m (of_box turns.retold_box)
+    part.bases.plain part.leaf part.read no_looks c.count_walk.new.guest m (of_box turns.retold_box)
     (turns.retold_pass) b p is same
     (c.load.ensures.0 ∙ c.part.invariant.named) c.load.ensures.2.1
     (subst (λ (z : Option Guest). Hosts z (turns.retold_pass b p ∷ [])) (sym c.count_walk.ensures)
@@ -100,18 +100,18 @@ returns g c =
     let same : box_held o part.cpu.0 (record part.status {
       walk =
           c.begun-walk.result;
-    }) part.bases.plain part.leaf part.read [] ≡ of_box turns.retold_box b p =
+    }) part.bases.plain part.leaf part.read no_looks ≡ of_box turns.retold_box b p =
     ap (λ (z : Option Walk). box_held o part.cpu.0 (record part.status {
       walk =
           z;
-    }) part.bases.plain part.leaf part.read [])
+    }) part.bases.plain part.leaf part.read no_looks)
     (c.begun-walk.ensures ∙ ap (λ (z : HeldPart). turns.begun o z.box.cpu z.box.own kinds.Reeval
     stages.LockGroup) (sym c.part.view_is)) in
     shows g.N.RunName.table c.load.new.seat.table_id o part.cpu.0 (record part.status {
       walk =
           c.begun-walk.result;
     })
-    part.bases.plain part.leaf part.read [] c.count_walk.new.guest m (of_box turns.retold_box)
+    part.bases.plain part.leaf part.read no_looks c.count_walk.new.guest m (of_box turns.retold_box)
     (turns.retold_pass) b p is same
     part.bases.room (guest_room part.guest) part.seat.me.0.passes
     (ap guest_room c.count_walk.ensures ∙ same_room part.guest) can.turn.brought

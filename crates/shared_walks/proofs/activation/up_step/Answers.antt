@@ -71,9 +71,9 @@ compare_exchange-found-requires g c =
     let old = c.load-old.result in
     let new = c.joined_word-new.result in
     let told = c.load-old.ensures in
-    let seen = plays.looking_anew c.state_place-place.result old b in
+    let seen = plays.trying c.state_place-place.result old b in
     let me : seat.me ≡ seat_of (seen ∷ []) ps
-    = told.2.0.0 ∙ ap (plays.on_box (plays.looking_anew c.state_place-place.result old))
+    = told.2.0.0 ∙ ap (plays.on_box (plays.trying c.state_place-place.result old))
     c.part.invariant.seat in
     asks g.N.RunName.table o table run.words.shared.key.core run.tree run.layout run.fits
     seat.table_id seat.id c.state_place-place.result seat.me seen ps (state_at group)
@@ -108,7 +108,7 @@ returns-then-found-old g c =
     let found = c.compare_exchange-found.result in
     let at = c.state_place-place.result in
     let ne : found ≢ old = c.if-found-old.true in
-    let first : c.load-old.new.seat.me ≡ plays.on_box (plays.looking_anew at old) part.seat.me
+    let first : c.load-old.new.seat.me ≡ plays.on_box (plays.trying at old) part.seat.me
     = c.load-old.ensures.2.0.0 in
     let second : c.compare_exchange-found.new.seat.me
     ≡ plays.on_box (plays.up_box false old at found) c.load-old.new.seat.me
@@ -116,9 +116,9 @@ returns-then-found-old g c =
     ≡ plays.on_box (plays.up_box z old at found) c.load-old.new.seat.me) (ne_eqb _ _ ne)
     c.compare_exchange-found.ensures.2.0 in
     let both : c.compare_exchange-found.new.seat.me
-    ≡ seat_of (plays.looking at found (plays.looking_anew at old b) ∷ []) ps
+    ≡ seat_of (plays.trying at found (plays.trying at old b) ∷ []) ps
     = second ∙ ap (plays.on_box (plays.up_box false old at found))
-    (first ∙ ap (plays.on_box (plays.looking_anew at old)) c.part.invariant.seat) in
+    (first ∙ ap (plays.on_box (plays.trying at old)) c.part.invariant.seat) in
     let shown : Me → HeldPart
     = λ me. record {
       box = box_held o part.cpu.0 part.status part.bases.plain part.leaf part.read
@@ -128,9 +128,9 @@ returns-then-found-old g c =
       receipts_room = guest_room part.guest;
     } in
     let missed : ℕ → BoxView → BoxView
-    = λ n x. plays.looking n found (plays.looking_anew n old x) in
+    = λ n x. plays.trying n found (plays.trying n old x) in
     record {
-      looked = old;
+      loaded = old;
       found = found;
       other = ne;
       box =

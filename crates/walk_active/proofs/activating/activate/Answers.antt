@@ -37,7 +37,7 @@ climb-requires g c =
       climbs = subst (λ (z : HeldPart). Climbs z.box.own.walk) (sym woken)
           (endings.climbs part held g.N.RunName.table own.0 own.1);
       looked = ap (λ (z : HeldPart). z.box.looked) woken
-          ∙ endings.no_looks part held g.N.RunName.table own.0 own.1;
+          ∙ endings.nothing_looked part held g.N.RunName.table own.0 own.1;
     }
 
 pub part_off-requires-clause-brought : goal.part_off-requires-clause-brought

@@ -1,11 +1,12 @@
-use Rattle.std.proofs.Common.{◌≡◌, []}
+use Rattle.std.proofs.Common.{◌≡◌}
+use Rattle.shared_rule.specs.Whole.{no_looks}
 use Rattle.walk_active.specs.Climbing.{Climbs, arrived, steps_left}
 use Rattle.walk_active.proofs.climbing.climb.Given as goal
 
 abbrev pub invariant-loop-walk : goal.invariant-loop-walk
 invariant-loop-walk g l = record {
   climbs : Climbs l.part.box.own.walk;
-  looked : l.part.box.looked ≡ [];
+  looked : l.part.box.looked ≡ no_looks;
   same : arrived l.part ≡ arrived l.fn.part;
 }
 
