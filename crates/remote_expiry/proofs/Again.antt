@@ -153,7 +153,7 @@ module _ (table : TableId) (o : World) (now : ℕ) (now_is : now ≡ o.clock) (h
           piece = piece_of table held after p (armed true) (receipt ∷ []) [] 0 inside.seated
               (subst (λ t. IsPassIn table after (armed t)) (eq-eqb p.cpu part.box.cpu own) seated)
               (ap (λ (z : HeldPass). z.cpu) is) armed_gains;
-          told = refl;
+          told = λ place low. refl;
           arms = (
             receipt,
             refl,
@@ -226,11 +226,14 @@ module _ (table : TableId) (o : World) (now : ℕ) (now_is : now ≡ o.clock) (h
           piece = piece_of table held after p (seen f.found) [] (look f.found ∷ []) 0 inside.seated
               (subst (IsPassIn table after) (same_journal (eqb p.cpu part.box.cpu) f.found) seated)
               (ap (λ (z : HeldPass). z.cpu) is) (seen_gains f.found);
-          told = record {
+          told = λ place low. record {
             there = known;
+            look = look f.found;
+            has = Contains-push [] (look f.found);
             found = f.found;
+            saw = refl;
+            since = low;
             spot = f.spot;
-            saw = Contains-push [] (deeds.Saw (timer_word o i.id) f.found);
             spelled = f.names;
             named = ap (λ (c : CpuId). c.0) (same_Some f.spot.cpu cpu (ap queued_on (sym f.is)));
           };
@@ -260,7 +263,7 @@ module _ (table : TableId) (o : World) (i : Item) (held : HeldPass)
     receipts = [];
     did = [];
     piece = no_piece table held inside.pass inside.seated;
-    told = refl;
+    told = λ place low. refl;
     arms = refl;
   }
 
@@ -269,6 +272,6 @@ module _ (table : TableId) (o : World) (i : Item) (held : HeldPass)
     receipts = [];
     did = [];
     piece = no_piece table held inside.pass inside.seated;
-    told = refl;
+    told = λ place low. refl;
     arms = refl;
   }

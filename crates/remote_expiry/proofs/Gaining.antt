@@ -122,20 +122,20 @@ same_pass table held p q is it =
     (sym is ∙ it))
 
 -- A PIECE of which this is the pass before and after
-pub piece_of : (table : TableId) (held after : HeldPass) (p q : PassView)
+abbrev pub piece_of : (table : TableId) (held after : HeldPass) (p q : PassView)
     (receipts : List Receipt) (did : List Did) (walks : ℕ) → IsPassIn table held p
     → IsPassIn table after q → after.cpu ≡ held.cpu → Gains p q receipts did walks
     → Piece table held after receipts did walks
 piece_of table held after p q receipts did walks is later cpu gains =
     record { before = p; later = q; had = is; has = later; cpu = cpu; gains = gains }
 
-pub no_piece : (table : TableId) (held : HeldPass) (p : PassView) → IsPassIn table held p
+abbrev pub no_piece : (table : TableId) (held : HeldPass) (p : PassView) → IsPassIn table held p
     → Piece table held held [] [] 0
 no_piece table held p is =
     piece_of table held held p p [] [] 0 is is refl (none_gained p p.journal (begins p.journal))
 
 -- PIECES one behind the other are one
-pub piece_then : (table : TableId) (held mid after : HeldPass) (receipts more : List Receipt)
+abbrev pub piece_then : (table : TableId) (held mid after : HeldPass) (receipts more : List Receipt)
     (did later : List Did) (walks others : ℕ) → Piece table held mid receipts did walks
     → Piece table mid after more later others
     → Piece table held after (receipts ++ more) (did ++ later) (walks + others)
@@ -152,6 +152,16 @@ piece_then table held mid after receipts more did later walks others first next 
           first.gains
           (subst (λ (x : PassView). Gains x next.later more later others) same next.gains);
     }
+
+-- and before the second one the pass has the receipts of the first one more
+pub receipts_then : (table : TableId) (held mid after : HeldPass) (receipts more : List Receipt)
+    (did later : List Did) (walks others : ℕ) (first : Piece table held mid receipts did walks)
+    (next : Piece table mid after more later others)
+    → length next.before.receipts ≡ length first.before.receipts + length receipts
+receipts_then table held mid after receipts more did later walks others first next =
+    let same = same_pass table mid next.before first.later next.had first.has in
+    ap (λ (x : PassView). length x.receipts) same
+    ∙ (ap length first.gains.receipts_are ∙ length-append first.before.receipts receipts)
 
 -- the pass after a piece is inside as it was
 pub still_inside : (table : TableId) (o : World) (held after : HeldPass)

@@ -1,7 +1,7 @@
 -- an interrupt from its beginning to its end
 use Rattle.std.proofs.Common.{◌≡◌, ◌⊎◌, ⊎_elim, inl, inr, ℕ, ◌+◌, ◌^◌, ◌<◌, ◌≤◌, Bool, true, false}
 use Rattle.std.proofs.Common.{List, [], Some, None, Result, Ok, Err, refl, sym, ap}
-use Rattle.std.proofs.Common.{◌∙◌, subst, length, arith}
+use Rattle.std.proofs.Common.{◌∙◌, subst, subst₂, append-nil, length, arith}
 use Rattle.std.specs.Prelude.{MatchResult, nat_le, if◌then◌else◌}
 use Rattle.std.proofs.lemmas.Bool.Decides.{nat_tests}
 use Rattle.std.proofs.lemmas.Option.{none-some, same_Some}
@@ -154,6 +154,16 @@ module _ (table : TableId) (o : World) (held inside mid after : HeldPass)
             let c = at_most_one closed.before.idle in omega (arith, a, b, c, few));
       }
 
+-- a CPU enters with the receipts that it has
+entered_with : (table : TableId) (o : World) (held inside mid : HeldPass)
+    (entered : HasEntered table o held inside) (receipts : List Receipt) (did : List Did)
+    (walks : ℕ) (piece : Piece table inside mid receipts did walks)
+    → length piece.before.receipts ≡ length entered.before.receipts
+entered_with table o held inside mid entered receipts did walks piece =
+    let same = gaining.same_pass table inside piece.before entered.later piece.had entered.has in
+    ap (λ (x : PassView). length x.receipts) same
+    ∙ ap length (entered.gains.receipts_are ∙ append-nil entered.before.receipts)
+
 -- OK
 pub interrupted : (table : TableId) (o : World) (jobs : ℕ → JobCall → JobReply)
     (held inside mid after : HeldPass) (first last : List Ran) → IsEnterable table o held
@@ -182,8 +192,9 @@ interrupted table o jobs held inside mid after first last may entered own worked
           drained = λ class.
               subst (λ n. HasTicked n class worked.receipts) cpu (worked.drained class);
           follows =
-              subst (λ n. Follows o jobs n (deeds_of worked.did) worked.receipts [] worked.works.told)
-              cpu worked.works.follows;
+              subst₂ (λ n k. Follows o jobs n worked.did k worked.receipts [] worked.works.told) cpu
+              (entered_with table o held inside mid entered worked.receipts worked.did worked.walks
+              worked.works.piece) worked.works.follows;
           looked =
               subst (λ n. LooksFrom o n worked.receipts (level_count_of o.tree) 0
               (deeds_of worked.did)) cpu worked.looked;

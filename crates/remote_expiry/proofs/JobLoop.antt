@@ -1,10 +1,10 @@
 -- the jobs of timers that went out, one after the other
-use Rattle.std.proofs.Common.{◌≡◌, ℕ, List, [], ◌∷◌, ◌++◌, Contains, refl, sym, ap, ◌∙◌}
+use Rattle.std.proofs.Common.{◌≡◌, ℕ, List, [], ◌∷◌, ◌++◌, refl, sym, ap, ◌∙◌}
 use Rattle.std.proofs.Common.{subst, append-nil, append_assoc, Result, Ok, Err, ◌≤◌}
 use Rattle.std.proofs.Common.{length, length-append, length-take-le, arith, take, ◌+◌, ◌<◌}
 use Rattle.std.specs.Prelude.{MatchResult, OnOk}
 use Rattle.std.specs.Result.{result_and}
-use Rattle.std.proofs.lemmas.List.{length_push, map-append}
+use Rattle.std.proofs.lemmas.List.{length_push}
 use Rattle.std.proofs.lemmas.List.Elements.{Contains-append_left, Contains-append_right}
 use Rattle.atomic_table.specs.Seated.{TableId}
 use Rattle.tm_base.specs.declared.faults.NoMemory.{NoMemory}
@@ -19,13 +19,29 @@ use Rattle.shared_rule.specs.Passes.{HeldPass, IsPassIn}
 use Rattle.remote_expiry.specs.declared.runs.Ran.{Ran}
 use Rattle.remote_expiry.specs.Following.{Follows}
 use Rattle.remote_expiry.specs.Pieces.{Piece, RanAll, RanSome}
-use Rattle.remote_expiry.specs.Pieces.{deeds_of}
-use Rattle.remote_expiry.specs.Running.{Arms, HasRun, HasToldNone, HasToldRun, IsRan}
+use Rattle.remote_expiry.specs.Running.{Arms, HasAnswered, HasRun, HasToldNone, HasToldRun}
+use Rattle.remote_expiry.specs.Running.{IsOf, IsRan}
 use Rattle.remote_expiry.specs.Running.{call_to}
-use Rattle.remote_expiry.proofs.Follow.{Wider, told_wider}
-use Rattle.remote_expiry.proofs.Gaining.{no_piece, piece_then}
+use Rattle.remote_expiry.proofs.Follow.{told_wider}
+use Rattle.remote_expiry.proofs.Gaining.{no_piece, piece_then, receipts_then}
 use Rattle.remote_expiry.proofs.Running.{AllOf, SomeOf, all_more, all_run, all_wider, some_more}
 use Rattle.remote_expiry.proofs.Running.{some_run, some_skip}
+
+-- A JOB whose reply was done was run
+pub was_run : (table : TableId) (o : World) (jobs : ℕ → JobCall → JobReply) (home : ℕ) (i : Item)
+    (held after : HeldPass) (job : JobReply) (x : Ran)
+    → job ≡ jobs i.job (call_to o.clock held.cpu i) → IsOf home i x
+    → HasAnswered table o i job held after x.reply
+    → HasRun table o jobs home i held after x
+was_run table o jobs home i held after job x same is answered =
+    let a = subst (λ (j : JobReply). HasAnswered table o i j held after x.reply) same answered in
+    record {
+      receipts = a.receipts;
+      did = a.did;
+      piece = a.piece;
+      is = record { is = is; told = a.told };
+      arms = a.arms;
+    }
 
 -- THE JOBS SO FAR, of these timers: what the pass gained, and what is told
 pub record RunsSoFar (table : TableId) (o : World) (jobs : ℕ → JobCall → JobReply) (home : ℕ)
@@ -37,7 +53,8 @@ pub record RunsSoFar (table : TableId) (o : World) (jobs : ℕ → JobCall → J
   pub piece : Piece table held now receipts did 0
   pub runs_are : runs ≡ before ++ told
   pub some : SomeOf home items told
-  pub all : OnOk ended (AllOf o jobs home held.cpu (deeds_of did) items told receipts)
+  pub all : OnOk ended
+      (AllOf o jobs home held.cpu (length piece.before.receipts) did items told receipts)
   pub few : length told ≤ length items
 
 module _ (table : TableId) (o : World) (jobs : ℕ → JobCall → JobReply) (home : ℕ)
@@ -60,42 +77,34 @@ module _ (table : TableId) (o : World) (jobs : ℕ → JobCall → JobReply) (ho
   module _ (items : List Item) (i : Item) (now next : HeldPass) (runs : List Ran)
       (ended : Result Unit NoMemory)
       (h : RunsSoFar table o jobs home items held now before runs ended) where
-    -- the deeds of both
-    deeds_more : (later : List Did) → deeds_of (h.did ++ later) ≡ deeds_of h.did ++ deeds_of later
-    deeds_more later = map-append (λ (x : Did). x.deed) h.did later
-
-    wider_left : (later : List Did) → Wider (deeds_of h.did) (deeds_of (h.did ++ later))
-    wider_left later d has =
-        subst (λ ds. Contains ds d) (sym (deeds_more later))
-        (Contains-append_left (deeds_of h.did) (deeds_of later) d has)
-
-    wider_right : (later : List Did) → Wider (deeds_of later) (deeds_of (h.did ++ later))
-    wider_right later d has =
-        subst (λ ds. Contains ds d) (sym (deeds_more later))
-        (Contains-append_right (deeds_of h.did) (deeds_of later) d has)
+    -- how many receipts there were before the jobs
+    abbrev first : ℕ
+    first = length h.piece.before.receipts
 
     -- one more that is told, after an answer so far
     all_told : (ended : Result Unit NoMemory) (x : Ran) (r : HasRun table o jobs home i now next x)
-        → OnOk ended (AllOf o jobs home held.cpu (deeds_of h.did) items h.told h.receipts)
-        → OnOk ended (AllOf o jobs home held.cpu (deeds_of (h.did ++ r.did)) (items ++ i ∷ [])
+        → OnOk ended (AllOf o jobs home held.cpu first h.did items h.told h.receipts)
+        → OnOk ended (AllOf o jobs home held.cpu first (h.did ++ r.did) (items ++ i ∷ [])
         (h.told ++ x ∷ []) (h.receipts ++ r.receipts))
     all_told (Err e) x r was = tt
     all_told (Ok done) x r was =
-        let wide = deeds_of (h.did ++ r.did) in
-        let is : IsRan o jobs home held.cpu (deeds_of r.did) i x =
-        subst (λ n. IsRan o jobs home n (deeds_of r.did) i x) h.piece.cpu r.is in
+        let wide = h.did ++ r.did in
+        let count = length r.piece.before.receipts in
+        let is : IsRan o jobs home held.cpu count r.did i x =
+        subst (λ n. IsRan o jobs home n count r.did i x) h.piece.cpu r.is in
         let arms =
         subst (λ n. Arms o.clock n i (jobs i.job (call_to o.clock n i)) x.reply r.receipts)
         h.piece.cpu r.arms in
-        all_more o jobs home held.cpu wide items i h.told x h.receipts r.receipts
-        (all_wider o jobs home held.cpu (deeds_of h.did) wide items h.told h.receipts
-        (wider_left r.did) was)
+        let grown : count ≡ first + length h.receipts =
+        receipts_then table held now next h.receipts r.receipts h.did r.did 0 0 h.piece r.piece in
+        all_more o jobs home held.cpu first wide items i h.told x h.receipts r.receipts
+        (all_wider o jobs home held.cpu first h.did wide items h.told h.receipts
+        (Contains-append_left h.did r.did) was)
         (record {
           is = is.is;
-          told =
-              told_wider o i.id (deeds_of r.did) wide (jobs i.job (call_to o.clock held.cpu i))
-              x.reply
-              (wider_right r.did) is.told;
+          told = λ place low.
+              told_wider o i.id place r.did wide (jobs i.job (call_to o.clock held.cpu i)) x.reply
+              (Contains-append_right h.did r.did) (is.told place (omega (arith, low, grown)));
         })
         arms
 
@@ -183,10 +192,9 @@ module _ (table : TableId) (o : World) (jobs : ℕ → JobCall → JobReply) (ho
     told = h.told;
     piece = h.piece;
     runs_are = h.runs_are;
-    follows = λ class outs hands.
-        all_run o jobs home held.cpu class (deeds_of h.did) items outs [] h.receipts h.told []
-        hands h.all
-        refl;
+    follows = λ class outs place last hands.
+        all_run o jobs home held.cpu class (length h.piece.before.receipts) h.did place items outs []
+        h.receipts h.told [] (omega (arith, last)) hands h.all refl;
   }
   all_runs items after runs (Err e) h = record {
     receipts = h.receipts;

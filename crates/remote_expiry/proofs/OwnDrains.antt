@@ -20,8 +20,8 @@ use Rattle.remote_expiry.specs.declared.runs.Ran.{Ran}
 use Rattle.remote_expiry.specs.Following.{Follows, RunsOfSome}
 use Rattle.remote_expiry.specs.Handing.{HasHanded}
 use Rattle.remote_expiry.specs.Pieces.{Breaks, HandsOut, HasDrained, HeldInside, IsTick, IsTimerOf}
-use Rattle.remote_expiry.specs.Pieces.{Piece, RanAll, RanSome, deeds_of}
-use Rattle.remote_expiry.proofs.Gaining.{no_piece, piece_then, same_pass}
+use Rattle.remote_expiry.specs.Pieces.{Piece, RanAll, RanSome}
+use Rattle.remote_expiry.proofs.Gaining.{no_piece, piece_then, receipts_then, same_pass}
 
 -- a pass inside may run the timers of its own CPU's part
 pub may_run_own : (table : TableId) (o : World) (held after : HeldPass) (b : BoxView)
@@ -127,8 +127,11 @@ module _ (table : TableId) (o : World) (jobs : ℕ → JobCall → JobReply) (cl
               ran.piece;
           runs_are = ran.runs_are;
           follows =
-              subst (λ n. Follows o jobs n (deeds_of ran.did) (out.receipts ++ ran.receipts) []
-              ran.told) same (ran.follows class out.receipts hands);
+              subst (λ n. Follows o jobs n ran.did (length out.piece.before.receipts)
+              (out.receipts ++ ran.receipts) [] ran.told) same
+              (ran.follows class out.receipts (length out.piece.before.receipts)
+              (sym (receipts_then table held mid after out.receipts ran.receipts [] ran.did 0 0
+              out.piece ran.piece)) hands);
         };
         ticked = record {
           receipt = t.0;

@@ -1,5 +1,6 @@
 -- the jobs of timers that went out of a CPU's base: what is told and written of them, item by item
 use Rattle.std.proofs.Common.{◌≡◌, ◌⊎◌, ℕ, List, [], ◌∷◌, ◌++◌, refl, sym, ap, ◌∙◌}
+use Rattle.std.proofs.Common.{suc, ◌+◌, ◌≤◌, ◌<◌, arith, length}
 use Rattle.std.proofs.Common.{subst, inl, inr, append-nil, append_assoc}
 use Rattle.std.specs.Prelude.{⊤}
 use Rattle.tm_base.specs.declared.names.Class.{Class}
@@ -11,7 +12,7 @@ use Rattle.core_state.specs.Shown.{as_cpu}
 use Rattle.job_table.specs.declared.jobs.JobCall.{JobCall}
 use Rattle.job_table.specs.declared.jobs.JobReply.{JobReply}
 use Rattle.job_table.specs.declared.jobs.JobReply.TheVariants as replies
-use Rattle.shared_rule.specs.declared.parts.Deed.{Deed}
+use Rattle.shared_rule.specs.declared.parts.Did.{Did}
 use Rattle.shared_rule.specs.declared.parts.Receipt.{Receipt}
 use Rattle.remote_expiry.specs.declared.runs.Ran.{Ran}
 use Rattle.remote_expiry.specs.declared.runs.RanReply.{RanReply}
@@ -54,16 +55,17 @@ some_more home (j ∷ is) i [] x h new = inr (some_all home is i x new)
 some_more home (j ∷ is) i (y ∷ ys) x (inl h) new = inl (h.0, some_more home is i ys x h.1 new)
 some_more home (j ∷ is) i (y ∷ ys) x (inr h) new = inr (some_more home is i (y ∷ ys) x h new)
 
--- ALL of these timers are told, in their order, and written is what their jobs asked for
-unfoldable pub AllOf : World → (ℕ → JobCall → JobReply) → (home runner : ℕ) → List Deed
+-- ALL of these timers are told, in their order, after hand-outs whose receipts are of the first so
+-- many, and written is what their jobs asked for
+unfoldable pub AllOf : World → (ℕ → JobCall → JobReply) → (home runner count : ℕ) → List Did
     → List Item → List Ran → List Receipt → Type 0
-AllOf o jobs home runner seen [] told rs = (told ≡ []) × (rs ≡ [])
-AllOf o jobs home runner seen (i ∷ is) [] rs = ⊥
-AllOf o jobs home runner seen (i ∷ is) (x ∷ xs) rs =
+AllOf o jobs home runner count seen [] told rs = (told ≡ []) × (rs ≡ [])
+AllOf o jobs home runner count seen (i ∷ is) [] rs = ⊥
+AllOf o jobs home runner count seen (i ∷ is) (x ∷ xs) rs =
     (mine : List Receipt) × (later : List Receipt) × (rs ≡ mine ++ later)
-    × IsRan o jobs home runner seen i x
+    × IsRan o jobs home runner count seen i x
     × Arms o.clock runner i (jobs i.job (call_to o.clock runner i)) x.reply mine
-    × AllOf o jobs home runner seen is xs later
+    × AllOf o jobs home runner count seen is xs later
 
 module _ (o : World) (jobs : ℕ → JobCall → JobReply) (home runner : ℕ) where
   -- what a job replied
@@ -71,42 +73,44 @@ module _ (o : World) (jobs : ℕ → JobCall → JobReply) (home runner : ℕ) w
   said i = jobs i.job (call_to o.clock runner i)
 
   -- one more
-  pub all_more : (seen : List Deed) (is : List Item) (i : Item) (told : List Ran) (x : Ran)
-      (rs mine : List Receipt) → AllOf o jobs home runner seen is told rs
-      → IsRan o jobs home runner seen i x → Arms o.clock runner i (said i) x.reply mine
-      → AllOf o jobs home runner seen (is ++ i ∷ []) (told ++ x ∷ []) (rs ++ mine)
+  pub all_more : (count : ℕ) (seen : List Did) (is : List Item) (i : Item) (told : List Ran)
+      (x : Ran) (rs mine : List Receipt) → AllOf o jobs home runner count seen is told rs
+      → IsRan o jobs home runner count seen i x → Arms o.clock runner i (said i) x.reply mine
+      → AllOf o jobs home runner count seen (is ++ i ∷ []) (told ++ x ∷ []) (rs ++ mine)
   unfolding AllOf
-  all_more seen [] i told x rs mine h new arms =
-      subst (λ xs. AllOf o jobs home runner seen (i ∷ []) (xs ++ x ∷ []) (rs ++ mine)) (sym h.0)
-      (subst (λ ys. AllOf o jobs home runner seen (i ∷ []) (x ∷ []) (ys ++ mine)) (sym h.1)
+  all_more count seen [] i told x rs mine h new arms =
+      subst (λ xs. AllOf o jobs home runner count seen (i ∷ []) (xs ++ x ∷ []) (rs ++ mine))
+      (sym h.0)
+      (subst (λ ys. AllOf o jobs home runner count seen (i ∷ []) (x ∷ []) (ys ++ mine)) (sym h.1)
       (mine, [], sym (append-nil mine), new, arms, (refl, refl)))
-  all_more seen (j ∷ is) i [] x rs mine h new arms = absurd h
-  all_more seen (j ∷ is) i (y ∷ ys) x rs mine h new arms = (
+  all_more count seen (j ∷ is) i [] x rs mine h new arms = absurd h
+  all_more count seen (j ∷ is) i (y ∷ ys) x rs mine h new arms = (
     h.0,
     h.1 ++ mine,
     ap (λ (zs : List Receipt). zs ++ mine) h.2 ∙ append_assoc h.0 h.1 mine,
     h.3,
     h.4,
-    all_more seen is i ys x h.1 mine h.5 new arms,
+    all_more count seen is i ys x h.1 mine h.5 new arms,
   )
 
   -- where more was seen
-  pub all_wider : (seen wider : List Deed) (is : List Item) (told : List Ran)
-      (rs : List Receipt) → Wider seen wider → AllOf o jobs home runner seen is told rs
-      → AllOf o jobs home runner wider is told rs
+  pub all_wider : (count : ℕ) (seen wider : List Did) (is : List Item) (told : List Ran)
+      (rs : List Receipt) → Wider seen wider → AllOf o jobs home runner count seen is told rs
+      → AllOf o jobs home runner count wider is told rs
   unfolding AllOf
-  all_wider seen wider [] told rs w h = h
-  all_wider seen wider (j ∷ is) [] rs w h = absurd h
-  all_wider seen wider (j ∷ is) (y ∷ ys) rs w h = (
+  all_wider count seen wider [] told rs w h = h
+  all_wider count seen wider (j ∷ is) [] rs w h = absurd h
+  all_wider count seen wider (j ∷ is) (y ∷ ys) rs w h = (
     h.0,
     h.1,
     h.2,
     record {
       is = h.3.is;
-      told = told_wider o j.id seen wider (said j) y.reply w h.3.told;
+      told = λ place low.
+          told_wider o j.id place seen wider (said j) y.reply w (h.3.told place low);
     },
     h.4,
-    all_wider seen wider is ys h.1 w h.5,
+    all_wider count seen wider is ys h.1 w h.5,
   )
 
   -- the receipt of a hand-out, and the item
@@ -187,48 +191,55 @@ module _ (o : World) (jobs : ℕ → JobCall → JobReply) (home runner : ℕ) w
   paid_by class i r (replies.Again c delay) (ran.Skip cpu) mine out arms = arms
 
   -- the armings come in the order in which they are owed
-  paid_up : (seen : List Deed) (owed : List Owed) (rs : List Receipt) → ArePaid owed rs
-      → Follows o jobs runner seen rs owed []
+  paid_up : (seen : List Did) (place : ℕ) (owed : List Owed) (rs : List Receipt)
+      → ArePaid owed rs → Follows o jobs runner seen place rs owed []
   unfolding Follows
-  paid_up seen [] rs h =
-      subst (λ x. Follows o jobs runner seen x [] []) (sym h) (refl, refl)
-  paid_up seen (x ∷ owed) [] h = absurd h
-  paid_up seen (x ∷ owed) (r ∷ rs) h =
-      subst (λ (act : Act). FollowsBy o jobs runner seen act r (Follows o jobs runner seen rs)
-      (x ∷ owed) []) (sym h.0.0) (h.0.1, paid_up seen owed rs h.1)
+  paid_up seen place [] rs h =
+      subst (λ x. Follows o jobs runner seen place x [] []) (sym h) (refl, refl)
+  paid_up seen place (x ∷ owed) [] h = absurd h
+  paid_up seen place (x ∷ owed) (r ∷ rs) h =
+      subst (λ (act : Act). FollowsBy o jobs runner seen place act r
+      (Follows o jobs runner seen (suc place) rs) (x ∷ owed) []) (sym h.0.0)
+      (h.0.1, paid_up seen (suc place) owed rs h.1)
 
-  -- ALL RUN: behind the hand-outs and the tick come the armings
-  pub all_run : (class : Class) (seen : List Deed) (is : List Item) (outs pre rs : List Receipt)
-      (told : List Ran) (owed : List Owed) → HandsOut home runner class is outs
-      → AllOf o jobs home runner seen is told rs → ArePaid owed pre
-      → Follows o jobs runner seen (outs ++ (pre ++ rs)) owed told
+  -- ALL RUN: behind the hand-outs, from this place on, and the tick come the armings
+  pub all_run : (class : Class) (count : ℕ) (seen : List Did) (place : ℕ) (is : List Item)
+      (outs pre rs : List Receipt) (told : List Ran) (owed : List Owed)
+      → place + length outs ≤ count → HandsOut home runner class is outs
+      → AllOf o jobs home runner count seen is told rs → ArePaid owed pre
+      → Follows o jobs runner seen place (outs ++ (pre ++ rs)) owed told
   unfolding HandsOut AllOf Follows
-  all_run class seen [] outs pre rs told owed hands h paid =
+  all_run class count seen place [] outs pre rs told owed low hands h paid =
       let tick = hands.0 in
-      let armings : Follows o jobs runner seen (pre ++ rs) owed told =
-      subst (λ x. Follows o jobs runner seen (pre ++ x) owed told) (sym h.1)
-      (subst (λ x. Follows o jobs runner seen x owed told) (sym (append-nil pre))
-      (subst (Follows o jobs runner seen pre owed) (sym h.0) (paid_up seen owed pre paid))) in
-      subst (λ x. Follows o jobs runner seen (x ++ (pre ++ rs)) owed told) (sym hands.1)
-      (subst (λ (act : Act). FollowsBy o jobs runner seen act tick
-      (Follows o jobs runner seen (pre ++ rs)) owed told) (sym hands.2.act) armings)
-  all_run class seen (i ∷ is) [] pre rs told owed hands h paid = absurd hands
-  all_run class seen (i ∷ is) (r ∷ outs) pre rs [] owed hands h paid = absurd h
-  all_run class seen (i ∷ is) (r ∷ outs) pre rs (x ∷ xs) owed hands h paid =
+      let armings : Follows o jobs runner seen (suc place) (pre ++ rs) owed told =
+      subst (λ x. Follows o jobs runner seen (suc place) (pre ++ x) owed told) (sym h.1)
+      (subst (λ x. Follows o jobs runner seen (suc place) x owed told) (sym (append-nil pre))
+      (subst (Follows o jobs runner seen (suc place) pre owed) (sym h.0)
+      (paid_up seen (suc place) owed pre paid))) in
+      subst (λ x. Follows o jobs runner seen place (x ++ (pre ++ rs)) owed told) (sym hands.1)
+      (subst (λ (act : Act). FollowsBy o jobs runner seen place act tick
+      (Follows o jobs runner seen (suc place) (pre ++ rs)) owed told) (sym hands.2.act) armings)
+  all_run class count seen place (i ∷ is) [] pre rs told owed low hands h paid = absurd hands
+  all_run class count seen place (i ∷ is) (r ∷ outs) pre rs [] owed low hands h paid = absurd h
+  all_run class count seen place (i ∷ is) (r ∷ outs) pre rs (x ∷ xs) owed low hands h paid =
       let reply = jobs r.entry.job (call_of o.clock runner r.entry) in
       let same : reply ≡ said i = same_call class i r hands.0 in
       let more = owed_by reply x.reply r.entry in
-      let told : IsTold o r.entry.timer.0 seen reply x.reply =
-      subst (λ n. IsTold o n seen reply x.reply) (sym hands.0.timer)
-      (subst (λ (y : JobReply). IsTold o i.id seen y x.reply) (sym same) h.3.told) in
+      let has : place < count = omega (arith, low) in
+      let next : suc place + length outs ≤ count = omega (arith, low) in
+      let told : IsTold o r.entry.timer.0 place seen reply x.reply =
+      subst (λ n. IsTold o n place seen reply x.reply) (sym hands.0.timer)
+      (subst (λ (y : JobReply). IsTold o i.id place seen y x.reply) (sym same)
+      (h.3.told place has)) in
       let arms : ArePaid more h.0 =
       paid_by class i r reply x.reply h.0 hands.0
       (subst (λ (y : JobReply). Arms o.clock runner i y x.reply h.0) (sym same) h.4) in
-      let rest : Follows o jobs runner seen (outs ++ (pre ++ rs)) (owed ++ more) xs =
-      subst (λ (y : List Receipt). Follows o jobs runner seen (outs ++ y) (owed ++ more) xs)
+      let rest : Follows o jobs runner seen (suc place) (outs ++ (pre ++ rs)) (owed ++ more) xs =
+      subst (λ (y : List Receipt). Follows o jobs runner seen (suc place) (outs ++ y)
+      (owed ++ more) xs)
       (append_assoc pre h.0 h.1 ∙ ap (λ (y : List Receipt). pre ++ y) (sym h.2))
-      (all_run class seen is outs (pre ++ h.0) h.1 xs (owed ++ more) hands.1 h.5
-      (paid_more owed more pre h.0 paid arms)) in
-      subst (λ (act : Act). FollowsBy o jobs runner seen act r
-      (Follows o jobs runner seen (outs ++ (pre ++ rs))) owed (x ∷ xs)) (sym hands.0.act)
-      (run_of class i r x hands.0 h.3.is, told, rest)
+      (all_run class count seen (suc place) is outs (pre ++ h.0) h.1 xs (owed ++ more) next
+      hands.1 h.5 (paid_more owed more pre h.0 paid arms)) in
+      subst (λ (act : Act). FollowsBy o jobs runner seen place act r
+      (Follows o jobs runner seen (suc place) (outs ++ (pre ++ rs))) owed (x ∷ xs))
+      (sym hands.0.act) (run_of class i r x hands.0 h.3.is, told, rest)

@@ -1,7 +1,7 @@
 -- a try of a CPU, from its mark to its end, and tries and other work one behind the other
 use Rattle.std.proofs.Common.{◌≡◌, inl, inr, ℕ, ◌+◌, ◌^◌, ◌<◌, ◌≤◌}
 use Rattle.std.proofs.Common.{List, [], ◌∷◌, ◌++◌, Result, Ok, Err, Contains, refl, sym, ap, ◌∙◌}
-use Rattle.std.proofs.Common.{subst, arith}
+use Rattle.std.proofs.Common.{subst, subst₂, suc, arith, length-append}
 use Rattle.std.proofs.Common.{Bool, true, false, length}
 use Rattle.std.specs.Prelude.{MatchResult, not}
 use Rattle.std.proofs.lemmas.List.{append-nil, append_assoc, map-append}
@@ -32,25 +32,13 @@ use Rattle.remote_expiry.specs.Pieces.{RanAll, RanSome, Works, deeds_of}
 use Rattle.remote_expiry.specs.Trying.{AtWork, BreaksOff, HasLeft, HasLetGo, HasTaken, HasTried}
 use Rattle.remote_expiry.specs.Trying.{TakesOrLeaves}
 use Rattle.remote_expiry.specs.Trying.{with_marks}
-use Rattle.remote_expiry.proofs.Follow.{follow, follow_wider}
+use Rattle.remote_expiry.proofs.Follow.{Wider, follow, follow_wider}
 use Rattle.remote_expiry.proofs.Gaining as gaining
 use Rattle.remote_expiry.proofs.Trials.{gains_with}
 
 -- the deeds of two lists
 pub deeds_behind : (did later : List Did) → deeds_of (did ++ later) ≡ deeds_of did ++ deeds_of later
 deeds_behind did later = map-append (λ (x : Did). x.deed) did later
-
-pub behind : (did later : List Did) (x : Deed) → Contains (deeds_of did) x
-    → Contains (deeds_of (did ++ later)) x
-behind did later x has =
-    subst (λ l. Contains l x) (sym (deeds_behind did later))
-    (Contains-append_left (deeds_of did) (deeds_of later) x has)
-
-pub before : (did later : List Did) (x : Deed) → Contains (deeds_of later) x
-    → Contains (deeds_of (did ++ later)) x
-before did later x has =
-    subst (λ l. Contains l x) (sym (deeds_behind did later))
-    (Contains-append_right (deeds_of did) (deeds_of later) x has)
 
 -- AT WORK after a piece
 pub still_at_work : (table : TableId) (o : World) (marks : List ℕ) (left more : ℕ)
@@ -101,13 +89,13 @@ unfolding RunsOfSome
 some_more r rs [] h = tt
 some_more r rs (x ∷ xs) h = inr h
 
-out_some : (o : World) (jobs : ℕ → JobCall → JobReply) (runner : ℕ) (seen : List Deed)
-    (r : Receipt) (rs : List Receipt) (rest : List Owed → List Ran → Type 0) (owed : List Owed)
+out_some : (o : World) (jobs : ℕ → JobCall → JobReply) (runner : ℕ) (seen : List Did)
+    (place : ℕ) (r : Receipt) (rs : List Receipt) (rest : List Owed → List Ran → Type 0) (owed : List Owed)
     (runs behind : List Ran) → r.entry.act ≡ Handed → Adds rest rs behind
-    → FollowsOut o jobs runner seen r rest owed runs → RunsOfSome (r ∷ rs) (runs ++ behind)
+    → FollowsOut o jobs runner seen place r rest owed runs → RunsOfSome (r ∷ rs) (runs ++ behind)
 unfolding RunsOfSome
-out_some o jobs runner seen r rs rest owed [] behind is on h = absurd h
-out_some o jobs runner seen r rs rest owed (x ∷ xs) behind is on h =
+out_some o jobs runner seen place r rs rest owed [] behind is on h = absurd h
+out_some o jobs runner seen place r rs rest owed (x ∷ xs) behind is on h =
     inl (is, h.0, on _ xs h.2)
 
 armed_some : (now runner : ℕ) (r : Receipt) (rs : List Receipt)
@@ -118,30 +106,32 @@ armed_some now runner r rs rest [] runs behind on h = absurd h
 armed_some now runner r rs rest (x ∷ owed) runs behind on h =
     some_more r rs (runs ++ behind) (on owed runs h.1)
 
-act_some : (o : World) (jobs : ℕ → JobCall → JobReply) (runner : ℕ) (seen : List Deed)
-    (act : Act) (r : Receipt) (rs : List Receipt) (rest : List Owed → List Ran → Type 0)
+act_some : (o : World) (jobs : ℕ → JobCall → JobReply) (runner : ℕ) (seen : List Did)
+    (place : ℕ) (act : Act) (r : Receipt) (rs : List Receipt) (rest : List Owed → List Ran → Type 0)
     (owed : List Owed) (runs behind : List Ran) → r.entry.act ≡ act → Adds rest rs behind
-    → FollowsBy o jobs runner seen act r rest owed runs → RunsOfSome (r ∷ rs) (runs ++ behind)
-act_some o jobs runner seen Armed r rs rest owed runs behind is on h =
+    → FollowsBy o jobs runner seen place act r rest owed runs
+    → RunsOfSome (r ∷ rs) (runs ++ behind)
+act_some o jobs runner seen place Armed r rs rest owed runs behind is on h =
     armed_some o.clock runner r rs rest owed runs behind on h
-act_some o jobs runner seen Handed r rs rest owed runs behind is on h =
-    out_some o jobs runner seen r rs rest owed runs behind is on h
-act_some o jobs runner seen Cancelled r rs rest owed runs behind is on h = absurd h
-act_some o jobs runner seen MovedOut r rs rest owed runs behind is on h = absurd h
-act_some o jobs runner seen MovedIn r rs rest owed runs behind is on h = absurd h
-act_some o jobs runner seen Ticked r rs rest owed runs behind is on h =
+act_some o jobs runner seen place Handed r rs rest owed runs behind is on h =
+    out_some o jobs runner seen place r rs rest owed runs behind is on h
+act_some o jobs runner seen place Cancelled r rs rest owed runs behind is on h = absurd h
+act_some o jobs runner seen place MovedOut r rs rest owed runs behind is on h = absurd h
+act_some o jobs runner seen place MovedIn r rs rest owed runs behind is on h = absurd h
+act_some o jobs runner seen place Ticked r rs rest owed runs behind is on h =
     some_more r rs (runs ++ behind) (on owed runs h)
 
-pub some_behind : (o : World) (jobs : ℕ → JobCall → JobReply) (runner : ℕ) (seen : List Deed)
-    (rs more : List Receipt) (owed : List Owed) (runs behind : List Ran)
-    → Follows o jobs runner seen rs owed runs → RunsOfSome more behind
+pub some_behind : (o : World) (jobs : ℕ → JobCall → JobReply) (runner : ℕ) (seen : List Did)
+    (place : ℕ) (rs more : List Receipt) (owed : List Owed) (runs behind : List Ran)
+    → Follows o jobs runner seen place rs owed runs → RunsOfSome more behind
     → RunsOfSome (rs ++ more) (runs ++ behind)
 unfolding Follows
-some_behind o jobs runner seen [] more owed runs behind h later =
+some_behind o jobs runner seen place [] more owed runs behind h later =
     subst (λ xs. RunsOfSome more (xs ++ behind)) (sym h.1) later
-some_behind o jobs runner seen (r ∷ rs) more owed runs behind h later =
-    act_some o jobs runner seen r.entry.act r (rs ++ more) (Follows o jobs runner seen rs) owed runs
-    behind refl (λ x y k. some_behind o jobs runner seen rs more x y behind k later) h
+some_behind o jobs runner seen place (r ∷ rs) more owed runs behind h later =
+    act_some o jobs runner seen place r.entry.act r (rs ++ more)
+    (Follows o jobs runner seen (suc place) rs) owed runs behind refl
+    (λ x y k. some_behind o jobs runner seen (suc place) rs more x y behind k later) h
 
 -- WORK after work
 pub works_then : (table : TableId) (o : World) (jobs : ℕ → JobCall → JobReply)
@@ -152,7 +142,11 @@ pub works_then : (table : TableId) (o : World) (jobs : ℕ → JobCall → JobRe
     → Works table o jobs held after first last (walks + others) (receipts ++ more) (did ++ later)
 works_then table o jobs held mid after first next last walks others receipts more did later was then =
     let same : mid.cpu ≡ held.cpu = was.piece.cpu in
-    let seen = deeds_of (did ++ later) in
+    let seen = did ++ later in
+    let place = length was.piece.before.receipts in
+    let behind : length then.piece.before.receipts ≡ place + length receipts =
+    gaining.receipts_then table held mid after receipts more did later walks others was.piece
+    then.piece in
     record {
       told = was.told ++ then.told;
       piece =
@@ -162,11 +156,12 @@ works_then table o jobs held mid after first next last walks others receipts mor
           then.runs_are ∙ (ap (λ (l : List Ran). l ++ then.told) was.runs_are
           ∙ append_assoc first was.told then.told);
       follows =
-          follow o jobs held.cpu seen receipts more [] was.told then.told
-          (follow_wider o jobs held.cpu (deeds_of did) seen receipts [] was.told (behind did later)
-          was.follows)
-          (follow_wider o jobs held.cpu (deeds_of later) seen more [] then.told (before did later)
-          (subst (λ n. Follows o jobs n (deeds_of later) more [] then.told) same then.follows));
+          follow o jobs held.cpu seen place receipts more [] was.told then.told
+          (follow_wider o jobs held.cpu did seen place receipts [] was.told
+          (Contains-append_left did later) was.follows)
+          (follow_wider o jobs held.cpu later seen (place + length receipts) more [] then.told
+          (Contains-append_right did later)
+          (subst₂ (λ n k. Follows o jobs n later k more [] then.told) same behind then.follows));
     }
 
 -- and work that was broken off
@@ -193,8 +188,8 @@ works_break table o jobs held mid after first next last walks most all receipts 
                 breaks.runs_are ∙ (ap (λ (l : List Ran). l ++ breaks.told) was.runs_are
                 ∙ append_assoc first was.told breaks.told);
             some =
-                some_behind o jobs held.cpu (deeds_of did) receipts breaks.receipts [] was.told
-                breaks.told was.follows breaks.some;
+                some_behind o jobs held.cpu did (length was.piece.before.receipts) receipts
+                breaks.receipts [] was.told breaks.told was.follows breaks.some;
           };
     }
 
@@ -272,7 +267,7 @@ module _ (table : TableId) (o : World) (jobs : ℕ → JobCall → JobReply) (d 
   abbrev all : List Did
   all = (taken.did ++ did) ++ gone.did
 
-  whole : Piece table held after (taken.receipts ++ receipts) all (0 + 0 + gone.walks)
+  abbrev whole : Piece table held after (taken.receipts ++ receipts) all (0 + 0 + gone.walks)
   whole =
       let p = taken.before in
       let q = piece.before in
@@ -331,13 +326,26 @@ module _ (table : TableId) (o : World) (jobs : ℕ → JobCall → JobReply) (d 
         closed = closed;
       }
 
-  wider : (x : Deed) → Contains (deeds_of did) x → Contains (deeds_of all) x
-  wider x has = behind (taken.did ++ did) gone.did x (before taken.did did x has)
+  wider : Wider did all
+  wider x has =
+      Contains-append_left (taken.did ++ did) gone.did x
+      (Contains-append_right taken.did did x has)
+
+  -- the hand-outs were the last receipts before the jobs
+  stood_last : length taken.before.receipts + length taken.receipts
+      ≡ length piece.before.receipts
+  stood_last =
+      let same = gaining.same_pass table mid piece.before taken.later piece.had taken.has in
+      sym (ap (λ (x : PassView). length x.receipts) same
+      ∙ (ap length taken.gains.receipts_are
+      ∙ length-append taken.before.receipts taken.receipts))
 
   -- SERVED
   tried_served : (first last told : List Ran) → last ≡ first ++ told
-      → ((class : Class) (outs : List Receipt) → HandsOut d mid.cpu class items outs →
-      Follows o jobs mid.cpu (deeds_of did) (outs ++ receipts) [] told)
+      → ((class : Class) (outs : List Receipt) (place : ℕ)
+      → place + length outs ≡ length piece.before.receipts
+      → HandsOut d mid.cpu class items outs
+      → Follows o jobs mid.cpu did place (outs ++ receipts) [] told)
       → HasTried table o jobs d held after first last
   tried_served first last told runs_are follows = record {
     walks = 0 + 0 + gone.walks;
@@ -350,11 +358,13 @@ module _ (table : TableId) (o : World) (jobs : ℕ → JobCall → JobReply) (d 
           piece = whole;
           runs_are = runs_are;
           follows =
-              follow_wider o jobs held.cpu (deeds_of did) (deeds_of all) (taken.receipts ++ receipts)
-              [] told wider
+              follow_wider o jobs held.cpu did all (length taken.before.receipts)
+              (taken.receipts ++ receipts) [] told wider
               (subst (λ n. HandsOut d n Global items taken.receipts →
-              Follows o jobs n (deeds_of did) (taken.receipts ++ receipts) [] told) taken.cpu
-              (follows Global taken.receipts) taken.outs);
+              Follows o jobs n did (length taken.before.receipts) (taken.receipts ++ receipts) []
+              told) taken.cpu
+              (follows Global taken.receipts (length taken.before.receipts) stood_last)
+              taken.outs);
         };
     tried = inl served;
   }

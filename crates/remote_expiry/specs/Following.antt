@@ -1,6 +1,7 @@
 -- how the runs of an interrupt and the receipts of its pass go together: each timer that was handed
 -- out was run once, in that order, and its job's reply was done
-use Rattle.std.specs.Prelude.{◌≡◌, ◌+◌, ◌<◌, ℕ, ⊤, ◌⊎◌, List, [], ◌∷◌, ◌++◌, Some, Contains}
+use Rattle.std.specs.Prelude.{◌≡◌, ◌+◌, ◌<◌, ℕ, suc, ⊤, ◌⊎◌, List, [], ◌∷◌, ◌++◌, Some}
+use Rattle.std.specs.Prelude.{Contains}
 use Rattle.tm_base.specs.declared.names.Class.{Class}
 use Rattle.cpu_bases.specs.declared.entry.Act.{Act}
 use Rattle.cpu_bases.specs.declared.entry.Act.TheVariants.{Armed, Cancelled, Handed, MovedIn}
@@ -13,8 +14,8 @@ use Rattle.job_table.specs.declared.jobs.JobReply.{JobReply}
 use Rattle.job_table.specs.declared.jobs.JobReply.TheVariants as replies
 use Rattle.shared_words.specs.declared.spot.Spot.{Spot}
 use Rattle.shared_words.specs.Words.{spot_of}
-use Rattle.shared_rule.specs.declared.parts.Deed.{Deed}
 use Rattle.shared_rule.specs.declared.parts.Deed.TheVariants as deeds
+use Rattle.shared_rule.specs.declared.parts.Did.{Did}
 use Rattle.shared_rule.specs.declared.parts.Receipt.{Receipt}
 use Rattle.shared_timers.specs.Exchanging.{timer_word}
 use Rattle.remote_expiry.specs.declared.runs.Ran.{Ran}
@@ -32,28 +33,39 @@ pub record IsRunOf (r : Receipt) (x : Ran) : Type 0 where
   pub home : x.home ≡ r.cpu
   pub wheel : x.wheel ≡ r.entry.wheel
 
--- the word of a timer of the run, as the pass found it, named this CPU
-pub record FoundOn (o : World) (timer cpu : ℕ) (seen : List Deed) : Type 0 where
+-- FOUND AFTER THE HAND-OUT: the word of a timer of the run named this CPU, as the pass found it
+-- once it had the receipt of this place among all of its receipts
+pub record FoundOn (o : World) (timer cpu place : ℕ) (seen : List Did) : Type 0 where
+  -- the timer is one of the run
   pub there : timer < o.timers
+  -- the deed that found its word
+  pub look : Did
+  pub has : Contains seen look
+  -- what it found
   pub found : ℕ
+  pub saw : look.deed ≡ deeds.Saw (timer_word o timer) found
+  -- the receipt stood among those that the pass had then
+  pub since : place < look.held
+  -- the word named the CPU
   pub spot : Spot
-  pub saw : Contains seen (deeds.Saw (timer_word o timer) found)
   pub spelled : spot_of found ≡ Some spot
   pub named : spot.cpu.0 ≡ cpu
 
 -- AGAIN: a timer whose job would have it armed again is told as armed in the class of the reply, or
--- as skipped where it was queued by then
-abbrev pub IsAgain : World → (timer : ℕ) → List Deed → Class → RanReply → Type 0
-IsAgain o timer seen class ran.Done = ⊥
-IsAgain o timer seen class (ran.Mark m) = ⊥
-IsAgain o timer seen class (ran.Again c wheel) = c ≡ class
-IsAgain o timer seen class (ran.Skip cpu) = FoundOn o timer cpu.0 seen
+-- as skipped where its word, found after the hand-out whose receipt has this place, named a CPU
+abbrev pub IsAgain : World → (timer place : ℕ) → List Did → Class → RanReply → Type 0
+IsAgain o timer place seen class ran.Done = ⊥
+IsAgain o timer place seen class (ran.Mark m) = ⊥
+IsAgain o timer place seen class (ran.Again c wheel) = c ≡ class
+IsAgain o timer place seen class (ran.Skip cpu) = FoundOn o timer cpu.0 place seen
 
--- REPLIES: what a run tells is what the job replied
-abbrev pub IsTold : World → (timer : ℕ) → List Deed → JobReply → RanReply → Type 0
-IsTold o timer seen replies.Done reply = reply ≡ ran.Done
-IsTold o timer seen (replies.Mark m) reply = reply ≡ ran.Mark m
-IsTold o timer seen (replies.Again class delay) reply = IsAgain o timer seen class reply
+-- REPLIES: what a run tells is what the job replied, after the hand-out whose receipt has this
+-- place
+abbrev pub IsTold : World → (timer place : ℕ) → List Did → JobReply → RanReply → Type 0
+IsTold o timer place seen replies.Done reply = reply ≡ ran.Done
+IsTold o timer place seen (replies.Mark m) reply = reply ≡ ran.Mark m
+IsTold o timer place seen (replies.Again class delay) reply =
+    IsAgain o timer place seen class reply
 
 -- a timer that is still to be armed again: its run's reply, and how it was handed out
 pub record Owed : Type 0 where
@@ -84,13 +96,15 @@ pub record IsOwed (now runner : ℕ) (x : Owed) (r : Receipt) : Type 0 where
   pub job : r.entry.job ≡ x.out.job
   pub arg : r.entry.arg ≡ x.out.arg
 
--- a timer was handed out: it has the next run, and what that leaves to be armed comes last
-abbrev pub FollowsOut : World → (ℕ → JobCall → JobReply) → (runner : ℕ) → List Deed → Receipt
-    → (rest : List Owed → List Ran → Type 0) → List Owed → List Ran → Type 0
-FollowsOut o jobs runner seen r rest owed [] = ⊥
-FollowsOut o jobs runner seen r rest owed (x ∷ xs) =
+-- a timer was handed out, with the receipt of this place: it has the next run, and what that leaves
+-- to be armed comes last
+abbrev pub FollowsOut : World → (ℕ → JobCall → JobReply) → (runner : ℕ) → List Did → (place : ℕ)
+    → Receipt → (rest : List Owed → List Ran → Type 0) → List Owed → List Ran → Type 0
+FollowsOut o jobs runner seen place r rest owed [] = ⊥
+FollowsOut o jobs runner seen place r rest owed (x ∷ xs) =
     IsRunOf r x
-    × IsTold o r.entry.timer.0 seen (jobs r.entry.job (call_of o.clock runner r.entry)) x.reply
+    × IsTold o r.entry.timer.0 place seen (jobs r.entry.job (call_of o.clock runner r.entry))
+    x.reply
     × rest
     (owed ++ owed_by (jobs r.entry.job (call_of o.clock runner r.entry)) x.reply r.entry) xs
 
@@ -100,26 +114,28 @@ abbrev pub FollowsArmed : (now runner : ℕ) → Receipt → (rest : List Owed �
 FollowsArmed now runner r rest [] runs = ⊥
 FollowsArmed now runner r rest (x ∷ owed) runs = IsOwed now runner x r × rest owed runs
 
--- what comes with a receipt of this act
-abbrev pub FollowsBy : World → (ℕ → JobCall → JobReply) → (runner : ℕ) → List Deed → Act
-    → Receipt → (rest : List Owed → List Ran → Type 0) → List Owed → List Ran → Type 0
-FollowsBy o jobs runner seen Armed r rest owed runs =
+-- what comes with a receipt of this place and act
+abbrev pub FollowsBy : World → (ℕ → JobCall → JobReply) → (runner : ℕ) → List Did → (place : ℕ)
+    → Act → Receipt → (rest : List Owed → List Ran → Type 0) → List Owed → List Ran → Type 0
+FollowsBy o jobs runner seen place Armed r rest owed runs =
     FollowsArmed o.clock runner r rest owed runs
-FollowsBy o jobs runner seen Handed r rest owed runs =
-    FollowsOut o jobs runner seen r rest owed runs
-FollowsBy o jobs runner seen Cancelled r rest owed runs = ⊥
-FollowsBy o jobs runner seen MovedOut r rest owed runs = ⊥
-FollowsBy o jobs runner seen MovedIn r rest owed runs = ⊥
-FollowsBy o jobs runner seen Ticked r rest owed runs = rest owed runs
+FollowsBy o jobs runner seen place Handed r rest owed runs =
+    FollowsOut o jobs runner seen place r rest owed runs
+FollowsBy o jobs runner seen place Cancelled r rest owed runs = ⊥
+FollowsBy o jobs runner seen place MovedOut r rest owed runs = ⊥
+FollowsBy o jobs runner seen place MovedIn r rest owed runs = ⊥
+FollowsBy o jobs runner seen place Ticked r rest owed runs = rest owed runs
 
--- FOLLOWS: the new receipts of a pass, from the first on, with the armings that are still to come
--- and the runs that are still to be told: each timer handed out has the next run, each arming is
--- the first one to come, and else there are drains alone
-unfoldable pub Follows : World → (ℕ → JobCall → JobReply) → (runner : ℕ) → List Deed
-    → List Receipt → List Owed → List Ran → Type 0
-Follows o jobs runner seen [] owed runs = (owed ≡ []) × (runs ≡ [])
-Follows o jobs runner seen (r ∷ rs) owed runs =
-    FollowsBy o jobs runner seen r.entry.act r (Follows o jobs runner seen rs) owed runs
+-- FOLLOWS: the new receipts of a pass, from the first on, which has this place among all of its
+-- receipts, with the armings that are still to come and the runs that are still to be told: each
+-- timer handed out has the next run, each arming is the first one to come, and else there are
+-- drains alone
+unfoldable pub Follows : World → (ℕ → JobCall → JobReply) → (runner : ℕ) → List Did
+    → (place : ℕ) → List Receipt → List Owed → List Ran → Type 0
+Follows o jobs runner seen place [] owed runs = (owed ≡ []) × (runs ≡ [])
+Follows o jobs runner seen place (r ∷ rs) owed runs =
+    FollowsBy o jobs runner seen place r.entry.act r (Follows o jobs runner seen (suc place) rs)
+    owed runs
 
 -- SOME of the hand-outs among these receipts have these runs, in their order
 unfoldable pub RunsOfSome : List Receipt → List Ran → Type 0

@@ -74,7 +74,8 @@ pub record HasGained (p q : PassView) (receipts : List Receipt) (did : List Did)
   pub few : q.walks ≤ p.walks + most_walks
 
 -- OK: each base of the CPU was drained; the timers that were handed out are the runs, in order,
--- with what became of their jobs' replies; and the CPU has looked after the others
+-- with what became of their jobs' replies, by what the pass saw once each was handed out; and the
+-- CPU has looked after the others
 pub record HasInterrupted (o : World) (jobs : ℕ → JobCall → JobReply) (p q : PassView)
     (before after : List Ran) : Type 0 where
   pub receipts : List Receipt
@@ -83,7 +84,7 @@ pub record HasInterrupted (o : World) (jobs : ℕ → JobCall → JobReply) (p q
   pub gained : HasGained p q receipts did
   pub runs_are : after ≡ before ++ runs
   pub drained : (class : Class) → HasTicked p.cpu class receipts
-  pub follows : Follows o jobs p.cpu (map (λ (x : Did). x.deed) did) receipts [] runs
+  pub follows : Follows o jobs p.cpu did (length p.receipts) receipts [] runs
   pub looked :
       LooksFrom o p.cpu receipts (level_count_of o.tree) 0 (map (λ (x : Did). x.deed) did)
 

@@ -119,7 +119,7 @@ but_for_bases old new = new ≡ record old {
 
 -- JOBS RUN: those of timers that went out of a CPU's base, each once, in order. What the pass
 -- gained is the armings that they asked for, and what it saw of timers that were queued by then:
--- behind the receipts of the hand-outs that leaves nothing to be armed
+-- behind the receipts of the hand-outs, which were its last before, that leaves nothing to be armed
 pub record RanAll (table : TableId) (o : World) (jobs : ℕ → JobCall → JobReply) (home : ℕ)
     (items : List Item) (held after : HeldPass) (before now : List Ran) : Type 0 where
   pub receipts : List Receipt
@@ -127,8 +127,10 @@ pub record RanAll (table : TableId) (o : World) (jobs : ℕ → JobCall → JobR
   pub told : List Ran
   pub piece : Piece table held after receipts did 0
   pub runs_are : now ≡ before ++ told
-  pub follows : (class : Class) (outs : List Receipt) → HandsOut home held.cpu class items outs →
-      Follows o jobs held.cpu (deeds_of did) (outs ++ receipts) [] told
+  pub follows : (class : Class) (outs : List Receipt) (place : ℕ) →
+      place + length outs ≡ length piece.before.receipts →
+      HandsOut home held.cpu class items outs →
+      Follows o jobs held.cpu did place (outs ++ receipts) [] told
 
 -- and where memory was wanting: those that are told are of some of the hand-outs, in their order
 pub record RanSome (table : TableId) (home : ℕ) (items : List Item) (held after : HeldPass)
@@ -148,7 +150,7 @@ pub record Works (table : TableId) (o : World) (jobs : ℕ → JobCall → JobRe
   pub told : List Ran
   pub piece : Piece table held after receipts did walks
   pub runs_are : now ≡ before ++ told
-  pub follows : Follows o jobs held.cpu (deeds_of did) receipts [] told
+  pub follows : Follows o jobs held.cpu did (length piece.before.receipts) receipts [] told
 
 -- WORK that was broken off by want of memory: the runs that are told are of some of the hand-outs
 pub record Breaks (table : TableId) (held after : HeldPass) (before now : List Ran) (walks : ℕ)

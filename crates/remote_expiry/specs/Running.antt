@@ -1,5 +1,5 @@
 -- one timer whose job is run, and what is written as it is armed again (no public clause cites it)
-use Rattle.std.specs.Prelude.{◌≡◌, ℕ, ◌+◌, List, [], ◌∷◌, ◌++◌, Option, Some, None}
+use Rattle.std.specs.Prelude.{◌≡◌, ℕ, ◌+◌, ◌<◌, List, [], ◌∷◌, ◌++◌, Option, Some, None, length}
 use Rattle.atomic_table.specs.Seated.{TableId}
 use Rattle.tm_base.specs.declared.faults.OpFault.{OpFault}
 use Rattle.tm_base.specs.declared.faults.OpFault.TheVariants as faults
@@ -12,7 +12,6 @@ use Rattle.core_state.specs.Shown.{as_cpu}
 use Rattle.job_table.specs.declared.jobs.JobCall.{JobCall}
 use Rattle.job_table.specs.declared.jobs.JobReply.{JobReply}
 use Rattle.job_table.specs.declared.jobs.JobReply.TheVariants as replies
-use Rattle.shared_rule.specs.declared.parts.Deed.{Deed}
 use Rattle.shared_rule.specs.declared.parts.Did.{Did}
 use Rattle.shared_rule.specs.declared.parts.Receipt.{Receipt}
 use Rattle.shared_rule.specs.Passes.{HeldPass}
@@ -20,7 +19,7 @@ use Rattle.remote_expiry.specs.declared.runs.Ran.{Ran}
 use Rattle.remote_expiry.specs.declared.runs.RanReply.{RanReply}
 use Rattle.remote_expiry.specs.declared.runs.RanReply.TheVariants as ran
 use Rattle.remote_expiry.specs.Following.{IsTold}
-use Rattle.remote_expiry.specs.Pieces.{Piece, deeds_of}
+use Rattle.remote_expiry.specs.Pieces.{Piece}
 
 -- the CPU that a refusal to arm names
 abbrev pub queued_on : OpFault → Option CpuId
@@ -61,14 +60,15 @@ Arms now runner i (replies.Again class delay) (ran.Again c wheel) rs =
     (r : Receipt) × (rs ≡ r ∷ []) × IsRearmed now runner i c delay wheel r
 Arms now runner i (replies.Again class delay) (ran.Skip cpu) rs = rs ≡ []
 
--- ANSWERED: what a job replied was done, and this is to be told; where the timer was queued by then
--- the pass saw on which CPU
+-- ANSWERED: what a job replied was done, and this is to be told of a hand-out whose receipt the
+-- pass had before; where the timer was queued by then the pass saw on which CPU
 pub record HasAnswered (table : TableId) (o : World) (i : Item) (job : JobReply)
     (held after : HeldPass) (reply : RanReply) : Type 0 where
   pub receipts : List Receipt
   pub did : List Did
   pub piece : Piece table held after receipts did 0
-  pub told : IsTold o i.id (deeds_of did) job reply
+  pub told : (place : ℕ) → place < length piece.before.receipts →
+      IsTold o i.id place did job reply
   pub arms : Arms o.clock held.cpu i job reply receipts
 
 -- a run is told of a timer that went out of a CPU's base
@@ -77,11 +77,12 @@ pub record IsOf (home : ℕ) (i : Item) (x : Ran) : Type 0 where
   pub at : x.home.0 ≡ home
   pub wheel : x.wheel ≡ i.wheel
 
--- and it tells what the job replied
-pub record IsRan (o : World) (jobs : ℕ → JobCall → JobReply) (home runner : ℕ) (seen : List Deed)
-    (i : Item) (x : Ran) : Type 0 where
+-- and it tells what the job replied, after a hand-out whose receipt is one of the first so many
+pub record IsRan (o : World) (jobs : ℕ → JobCall → JobReply) (home runner count : ℕ)
+    (seen : List Did) (i : Item) (x : Ran) : Type 0 where
   pub is : IsOf home i x
-  pub told : IsTold o i.id seen (jobs i.job (call_to o.clock runner i)) x.reply
+  pub told : (place : ℕ) → place < count →
+      IsTold o i.id place seen (jobs i.job (call_to o.clock runner i)) x.reply
 
 -- ONE JOB was run, and told
 pub record HasRun (table : TableId) (o : World) (jobs : ℕ → JobCall → JobReply) (home : ℕ)
@@ -89,7 +90,7 @@ pub record HasRun (table : TableId) (o : World) (jobs : ℕ → JobCall → JobR
   pub receipts : List Receipt
   pub did : List Did
   pub piece : Piece table held after receipts did 0
-  pub is : IsRan o jobs home held.cpu (deeds_of did) i x
+  pub is : IsRan o jobs home held.cpu (length piece.before.receipts) did i x
   pub arms :
       Arms o.clock held.cpu i (jobs i.job (call_to o.clock held.cpu i)) x.reply receipts
 

@@ -251,13 +251,14 @@ fn inside<N: RunName, B: TimerBase, J: Jobs, G: Gate, R: Wait>(
 /// The interrupt of the pass's CPU at `now`, the time of the run in jiffies: its own bases are
 /// drained, pinned, global and deferrable (`run_timer_softirq`), then those idle CPUs are looked
 /// after that are due in the groups for which it answers (`tmigr_handle_remote`), and an idle CPU
-/// tells its next event anew. What ran is told in `runs`, in order. `Offline` comes exactly where
-/// the CPU is offline, `Spent` exactly where it is online and too many walks were begun with its
-/// pass, and then what the pass knows of its CPU's journal is all that may change; after `NoMemory`
-/// the interrupt is closed as after Ok, and the runs that are told are of some of the timers that
-/// went out, in their order. One walk is begun for each CPU whose next event is carried upwards,
-/// and one more where the CPU itself is idle: at most 1,537. It waits for the lock of one CPU at a
-/// time, and holds none while jobs run.
+/// tells its next event anew. What ran is told in `runs`, in order; a run is told as skipped by the
+/// timer's word as the pass found it after the hand-out of that run, as the job would have had the
+/// timer armed again. `Offline` comes exactly where the CPU is offline, `Spent` exactly where it is
+/// online and too many walks were begun with its pass, and then what the pass knows of its CPU's
+/// journal is all that may change; after `NoMemory` the interrupt is closed as after Ok, and the
+/// runs that are told are of some of the timers that went out, in their order. One walk is begun
+/// for each CPU whose next event is carried upwards, and one more where the CPU itself is idle: at
+/// most 1,537. It waits for the lock of one CPU at a time, and holds none while jobs run.
 pub fn interrupt<N: RunName, B: TimerBase, J: Jobs, G: Gate, R: Wait>(
     rt: &R,
     alloc: Global,

@@ -18,6 +18,7 @@ pub enum RanReply {
     /// The timer was armed again on the CPU that ran it, with this wheel expiry, in jiffies.
     Again { class: Class, wheel: Jiffy },
     /// Its job would have armed it again, and its word named this CPU, where it was queued by then.
+    /// The word was found after the timer had been handed out to this run.
     Skip { cpu: CpuId },
 }
 

@@ -1,7 +1,7 @@
 -- the lines of an interrupt
 use Rattle.std.proofs.Common.{◌≡◌, ℕ, zero, suc, ◌+◌, List, [], ◌∷◌, ◌++◌, Contains}
 use Rattle.std.proofs.Common.{Some, true, false, refl, sym, ap, ◌∙◌, subst, arith}
-use Rattle.std.proofs.Common.{map, append-nil, append_assoc, subst₂, take}
+use Rattle.std.proofs.Common.{map, length, append-nil, append_assoc, subst₂, take}
 use Rattle.std.specs.Prelude.{slice_get}
 use Rattle.std.specs.Prelude.{Result, Ok, Err, OnOk}
 use Rattle.std.proofs.lemmas.List.{map-append}
@@ -19,7 +19,6 @@ use Rattle.cpu_bases.specs.declared.entry.Entry.{Entry}
 use Rattle.core_world.specs.World.{World}
 use Rattle.job_table.specs.declared.jobs.JobReply.{JobReply}
 use Rattle.job_table.specs.declared.jobs.JobReply.TheVariants as replies
-use Rattle.shared_rule.specs.declared.parts.Deed.{Deed}
 use Rattle.shared_rule.specs.declared.parts.Did.{Did}
 use Rattle.shared_rule.specs.declared.parts.PassView.{PassView}
 use Rattle.shared_rule.specs.declared.parts.Receipt.{Receipt}
@@ -45,15 +44,7 @@ use Rattle.thread_rounds.specs.Standing.{Grows, HasRun, MayAnswer}
 use Rattle.thread_rounds.proofs.Growing.{grown_none, grown_within}
 use Rattle.thread_rounds.proofs.Stands.{stands_more}
 
--- an element of a list of values is the value of an element
-from_map : {X Y : Type 0} (f : X → Y) (xs : List X) (y : Y) → Contains (map f xs) y
-    → (x : X) × Contains xs x × (f x ≡ y)
-from_map f [] y (k, low, at) = absurd (omega (arith, low))
-from_map f (x ∷ xs) y (zero, low, at) = (x, (zero, omega arith, refl), at)
-from_map f (x ∷ xs) y (suc k, low, at) =
-    let rest = from_map f xs y (k, omega (arith, low), at) in
-    (rest.0, (suc rest.1.0, omega (arith, rest.1.1), rest.1.2), rest.2)
-
+-- the value of an element is an element of the values
 into_map : {X Y : Type 0} (f : X → Y) (xs : List X) (x : X) → Contains xs x
     → Contains (map f xs) (f x)
 into_map f [] x (k, low, at) = absurd (omega (arith, low))
@@ -77,31 +68,29 @@ owed_same (replies.Again class delay) (ran.Again c wheel) e = refl
 owed_same (replies.Again class delay) (ran.Skip cpu) e = refl
 
 module _ (o : World) (jobs : Replies) (runner : ℕ) (did : List Did) where
-  abbrev seen : List Deed
-  seen = map (λ (x : Did). x.deed) did
+  -- a story has no place for when the word was found
+  found_told : (timer cpu place : ℕ) → FoundOn o timer cpu place did → SawQueued o did timer cpu
+  found_told timer cpu place h = record {
+    there = h.there;
+    seen = h.look;
+    found = h.found;
+    spot = h.spot;
+    has = h.has;
+    deed = h.saw;
+    spelled = h.spelled;
+    named = h.named;
+  }
 
-  found_told : (timer cpu : ℕ) → FoundOn o timer cpu seen → SawQueued o did timer cpu
-  found_told timer cpu h =
-      let one = from_map (λ (x : Did). x.deed) did _ h.saw in
-      record {
-        there = h.there;
-        seen = one.0;
-        found = h.found;
-        spot = h.spot;
-        has = one.1;
-        deed = one.2;
-        spelled = h.spelled;
-        named = h.named;
-      }
-
-  reply_told : (timer : ℕ) (job : JobReply) (reply : RanReply) → IsTold o timer seen job reply
+  reply_told : (timer place : ℕ) (job : JobReply) (reply : RanReply)
+      → IsTold o timer place did job reply
       → ShowsReply (SawQueued o did) timer job (shown_of reply)
-  reply_told timer replies.Done reply h = ap shown_of h
-  reply_told timer (replies.Mark m) reply h = ap shown_of h
-  reply_told timer (replies.Again class delay) ran.Done h = absurd h
-  reply_told timer (replies.Again class delay) (ran.Mark m) h = absurd h
-  reply_told timer (replies.Again class delay) (ran.Again c wheel) h = h
-  reply_told timer (replies.Again class delay) (ran.Skip cpu) h = found_told timer cpu.0 h
+  reply_told timer place replies.Done reply h = ap shown_of h
+  reply_told timer place (replies.Mark m) reply h = ap shown_of h
+  reply_told timer place (replies.Again class delay) ran.Done h = absurd h
+  reply_told timer place (replies.Again class delay) (ran.Mark m) h = absurd h
+  reply_told timer place (replies.Again class delay) (ran.Again c wheel) h = h
+  reply_told timer place (replies.Again class delay) (ran.Skip cpu) h =
+      found_told timer cpu.0 place h
 
   -- what comes behind is told, whatever is owed by then
   abbrev GoesOn : (rest : List from.Owed → List Ran → Type 0)
@@ -109,13 +98,13 @@ module _ (o : World) (jobs : Replies) (runner : ℕ) (did : List Did) where
   GoesOn rest more = (owed : List from.Owed) (runs : List Ran) → rest owed runs
       → more (map owed_as owed) (map (ran_line o.clock (cpu_id runner)) runs)
 
-  out_told : (r : Receipt) (rest : List from.Owed → List Ran → Type 0)
+  out_told : (place : ℕ) (r : Receipt) (rest : List from.Owed → List Ran → Type 0)
       (more : List Owed → List Line → Type 0) (owed : List from.Owed) (runs : List Ran)
-      → GoesOn rest more → FollowsOut o jobs runner seen r rest owed runs
+      → GoesOn rest more → FollowsOut o jobs runner did place r rest owed runs
       → TellsBy (SawQueued o did) jobs o.clock runner Handed (written_of r) more
       (map owed_as owed) (map (ran_line o.clock (cpu_id runner)) runs)
-  out_told r rest more owed [] on h = absurd h
-  out_told r rest more owed (x ∷ xs) on h =
+  out_told place r rest more owed [] on h = absurd h
+  out_told place r rest more owed (x ∷ xs) on h =
       let job = jobs r.entry.job (call_of o.clock runner r.entry) in
       record {
         reply = shown_of x.reply;
@@ -123,7 +112,7 @@ module _ (o : World) (jobs : Replies) (runner : ℕ) (did : List Did) where
         line = λ i.
             lines.Run o.clock (cpu_id runner) (h.0.timer i) (h.0.home i) (h.0.wheel i)
             (shown_of x.reply) ∷ map (ran_line o.clock (cpu_id runner)) xs;
-        shows = reply_told r.entry.timer.0 job x.reply h.1;
+        shows = reply_told r.entry.timer.0 place job x.reply h.1;
         goes_on =
             subst (λ (l : List Owed). more l (map (ran_line o.clock (cpu_id runner)) xs))
             (map-append owed_as owed (from.owed_by job x.reply r.entry)
@@ -154,30 +143,30 @@ module _ (o : World) (jobs : Replies) (runner : ℕ) (did : List Did) where
     goes_on = on owed runs h.1;
   }
 
-  act_told : (act : Act) (r : Receipt) (rest : List from.Owed → List Ran → Type 0)
+  act_told : (place : ℕ) (act : Act) (r : Receipt) (rest : List from.Owed → List Ran → Type 0)
       (more : List Owed → List Line → Type 0) (owed : List from.Owed) (runs : List Ran)
-      → GoesOn rest more → FollowsBy o jobs runner seen act r rest owed runs
+      → GoesOn rest more → FollowsBy o jobs runner did place act r rest owed runs
       → TellsBy (SawQueued o did) jobs o.clock runner act (written_of r) more
       (map owed_as owed) (map (ran_line o.clock (cpu_id runner)) runs)
-  act_told Armed r rest more owed runs on h = armed_told r rest more owed runs on h
-  act_told Handed r rest more owed runs on h = out_told r rest more owed runs on h
-  act_told Cancelled r rest more owed runs on h = absurd h
-  act_told MovedOut r rest more owed runs on h = absurd h
-  act_told MovedIn r rest more owed runs on h = absurd h
-  act_told Ticked r rest more owed runs on h = on owed runs h
+  act_told place Armed r rest more owed runs on h = armed_told r rest more owed runs on h
+  act_told place Handed r rest more owed runs on h = out_told place r rest more owed runs on h
+  act_told place Cancelled r rest more owed runs on h = absurd h
+  act_told place MovedOut r rest more owed runs on h = absurd h
+  act_told place MovedIn r rest more owed runs on h = absurd h
+  act_told place Ticked r rest more owed runs on h = on owed runs h
 
   -- the lines of the runs tell what follows
-  runs_told : (rs : List Receipt) (owed : List from.Owed) (runs : List Ran)
-      → Follows o jobs runner seen rs owed runs
+  runs_told : (place : ℕ) (rs : List Receipt) (owed : List from.Owed) (runs : List Ran)
+      → Follows o jobs runner did place rs owed runs
       → TellsRuns (SawQueued o did) jobs o.clock runner (map written_of rs) (map owed_as owed)
       (map (ran_line o.clock (cpu_id runner)) runs)
   unfolding Follows TellsRuns
-  runs_told [] owed runs h =
+  runs_told place [] owed runs h =
       (ap (map owed_as) h.0, ap (map (ran_line o.clock (cpu_id runner))) h.1)
-  runs_told (r ∷ rs) owed runs h =
-      act_told r.entry.act r (Follows o jobs runner seen rs)
+  runs_told place (r ∷ rs) owed runs h =
+      act_told place r.entry.act r (Follows o jobs runner did (suc place) rs)
       (TellsRuns (SawQueued o did) jobs o.clock runner (map written_of rs)) owed runs
-      (λ w x i. runs_told rs w x i) h
+      (λ w x i. runs_told (suc place) rs w x i) h
 
 -- a drain that a receipt tells
 ticked_told : (cpu : ℕ) (class : Class) (rs : List Receipt)
@@ -238,7 +227,8 @@ module _ (table : TableId) (o : World) (now : ℕ) (jobs : Replies) (held after 
       let told : TellsInterrupt (SawQueued o h.did) jobs o.clock p.cpu (map written_of h.receipts)
       (map (ran_line o.clock (cpu_id p.cpu)) h.runs) = record {
         drained = λ class. ticked_told p.cpu class h.receipts (h.drained class);
-        runs = runs_told o jobs p.cpu h.did h.receipts [] h.runs h.follows;
+        runs =
+            runs_told o jobs p.cpu h.did (length p.receipts) h.receipts [] h.runs h.follows;
       } in
       record {
         told = map (ran_line now (cpu_id held.cpu)) h.runs;
