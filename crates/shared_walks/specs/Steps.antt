@@ -54,7 +54,7 @@ abbrev pub LockTried : World → (BoxView → Walk → Option Walk) → (level :
 LockTried o next level made old new =
     MatchBool made (new ≡ on_part (taken_lock next) old) (IsRefused o level old new)
 
--- and a slot of that group
+-- where a slot of the group of a CPU's path at a level stands
 abbrev pub slot_place : World → (cpu level number : ℕ) → ℕ
 slot_place o cpu level number =
     index_of (layout_of o) (slot_at (group_on o.tree cpu level) number)
