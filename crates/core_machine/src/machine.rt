@@ -1,11 +1,11 @@
 //! The machine's calls on a core.
 
 use crate::player::Player;
-use play_rules::{Answerer, Arming, Cancelling, Machine, Mover, Queued};
+use play_rules::{Answerer, Arming, Cancelling, Mover, PlayMachine, Queued};
 use tm_base::{Class, CpuId, CpuSet, Jiffy, NoMemory, TimerId};
 use wheel_core::{Item, TimerBase};
 
-impl<B: TimerBase> Machine for Player<B> {
+impl<B: TimerBase> PlayMachine for Player<B> {
     ghost use Rattle.core_world.specs.World as core;
     ghost use Rattle.step_play.specs.Rules.Seen.{InPlay};
     ghost use Rattle.step_play.specs.Rules.StepRules.{step_rules};
@@ -143,8 +143,8 @@ impl<B: TimerBase> Machine for Player<B> {
         crate::turns::come_online(&mut self.core, cpu);
     }
 
-    fn queued_on(&self, cpu: CpuId) -> usize {
-        crate::readings::queued_on(&self.core, cpu)
+    fn count_queued(&self, cpu: CpuId) -> usize {
+        crate::readings::count_queued(&self.core, cpu)
     }
 
     fn controller(&self) -> Option<CpuId> {

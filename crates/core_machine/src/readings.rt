@@ -9,4 +9,4 @@ mod timers;
 pub use cpu::{first_event, has_interrupt, is_active, is_idle, is_online, is_placed, wakeup};
 pub use looks::{hands_on, is_taken, live_expiry, looks_after, named, told_by};
 pub use machine::{controller, next_interrupt, successor};
-pub use timers::{holder, queued, queued_on};
+pub use timers::{count_queued, holder, queued};

@@ -1,11 +1,11 @@
 //! The same calls on a core of a run, whose events needn't be exact.
 
 use crate::player::RunPlayer;
-use play_rules::{Answerer, Arming, Cancelling, Machine, Mover, Queued};
+use play_rules::{Answerer, Arming, Cancelling, Mover, PlayMachine, Queued};
 use tm_base::{Class, CpuId, CpuSet, Jiffy, NoMemory, TimerId};
 use wheel_core::{Item, TimerBase};
 
-impl<B: TimerBase> Machine for RunPlayer<B> {
+impl<B: TimerBase> PlayMachine for RunPlayer<B> {
     ghost use Rattle.core_world.specs.World as core;
     ghost use Rattle.step_play.specs.Rules.Seen.{InRun};
     ghost use Rattle.step_play.specs.Rules.StepRules.{step_rules};
@@ -143,8 +143,8 @@ impl<B: TimerBase> Machine for RunPlayer<B> {
         crate::turns::come_online(&mut self.core, cpu);
     }
 
-    fn queued_on(&self, cpu: CpuId) -> usize {
-        crate::readings::queued_on(&self.core, cpu)
+    fn count_queued(&self, cpu: CpuId) -> usize {
+        crate::readings::count_queued(&self.core, cpu)
     }
 
     fn controller(&self) -> Option<CpuId> {

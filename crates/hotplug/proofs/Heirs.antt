@@ -43,7 +43,7 @@ moved_none w from to = record { count = 0; left = omega arith; is = refl }
 
 pub moved_more : (start w v : World) (from to : ℕ) → MovedTimes start from to w →
     v ≡ after_move (step_rules.moved w from to) w →
-    step_rules.queued_on v from + 1 ≡ step_rules.queued_on w from → MovedTimes start from to v
+    step_rules.count_queued v from + 1 ≡ step_rules.count_queued w from → MovedTimes start from to v
 moved_more start w v from to so_far made fewer = record {
   count = suc so_far.count;
   left = (let left = so_far.left in omega (arith, left, fewer));
@@ -51,13 +51,13 @@ moved_more start w v from to so_far made fewer = record {
 }
 
 -- WHERE THEY ARE, once none is left
-nothing_left : (w : World) (dead : ℕ) → dead < length w.cpus → step_rules.queued_on w dead ≡ 0 →
+nothing_left : (w : World) (dead : ℕ) → dead < length w.cpus → step_rules.count_queued w dead ≡ 0 →
     (k : Class) → items_of w dead k ≡ []
 nothing_left w dead low none k =
     none_of k (cpu_of w dead).bases (sym (count_seen_in w dead low) ∙ none)
 
 all_with : (w : World) (dead to : ℕ) (u : World) → SomeMoved w dead to u → MayMoveAll u dead to →
-    step_rules.queued_on u dead ≡ 0 → AllWith w dead to u
+    step_rules.count_queued u dead ≡ 0 → AllWith w dead to u
 all_with w dead to u (gone, x) may none =
     let empty = nothing_left u dead may.low none in
     record {
@@ -94,7 +94,7 @@ numbered (Some d) m is = ap (option_map as_cpu) is
 
 module _ (w : World) (dead : ℕ) (low : dead < length w.cpus) where
   abbrev many : ℕ
-  many = step_rules.queued_on w dead
+  many = step_rules.count_queued w dead
 
   abbrev head : Option CpuId
   head = option_map as_cpu (step_rules.controller w)
@@ -176,7 +176,7 @@ module _ (w : World) (dead : ℕ) (low : dead < length w.cpus) where
               (λ d ne. all d);
         }
 
-        same_many : step_rules.queued_on v dead ≡ many
+        same_many : step_rules.count_queued v dead ≡ many
         same_many =
             count_seen_in v dead there_low
             ∙ (ap (λ (y : CpuRecord). count_in y.bases) (active.others dead apart)
@@ -219,7 +219,7 @@ module _ (w : World) (dead : ℕ) (low : dead < length w.cpus) where
         }
 
         pub heir_all : (u : World) → SomeMoved v dead to.0 u → MayMoveAll u dead to.0 →
-            step_rules.queued_on u dead ≡ 0 → AllWith w dead to.0 u
+            step_rules.count_queued u dead ≡ 0 → AllWith w dead to.0 u
         heir_all u over may none = all_with w dead to.0 u (heir_over u over) may none
 
         module _ (u : World) (so_far : MovedTimes v dead to.0 u) where
@@ -230,7 +230,7 @@ module _ (w : World) (dead : ℕ) (low : dead < length w.cpus) where
             moved = subst (λ x. MovedTimes x dead to.0 u) made so_far;
           }
 
-          pub heir_moved : step_rules.queued_on u dead ≡ 0 → u ≡ moved_off w dead
+          pub heir_moved : step_rules.count_queued u dead ≡ 0 → u ≡ moved_off w dead
           heir_moved none =
               let count : so_far.count ≡ many =
               (let left = so_far.left in let same = same_many in omega (arith, left, same, none)) in

@@ -39,7 +39,7 @@ use Rattle.hotplug.proofs.Over.{gives_one, one_item, takes_one}
 
 -- HOW MANY are queued
 pub count_seen_in : (w : World) (c : ℕ) → c < length w.cpus →
-    step_rules.queued_on w c ≡ count_in (cpu_of w c).bases
+    step_rules.count_queued w c ≡ count_in (cpu_of w c).bases
 count_seen_in w c low = ap count_in (bases_seen w c low)
 
 some_items : (k : Class) (items : List Item) (item : Item) → oldest_in items ≡ Some item →
@@ -220,7 +220,7 @@ module _ (w : World) (from to : ℕ) (lawful : IsLawful w) (may : MayMoveAll w f
     },
   )
 
-  pub moves_fewer : step_rules.queued_on v from + 1 ≡ step_rules.queued_on w from
+  pub moves_fewer : step_rules.count_queued v from + 1 ≡ step_rules.count_queued w from
   moves_fewer =
       let fewer = fewer_out w.clock class (record { 0 = to }) (cpu_of w from).bases item
       (first_is (cpu_of w from).bases f.found f.first) in

@@ -40,7 +40,7 @@ online_fault w c = if (cpu_of w c).online then Some faults.AlreadyOnline else No
 -- THE TIMERS OF A DEAD CPU go to the controlling one, if there are any
 abbrev pub heir_of : World → (dead : ℕ) → Option CpuId
 heir_of w dead =
-    if step_rules.queued_on w dead == 0 then None
+    if step_rules.count_queued w dead == 0 then None
     else option_map (λ d. record { 0 = d }) (step_rules.controller w)
 
 -- one move after the other, each of the timer that is first then
@@ -53,7 +53,7 @@ moved_times (suc n) from to w =
 abbrev pub moved_to : World → (dead : ℕ) → Option CpuId → World
 moved_to w dead None = w
 moved_to w dead (Some to) =
-    moved_times (step_rules.queued_on w dead) dead to.0 (made_active w to.0)
+    moved_times (step_rules.count_queued w dead) dead to.0 (made_active w to.0)
 
 -- all timers of an offline CPU have moved to its heir
 abbrev pub moved_off : World → (dead : ℕ) → World
@@ -62,7 +62,7 @@ moved_off w dead = moved_to w dead (heir_of w dead)
 -- the first timers of CPU `from` have moved, and the others are still there
 pub record MovedTimes (old : World) (from to : ℕ) (new : World) : Type 0 where
   pub count : ℕ
-  pub left : step_rules.queued_on new from + count ≡ step_rules.queued_on old from
+  pub left : step_rules.count_queued new from + count ≡ step_rules.count_queued old from
   pub is : new ≡ moved_times count from to old
 
 -- after want of memory the controlling CPU is active, and some have moved

@@ -28,9 +28,9 @@ fn move_next<B: TimerBase>(core: &mut Core<B>, from: CpuId, to: CpuId) -> Result
         (core.new ≡ after_move (step_rules.moved core.old from.0 to.0) core.old) }
     ensures may { OnOk result (MayMoveAll core.new from.0 to.0) }
     ensures fewer { IfOk result (λ more. more ≡ true →
-        step_rules.queued_on core.new from.0 + 1 ≡ step_rules.queued_on core.old from.0) }
+        step_rules.count_queued core.new from.0 + 1 ≡ step_rules.count_queued core.old from.0) }
     ensures none { IfOk result (λ more. more ≡ false →
-        step_rules.queued_on core.new from.0 ≡ 0) }
+        step_rules.count_queued core.new from.0 ≡ 0) }
     ensures same { IfOk result (λ more. more ≡ false → core.new ≡ core.old) }
     ensures err { OnErr result (core.new ≡ core.old) }
     ensures over { SomeMoved core.old from.0 to.0 core.new }
@@ -51,7 +51,7 @@ fn move_next<B: TimerBase>(core: &mut Core<B>, from: CpuId, to: CpuId) -> Result
 fn move_all<B: TimerBase>(core: &mut Core<B>, from: CpuId, to: CpuId) -> Result<(), NoMemory>
     requires { MayMoveAll core.old from.0 to.0 }
     ensures moved { MovedTimes core.old from.0 to.0 core.new }
-    ensures none_left { OnOk result (step_rules.queued_on core.new from.0 ≡ 0) }
+    ensures none_left { OnOk result (step_rules.count_queued core.new from.0 ≡ 0) }
     ensures over { SomeMoved core.old from.0 to.0 core.new }
     ensures left { OnErr result (StillQueued core.new from.0) }
     ensures may { MayMoveAll core.new from.0 to.0 }
@@ -86,7 +86,7 @@ pub fn move_dead<B: TimerBase>(core: &mut Core<B>, dead: CpuId) -> Result<Option
     requires whole { AllWhole core.old }
     ensures heir { IfOk result (λ heir. heir ≡ heir_of core.old dead.0) }
     ensures moved { OnOk result (core.new ≡ moved_off core.old dead.0) }
-    ensures none_left { OnOk result (step_rules.queued_on core.new dead.0 ≡ 0) }
+    ensures none_left { OnOk result (step_rules.count_queued core.new dead.0 ≡ 0) }
     ensures err { OnErr result (MovedSome core.old dead.0 core.new) }
     ensures all { IfOk result (λ heir. AllMoved core.old dead.0 heir core.new) }
     ensures part { OnErr result (PartMoved core.old dead.0 core.new) }

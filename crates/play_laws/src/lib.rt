@@ -9,7 +9,7 @@ mod jiffy_laws;
 mod told_laws;
 mod work_laws;
 
-pub use answered_law::law_settled;
+pub use answered_law::law_each_answered;
 pub use jiffy_laws::{law_ends, law_in_its_jiffy, law_looks, law_runners};
 pub use told_laws::{law_covers, law_each_runs, law_left, law_lines};
 pub use work_laws::{law_moments, law_work};

@@ -187,7 +187,7 @@ module _ {S : Type 0} (r : Rules S) where
 
   -- MOVING: all timers of a CPU, first to last (timers_dead_cpu)
   abbrev pub move_all : (from to : ℕ) → S → Played S
-  move_all from to s = moves (r.queued_on s from) from to s
+  move_all from to s = moves (r.count_queued s from) from to s
 
   -- the controlling CPU gets them all
   abbrev pub moves_to : Option ℕ → (from : ℕ) → S → Played S
@@ -203,7 +203,7 @@ module _ {S : Type 0} (r : Rules S) where
 
   -- the timers of a CPU that is offline move to the controlling CPU
   abbrev pub clear : (from : ℕ) → S → Played S
-  clear from s = if r.is_online s from then silent s else clear_where (r.queued_on s from) from s
+  clear from s = if r.is_online s from then silent s else clear_where (r.count_queued s from) from s
 
   -- the timers of the CPU that went offline in this moment move, where one did
   abbrev pub clear_after : Option ℕ → S → Played S

@@ -13,7 +13,7 @@ use Rattle.play_rules.specs.Hierarchy.{come_online, duty, first_event, gone_offl
 use Rattle.play_rules.specs.Hierarchy.{is_placed, looks_after, named, reevaluated, told_again}
 use Rattle.play_rules.specs.Hierarchy.{woken}
 use Rattle.play_rules.specs.Timers.{armed_on, cancelled_on, controller, controlling, count_on}
-use Rattle.play_rules.specs.Timers.{drained_on, moved, queued_on}
+use Rattle.play_rules.specs.Timers.{drained_on, moved_first, where_queued}
 use Rattle.play_rules.specs.Covers.{cover_of}
 use Rattle.play_rules.specs.Interrupts.{Replies}
 use Rattle.play_rules.specs.Moments.{AfterEach, Turn, spent_at, turns, whole_lines}
@@ -58,7 +58,7 @@ plain_rules = record {
   is_idle = λ s c. (cpu_at s c).idle;
   is_placed = is_placed;
   wakeup = λ s c. (cpu_at s c).wakeup;
-  queued = queued_on;
+  queued = where_queued;
   at_clock = at_clock;
   has_interrupt = has_interrupt;
   next_interrupt = next_interrupt;
@@ -80,10 +80,10 @@ plain_rules = record {
   hands_on = hands_on;
   handed_on = λ s c d. woken s d;
   come_online = come_online;
-  queued_on = count_on;
+  count_queued = count_on;
   controller = controller;
   controlling = controlling;
-  moved = moved;
+  moved = moved_first;
   cover = cover_of;
 }
 

@@ -71,7 +71,7 @@ pub record Rules (S : Type 0) : Type 0 where
   pub come_online : S → (c : ℕ) → S
   -- MOVING what is queued on a CPU: how many timers; the controlling CPU; it is made active; it
   -- gets the first of them, where there is one
-  pub queued_on : S → (c : ℕ) → ℕ
+  pub count_queued : S → (c : ℕ) → ℕ
   pub controller : S → Option ℕ
   pub controlling : S → (d : ℕ) → S
   pub moved : S → (from to : ℕ) → Option (Moved S)

@@ -32,8 +32,8 @@ abbrev pub queued_at : State → (timer c : ℕ) → Option Queued
 queued_at s timer c = option_map (queued_as c) (found_in timer (bases_at s c))
 
 -- WHERE a timer is queued, if it is: the CPU, its class and its wheel expiry
-abbrev pub queued_on : State → (timer : ℕ) → Option Queued
-queued_on s timer = option_and_then (queued_at s timer) (holder_of s timer)
+abbrev pub where_queued : State → (timer : ℕ) → Option Queued
+where_queued s timer = option_and_then (queued_at s timer) (holder_of s timer)
 
 -- A DRAIN at the clock: what goes out of a base one after the other, at most n items
 abbrev pub item_then : Option Item → List Item → List Item
@@ -114,8 +114,8 @@ abbrev pub moved_one : State → (from to : ℕ) → Class × Item → Moved Sta
 moved_one s from to (class, item) = moved_into (moved_out_of s from to class) to (class, item)
 
 -- MOVING (migrate_timer_list): the first timer to move goes from one CPU to another
-abbrev pub moved : State → (from to : ℕ) → Option (Moved State)
-moved s from to = option_map (moved_one s from to) (first_to_move (bases_at s from))
+abbrev pub moved_first : State → (from to : ℕ) → Option (Moved State)
+moved_first s from to = option_map (moved_one s from to) (first_to_move (bases_at s from))
 
 -- how many timers are queued on CPU c
 abbrev pub count_on : State → (c : ℕ) → ℕ

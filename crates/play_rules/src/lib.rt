@@ -4,7 +4,7 @@
 //! `Rules` is what a play asks of a machine; `Interrupts`, `Operations` and `Moments` say over any
 //! rules what a moment and a play are, with their lines and their count of work. `State`,
 //! `Hierarchy`, `Timers` and `Covers` are the plain machine, and `Play` the shape under its rules.
-//! A `Machine` makes each rule a call.
+//! A `PlayMachine` makes each rule a call.
 #![tactic(auto)]
 
 mod asks;
@@ -12,5 +12,5 @@ mod machine;
 mod tally;
 
 pub use asks::{Answerer, Arming, Cancelling, Mover, Queued, UnknownJob};
-pub use machine::Machine;
+pub use machine::PlayMachine;
 pub use tally::Tally;

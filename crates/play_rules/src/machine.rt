@@ -13,7 +13,7 @@ use wheel_core::Item;
 /// right place of a moment: between operations, in a CPU's interrupt, there with another CPU taken,
 /// or where a CPU that went offline has to hand on its duty. A machine may rely on that; `Fit` says
 /// when its state fits a place.
-pub trait Machine: Drop {
+pub trait PlayMachine: Drop {
     ghost use Rattle.std.specs.Prelude.{◌≡◌, ◌≢◌, ◌+◌, ◌<◌, ◌≤◌, All, None, Some, false, true};
     ghost use Rattle.std.specs.Prelude.{IfSome, OnErr, OnOk, IfOk, option_map};
     ghost use Rattle.tm_base.specs.declared.limits.TheConstants.{CPU_SET_SIZE, SCRIPT_TIME_LIMIT};
@@ -301,9 +301,9 @@ pub trait Machine: Drop {
         ensures same { Same rules (world self.old) (world self.new) };
 
     /// How many timers are queued on a CPU.
-    fn queued_on(&self, cpu: CpuId) -> usize
+    fn count_queued(&self, cpu: CpuId) -> usize
         requires { cpu.0 < rules.cpus (world self.now) }
-        ensures { result ≡ rules.queued_on (world self.now) cpu.0 };
+        ensures { result ≡ rules.count_queued (world self.now) cpu.0 };
 
     /// The CPU that gets the timers of one that went offline.
     fn controller(&self) -> Option<CpuId>

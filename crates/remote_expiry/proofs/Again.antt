@@ -35,7 +35,7 @@ use Rattle.timer_calls.specs.Arms.{HasArmed, IsQueued, MetBy, NotArmed, arming_o
 use Rattle.timer_calls.specs.Arms.{roomy}
 use Rattle.remote_expiry.specs.declared.runs.RanReply.TheVariants as ran
 use Rattle.remote_expiry.specs.Pieces.{Gains, HeldInside, Piece}
-use Rattle.remote_expiry.specs.Running.{HasAnswered, queued_on}
+use Rattle.remote_expiry.specs.Running.{HasAnswered, holder_told}
 use Rattle.remote_expiry.proofs.Gaining.{begins_then, known_more, no_piece, none_gained}
 use Rattle.remote_expiry.proofs.Gaining.{piece_of}
 
@@ -75,7 +75,7 @@ module _ (table : TableId) (o : World) (now : ℕ) (now_is : now ≡ o.clock) (h
       (ap (λ (z : HeldPass). z.seated) is ∙ there) (ap (λ (z : HeldPass). z.cpu) is)
       (none_gained p journal begun)
 
-  pub failed : (timer : ℕ) (after : HeldPass) (fault : OpFault) → None ≡ queued_on fault
+  pub failed : (timer : ℕ) (after : HeldPass) (fault : OpFault) → None ≡ holder_told fault
       → NotArmed table o timer part held after fault → Piece table held after [] [] 0
   failed timer after (faults.Queued cpu) none not = absurd (none-some cpu none)
   failed timer after faults.NoMemory none not = stayed after not.left
@@ -235,13 +235,13 @@ module _ (table : TableId) (o : World) (now : ℕ) (now_is : now ≡ o.clock) (h
             since = low;
             spot = f.spot;
             spelled = f.names;
-            named = ap (λ (c : CpuId). c.0) (same_Some f.spot.cpu cpu (ap queued_on (sym f.is)));
+            named = ap (λ (c : CpuId). c.0) (same_Some f.spot.cpu cpu (ap holder_told (sym f.is)));
           };
           arms = refl;
         }
 
     -- the CPU that the refusal names
-    pub skipped_at : i.id < o.timers → (fault : OpFault) (cpu : CpuId) → Some cpu ≡ queued_on fault
+    pub skipped_at : i.id < o.timers → (fault : OpFault) (cpu : CpuId) → Some cpu ≡ holder_told fault
         → NotArmed table o i.id part held after fault
         → HasAnswered table o i (replies.Again class delay) held after (ran.Skip cpu)
     skipped_at known (faults.Queued c) cpu is not =

@@ -22,15 +22,15 @@ use Rattle.remote_expiry.specs.Following.{IsTold}
 use Rattle.remote_expiry.specs.Pieces.{Piece}
 
 -- the CPU that a refusal to arm names
-abbrev pub queued_on : OpFault → Option CpuId
-queued_on (faults.Queued cpu) = Some cpu
-queued_on faults.NoMemory = None
-queued_on faults.NotActive = None
-queued_on faults.NotIdle = None
-queued_on faults.Offline = None
-queued_on faults.AlreadyOnline = None
-queued_on faults.LastOnline = None
-queued_on (faults.Spent made) = None
+abbrev pub holder_told : OpFault → Option CpuId
+holder_told (faults.Queued cpu) = Some cpu
+holder_told faults.NoMemory = None
+holder_told faults.NotActive = None
+holder_told faults.NotIdle = None
+holder_told faults.Offline = None
+holder_told faults.AlreadyOnline = None
+holder_told faults.LastOnline = None
+holder_told (faults.Spent made) = None
 
 -- what the job of a timer is told that went out
 abbrev pub call_to : (now runner : ℕ) → Item → JobCall

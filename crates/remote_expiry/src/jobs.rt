@@ -4,7 +4,7 @@ ghost use Rattle.std.specs.Prelude.{◌≡◌, ◌+◌, ◌-◌, ◌^◌, ◌<�
 ghost use Rattle.tm_base.specs.declared.names.TheConstants.{TIME_LIMIT};
 ghost use Rattle.remote_expiry.specs.Pieces.{HeldInside, IsTimerOf, Piece, RanAll, RanSome};
 ghost use Rattle.remote_expiry.specs.Running.{HasAnswered, HasRun, HasToldNone, HasToldRun};
-ghost use Rattle.remote_expiry.specs.Running.{queued_on};
+ghost use Rattle.remote_expiry.specs.Running.{holder_told};
 
 use crate::runs::{Ran, RanReply, Runs};
 use job_table::{JobCall, JobReply, Jobs};
@@ -16,8 +16,8 @@ use tm_base::{Class, CpuId, Jiffy, NoMemory, OpFault, TimerId};
 use wheel_core::{Item, TimerBase};
 
 /// The CPU on which a timer was found queued that was to be armed.
-fn queued_on(fault: OpFault) -> Option<CpuId>
-    ensures { result ≡ queued_on fault }
+fn holder_told(fault: OpFault) -> Option<CpuId>
+    ensures { result ≡ holder_told fault }
 {
     match fault {
         OpFault::Queued { cpu } => Some(cpu),
@@ -49,7 +49,7 @@ fn again<N: RunName, B: TimerBase, R: Wait>(
         rt, shared, pass, now, timer, class, delay, item.job, item.arg, 0,
     ) {
         Ok(wheel) => Ok(RanReply::Again { class, wheel }),
-        Err(fault) => match queued_on(fault) {
+        Err(fault) => match holder_told(fault) {
             Some(cpu) => Ok(RanReply::Skip { cpu }),
             None => Err(NoMemory),
         },

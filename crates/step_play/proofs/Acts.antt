@@ -15,7 +15,7 @@ use Rattle.play_rules.specs.Interrupts.{cpu_id}
 use Rattle.play_rules.specs.State as play
 use Rattle.play_rules.specs.State.{State}
 use Rattle.play_rules.specs.Timers.{armed_on, cancelled_on, drained_on, due_items}
-use Rattle.play_rules.specs.Timers.{queued_on}
+use Rattle.play_rules.specs.Timers.{where_queued}
 use Rattle.core_world.specs.declared.step.Step.TheVariants as steps
 use Rattle.core_world.specs.Enabled.{IsFree, MayArm, MayCancel, MayRun}
 use Rattle.core_world.specs.Lists.{EachEnabled}
@@ -117,7 +117,7 @@ module _ (law : StepsStayLawful) (ph : Phase) (w : World) (i : InRun ph w) where
       (may : (is_active (cpu_of w c) ≡ true) ⊎ ((cpu_of w c).inside ≡ true))
       (known : a.timer.0 < w.timers) (short : a.delay < 2 ^ 32)
       (early : w.clock < SCRIPT_TIME_LIMIT)
-      (none : queued_on (state_of w) a.timer.0 ≡ None) where
+      (none : where_queued (state_of w) a.timer.0 ≡ None) where
     abbrev pub filled : CpuBases
     filled = armed w.clock a.class a.timer.0 (w.clock + a.delay) a.job a.arg a.line (cpu_id c)
         (cpu_of w c).bases
@@ -169,7 +169,7 @@ module _ (law : StepsStayLawful) (ph : Phase) (w : World) (i : InRun ph w) where
         free.in_range d ne)
 
   -- A CANCELLING
-  module _ (a : Cancelling) (held : Queued) (is : queued_on (state_of w) a.timer.0 ≡ Some held)
+  module _ (a : Cancelling) (held : Queued) (is : where_queued (state_of w) a.timer.0 ≡ Some held)
       (free : IsFree w held.cpu.0) (by : a.by.0 < length w.cpus) where
     abbrev pub less : CpuBases
     less = cancelled w.clock a.timer.0 a.line a.by (cpu_of w held.cpu.0).bases
@@ -226,7 +226,7 @@ module _ (law : StepsStayLawful) (ph : Phase) (w : World) (i : InPlay ph w) wher
       (may : (is_active (cpu_of w c) ≡ true) ⊎ ((cpu_of w c).inside ≡ true))
       (known : a.timer.0 < w.timers) (short : a.delay < 2 ^ 32)
       (early : w.clock < SCRIPT_TIME_LIMIT)
-      (none : queued_on (state_of w) a.timer.0 ≡ None) where
+      (none : where_queued (state_of w) a.timer.0 ≡ None) where
     pub arm_plays : Plays ph (armed_by_steps w c a).state (armed_on (state_of w) c a).state
     arm_plays =
         rebase_plays ph w c _ (armed_by_steps w c a).state (armed_on (state_of w) c a).state i
@@ -237,7 +237,7 @@ module _ (law : StepsStayLawful) (ph : Phase) (w : World) (i : InPlay ph w) wher
         (armed w.clock a.class a.timer.0 (w.clock + a.delay) a.job a.arg a.line (cpu_id c) b))
         (sym (bases_seen w c free.in_range)))
 
-  module _ (a : Cancelling) (held : Queued) (is : queued_on (state_of w) a.timer.0 ≡ Some held)
+  module _ (a : Cancelling) (held : Queued) (is : where_queued (state_of w) a.timer.0 ≡ Some held)
       (free : IsFree w held.cpu.0) (by : a.by.0 < length w.cpus) where
     pub cancel_plays : Plays ph (cancelled_by_steps w held.cpu.0 a)
         (cancelled_on (state_of w) held.cpu.0 a)

@@ -75,7 +75,7 @@ module _ (law : StepsStayLawful) (walks : Walks) (t : Shape)
     looks_after = λ w c level. refl;
     first_event = λ w c. refl;
     successor = λ w c. refl;
-    queued_on = λ w c. refl;
+    count_queued = λ w c. refl;
     controller = λ w. refl;
     is_online = λ now st w c low was. reads t timers (λ x. x.online) now st w c low was;
     is_idle = λ now st w c low was. reads t timers (λ x. x.idle) now st w c low was;

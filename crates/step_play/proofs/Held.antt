@@ -9,7 +9,7 @@ use Rattle.wheel_core.specs.declared.item.Item.{Item}
 use Rattle.cpu_bases.specs.CpuBases.{class_in, found_in}
 use Rattle.play_rules.specs.declared.asks.Queued.{Queued}
 use Rattle.play_rules.specs.State.{Cpu, State, cpu_count}
-use Rattle.play_rules.specs.Timers.{bases_at, holder_of, queued_as, queued_at, queued_on}
+use Rattle.play_rules.specs.Timers.{bases_at, holder_of, queued_as, queued_at, where_queued}
 use Rattle.play_laws.proofs.Answered.Ranges.{found_some, found_there}
 use Rattle.core_world.specs.World.{CpuRecord, World, cpu_of}
 use Rattle.step_play.specs.Rules.Seen.{state_of}
@@ -45,7 +45,7 @@ module _ (w : World) (timer : ℕ) where
       absurd (found_not (found_in timer (bases_at s c)) c none
       (found_there (λ c. is_some (class_in timer (bases_at s c))) 0 (cpu_count s) c holder).passes)
 
-  pub nowhere : queued_on s timer ≡ None → (d : ℕ) → class_in timer (cpu_of w d).bases ≡ None
+  pub nowhere : where_queued s timer ≡ None → (d : ℕ) → class_in timer (cpu_of w d).bases ≡ None
   nowhere none d = elim (cases_lt d (length w.cpus)) [
     | inl low ↦
         ap (class_in timer) (sym (bases_seen w d low))
@@ -69,7 +69,7 @@ module _ (w : World) (timer : ℕ) where
         let at = held_as (found_in timer (bases_at s c)) c is in
         subst (λ n. class_in timer (bases_at s n) ≡ Some held.class) at.0 at.1
 
-    pub held_class : queued_on s timer ≡ Some held → held.cpu.0 < length w.cpus →
+    pub held_class : where_queued s timer ≡ Some held → held.cpu.0 < length w.cpus →
         class_in timer (cpu_of w held.cpu.0).bases ≡ Some held.class
     held_class is low =
         ap (class_in timer) (sym (bases_seen w held.cpu.0 low)) ∙ held_by (holder_of s timer) is

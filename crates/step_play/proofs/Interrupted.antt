@@ -19,7 +19,7 @@ use Rattle.play_rules.specs.declared.asks.Arming.{Arming}
 use Rattle.play_rules.specs.Interrupts.{having_interrupt}
 use Rattle.play_rules.specs.Play.{ended, has_interrupt, plain_rules}
 use Rattle.play_rules.specs.State.{State, cpu_at}
-use Rattle.play_rules.specs.Timers.{armed_on, drained_on, queued_on}
+use Rattle.play_rules.specs.Timers.{armed_on, drained_on, where_queued}
 use Rattle.play_laws.proofs.Answered.Plays.{rules_keep}
 use Rattle.play_laws.proofs.Answered.Settles.{Settles}
 use Rattle.std.proofs.lemmas.Bool.Decides.{nat_tests}
@@ -179,7 +179,7 @@ module _ (law : StepsStayLawful) (walks : Walks) (t : Shape) (timers end : ℕ)
 
     -- and what its jobs arm
     module _ (was : Inside t timers now due c (own due c (k + 1)) w) (a : Arming)
-        (fits : MayArm timers a) (none : queued_on (state_of w) a.timer.0 ≡ None) where
+        (fits : MayArm timers a) (none : where_queued (state_of w) a.timer.0 ≡ None) where
       here : c < length w.cpus
       here = in_core t timers now (own due c (k + 1)) (inside c) w was.at c low
 

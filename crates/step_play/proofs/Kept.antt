@@ -110,7 +110,7 @@ module _ (law : StepsStayLawful) (walks : Walks) (t : Shape)
         handed law walks t timers end in_time now w c low was waits d is;
     controlling = λ now from d w low offline is was.
         control law walks t timers end in_time now w was from low offline d is
-        (step_rules.queued_on (step_rules.controlling w d) from);
+        (step_rules.count_queued (step_rules.controlling w d) from);
     moved = λ now from to n w m low is was.
         moves law walks t timers end in_time now w from to n low was m is;
     moved_none = λ now from to n w low none was.

@@ -21,7 +21,7 @@ use Rattle.play_rules.specs.Hierarchy.{named, next_of, told_again}
 use Rattle.play_rules.specs.Interrupts.{cpu_id}
 use Rattle.play_rules.specs.State.{Cpu, State, cpu_at, cpu_count, has_group, new_cpu}
 use Rattle.play_rules.specs.State.{with_bases}
-use Rattle.play_rules.specs.Timers.{armed_bases, armed_on, bases_at, drained_on, queued_on}
+use Rattle.play_rules.specs.Timers.{armed_bases, armed_on, bases_at, drained_on, where_queued}
 use Rattle.play_laws.proofs.Answered.Plays.{rules_keep}
 use Rattle.play_laws.proofs.Answered.States.{here_is}
 use Rattle.play_laws.proofs.Answered.Timers.{bases_alike}
@@ -170,7 +170,7 @@ module _ (law : StepsStayLawful) (walks : Walks) (t : Shape) (timers end : ℕ)
       here = in_core t timers now (running due c level n tried d) (serving c d) w at c low
 
       module _ (a : Arming) (fits : MayArm timers a)
-          (none : queued_on (state_of w) a.timer.0 ≡ None) where
+          (none : where_queued (state_of w) a.timer.0 ≡ None) where
         free_c : IsFree w c
         free_c = free_in (serving c d) w c at.in_play.in_run refl here
 

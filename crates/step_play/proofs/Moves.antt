@@ -18,7 +18,7 @@ use Rattle.tree_plan.specs.Paths.{is_placed_in}
 use Rattle.play_rules.specs.Interrupts.{cpu_id, timer_id}
 use Rattle.play_rules.specs.Rules.{Moved}
 use Rattle.play_rules.specs.State as play
-use Rattle.play_rules.specs.Timers.{bases_at, first_to_move, moved, moved_into, moved_one}
+use Rattle.play_rules.specs.Timers.{bases_at, first_to_move, moved_first, moved_into, moved_one}
 use Rattle.play_rules.specs.Timers.{moved_out_of}
 use Rattle.play_rules.proofs.FirstMoves.{first_is}
 use Rattle.play_laws.proofs.Shape.Alike.{moved_seen}
@@ -233,7 +233,7 @@ module _ (w : World) (from to : ℕ) (low : from < length w.cpus) where
   finds m is = finds_by (first_to_move (cpu_of w from).bases) m refl is
 
   pub moves_none : by_steps (first_to_move (cpu_of w from).bases) ≡ None →
-      moved (state_of w) from to ≡ None
+      moved_first (state_of w) from to ≡ None
   moves_none none =
       ap (option_map (moved_one (state_of w) from to)) first_seen
       ∙ by_first (first_to_move (cpu_of w from).bases) none
@@ -247,7 +247,7 @@ module _ (w : World) (from to : ℕ) (low : from < length w.cpus) where
   pub moves_some : (m : Moved World) (f : Finds m) →
       state_of (moved_by_steps w from to f.found).state
       ≡ (moved_one (state_of w) from to f.found).state
-      → moved (state_of w) from to ≡ Some (moved_seen state_of m)
+      → moved_first (state_of w) from to ≡ Some (moved_seen state_of m)
   moves_some m f same =
       ap (option_map (moved_one (state_of w) from to)) (first_seen ∙ f.first)
       ∙ ((λ j. Some (record {

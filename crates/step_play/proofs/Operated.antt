@@ -15,8 +15,8 @@ use Rattle.play_rules.specs.Operations.{last_online}
 use Rattle.play_rules.specs.Play.{hands_on, plain_rules, successor}
 use Rattle.play_rules.specs.Rules.{Moved}
 use Rattle.play_rules.specs.State.{Cpu, State, cpu_at, cpu_count}
-use Rattle.play_rules.specs.Timers.{armed_on, cancelled_on, controller, controlling, moved}
-use Rattle.play_rules.specs.Timers.{moved_one, queued_on}
+use Rattle.play_rules.specs.Timers.{armed_on, cancelled_on, controller, controlling, moved_first}
+use Rattle.play_rules.specs.Timers.{moved_one, where_queued}
 use Rattle.play_laws.proofs.Answered.Hotplug.{hands_placed}
 use Rattle.play_laws.proofs.Answered.Plays.{rules_keep}
 use Rattle.play_laws.proofs.Answered.Settles.{Settles}
@@ -74,7 +74,7 @@ module _ (law : StepsStayLawful) (walks : Walks) (t : Shape)
       awake = read w (λ x. x.idle) c here ∙ busy
 
       module _ (a : Arming) (known : a.timer.0 < timers) (short : a.delay < 2 ^ 32)
-          (none : queued_on s a.timer.0 ≡ None) where
+          (none : where_queued s a.timer.0 ≡ None) where
         pub arms : Plays resting (armed_by_steps w c a).state (armed_on s c a).state
         arms =
             let many = was.many in
@@ -92,7 +92,7 @@ module _ (law : StepsStayLawful) (walks : Walks) (t : Shape)
 
       module _ (a : Cancelling) (held : Queued)
           (known : (a.timer.0 < timers) × (a.by.0 < cpu_count_of t))
-          (is : queued_on s a.timer.0 ≡ Some held) where
+          (is : where_queued s a.timer.0 ≡ Some held) where
         pub cancel : Plays resting (cancelled_by_steps w held.cpu.0 a)
             (cancelled_on s held.cpu.0 a)
         cancel =
@@ -245,7 +245,7 @@ module _ (law : StepsStayLawful) (walks : Walks) (t : Shape)
           move_plays law w was.at.in_play from to here_from was.offline placed active f.found.0
           f.found.1 f.first
 
-      pub sees_moved : moved s from to ≡ Some (moved_seen state_of m)
+      pub sees_moved : moved_first s from to ≡ Some (moved_seen state_of m)
       sees_moved = moves_some w from to here_from m f moving_plays.state
 
       moves_settled : Settles t now (moving from to n) (state_of m.state)
@@ -272,5 +272,5 @@ module _ (law : StepsStayLawful) (walks : Walks) (t : Shape)
           subst (λ (x : Moved World). Moving t timers now from to (moving from to n) x.state) f.made
           one_moved
 
-    pub sees_none : step_rules.moved w from to ≡ None → moved s from to ≡ None
+    pub sees_none : step_rules.moved w from to ≡ None → moved_first s from to ≡ None
     sees_none none = moves_none w from to here_from none

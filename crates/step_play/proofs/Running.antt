@@ -9,7 +9,7 @@ use Rattle.play_rules.specs.declared.asks.Arming.{Arming}
 use Rattle.play_rules.specs.declared.asks.Cancelling.{Cancelling}
 use Rattle.play_rules.specs.declared.asks.Queued.{Queued}
 use Rattle.play_rules.specs.Interrupts.{cpu_id}
-use Rattle.play_rules.specs.Timers.{queued_on}
+use Rattle.play_rules.specs.Timers.{where_queued}
 use Rattle.core_world.specs.declared.step.Step.{Step}
 use Rattle.core_world.specs.declared.step.Step.TheVariants as steps
 use Rattle.core_world.specs.Enabled.{Enabled, IsFree, MayRun}
@@ -52,7 +52,7 @@ module _ (law : StepsStayLawful) (ph : Phase) (w : World) (i : InRun ph w) where
   -- AN ARMING
   pub arm_runs : (c : ℕ) (a : Arming) → IsFree w c → (cpu_of w c).online ≡ true →
       (is_active (cpu_of w c) ≡ true) ⊎ ((cpu_of w c).inside ≡ true) → a.timer.0 < w.timers →
-      a.delay < 2 ^ 32 → w.clock < SCRIPT_TIME_LIMIT → queued_on (state_of w) a.timer.0 ≡ None →
+      a.delay < 2 ^ 32 → w.clock < SCRIPT_TIME_LIMIT → where_queued (state_of w) a.timer.0 ≡ None →
       RuleRun w (armed_by_steps w c a).state
   arm_runs c a free online may known short early none =
       runs.armed c a refl
@@ -61,7 +61,7 @@ module _ (law : StepsStayLawful) (ph : Phase) (w : World) (i : InRun ph w) where
 
   -- A CANCELLING
   pub cancel_runs : (a : Cancelling) (held : Queued) →
-      queued_on (state_of w) a.timer.0 ≡ Some held → IsFree w held.cpu.0 → a.by.0 < length w.cpus →
+      where_queued (state_of w) a.timer.0 ≡ Some held → IsFree w held.cpu.0 → a.by.0 < length w.cpus →
       RuleRun w (step_rules.cancelled w held.cpu.0 a)
   cancel_runs a held is free by =
       runs.cancelled held.cpu.0 a refl

@@ -21,7 +21,7 @@ use Rattle.play_rules.specs.Operations.{last_online}
 use Rattle.play_rules.specs.Play.{successor}
 use Rattle.play_rules.specs.Rules.{Moved}
 use Rattle.play_rules.specs.State.{State, cpu_at}
-use Rattle.play_rules.specs.Timers.{controller, queued_on}
+use Rattle.play_rules.specs.Timers.{controller, where_queued}
 use Rattle.play_laws.proofs.Answered.Timers.{queued_low}
 use Rattle.play_laws.proofs.Shape.Shape.{between, begun, leaving, looked, looking, moving}
 use Rattle.play_laws.proofs.Shape.Shape.{nth_class, own, running, taking}
@@ -85,7 +85,7 @@ module _ (law : StepsStayLawful) (sizes : SizesStay) (walks : Walks) (t : Shape)
         (inl (refl, was.at.in_play.in_run.inside c ∙ eq-eqb c c refl))
 
     pub own_arm_runs : (k : ℕ) → Inside t timers now due c (own due c (k + 1)) w → (a : Arming) →
-        MayArm timers a → queued_on (state_of w) a.timer.0 ≡ None →
+        MayArm timers a → where_queued (state_of w) a.timer.0 ≡ None →
         RuleRun w (armed_by_steps w c a).state
     own_arm_runs k was a fits none =
         let here = in_core t timers now (own due c (k + 1)) (inside c) w was.at c low in
@@ -133,7 +133,7 @@ module _ (law : StepsStayLawful) (sizes : SizesStay) (walks : Walks) (t : Shape)
         at = was.serving.at
 
         pub serve_arm_runs : (a : Arming) → MayArm timers a →
-            queued_on (state_of w) a.timer.0 ≡ None → RuleRun w (armed_by_steps w c a).state
+            where_queued (state_of w) a.timer.0 ≡ None → RuleRun w (armed_by_steps w c a).state
         serve_arm_runs a fits none =
             let ph = serving c d in
             let i = at.in_play.in_run in
@@ -171,7 +171,7 @@ module _ (law : StepsStayLawful) (sizes : SizesStay) (walks : Walks) (t : Shape)
 
     module _ (online : (cpu_of w c).online ≡ true) (busy : (cpu_of w c).idle ≡ false) where
       pub arms_by_run : (a : Arming) → a.timer.0 < timers → a.delay < 2 ^ 32 →
-          queued_on (state_of w) a.timer.0 ≡ None → RuleRun w (armed_by_steps w c a).state
+          where_queued (state_of w) a.timer.0 ≡ None → RuleRun w (armed_by_steps w c a).state
       arms_by_run a known short none =
           let many = was.many in
           let clock = was.clock in
@@ -193,7 +193,7 @@ module _ (law : StepsStayLawful) (sizes : SizesStay) (walks : Walks) (t : Shape)
           (may_go w i c here online busy none) (lone law resting w i c _))
 
     pub cancels_by_run : (a : Cancelling) (held : Queued) → a.by.0 < cpu_count_of t →
-        queued_on (state_of w) a.timer.0 ≡ Some held →
+        where_queued (state_of w) a.timer.0 ≡ Some held →
         RuleRun w (cancelled_by_steps w held.cpu.0 a)
     cancels_by_run a held by is =
         cancel_runs law resting w i a held is

@@ -208,7 +208,7 @@ module _ {S : Type 0} (r : Rules S) where
   moves_to_plain (Some d) from s =
       then_plain (printing (lines.Control (r.clock s) (cpu_id d)) (r.controlling s d))
       (move_all r from d) refl
-      (λ t. moves_plain (r.queued_on t from) from d t)
+      (λ t. moves_plain (r.count_queued t from) from d t)
 
   clear_where_plain : (queued from : ℕ) (s : S) → IsPlain (clear_where r queued from s)
   clear_where_plain zero from s = refl
@@ -218,9 +218,9 @@ module _ {S : Type 0} (r : Rules S) where
   clear_plain None s = refl
   clear_plain (Some c) s =
       elim (r.is_online s c) as (λ b. IsPlain
-      (if b then record { lines = []; work = 0; state = s } else clear_where r (r.queued_on s c) c s)) [
+      (if b then record { lines = []; work = 0; state = s } else clear_where r (r.count_queued s c) c s)) [
         | true ↦ refl
-        | false ↦ clear_where_plain (r.queued_on s c) c s
+        | false ↦ clear_where_plain (r.count_queued s c) c s
       ]
 
   -- COVERS, and what is left

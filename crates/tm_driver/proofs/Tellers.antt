@@ -215,9 +215,9 @@ module _ {S : Type 0} (r : Rules S) where
   clear_where_by (suc n) from s = moves_to_by (r.controller s) from s
 
   clear_by : (b : Bool) (from : ℕ) (s : S)
-      → ToldByNone (if b then silent s else clear_where r (r.queued_on s from) from s).lines
+      → ToldByNone (if b then silent s else clear_where r (r.count_queued s from) from s).lines
   clear_by true from s = nothing_by_none
-  clear_by false from s = clear_where_by (r.queued_on s from) from s
+  clear_by false from s = clear_where_by (r.count_queued s from) from s
 
   pub clear_after_by : (m : Option ℕ) (s : S) → ToldByNone (clear_after r m s).lines
   clear_after_by None s = nothing_by_none

@@ -7,7 +7,7 @@ use Rattle.play_rules.specs.Jobs.{first_unknown_job}
 use Rattle.play_rules.specs.Moments.{last_state, whole_lines}
 use Rattle.play_rules.specs.Parts.{counted}
 use Rattle.play_laws.specs.Jiffies.Jiffies.{EachHasEnded, InItsJiffy}
-use Rattle.play_laws.specs.Answered.Settled.{IsSettled}
+use Rattle.play_laws.specs.Answered.Settled.{EachAnswered}
 use Rattle.play_laws.specs.Told.Covers.{EachCoverIn}
 use Rattle.play_laws.specs.Told.Journals.{TellSameUpTo, is_hand_out}
 use Rattle.play_laws.specs.Told.Left.{LeftIn}
@@ -47,7 +47,7 @@ pub record LinesHold (jobs : Replies) (script : Script) : Type 0 where
 pub record LawsHold (jobs : Replies) (script : Script) : Type 0 where
   pub to_end : ComesToItsEnd script (times_of (play_turns jobs script))
   pub by_steps : IsPlayedBySteps jobs script
-  pub settled : AfterEachMoment IsSettled jobs script
+  pub answered : AfterEachMoment EachAnswered jobs script
   pub in_its_jiffy : AfterEachMoment InItsJiffy jobs script
   pub ended : AfterEachMoment EachHasEnded jobs script
   pub lines : LinesHold jobs script

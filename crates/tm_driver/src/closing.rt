@@ -6,12 +6,15 @@ ghost use Rattle.play_rules.specs.Parts.{Gains, Prints, lines_told};
 
 use crate::listeners::Listener;
 use crate::telling::Telling;
-use play_rules::Machine;
+use play_rules::PlayMachine;
 use tm_base::{Jiffy, NoMemory, TimerId};
 use tm_report::Line;
 
 /// A line for each timer that is still queued, by ascending timer.
-fn left_over<M: Machine, L: Listener>(machine: &M, telling: &mut Telling<L>) -> Result<(), NoMemory>
+fn left_over<M: PlayMachine, L: Listener>(
+    machine: &M,
+    telling: &mut Telling<L>,
+) -> Result<(), NoMemory>
     ensures prints { OnOk result
         (Prints
         (lines_told (left M.rules (M.rules.timers (M.world machine.now)) 0 (M.world machine.now))
@@ -34,7 +37,7 @@ fn left_over<M: Machine, L: Listener>(machine: &M, telling: &mut Telling<L>) -> 
 }
 
 /// The last lines of a play: the timers that are still queued, and the end.
-pub(crate) fn close<M: Machine, L: Listener>(
+pub(crate) fn close<M: PlayMachine, L: Listener>(
     machine: &M,
     end: Jiffy,
     telling: &mut Telling<L>,

@@ -12,17 +12,17 @@ ghost use Rattle.tm_driver.specs.Sleepers.{AnswersDue, ByWakeups};
 
 use crate::telling::Telling;
 use deep_idle::{Device, Wakeups, settle};
-use play_rules::Machine;
+use play_rules::PlayMachine;
 use tm_base::{CpuId, CpuSet, Jiffy, NEVER, NoMemory};
 use tm_report::{Line, Report};
 
 /// What a device is told of a machine's CPUs.
 #[derive(Drop)]
-struct Asleep<'a, M: Machine> {
+struct Asleep<'a, M: PlayMachine> {
     machine: &'a M,
 }
 
-impl<M: Machine> Wakeups for Asleep<'_, M> {
+impl<M: PlayMachine> Wakeups for Asleep<'_, M> {
     ghost use Rattle.tm_driver.specs.Deep.{sleep_until};
 
     ghost wakeups = { λ s. sleep_until M.rules (M.world s.machine.now) };
@@ -33,7 +33,7 @@ impl<M: Machine> Wakeups for Asleep<'_, M> {
 }
 
 /// The wakeup of a CPU that is online and idle, in jiffies; `NEVER` for any other.
-fn sleep_until<M: Machine>(machine: &M, cpu: CpuId) -> Jiffy
+fn sleep_until<M: PlayMachine>(machine: &M, cpu: CpuId) -> Jiffy
     ensures { result ≡ sleep_until M.rules (M.world machine.now) cpu.0 }
 {
     if cpu.0 < machine.cpus() && machine.is_online(cpu) && machine.is_idle(cpu) {
@@ -55,7 +55,7 @@ pub(crate) fn fire_at(device: &mut Device, now: Jiffy) -> CpuSet
 }
 
 /// Whether a CPU has an interrupt: it is online, and active or answered by the device.
-fn is_interrupted<M: Machine>(machine: &M, answered: &CpuSet, cpu: CpuId) -> bool
+fn is_interrupted<M: PlayMachine>(machine: &M, answered: &CpuSet, cpu: CpuId) -> bool
     requires cpu { cpu.0 < M.rules.cpus (M.world machine.now) }
     requires by_wakeups { ByWakeups M.rules }
     requires answers { AnswersDue M.rules (M.world machine.now) answered.now }
@@ -66,7 +66,7 @@ fn is_interrupted<M: Machine>(machine: &M, answered: &CpuSet, cpu: CpuId) -> boo
 }
 
 /// The CPUs that have an interrupt: the online active ones, and those that the device answers.
-pub(crate) fn interrupted<M: Machine>(machine: &M, answered: &CpuSet) -> CpuSet
+pub(crate) fn interrupted<M: PlayMachine>(machine: &M, answered: &CpuSet) -> CpuSet
     requires by_wakeups { ByWakeups M.rules }
     requires answers { AnswersDue M.rules (M.world machine.now) answered.now }
     ensures set { result ≡ having_interrupt M.rules (M.world machine.now) }
@@ -82,7 +82,7 @@ pub(crate) fn interrupted<M: Machine>(machine: &M, answered: &CpuSet) -> CpuSet
 }
 
 /// Settles the device after a moment, and tells its time where that isn't what it was.
-pub(crate) fn settle_after<M: Machine>(
+pub(crate) fn settle_after<M: PlayMachine>(
     machine: &M,
     device: &mut Device,
     now: Jiffy,

@@ -13,11 +13,11 @@ use crate::jobs::drain;
 use crate::listeners::Listener;
 use crate::telling::Telling;
 use job_table::Jobs;
-use play_rules::Machine;
+use play_rules::PlayMachine;
 use tm_base::{Class, CpuId, CpuSet, NoMemory};
 
 /// A look tries a CPU that it named: it leaves it alone, or runs its due global timers.
-fn try_one<M: Machine, J: Jobs, L: Listener>(
+fn try_one<M: PlayMachine, J: Jobs, L: Listener>(
     machine: &mut M,
     jobs: &J,
     cpu: CpuId,
@@ -47,7 +47,7 @@ fn try_one<M: Machine, J: Jobs, L: Listener>(
 
 /// The look of a CPU at its group of a level: it tries one CPU after the other, as long as one is
 /// named.
-fn look<M: Machine, J: Jobs, L: Listener>(
+fn look<M: PlayMachine, J: Jobs, L: Listener>(
     machine: &mut M,
     jobs: &J,
     cpu: CpuId,
@@ -80,7 +80,7 @@ fn look<M: Machine, J: Jobs, L: Listener>(
 }
 
 /// A CPU looks after its groups from the leaf upwards, as long as that is its part.
-fn looks<M: Machine, J: Jobs, L: Listener>(
+fn looks<M: PlayMachine, J: Jobs, L: Listener>(
     machine: &mut M,
     jobs: &J,
     cpu: CpuId,
@@ -108,7 +108,7 @@ fn looks<M: Machine, J: Jobs, L: Listener>(
 }
 
 /// A CPU drains its own three bases.
-fn drains<M: Machine, J: Jobs, L: Listener>(
+fn drains<M: PlayMachine, J: Jobs, L: Listener>(
     machine: &mut M,
     jobs: &J,
     cpu: CpuId,
@@ -130,7 +130,7 @@ fn drains<M: Machine, J: Jobs, L: Listener>(
 }
 
 /// The interrupt of a CPU: its own due timers, the looks after its groups, and the end.
-fn interrupt<M: Machine, J: Jobs, L: Listener>(
+fn interrupt<M: PlayMachine, J: Jobs, L: Listener>(
     machine: &mut M,
     jobs: &J,
     cpu: CpuId,
@@ -156,7 +156,7 @@ fn interrupt<M: Machine, J: Jobs, L: Listener>(
 }
 
 /// The interrupt of a CPU, where it is due one.
-pub(crate) fn interrupt_if_due<M: Machine, J: Jobs, L: Listener>(
+pub(crate) fn interrupt_if_due<M: PlayMachine, J: Jobs, L: Listener>(
     machine: &mut M,
     jobs: &J,
     due: &CpuSet,
@@ -183,7 +183,7 @@ pub(crate) fn interrupt_if_due<M: Machine, J: Jobs, L: Listener>(
 }
 
 /// The interrupts of the CPUs that are due one, by ascending number.
-pub(crate) fn interrupts<M: Machine, J: Jobs, L: Listener>(
+pub(crate) fn interrupts<M: PlayMachine, J: Jobs, L: Listener>(
     machine: &mut M,
     jobs: &J,
     due: &CpuSet,
@@ -207,7 +207,7 @@ pub(crate) fn interrupts<M: Machine, J: Jobs, L: Listener>(
 }
 
 /// The CPUs that have an interrupt at the clock.
-pub fn having_interrupt<M: Machine>(machine: &M) -> CpuSet
+pub fn having_interrupt<M: PlayMachine>(machine: &M) -> CpuSet
     ensures set { result ≡ having_interrupt M.rules (M.world machine.now) }
     ensures online { AreOnline M.rules (M.world machine.now) result }
 {

@@ -9,13 +9,13 @@ ghost use Rattle.play_rules.specs.Parts.{Gains, Prints};
 use crate::listeners::Listener;
 use crate::telling::Telling;
 use job_table::{JobCall, JobReply, Jobs};
-use play_rules::{Arming, Machine};
+use play_rules::{Arming, PlayMachine};
 use tm_base::{Class, CpuId, NoMemory, TimerId};
 use tm_report::{Line, ShownReply};
 use wheel_core::Item;
 
 /// A job asks for its timer again: it is armed on the runner, unless it is queued by then.
-fn arm_again<M: Machine>(
+fn arm_again<M: PlayMachine>(
     machine: &mut M,
     runner: CpuId,
     item: Item,
@@ -54,7 +54,7 @@ fn arm_again<M: Machine>(
 }
 
 /// Runs the job of an item that was taken out, and answers what a line shows of its reply.
-fn reply_to<M: Machine, J: Jobs>(
+fn reply_to<M: PlayMachine, J: Jobs>(
     machine: &mut M,
     jobs: &J,
     runner: CpuId,
@@ -87,7 +87,7 @@ fn reply_to<M: Machine, J: Jobs>(
 
 /// The job of an item of CPU `home` runs on CPU `runner`, with its line.
 #[inline(never)]
-fn run_job<M: Machine, J: Jobs, L: Listener>(
+fn run_job<M: PlayMachine, J: Jobs, L: Listener>(
     machine: &mut M,
     jobs: &J,
     home: CpuId,
@@ -123,7 +123,7 @@ fn run_job<M: Machine, J: Jobs, L: Listener>(
 /// The jobs of the items that were taken out of a base of CPU `home` run on CPU `runner`, in that
 /// order.
 #[inline(always)]
-fn run_jobs<M: Machine, J: Jobs, L: Listener>(
+fn run_jobs<M: PlayMachine, J: Jobs, L: Listener>(
     machine: &mut M,
     jobs: &J,
     home: CpuId,
@@ -152,7 +152,7 @@ fn run_jobs<M: Machine, J: Jobs, L: Listener>(
 
 /// All that is due of a base of CPU `home` is taken out, and then its jobs run on CPU `runner`.
 #[inline(always)]
-pub(crate) fn drain<M: Machine, J: Jobs, L: Listener>(
+pub(crate) fn drain<M: PlayMachine, J: Jobs, L: Listener>(
     machine: &mut M,
     jobs: &J,
     home: CpuId,

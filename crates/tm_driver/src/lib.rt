@@ -1,6 +1,6 @@
 //! Playing a script: moment by moment, into a report.
 //!
-//! The driver is generic over a `Machine`, and its contracts name the rules of any machine:
+//! The driver is generic over a `PlayMachine`, and its contracts name the rules of any machine:
 //! `interrupts` plays the interrupts of a moment, `operations` and `moving` what the script has for
 //! it, `moments` the moments to the end, and `playing` a whole script. `plays` has a script played
 //! on the core that `starting` makes; `deep` does so with a broadcast device for idle CPUs.

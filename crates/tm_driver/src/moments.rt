@@ -20,7 +20,7 @@ use crate::operations::operations;
 use crate::outcomes::DriveFault;
 use crate::telling::Telling;
 use job_table::Jobs;
-use play_rules::Machine;
+use play_rules::PlayMachine;
 use std::alloc::Global;
 use std::mem;
 use tm_base::{CpuSet, Jiffy, NoMemory, WORK_LIMIT_V1, WORK_LIMIT_V2};
@@ -29,7 +29,7 @@ use tm_script::{Moment, Script};
 
 /// What the script has for a moment: its operations, the timers of a CPU that went offline, and the
 /// covers.
-fn scripted<M: Machine, L: Listener>(
+fn scripted<M: PlayMachine, L: Listener>(
     machine: &mut M,
     due: Option<&Moment>,
     telling: &mut Telling<L>,
@@ -55,7 +55,7 @@ fn scripted<M: Machine, L: Listener>(
 
 /// One moment, of which the CPUs that have an interrupt are known: it may be handed others than
 /// those of the clock.
-pub(crate) fn moment<M: Machine, J: Jobs, L: Listener>(
+pub(crate) fn moment<M: PlayMachine, J: Jobs, L: Listener>(
     machine: &mut M,
     jobs: &J,
     interrupted: &CpuSet,
@@ -102,7 +102,7 @@ pub(crate) fn still_to_come(left: &[Moment], now: Jiffy) -> &[Moment]
 }
 
 /// The moment of a time, which the clock comes to.
-fn turn<M: Machine, J: Jobs, L: Listener>(
+fn turn<M: PlayMachine, J: Jobs, L: Listener>(
     machine: &mut M,
     jobs: &J,
     left: &[Moment],
@@ -144,7 +144,7 @@ fn moment_of(moments: &[Moment], at: Jiffy) -> Option<&Moment>
 
 /// One moment of a script into a report, with the interrupts of these CPUs; how many timers were
 /// handed out. After want of memory the report is as it was.
-pub(crate) fn moment_by_itself<M: Machine, J: Jobs>(
+pub(crate) fn moment_by_itself<M: PlayMachine, J: Jobs>(
     alloc: Global,
     machine: &mut M,
     script: &Script,
@@ -187,7 +187,7 @@ pub(crate) fn moment_by_itself<M: Machine, J: Jobs>(
 }
 
 /// When the next moment comes, in jiffies: the next interrupt, the script's next moment or the end.
-pub(crate) fn moment_after<M: Machine>(machine: &M, left: &[Moment], end: Jiffy) -> Jiffy
+pub(crate) fn moment_after<M: PlayMachine>(machine: &M, left: &[Moment], end: Jiffy) -> Jiffy
     requires { M.rules.clock (M.world machine.now) < SCRIPT_TIME_LIMIT }
     ensures { result ≡ next_moment M.rules end left.now (M.world machine.now) }
 {
@@ -201,7 +201,7 @@ pub(crate) fn moment_after<M: Machine>(machine: &M, left: &[Moment], end: Jiffy)
 /// The moments of a script from jiffy 0 to its end, and how many they are. Where the work has
 /// reached the limit after a moment that isn't the last, the play is broken off there with that
 /// count.
-pub(crate) fn moments<M: Machine, J: Jobs, L: Listener>(
+pub(crate) fn moments<M: PlayMachine, J: Jobs, L: Listener>(
     machine: &mut M,
     jobs: &J,
     script: &Script,

@@ -11,13 +11,13 @@ ghost use Rattle.tm_driver.specs.Conditions.{IsOpInRange};
 
 use crate::listeners::Listener;
 use crate::telling::Telling;
-use play_rules::Machine;
+use play_rules::PlayMachine;
 use tm_base::{CpuId, NoMemory};
 use tm_report::Line;
 use tm_script::{Op, What};
 
 /// The timers of CPU `from` move to CPU `to`, first to last, each with its line.
-fn moves<M: Machine, L: Listener>(
+fn moves<M: PlayMachine, L: Listener>(
     machine: &mut M,
     from: CpuId,
     to: CpuId,
@@ -38,7 +38,7 @@ fn moves<M: Machine, L: Listener>(
     ensures gains { Gains telling.old.text telling.new.text }
 {
     let now = machine.clock();
-    for _turn in 0..machine.queued_on(from) {
+    for _turn in 0..machine.count_queued(from) {
         match machine.move_first(from, to)? {
             None => return Ok(()),
             Some(mover) => telling.tell(&Line::Moved {
@@ -54,7 +54,7 @@ fn moves<M: Machine, L: Listener>(
 }
 
 /// What is queued on a CPU that is offline moves to the controlling CPU.
-fn clear<M: Machine, L: Listener>(
+fn clear<M: PlayMachine, L: Listener>(
     machine: &mut M,
     from: CpuId,
     telling: &mut Telling<L>,
@@ -68,7 +68,7 @@ fn clear<M: Machine, L: Listener>(
     ensures fit { OnOk result (M.Fit resting (M.world machine.new)) }
     ensures gains { Gains telling.old.text telling.new.text }
 {
-    if machine.is_online(from) || machine.queued_on(from) == 0 {
+    if machine.is_online(from) || machine.count_queued(from) == 0 {
         return Ok(());
     }
     let Some(to) = machine.controller() else {
@@ -104,7 +104,7 @@ fn leaver(ops: &[Op], cpus: u16, timers: u16) -> Option<CpuId>
 }
 
 /// Behind the operations of a moment: the timers of the CPU that went offline move.
-pub(crate) fn clear_after<M: Machine, L: Listener>(
+pub(crate) fn clear_after<M: PlayMachine, L: Listener>(
     machine: &mut M,
     ops: &[Op],
     telling: &mut Telling<L>,
@@ -126,7 +126,7 @@ pub(crate) fn clear_after<M: Machine, L: Listener>(
 }
 
 /// Who answers for each idle CPU that has a global timer.
-pub(crate) fn covers<M: Machine, L: Listener>(
+pub(crate) fn covers<M: PlayMachine, L: Listener>(
     machine: &M,
     telling: &mut Telling<L>,
 ) -> Result<(), NoMemory>

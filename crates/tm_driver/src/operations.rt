@@ -11,13 +11,13 @@ ghost use Rattle.tm_driver.specs.Conditions.{IsOpInRange};
 
 use crate::listeners::Listener;
 use crate::telling::Telling;
-use play_rules::{Arming, Cancelling, Machine};
+use play_rules::{Arming, Cancelling, PlayMachine};
 use tm_base::{CpuId, Jiffy, NoMemory, OpFault};
 use tm_report::Line;
 use tm_script::{Op, What};
 
 /// Why a CPU may not do what an active CPU does.
-fn not_active<M: Machine>(machine: &M, cpu: CpuId) -> Option<OpFault>
+fn not_active<M: PlayMachine>(machine: &M, cpu: CpuId) -> Option<OpFault>
     requires { cpu.0 < M.rules.cpus (M.world machine.now) }
     ensures { result ≡ not_active M.rules (M.world machine.now) cpu.0 }
 {
@@ -31,7 +31,7 @@ fn not_active<M: Machine>(machine: &M, cpu: CpuId) -> Option<OpFault>
 }
 
 /// Why a CPU may not wake.
-fn not_idle<M: Machine>(machine: &M, cpu: CpuId) -> Option<OpFault>
+fn not_idle<M: PlayMachine>(machine: &M, cpu: CpuId) -> Option<OpFault>
     requires { cpu.0 < M.rules.cpus (M.world machine.now) }
     ensures { result ≡ not_idle M.rules (M.world machine.now) cpu.0 }
 {
@@ -45,7 +45,7 @@ fn not_idle<M: Machine>(machine: &M, cpu: CpuId) -> Option<OpFault>
 }
 
 /// Why a CPU may not go offline, where it is active: it is the last placed one that is online.
-fn last_online<M: Machine>(machine: &M, cpu: CpuId) -> Option<OpFault>
+fn last_online<M: PlayMachine>(machine: &M, cpu: CpuId) -> Option<OpFault>
     requires { cpu.0 < M.rules.cpus (M.world machine.now) }
     ensures { result ≡ last_online M.rules (M.world machine.now) cpu.0 }
 {
@@ -57,7 +57,7 @@ fn last_online<M: Machine>(machine: &M, cpu: CpuId) -> Option<OpFault>
 }
 
 /// The first refusal that applies to an operation.
-fn refusal<M: Machine>(machine: &M, op: &Op) -> Option<OpFault>
+fn refusal<M: PlayMachine>(machine: &M, op: &Op) -> Option<OpFault>
     requires { IsOpInRange
         (M.rules.cpus (M.world machine.now)) (M.rules.timers (M.world machine.now)) op.now }
     ensures { result ≡ refusal M.rules op.now.what op.now.cpu.0 (M.world machine.now) }
@@ -110,7 +110,7 @@ fn refused_line(fault: OpFault, now: Jiffy, line: u32, cpu: CpuId) -> Line
 }
 
 /// A CPU arms a timer that is queued nowhere.
-fn arm<M: Machine, L: Listener>(
+fn arm<M: PlayMachine, L: Listener>(
     machine: &mut M,
     cpu: CpuId,
     arming: Arming,
@@ -141,7 +141,7 @@ fn arm<M: Machine, L: Listener>(
 }
 
 /// A CPU cancels a timer, wherever it is queued.
-fn cancel<M: Machine, L: Listener>(
+fn cancel<M: PlayMachine, L: Listener>(
     machine: &mut M,
     cancelling: Cancelling,
     telling: &mut Telling<L>,
@@ -172,7 +172,7 @@ fn cancel<M: Machine, L: Listener>(
 }
 
 /// A CPU tries to go idle.
-fn idle<M: Machine, L: Listener>(
+fn idle<M: PlayMachine, L: Listener>(
     machine: &mut M,
     cpu: CpuId,
     telling: &mut Telling<L>,
@@ -198,7 +198,7 @@ fn idle<M: Machine, L: Listener>(
 }
 
 /// An idle CPU wakes.
-fn wake<M: Machine, L: Listener>(
+fn wake<M: PlayMachine, L: Listener>(
     machine: &mut M,
     cpu: CpuId,
     telling: &mut Telling<L>,
@@ -219,7 +219,7 @@ fn wake<M: Machine, L: Listener>(
 }
 
 /// An offline CPU comes online.
-fn online<M: Machine, L: Listener>(
+fn online<M: PlayMachine, L: Listener>(
     machine: &mut M,
     cpu: CpuId,
     telling: &mut Telling<L>,
@@ -240,7 +240,7 @@ fn online<M: Machine, L: Listener>(
 }
 
 /// A CPU that went offline hands on its duty, where it has one.
-fn hand_on<M: Machine, L: Listener>(
+fn hand_on<M: PlayMachine, L: Listener>(
     machine: &mut M,
     cpu: CpuId,
     telling: &mut Telling<L>,
@@ -268,7 +268,7 @@ fn hand_on<M: Machine, L: Listener>(
 }
 
 /// A CPU goes offline.
-fn offline<M: Machine, L: Listener>(
+fn offline<M: PlayMachine, L: Listener>(
     machine: &mut M,
     cpu: CpuId,
     telling: &mut Telling<L>,
@@ -291,7 +291,7 @@ fn offline<M: Machine, L: Listener>(
 }
 
 /// An operation that isn't refused.
-fn done<M: Machine, L: Listener>(
+fn done<M: PlayMachine, L: Listener>(
     machine: &mut M,
     op: &Op,
     telling: &mut Telling<L>,
@@ -346,7 +346,7 @@ fn done<M: Machine, L: Listener>(
 }
 
 /// One operation of a script: it is done, or refused.
-pub(crate) fn operation<M: Machine, L: Listener>(
+pub(crate) fn operation<M: PlayMachine, L: Listener>(
     machine: &mut M,
     op: &Op,
     telling: &mut Telling<L>,
@@ -368,7 +368,7 @@ pub(crate) fn operation<M: Machine, L: Listener>(
 }
 
 /// The operations of a moment, in line order.
-pub(crate) fn operations<M: Machine, L: Listener>(
+pub(crate) fn operations<M: PlayMachine, L: Listener>(
     machine: &mut M,
     ops: &[Op],
     telling: &mut Telling<L>,

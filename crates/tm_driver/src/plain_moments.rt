@@ -21,7 +21,7 @@ use crate::moving::{clear_after, covers};
 use crate::operations::operation;
 use crate::telling::Telling;
 use job_table::Jobs;
-use play_rules::Machine;
+use play_rules::PlayMachine;
 use std::alloc::Global;
 use tm_base::{CpuId, CpuSet, NoMemory};
 use tm_report::Report;
@@ -39,7 +39,7 @@ fn nobody(alloc: Global, cpus: u16) -> Result<Vec<Telling<Report>>, NoMemory>
 }
 
 /// The interrupt of a CPU, where it is due one, in the CPU's own report.
-fn interrupt_apart<M: Machine, J: Jobs>(
+fn interrupt_apart<M: PlayMachine, J: Jobs>(
     machine: &mut M,
     jobs: &J,
     due: &CpuSet,
@@ -63,7 +63,7 @@ fn interrupt_apart<M: Machine, J: Jobs>(
 }
 
 /// The interrupts of the CPUs that are due one, by ascending number, each in its CPU's own report.
-fn interrupts_apart<M: Machine, J: Jobs>(
+fn interrupts_apart<M: PlayMachine, J: Jobs>(
     machine: &mut M,
     jobs: &J,
     due: &CpuSet,
@@ -87,7 +87,7 @@ fn interrupts_apart<M: Machine, J: Jobs>(
 }
 
 /// An operation of the script, in the own report of its CPU.
-fn operation_apart<M: Machine>(
+fn operation_apart<M: PlayMachine>(
     machine: &mut M,
     op: &Op,
     own: &mut Vec<Telling<Report>>,
@@ -107,7 +107,7 @@ fn operation_apart<M: Machine>(
 }
 
 /// The operations of a moment, in line order, each in the own report of its CPU.
-fn operations_apart<M: Machine>(
+fn operations_apart<M: PlayMachine>(
     machine: &mut M,
     ops: &[Op],
     own: &mut Vec<Telling<Report>>,
@@ -144,7 +144,7 @@ fn gather(own: &[Telling<Report>], telling: &mut Telling<Report>) -> Result<(), 
 
 /// The interrupts and operations of a moment, those of each CPU in its own report, and then all of
 /// these by ascending CPU.
-fn done_apart<M: Machine, J: Jobs>(
+fn done_apart<M: PlayMachine, J: Jobs>(
     alloc: Global,
     machine: &mut M,
     jobs: &J,
@@ -174,7 +174,7 @@ fn done_apart<M: Machine, J: Jobs>(
 
 /// A plain moment of a run, of which the CPUs that have an interrupt are known: that of a play, but
 /// the lines of interrupts and operations stand by ascending CPU.
-pub(crate) fn plain_moment<M: Machine, J: Jobs>(
+pub(crate) fn plain_moment<M: PlayMachine, J: Jobs>(
     alloc: Global,
     machine: &mut M,
     jobs: &J,

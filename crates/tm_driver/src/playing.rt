@@ -14,7 +14,7 @@ use crate::moments::moments;
 use crate::outcomes::{Counts, DriveFault};
 use crate::telling::Telling;
 use job_table::Jobs;
-use play_rules::{Machine, UnknownJob};
+use play_rules::{PlayMachine, UnknownJob};
 use std::alloc::Global;
 use std::mem;
 use tm_report::Report;
@@ -58,7 +58,7 @@ pub(crate) fn first_unknown_job<J: Jobs>(script: &Script, jobs: &J) -> Option<Un
 }
 
 /// The moments of a script, of which there are so many, and what is left at its end.
-fn play_known<M: Machine, J: Jobs, L: Listener>(
+fn play_known<M: PlayMachine, J: Jobs, L: Listener>(
     machine: &mut M,
     script: &Script,
     jobs: &J,
@@ -89,7 +89,7 @@ fn play_known<M: Machine, J: Jobs, L: Listener>(
 /// Plays a script on a machine that stands at its start, into a report, and answers how many
 /// moments and lines there were. After `BadJob` and want of memory the report is as it was; after
 /// `WorkSpent` it has gained the lines of the finished moments.
-pub fn play_on<M: Machine, J: Jobs>(
+pub fn play_on<M: PlayMachine, J: Jobs>(
     alloc: Global,
     machine: &mut M,
     script: &Script,
@@ -128,7 +128,7 @@ pub fn play_on<M: Machine, J: Jobs>(
 }
 
 /// Plays a script as `play_on` does, but with no report.
-pub(crate) fn play_unheard<M: Machine, J: Jobs>(
+pub(crate) fn play_unheard<M: PlayMachine, J: Jobs>(
     machine: &mut M,
     script: &Script,
     jobs: &J,

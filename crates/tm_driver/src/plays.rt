@@ -19,13 +19,13 @@ use crate::numbers::Summary;
 use crate::outcomes::{Counts, DriveFault};
 use crate::playing::{play_on, play_unheard};
 use crate::starting::start_core;
-use core_facts::law_settled as law_core_settled;
+use core_facts::law_settled;
 use core_machine::{Player, RunPlayer};
 use core_state::Core;
 use job_table::Jobs;
 use play_laws::{
-    law_covers, law_each_runs, law_ends, law_in_its_jiffy, law_left, law_lines, law_moments,
-    law_settled,
+    law_covers, law_each_answered, law_each_runs, law_ends, law_in_its_jiffy, law_left, law_lines,
+    law_moments,
 };
 use std::alloc::Global;
 use step_play::law_steps_are_play;
@@ -40,7 +40,7 @@ pub(crate) fn law_plays()
     ensures { LawsHoldOfEach }
 {
     law_moments();
-    law_settled();
+    law_each_answered();
     law_in_its_jiffy();
     law_ends();
     law_lines();
@@ -48,7 +48,7 @@ pub(crate) fn law_plays()
     law_covers();
     law_each_runs();
     law_steps_are_play();
-    law_core_settled();
+    law_settled();
 }
 
 /// The core at the start of a script, which is to play it.

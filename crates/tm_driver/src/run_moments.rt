@@ -24,10 +24,10 @@ use crate::moving::covers;
 use crate::outcomes::DriveFault;
 use crate::plain_moments::plain_moment;
 use crate::telling::Telling;
-use core_facts::law_settled as law_core_settled;
+use core_facts::law_settled;
 use core_machine::RunPlayer;
 use job_table::Jobs;
-use play_rules::Machine;
+use play_rules::PlayMachine;
 use std::alloc::Global;
 use std::sync::Wait;
 use std::thread::Threads;
@@ -215,7 +215,7 @@ pub(crate) fn run_moments<J: Jobs + Sync, G: Gate + Sync, R: Threads + Wait + Sy
         EndsRunEarly (J.replies jobs.now) script.now fault telling.old.text telling.new.text) }
     ensures gains { Gains telling.old.text telling.new.text }
 {
-    law_core_settled();
+    law_settled();
     let limit = work_limit(script.version);
     let mut player = player;
     let mut left = script.moments.as_slice();

@@ -22,7 +22,7 @@ use crate::playing::first_unknown_job;
 use crate::telling::Telling;
 use deep_idle::Device;
 use job_table::Jobs;
-use play_rules::{Machine, UnknownJob};
+use play_rules::{PlayMachine, UnknownJob};
 use std::alloc::Global;
 use std::mem;
 use tm_base::{Jiffy, NoMemory};
@@ -30,7 +30,7 @@ use tm_report::Report;
 use tm_script::{Moment, Script};
 
 /// The moment of a time, in which the device fires where it is time, and after which it is settled.
-fn deep_turn<M: Machine, J: Jobs>(
+fn deep_turn<M: PlayMachine, J: Jobs>(
     machine: &mut M,
     device: &mut Device,
     jobs: &J,
@@ -69,7 +69,7 @@ fn deep_turn<M: Machine, J: Jobs>(
 
 /// The moments of a script from jiffy 0 to its end, as `moments` plays them, with the lines of a
 /// device.
-fn deep_moments<M: Machine, J: Jobs>(
+fn deep_moments<M: PlayMachine, J: Jobs>(
     machine: &mut M,
     device: &mut Device,
     jobs: &J,
@@ -113,7 +113,7 @@ fn deep_moments<M: Machine, J: Jobs>(
 
 /// The moments of a script under a device for the machine's CPUs, of which none sleeps, and what is
 /// left at its end.
-fn deep_known<M: Machine, J: Jobs>(
+fn deep_known<M: PlayMachine, J: Jobs>(
     alloc: Global,
     machine: &mut M,
     script: &Script,
@@ -146,7 +146,7 @@ fn deep_known<M: Machine, J: Jobs>(
 }
 
 /// Plays a script on a machine that stands at its start, as `play_on` does, with a device.
-pub(crate) fn deep_on<M: Machine, J: Jobs>(
+pub(crate) fn deep_on<M: PlayMachine, J: Jobs>(
     alloc: Global,
     machine: &mut M,
     script: &Script,

@@ -19,6 +19,7 @@ use Rattle.core_world.specs.World.{World}
 use Rattle.shared_words.specs.Exchanges.{shows_migrator}
 use Rattle.shared_rule.specs.declared.parts.BoxView.{BoxView}
 use Rattle.shared_rule.specs.declared.parts.Look.{Look}
+use Rattle.shared_rule.specs.declared.parts.Looked.{Looked}
 use Rattle.shared_rule.specs.Plays.{bound_walk, by_walk, child_freed_walk, child_locked_walk}
 use Rattle.shared_rule.specs.Plays.{child_read_walk, child_sight, group_freed_walk, taken_lock}
 use Rattle.shared_rule.specs.Plays.{locked_walk, own_read_walk, read_walk, reading, scan_sight}
@@ -199,8 +200,8 @@ set_out start k out = record {
   rest = refl;
   errand = record { kind = refl; pin = refl; next = refl };
   looks = λ group.
-      subst (λ z. LooksAt start.box.opening start.box.cpu k z k.stage) (sym out.none)
-      (out.looks group);
+      subst (λ (z : Looked). LooksAt start.box.opening start.box.cpu k z.seen k.stage)
+      (sym out.none) (out.looks group);
   unmoved = λ none. refl;
 }
 

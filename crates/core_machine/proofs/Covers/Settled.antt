@@ -33,7 +33,7 @@ use Rattle.step_play.proofs.Queues.Sights.{cpus_seen, migrator_seen}
 use Rattle.core_machine.proofs.Views.Seen.{idle_seen, online_seen, wakeup_seen}
 use Rattle.core_machine.specs.declared.answers.cover.Cover.{Cover}
 use Rattle.core_machine.specs.declared.answers.cover.Cover.TheVariants as covers
-use Rattle.core_machine.specs.Covers.Answers.{IsHeldBy, IsWokenBy, first_of}
+use Rattle.core_machine.specs.Covers.Answers.{IsHeldBy, IsWokenBy, first_global_of}
 use Rattle.core_machine.specs.Covers.Choice.{by_migrator, by_wakeup, choice_above, choice_for, choice_of}
 use Rattle.core_machine.specs.Covers.Choice.{choice_where, first_wheel, waits}
 use Rattle.core_machine.proofs.Covers.Leading.{led_step}
@@ -209,7 +209,7 @@ module _ (w : World) (l : IsLawful w) (s : IsSettled w) (planned : IsPlanned w.t
   -- THE CHOICE for a CPU
   module _ (c : ℕ) where
     abbrev wheel : ℕ
-    wheel = first_of w c
+    wheel = first_global_of w c
 
     abbrev Chosen : Option Cover → Type 0
     Chosen o = (x : Cover) × (o ≡ Some x) × Answers w c x

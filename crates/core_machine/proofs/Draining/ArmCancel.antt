@@ -11,7 +11,7 @@ use Rattle.play_rules.specs.declared.asks.Cancelling.{Cancelling}
 use Rattle.play_rules.specs.declared.asks.Queued.{Queued}
 use Rattle.play_rules.specs.Machines.{Same, SameOnline}
 use Rattle.play_rules.specs.Phases.{FitsSome, MayArmIn, StaysFit}
-use Rattle.play_rules.specs.Timers.{queued_on}
+use Rattle.play_rules.specs.Timers.{where_queued}
 use Rattle.core_world.specs.Enabled.{IsFree, MayArm, MayCancel}
 use Rattle.core_world.specs.declared.step.Step.{Step}
 use Rattle.core_world.specs.declared.step.Step.TheVariants as steps
@@ -30,7 +30,7 @@ use Rattle.core_machine.proofs.Draining.Sames.{rebased_online, rebased_same}
 
 module _ (law : StepsStayLawful) (w : World) (c : ℕ) (a : Arming) (low : c < length w.cpus)
     (known : a.timer.0 < w.timers) (short : a.delay < 2 ^ 32)
-    (early : w.clock < SCRIPT_TIME_LIMIT) (none : queued_on (state_of w) a.timer.0 ≡ None)
+    (early : w.clock < SCRIPT_TIME_LIMIT) (none : where_queued (state_of w) a.timer.0 ≡ None)
     (fits : FitsSome InRun (λ ph. MayArmIn step_rules w ph c) w)
     (n : ℕ) (at : n ≡ w.clock + a.delay) where
   here : Arms w c
@@ -89,16 +89,16 @@ held_by (Some held) home is = (held, refl, same_Some held.cpu home is)
 
 module _ (law : StepsStayLawful) (w : World) (home : CpuId) (a : Cancelling)
     (low : home.0 < length w.cpus) (by : a.by.0 < length w.cpus)
-    (queued : option_map (λ (held : Queued). held.cpu) (queued_on (state_of w) a.timer.0)
+    (queued : option_map (λ (held : Queued). held.cpu) (where_queued (state_of w) a.timer.0)
     ≡ Some home)
     (i : InRun resting w) where
   abbrev free : (c : ℕ) → c < length w.cpus → IsFree w c
   free c at = free_in resting w c i refl at
 
-  cancels : (X : CpuId → Type 0) → ((held : Queued) → queued_on (state_of w) a.timer.0 ≡ Some held →
+  cancels : (X : CpuId → Type 0) → ((held : Queued) → where_queued (state_of w) a.timer.0 ≡ Some held →
       IsFree w held.cpu.0 → X held.cpu) → X home
   cancels X go =
-      let was = held_by (queued_on (state_of w) a.timer.0) home queued in
+      let was = held_by (where_queued (state_of w) a.timer.0) home queued in
       subst X was.2 (go was.0 was.1 (free was.0.cpu.0
       (subst (λ (c : CpuId). c.0 < length w.cpus) (sym was.2) low)))
 

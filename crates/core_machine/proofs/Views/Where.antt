@@ -9,7 +9,7 @@ use Rattle.tm_base.specs.declared.names.Class.TheVariants.{Pinned, Global, Defer
 use Rattle.cpu_bases.specs.CpuBases.{base_of, class_in, found_in}
 use Rattle.play_rules.specs.declared.asks.Queued.{Queued}
 use Rattle.play_rules.specs.State.{Cpu}
-use Rattle.play_rules.specs.Timers.{bases_at, count_on, holder_of, queued_as, queued_at, queued_on}
+use Rattle.play_rules.specs.Timers.{bases_at, count_on, holder_of, queued_as, queued_at, where_queued}
 use Rattle.core_world.specs.Lawful.{IsLawful}
 use Rattle.core_world.specs.World.{World, cpu_of}
 use Rattle.core_state.specs.Kept.{is_queued}
@@ -55,12 +55,12 @@ module _ (w : World) (timer : ℕ) where
 
   -- QUEUED there
   pub queued_nowhere : ((d : ℕ) → is_queued timer (cpu_of w d).bases ≡ false) →
-      queued_on (state_of w) timer ≡ None
+      where_queued (state_of w) timer ≡ None
   queued_nowhere none = ap (option_and_then (queued_at (state_of w) timer)) (held_nowhere none)
 
   pub queued_by : IsLawful w → (c : ℕ) → c < length w.cpus →
       is_queued timer (cpu_of w c).bases ≡ true →
-      queued_on (state_of w) timer ≡ option_map (queued_as c) (found_in timer (cpu_of w c).bases)
+      where_queued (state_of w) timer ≡ option_map (queued_as c) (found_in timer (cpu_of w c).bases)
   queued_by lawful c low is =
       ap (option_and_then (queued_at (state_of w) timer)) (held_by lawful c low is)
       ∙ ap (λ (x : Cpu). option_map (queued_as c) (found_in timer x.bases)) (seen_at w c low)
@@ -75,7 +75,7 @@ module _ (w : World) (timer : ℕ) where
       IfSome o (λ d. is_queued timer (cpu_of w d.0).bases ≡ true) →
       IfSome o (λ d. d.0 < length w.cpus) →
       IfNone o ((d : ℕ) → is_queued timer (cpu_of w d).bases ≡ false) →
-      o ≡ option_map (λ (held : Queued). held.cpu) (queued_on (state_of w) timer)
+      o ≡ option_map (λ (held : Queued). held.cpu) (where_queued (state_of w) timer)
   holder_is lawful None there low nowhere =
       sym (ap (option_map (λ (held : Queued). held.cpu)) (queued_nowhere nowhere))
   holder_is lawful (Some d) there low nowhere =

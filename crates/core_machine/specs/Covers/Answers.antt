@@ -7,12 +7,12 @@ use Rattle.core_world.specs.Covered.{machine_of}
 use Rattle.core_world.specs.World.{World, cpu_of}
 
 -- the wheel expiry of a CPU's first global timer
-abbrev pub first_of : World → (c : ℕ) → ℕ
-first_of w c = (events_of (cpu_of w c).bases).first_global
+abbrev pub first_global_of : World → (c : ℕ) → ℕ
+first_global_of w c = (events_of (cpu_of w c).bases).first_global
 
 -- HELD by the migrators that lead from group g to CPU m
 pub record IsHeldBy (w : World) (c g m : ℕ) : Type 0 where
-  pub held : Held (machine_of w) c (first_of w c)
+  pub held : Held (machine_of w) c (first_global_of w c)
   pub group : held.in_group ≡ g
   pub runner : held.runner ≡ m
 
@@ -28,6 +28,6 @@ time_of t c wheel (inr top) = top.wakes.at
 
 -- WOKEN FOR by CPU d at a time
 pub record IsWokenBy (w : World) (c d at : ℕ) : Type 0 where
-  pub woken : Woken (machine_of w) c (first_of w c)
-  pub waker : waker_of (machine_of w) c (first_of w c) woken ≡ d
-  pub time : time_of (machine_of w) c (first_of w c) woken ≡ at
+  pub woken : Woken (machine_of w) c (first_global_of w c)
+  pub waker : waker_of (machine_of w) c (first_global_of w c) woken ≡ d
+  pub time : time_of (machine_of w) c (first_global_of w c) woken ≡ at

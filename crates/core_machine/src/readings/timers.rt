@@ -2,7 +2,7 @@
 
 ghost use Rattle.std.specs.Prelude.{◌≡◌, ◌<◌, IfSome, length, option_map};
 ghost use Rattle.cpu_bases.specs.CpuBases.{found_in};
-ghost use Rattle.play_rules.specs.Timers.{count_on, queued_on};
+ghost use Rattle.play_rules.specs.Timers.{count_on, where_queued};
 ghost use Rattle.core_world.specs.World.{cpu_of};
 ghost use Rattle.step_play.specs.Rules.Seen.{state_of};
 
@@ -15,7 +15,7 @@ use wheel_core::{Item, TimerBase};
 pub fn holder<B: TimerBase>(core: &Core<B>, timer: TimerId) -> Option<CpuId>
     requires { timer.0 < core.now.timers }
     ensures holder { result
-        ≡ option_map (λ held. held.cpu) (queued_on (state_of core.now) timer.0) }
+        ≡ option_map (λ held. held.cpu) (where_queued (state_of core.now) timer.0) }
     ensures in_range { IfSome result (λ cpu. cpu.0 < length core.now.cpus) }
 {
     core.tree();
@@ -40,7 +40,7 @@ fn found<B: TimerBase>(core: &Core<B>, cpu: CpuId, timer: TimerId) -> Option<(Cl
 /// queued nowhere. It costs no search of CPUs.
 pub fn queued<B: TimerBase>(core: &Core<B>, timer: TimerId) -> Option<Queued>
     requires { timer.0 < core.now.timers }
-    ensures { result ≡ queued_on (state_of core.now) timer.0 }
+    ensures { result ≡ where_queued (state_of core.now) timer.0 }
 {
     core.tree();
     let Some(cpu) = core.queued_on(timer) else {
@@ -57,7 +57,7 @@ pub fn queued<B: TimerBase>(core: &Core<B>, timer: TimerId) -> Option<Queued>
 }
 
 /// How many timers are queued on a CPU.
-pub fn queued_on<B: TimerBase>(core: &Core<B>, cpu: CpuId) -> usize
+pub fn count_queued<B: TimerBase>(core: &Core<B>, cpu: CpuId) -> usize
     requires { cpu.0 < length core.now.cpus }
     ensures { result ≡ count_on (state_of core.now) cpu.0 }
 {

@@ -20,7 +20,7 @@ use Rattle.tree_plan.proofs.Trees.{edge_laws, level_laws}
 use Rattle.play_rules.specs.State.{State, all_cpus, cpu_at, cpu_count, is_active, migrator_at}
 use Rattle.play_rules.specs.Hierarchy.{least_told}
 use Rattle.play_rules.specs.Covers.{told_below}
-use Rattle.play_laws.specs.Answered.Settled.{IsSettled, coming, kept_by, machine_of}
+use Rattle.play_laws.specs.Answered.Settled.{EachAnswered, coming, kept_by, machine_of}
 use Rattle.play_laws.proofs.Answered.Invariant.{NonePlacedActive, WakesForAll, levels_there, rests}
 use Rattle.play_laws.proofs.Answered.Invariant.{teller_grouped}
 use Rattle.play_laws.proofs.Answered.Ranges.{filter_member, in_range, least_above, least_below, member_was}
@@ -264,7 +264,7 @@ module _ (s : State) (kept : IsKept Nobody (Unit {0}) s) where
       (zero-add (level_count_of s.tree))
       (λ k g up at. absurd (omega (arith, up)))
 
-  pub settled : IsSettled s
+  pub settled : EachAnswered s
   settled c low online idle k d below =
       let rest = and_from (cpu_at s c).online (cpu_at s c).idle online idle in
       item_answered c (get_or (cpu_at s c).bases.bases.global.items k d).wheel low rest

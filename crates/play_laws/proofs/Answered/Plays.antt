@@ -20,12 +20,12 @@ use Rattle.play_rules.specs.declared.asks.Arming.{Arming}
 use Rattle.play_rules.specs.Rules.{Moved}
 use Rattle.play_rules.specs.State.{Cpu, State, cpu_at, cpu_count, has_group, start, with_bases}
 use Rattle.play_rules.specs.Hierarchy.{gone_offline, named, told_again, woken}
-use Rattle.play_rules.specs.Timers.{controlling, moved}
+use Rattle.play_rules.specs.Timers.{controlling, moved_first}
 use Rattle.play_rules.specs.Interrupts.{Replies, having_interrupt}
 use Rattle.play_rules.specs.Moments.{Turn}
 use Rattle.play_rules.specs.Operations.{last_online}
 use Rattle.play_rules.specs.Play.{AfterEachMoment, at_clock, plain_rules, play_turns, successor}
-use Rattle.play_laws.specs.Answered.Settled.{IsSettled, SettledAfterEach}
+use Rattle.play_laws.specs.Answered.Settled.{EachAnswered, AnsweredAfterEach}
 use Rattle.play_laws.proofs.Answered.Covered.{settled}
 use Rattle.play_laws.proofs.Answered.Ends.{comes_kept, controls_busy, controls_kept, ends_kept, wakes_from}
 use Rattle.play_laws.proofs.Answered.Hotplug.{controller_is, handed_kept, hands_placed, others_online}
@@ -230,7 +230,7 @@ module _ (t : Shape) (timers end : ℕ) (in_time : end < SCRIPT_TIME_LIMIT) wher
       }
 
   moves_on : (now from to : ℕ) (s : State) (m : Moved State) → from < cpu_count_of t
-      → moved s from to ≡ Some m
+      → moved_first s from to ≡ Some m
       → Moving t now to s → Moving t now to m.state
   moves_on now from to s m low is was =
       let here = here_in now s from was.whole low in
@@ -334,11 +334,11 @@ module _ (jobs : Replies) (script : Script) (is : IsScript script) where
       (start tree script.timers)
       (moments_in script is) (moments_rise script is) (omega arith) first
 
-  law : AfterEachMoment IsSettled jobs script
+  law : AfterEachMoment EachAnswered jobs script
   law =
       All-weaker (λ (u : Turn State). (now : ℕ) × Whole tree now u.played.state)
-      (λ u. IsSettled u.played.state)
+      (λ u. EachAnswered u.played.state)
       (λ u whole. settled u.played.state whole.1.kept) (play_turns jobs script) kept_after_each
 
-pub settled_after_each : SettledAfterEach
+pub settled_after_each : AnsweredAfterEach
 settled_after_each jobs script is = law jobs script is

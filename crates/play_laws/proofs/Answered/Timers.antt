@@ -16,8 +16,8 @@ use Rattle.play_rules.specs.declared.asks.Queued.{Queued}
 use Rattle.play_rules.specs.Rules.{Moved}
 use Rattle.play_rules.specs.State.{Cpu, State, cpu_at, cpu_count, with_bases}
 use Rattle.play_rules.specs.Timers.{armed_bases, armed_on, bases_at, cancelled_on, drained_on}
-use Rattle.play_rules.specs.Timers.{first_to_move, holder_of, moved, moved_into, moved_one}
-use Rattle.play_rules.specs.Timers.{moved_out_of, queued_as, queued_at, queued_on}
+use Rattle.play_rules.specs.Timers.{first_to_move, holder_of, moved_first, moved_into, moved_one}
+use Rattle.play_rules.specs.Timers.{moved_out_of, queued_as, queued_at, where_queued}
 use Rattle.play_laws.proofs.Answered.Bases.{armed_kept, cancelled_kept, drained_kept, moved_in_kept}
 use Rattle.play_laws.proofs.Answered.Bases.{moved_out_kept}
 use Rattle.play_laws.proofs.Answered.Invariant.{rests}
@@ -40,7 +40,7 @@ holder_in s timer (Some c) held holder is =
         let same : queued_as c found ≡ held = same_Some (queued_as c found) held some in
         subst (λ k. k < cpu_count s) (ap (λ (q : Queued). q.cpu.0) same) low
 
-pub queued_low : (s : State) (timer : ℕ) (held : Queued) → queued_on s timer ≡ Some held
+pub queued_low : (s : State) (timer : ℕ) (held : Queued) → where_queued s timer ≡ Some held
     → held.cpu.0 < cpu_count s
 queued_low s timer held is = holder_in s timer (holder_of s timer) held refl is
 
@@ -125,7 +125,7 @@ module _ (Owes : ℕ → Type 0) (Topped : Type 0) (s : State) (kept : IsKept Ow
       let same : moved_one s from to found ≡ m = same_Some (moved_one s from to found) m is in
       subst (IsKept Owes Topped) (ap (λ (x : Moved State). x.state) same) (one_kept found)
 
-  pub moves_kept : (m : Moved State) → moved s from to ≡ Some m → IsKept Owes Topped m.state
+  pub moves_kept : (m : Moved State) → moved_first s from to ≡ Some m → IsKept Owes Topped m.state
   moves_kept m is = moves_by (first_to_move (bases_at s from)) m is
 
   -- and what it leaves of each CPU
@@ -153,7 +153,7 @@ module _ (Owes : ℕ → Type 0) (Topped : Type 0) (s : State) (kept : IsKept Ow
 
   pub moves_alike : {X : Type 0} (h : Cpu → X)
       → ((x : Cpu) (b : CpuBases) → h (record x { bases = b }) ≡ h x)
-      → (m : Moved State) → moved s from to ≡ Some m → (d : ℕ)
+      → (m : Moved State) → moved_first s from to ≡ Some m → (d : ℕ)
       → h (cpu_at m.state d) ≡ h (cpu_at s d)
   moves_alike {X} h same m is d = alike_by h same (first_to_move (bases_at s from)) m is d
 
@@ -169,6 +169,6 @@ frame_by s from to (Some (class, item)) m is =
       ap (λ (x : Moved State). x.state.clock) (sym same),
     )
 
-pub moves_frame : (s : State) (from to : ℕ) (m : Moved State) → moved s from to ≡ Some m
+pub moves_frame : (s : State) (from to : ℕ) (m : Moved State) → moved_first s from to ≡ Some m
     → (m.state.tree ≡ s.tree) × (m.state.clock ≡ s.clock)
 moves_frame s from to m is = frame_by s from to (first_to_move (bases_at s from)) m is

@@ -12,7 +12,7 @@ use Rattle.play_rules.specs.State.{State, cpu_at, cpu_count}
 use Rattle.play_rules.specs.Hierarchy.{come_online, gone_offline, idled, looks_after, named}
 use Rattle.play_rules.specs.Hierarchy.{told_again, woken as made_awake}
 use Rattle.play_rules.specs.Timers.{armed_on, cancelled_on, controller, controlling, count_on}
-use Rattle.play_rules.specs.Timers.{drained_on, moved as moved_from, queued_on}
+use Rattle.play_rules.specs.Timers.{drained_on, moved_first, where_queued}
 use Rattle.play_rules.specs.Operations.{last_online}
 use Rattle.play_rules.specs.Play.{ended as interrupt_ended, hands_on, plain_rules, successor}
 use Rattle.play_laws.proofs.Shape.Shape.{Stage, begun, between, climbed, leaving, looked, looking}
@@ -51,7 +51,7 @@ pub record KeepsCourse (cpus levels : ℕ) (P : (now : ℕ) → Stage → State 
       P now (own due c k) s → All IsItemIn (drained_on s c (nth_class k) c).items
   pub ran : (now : ℕ) (due : set.FinSet nat_cmp) (c k : ℕ) (s : State) (a : Arming) → c < cpus
       → k < 3 →
-      IsArmingIn a → queued_on s a.timer.0 ≡ None →
+      IsArmingIn a → where_queued s a.timer.0 ≡ None →
       P now (own due c (k + 1)) s → P now (own due c (k + 1)) (armed_on s c a).state
   pub drained_all : (now : ℕ) (due : set.FinSet nat_cmp) (c : ℕ) (s : State) → c < cpus →
       P now (own due c 3) s → P now (climbed due c 0) s
@@ -88,7 +88,7 @@ pub record KeepsCourse (cpus levels : ℕ) (P : (now : ℕ) → Stage → State 
       → All IsItemIn (drained_on s d Global c).items
   pub ran_for : (now : ℕ) (due : set.FinSet nat_cmp) (c level n : ℕ) (tried : set.FinSet nat_cmp)
       (d : ℕ) (s : State)
-      (a : Arming) → c < cpus → IsArmingIn a → queued_on s a.timer.0 ≡ None →
+      (a : Arming) → c < cpus → IsArmingIn a → where_queued s a.timer.0 ≡ None →
       P now (running due c level n tried d) s
       → P now (running due c level n tried d) (armed_on s c a).state
   pub let_go : (now : ℕ) (due : set.FinSet nat_cmp) (c level n : ℕ) (tried : set.FinSet nat_cmp)
@@ -104,10 +104,10 @@ pub record KeepsCourse (cpus levels : ℕ) (P : (now : ℕ) → Stage → State 
   -- OPERATIONS
   pub armed : (now c : ℕ) (s : State) (a : Arming) → c < cpus → IsArmingIn a
       → (cpu_at s c).online ≡ true →
-      (cpu_at s c).idle ≡ false → queued_on s a.timer.0 ≡ None →
+      (cpu_at s c).idle ≡ false → where_queued s a.timer.0 ≡ None →
       P now between s → P now between (armed_on s c a).state
   pub cancelled : (now : ℕ) (s : State) (held : Queued) (a : Cancelling)
-      → queued_on s a.timer.0 ≡ Some held →
+      → where_queued s a.timer.0 ≡ Some held →
       P now between s → P now between (cancelled_on s held.cpu.0 a)
   pub idled : (now c : ℕ) (s : State) → c < cpus → (cpu_at s c).online ≡ true
       → (cpu_at s c).idle ≡ false →
@@ -133,9 +133,9 @@ pub record KeepsCourse (cpus levels : ℕ) (P : (now : ℕ) → Stage → State 
       P now (leaving from) s
       → P now (moving from d (count_on (controlling s d) from)) (controlling s d)
   pub moved : (now from to n : ℕ) (s : State) (m : Moved State) → from < cpus
-      → moved_from s from to ≡ Some m →
+      → moved_first s from to ≡ Some m →
       P now (moving from to (suc n)) s → P now (moving from to n) m.state
-  pub moved_none : (now from to n : ℕ) (s : State) → from < cpus → moved_from s from to ≡ None →
+  pub moved_none : (now from to n : ℕ) (s : State) → from < cpus → moved_first s from to ≡ None →
       P now (moving from to (suc n)) s → P now between s
   pub all_moved : (now from to : ℕ) (s : State) → from < cpus → P now (moving from to 0) s
       → P now between s

@@ -16,7 +16,7 @@ use Rattle.play_rules.specs.declared.asks.Queued.{Queued}
 use Rattle.play_rules.specs.Parts.{Played, and_then}
 use Rattle.play_rules.specs.State.{State, cpu_count}
 use Rattle.play_rules.specs.Hierarchy.{looks_after, named}
-use Rattle.play_rules.specs.Timers.{armed_on, drained_on, queued_on}
+use Rattle.play_rules.specs.Timers.{armed_on, drained_on, where_queued}
 use Rattle.play_rules.specs.Interrupts.{Replies, again, answered, arming_again, drain, drains}
 use Rattle.play_rules.specs.Interrupts.{interrupt, interrupt_where, interrupts, job_call, look}
 use Rattle.play_rules.specs.Interrupts.{look_at, look_where, looks, run_jobs, try}
@@ -28,11 +28,11 @@ use Rattle.play_laws.proofs.Jiffies.Course.{IsArmingIn, IsItemIn, KeepsCourse}
 module _ (jobs : Replies) where
   -- THE JOBS that a drain hands out keep what arming on the runner keeps
   module _ (runner : ℕ) (P : State → Type 0)
-      (arms : (s : State) (a : Arming) → IsArmingIn a → queued_on s a.timer.0 ≡ None → P s
+      (arms : (s : State) (a : Arming) → IsArmingIn a → where_queued s a.timer.0 ≡ None → P s
       → P (armed_on s runner a).state)
     where
       again_kept : (o : Option Queued) (item : Item) (class : Class) (delay : ℕ) (s : State)
-          → IsItemIn item → queued_on s item.id ≡ o → P s
+          → IsItemIn item → where_queued s item.id ≡ o → P s
           → P (again plain_rules o runner item class delay s).state
       again_kept None item class delay s known none holds =
           arms s (arming_again item class delay)
@@ -44,7 +44,7 @@ module _ (jobs : Replies) where
       answer_kept replies.Done item s known holds = holds
       answer_kept (replies.Mark n) item s known holds = holds
       answer_kept (replies.Again class delay) item s known holds =
-          again_kept (queued_on s item.id) item class delay s known refl holds
+          again_kept (where_queued s item.id) item class delay s known refl holds
 
       jobs_kept : (home : ℕ) (items : List Item) (s : State) → All IsItemIn items → P s
           → P (run_jobs jobs plain_rules home runner items s).state

@@ -20,7 +20,7 @@ use Rattle.play_rules.specs.Parts.{silent}
 use Rattle.play_rules.specs.Rules.{Moved}
 use Rattle.play_rules.specs.State.{State, cpu_at}
 use Rattle.play_rules.specs.Hierarchy.{first_event, gone_offline}
-use Rattle.play_rules.specs.Timers.{controller, count_on, moved as moved_from, queued_on}
+use Rattle.play_rules.specs.Timers.{controller, count_on, moved_first, where_queued}
 use Rattle.play_rules.specs.Operations.{cancel_where, clear, clear_after, clear_where, done}
 use Rattle.play_rules.specs.Operations.{done_unless, hand_on_to, hand_on_where, held_by, idle_where}
 use Rattle.play_rules.specs.Operations.{last_online, leaver, leaving as leaving_cpu, leaving_by}
@@ -85,7 +85,7 @@ module _ (cpus levels : ℕ) (P : (now : ℕ) → Stage → State → Type 0)
     (keeps : KeepsCourse cpus levels P) (now : ℕ) where
   -- MOVING
   module _ (from : ℕ) (low : from < cpus) where
-    move_kept : (o : Option (Moved State)) (to n : ℕ) (s : State) → moved_from s from to ≡ o
+    move_kept : (o : Option (Moved State)) (to n : ℕ) (s : State) → moved_first s from to ≡ o
         → P now (moving from to (suc n)) s
         → ((t : State) → P now (moving from to n) t
         → P now between (moves plain_rules n from to t).state)
@@ -99,7 +99,7 @@ module _ (cpus levels : ℕ) (P : (now : ℕ) → Stage → State → Type 0)
     unfolding moves
     moves_kept zero to s holds = keeps.all_moved now from to s low holds
     moves_kept (suc n) to s holds =
-        move_kept (moved_from s from to) to n s refl holds (λ t at. moves_kept n to t at)
+        move_kept (moved_first s from to) to n s refl holds (λ t at. moves_kept n to t at)
 
     control_kept : (o : Option ℕ) (s : State) → controller s ≡ o → P now (leaving from) s
         → P now between (moves_to plain_rules o from s).state
@@ -139,7 +139,7 @@ module _ (cpus levels : ℕ) (P : (now : ℕ) → Stage → State → Type 0)
   refused_after whats.Offline cpu s holds = inl holds
   refused_after whats.Online cpu s holds = holds
 
-  cancel_kept : (o : Option Queued) (a : Cancelling) (s : State) → queued_on s a.timer.0 ≡ o
+  cancel_kept : (o : Option Queued) (a : Cancelling) (s : State) → where_queued s a.timer.0 ≡ o
       → P now between s
       → P now between (cancel_where plain_rules o a s).state
   cancel_kept None a s is holds = holds
@@ -179,7 +179,7 @@ module _ (cpus levels : ℕ) (P : (now : ℕ) → Stage → State → Type 0)
         → After what cpu (done plain_rules what line cpu s).state
     done_kept (whats.Arm timer class delay job arg) line cpu s low known none holds =
         let refused = not_active plain_rules s cpu.0 in
-        let held = held_by plain_rules (queued_on s timer.0) in
+        let held = held_by plain_rules (where_queued s timer.0) in
         let active = is_busy s cpu.0 (first_none refused held none) in
         keeps.armed now cpu.0 s
         (record
@@ -188,10 +188,10 @@ module _ (cpus levels : ℕ) (P : (now : ℕ) → Stage → State → Type 0)
           timer = omega (arith, known.timer_in_range, few);
           delay = known.delay_in_range;
         })
-        active.online active.busy (held_none (queued_on s timer.0) (then_none refused held none))
+        active.online active.busy (held_none (where_queued s timer.0) (then_none refused held none))
         holds
     done_kept (whats.Cancel timer) line cpu s low known none holds =
-        cancel_kept (queued_on s timer.0) (record { timer = timer; by = cpu; line = line }) s refl
+        cancel_kept (where_queued s timer.0) (record { timer = timer; by = cpu; line = line }) s refl
         holds
     done_kept whats.Idle line cpu s low known none holds =
         idle_kept (nat_le (first_event s cpu.0) (s.clock + 1)) cpu s low

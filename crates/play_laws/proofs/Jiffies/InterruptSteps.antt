@@ -18,7 +18,7 @@ use Rattle.play_rules.specs.declared.asks.Arming.{Arming}
 use Rattle.play_rules.specs.State.{Cpu, State, cpu_at, cpu_count}
 use Rattle.play_rules.specs.Hierarchy.{due_sleepers, inactive_child, is_due_sleeper, looks_after}
 use Rattle.play_rules.specs.Hierarchy.{named, towards}
-use Rattle.play_rules.specs.Timers.{armed_on, bases_at, drained_on, due_items, item_then, queued_on}
+use Rattle.play_rules.specs.Timers.{armed_on, bases_at, drained_on, due_items, item_then, where_queued}
 use Rattle.play_laws.proofs.Shape.Shape.{nth_class}
 use Rattle.play_laws.proofs.Jiffies.Course.{IsArmingIn, IsItemIn}
 use Rattle.play_laws.proofs.Jiffies.Inside.{Awaits, Covers, Inside, IsEmpty, SomeOnline, arm_inside}
@@ -197,13 +197,13 @@ module _ (cpus levels now : ℕ) (due : set.FinSet nat_cmp) where
       fits.timers
 
   pub free_in : (HadP HadG : ℕ → Type 0) (Seen : (c level : ℕ) → Type 0) (s : State) (timer : ℕ)
-      → Inside cpus levels now due HadP HadG Seen s → queued_on s timer ≡ None
+      → Inside cpus levels now due HadP HadG Seen s → where_queued s timer ≡ None
       → (d : ℕ) → d < cpus → class_in timer (bases_at s d) ≡ None
   free_in HadP HadG Seen s timer inside none d low =
       let count = inside.holds.count in queued_nowhere s timer none d (omega (arith, low, count))
 
   pub ran_own : (c k : ℕ) (s : State) (a : Arming) → c < cpus → IsArmingIn a
-      → queued_on s a.timer.0 ≡ None → Own c k s
+      → where_queued s a.timer.0 ≡ None → Own c k s
       → Own c k (armed_on s c a).state
   ran_own c k s a low known none own = record {
     is_due = own.is_due;

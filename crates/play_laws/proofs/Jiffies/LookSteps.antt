@@ -17,7 +17,7 @@ use Rattle.play_rules.specs.declared.asks.Arming.{Arming}
 use Rattle.play_rules.specs.State.{Cpu, State, cpu_at, cpu_count, has_group, with_cpu}
 use Rattle.play_rules.specs.Hierarchy.{due_sleepers, inactive_child, is_due_sleeper, named, next_of}
 use Rattle.play_rules.specs.Hierarchy.{told_again, towards}
-use Rattle.play_rules.specs.Timers.{armed_bases, armed_on, bases_at, drained_on, queued_on}
+use Rattle.play_rules.specs.Timers.{armed_bases, armed_on, bases_at, drained_on, where_queued}
 use Rattle.play_laws.proofs.Answered.States.{here_is, written, written_alike}
 use Rattle.play_laws.proofs.Answered.Invariant.{put_other}
 use Rattle.play_laws.proofs.Jiffies.Course.{IsArmingIn, IsItemIn}
@@ -129,7 +129,7 @@ module _ (cpus levels now : ℕ) (due : set.FinSet nat_cmp) where
       (SeenBelow c level) c level d s inside taking.name) inside
 
   pub ran_taken : (c level n d : ℕ) (s : State) (a : Arming) → c < cpus → IsArmingIn a
-      → queued_on s a.timer.0 ≡ None
+      → where_queued s a.timer.0 ≡ None
       → Running cpus levels now due c level n d s
       → Running cpus levels now due c level n d (armed_on s c a).state
   ran_taken c level n d s a low known none running =

@@ -24,7 +24,7 @@ use Rattle.play_rules.specs.declared.asks.Cancelling.{Cancelling}
 use Rattle.play_rules.specs.State.{Cpu, State, cpu_at, cpu_count, with_bases, with_cpu}
 use Rattle.play_rules.specs.Timers.{armed_bases, armed_on, bases_at, cancelled_on, drained_on}
 use Rattle.play_rules.specs.Timers.{holder_of, moved_into, moved_out_of, queued_as, queued_at}
-use Rattle.play_rules.specs.Timers.{queued_on}
+use Rattle.play_rules.specs.Timers.{where_queued}
 use Rattle.play_laws.proofs.Answered.Invariant.{each_put}
 use Rattle.play_laws.proofs.Answered.Ranges.{found_some, found_there}
 use Rattle.play_laws.proofs.Answered.States.{written}
@@ -209,7 +209,7 @@ nowhere_by s timer (Some c) there gone d low =
     found_there (λ k. is_some (class_in timer (bases_at s k))) 0 (cpu_count s) c there in
     absurd (held_some (found_in timer (bases_at s c)) c found.passes gone)
 
-pub queued_nowhere : (s : State) (timer : ℕ) → queued_on s timer ≡ None → (d : ℕ) → d < cpu_count s
+pub queued_nowhere : (s : State) (timer : ℕ) → where_queued s timer ≡ None → (d : ℕ) → d < cpu_count s
     → class_in timer (bases_at s d) ≡ None
 queued_nowhere s timer none = nowhere_by s timer (holder_of s timer) refl none
 

@@ -19,7 +19,7 @@ use Rattle.play_rules.specs.Rules.{Moved}
 use Rattle.play_rules.specs.State.{Cpu, State, all_cpus, cpu_at, cpu_count}
 use Rattle.play_rules.specs.Hierarchy.{is_placed, with_migrators, woken, woken_migrator}
 use Rattle.play_rules.specs.Timers.{bases_at, controller, controlling, count_on, first_to_move}
-use Rattle.play_rules.specs.Timers.{moved, moved_one, moved_out_of}
+use Rattle.play_rules.specs.Timers.{moved_first, moved_one, moved_out_of}
 use Rattle.play_laws.proofs.Answered.Invariant.{put_other}
 use Rattle.play_laws.proofs.Answered.Ranges.{found_some, found_there}
 use Rattle.play_laws.proofs.Answered.States.{here_is, written, written_alike}
@@ -324,7 +324,7 @@ module _ (cpus levels now : ℕ) where
       (moves_item from to n s low moving class item (first_is (bases_at s from) (class, item) first))
 
   pub moves_one : (from to n : ℕ) (s : State) (m : Moved State) → from < cpus
-      → moved s from to ≡ Some m → Moving from to (suc n) s
+      → moved_first s from to ≡ Some m → Moving from to (suc n) s
       → Moving from to n m.state
   moves_one from to n s m low is moving =
       moves_by from to n s (first_to_move (bases_at s from)) m low moving refl is
@@ -335,5 +335,5 @@ module _ (cpus levels now : ℕ) where
   none_by from to s None first is = none_first (bases_at s from) first
   none_by from to s (Some found) first is = absurd (none-some (moved_one s from to found) (sym is))
 
-  pub none_moves : (from to : ℕ) (s : State) → moved s from to ≡ None → IsEmpty (bases_at s from)
+  pub none_moves : (from to : ℕ) (s : State) → moved_first s from to ≡ None → IsEmpty (bases_at s from)
   none_moves from to s is = none_by from to s (first_to_move (bases_at s from)) refl is

@@ -19,7 +19,7 @@ use Rattle.play_rules.specs.Hierarchy.{come_online, duty, gone_offline, idled, i
 use Rattle.play_rules.specs.Hierarchy.{pin_of, rested, rested_migrator, resting, with_migrators}
 use Rattle.play_rules.specs.Hierarchy.{woken, woken_migrator}
 use Rattle.play_rules.specs.Operations.{last_online}
-use Rattle.play_rules.specs.Timers.{armed_bases, armed_on, bases_at, cancelled_on, queued_on}
+use Rattle.play_rules.specs.Timers.{armed_bases, armed_on, bases_at, cancelled_on, where_queued}
 use Rattle.play_rules.specs.Play.{plain_rules, successor}
 use Rattle.play_laws.proofs.Answered.Bases.{cancelled_kept}
 use Rattle.play_laws.proofs.Answered.Invariant.{put_other}
@@ -145,7 +145,7 @@ module _ (cpus levels now : ℕ) where
     }
 
     pub arms : (c : ℕ) (a : Arming) → c < cpus → IsArmingIn a → (cpu_at s c).online ≡ true
-        → queued_on s a.timer.0 ≡ None
+        → where_queued s a.timer.0 ≡ None
         → Between cpus levels now (armed_on s c a).state
     arms c a low known online none =
         let is = (quiet.holds.each c low).is in
@@ -167,7 +167,7 @@ module _ (cpus levels now : ℕ) where
         })
         (λ d below other was. was))
 
-    pub cancels : (held : Queued) (a : Cancelling) → queued_on s a.timer.0 ≡ Some held
+    pub cancels : (held : Queued) (a : Cancelling) → where_queued s a.timer.0 ≡ Some held
         → Between cpus levels now (cancelled_on s held.cpu.0 a)
     cancels held a is_held =
         let c = held.cpu.0 in

@@ -17,7 +17,7 @@ use Rattle.play_rules.specs.Parts.{Played}
 use Rattle.play_rules.specs.State.{Cpu, State, cpu_at, cpu_count, has_group, with_cpu}
 use Rattle.play_rules.specs.Hierarchy.{duty, looks_after, named, next_of, pin_of, reevaluated}
 use Rattle.play_rules.specs.Hierarchy.{told_again}
-use Rattle.play_rules.specs.Timers.{armed_bases, drained_on, queued_on}
+use Rattle.play_rules.specs.Timers.{armed_bases, drained_on, where_queued}
 use Rattle.play_rules.specs.Interrupts.{Replies, again, answered, arming_again, drain, drains}
 use Rattle.play_rules.specs.Interrupts.{having_interrupt, interrupt, interrupt_where, interrupts}
 use Rattle.play_rules.specs.Interrupts.{job_call, look, look_at, look_where, looks, run_jobs, try}
@@ -55,7 +55,7 @@ module _ (jobs : Replies) where
   answer_online replies.Done runner item s = λ d. refl
   answer_online (replies.Mark n) runner item s = λ d. refl
   answer_online (replies.Again class delay) runner item s =
-      again_online (queued_on s item.id) runner item class delay s
+      again_online (where_queued s item.id) runner item class delay s
 
   jobs_online : (home runner : ℕ) (items : List Item) (s : State)
       → SameOnline s (run_jobs jobs plain_rules home runner items s).state

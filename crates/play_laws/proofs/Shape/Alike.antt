@@ -55,7 +55,7 @@ pub record Alike {S T : Type 0} (r : Rules S) (q : Rules T) (f : S → T) (cpus 
   pub looks_after : (s : S) (c level : ℕ) → q.looks_after (f s) c level ≡ r.looks_after s c level
   pub first_event : (s : S) (c : ℕ) → q.first_event (f s) c ≡ r.first_event s c
   pub successor : (s : S) (c : ℕ) → q.successor (f s) c ≡ r.successor s c
-  pub queued_on : (s : S) (c : ℕ) → q.queued_on (f s) c ≡ r.queued_on s c
+  pub count_queued : (s : S) (c : ℕ) → q.count_queued (f s) c ≡ r.count_queued s c
   pub controller : (s : S) → q.controller (f s) ≡ r.controller s
   pub is_online : (now : ℕ) (st : Stage) (s : S) (c : ℕ) → c < cpus → P now st s →
       q.is_online (f s) c ≡ r.is_online s c

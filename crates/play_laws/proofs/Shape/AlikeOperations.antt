@@ -189,7 +189,7 @@ module _ {S T : Type 0} (r : Rules S) (q : Rules T) (f : S → T) (cpus timers l
         (move_all r from d) (move_all q from d)
         (printed (λ n. lines.Control n (cpu_id d)) s _ _ e)
         (moves_alike _ d _ (keeps.controlling now from d s low off is holds)
-        ∙ ap (λ n. moves q n from d (f (r.controlling s d))) (sym (alike.queued_on (r.controlling s d) from)))
+        ∙ ap (λ n. moves q n from d (f (r.controlling s d))) (sym (alike.count_queued (r.controlling s d) from)))
 
     cleared_alike : (queued : ℕ) (s : S) → r.is_online s from ≡ false → P now between s
         → seen f (clear_where r queued from s) ≡ clear_where q queued from (f s)
@@ -198,16 +198,16 @@ module _ {S T : Type 0} (r : Rules S) (q : Rules T) (f : S → T) (cpus timers l
         control_alike (r.controller s) s off refl holds ∙ ap (λ o. moves_to q o from (f s)) (sym (alike.controller s))
 
     clear_by : (online : Bool) (s : S) → r.is_online s from ≡ online → P now between s
-        → seen f (if online then silent s else clear_where r (r.queued_on s from) from s)
-        ≡ (if online then silent (f s) else clear_where q (q.queued_on (f s) from) from (f s))
+        → seen f (if online then silent s else clear_where r (r.count_queued s from) from s)
+        ≡ (if online then silent (f s) else clear_where q (q.count_queued (f s) from) from (f s))
     clear_by true s is holds = refl
     clear_by false s is holds =
-        cleared_alike (r.queued_on s from) s is holds ∙ ap (λ n. clear_where q n from (f s)) (sym (alike.queued_on s from))
+        cleared_alike (r.count_queued s from) s is holds ∙ ap (λ n. clear_where q n from (f s)) (sym (alike.count_queued s from))
 
     clear_alike : (s : S) → P now between s → seen f (clear r from s) ≡ clear q from (f s)
     clear_alike s holds =
         clear_by (r.is_online s from) s refl holds
-        ∙ ap (λ b. if b then silent (f s) else clear_where q (q.queued_on (f s) from) from (f s)) (sym (alike.is_online now between s from low holds))
+        ∙ ap (λ b. if b then silent (f s) else clear_where q (q.count_queued (f s) from) from (f s)) (sym (alike.is_online now between s from low holds))
 
   pub clear_after_alike : (o : Option ℕ) (s : S) → ((c : ℕ) → o ≡ Some c → c < cpus) → P now between s
       → seen f (clear_after r o s) ≡ clear_after q o (f s)

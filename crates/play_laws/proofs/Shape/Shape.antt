@@ -164,7 +164,7 @@ pub record Keeps {S : Type 0} (r : Rules S) (cpus timers levels end : ℕ)
   -- MOVING
   pub controlling : (now from d : ℕ) (s : S) → from < cpus → r.is_online s from ≡ false
       → r.controller s ≡ Some d →
-      P now between s → P now (moving from d (r.queued_on (r.controlling s d) from))
+      P now between s → P now (moving from d (r.count_queued (r.controlling s d) from))
       (r.controlling s d)
   pub moved : (now from to n : ℕ) (s : S) (m : Moved S) → from < cpus → r.moved s from to ≡ Some m →
       P now (moving from to (suc n)) s → P now (moving from to n) m.state

@@ -200,10 +200,10 @@ module _ {S : Type 0} (r : Rules S) (cpus timers levels end : ℕ)
     cleared (suc n) s off holds = control_kept (r.controller s) s off refl holds
 
     clear_by : (online : Bool) (s : S) → r.is_online s from ≡ online → P now between s
-        → P now between (if online then silent s else clear_where r (r.queued_on s from) from
+        → P now between (if online then silent s else clear_where r (r.count_queued s from) from
         s).state
     clear_by true s is holds = holds
-    clear_by false s is holds = cleared (r.queued_on s from) s is holds
+    clear_by false s is holds = cleared (r.count_queued s from) s is holds
 
     clear_kept : (s : S) → P now between s → P now between (clear r from s).state
     clear_kept s holds = clear_by (r.is_online s from) s refl holds

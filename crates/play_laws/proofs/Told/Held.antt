@@ -7,7 +7,7 @@ use Rattle.wheel_core.specs.declared.item.Item.{Item}
 use Rattle.cpu_bases.specs.CpuBases.{class_in, found_in}
 use Rattle.play_rules.specs.declared.asks.Queued.{Queued}
 use Rattle.play_rules.specs.State.{State, cpu_count}
-use Rattle.play_rules.specs.Timers.{bases_at, holder_of, queued_as, queued_at, queued_on}
+use Rattle.play_rules.specs.Timers.{bases_at, holder_of, queued_as, queued_at, where_queued}
 use Rattle.play_laws.proofs.Answered.Ranges.{found_there}
 
 -- WHERE a timer is queued: on a CPU of the machine, in a class, as an item
@@ -34,5 +34,5 @@ module _ (s : State) (timer : ℕ) (held : Queued) where
       let low = at.below in
       on_it c (found_in timer (bases_at s c)) refl is (omega (arith, low))
 
-  pub held_is : queued_on s timer ≡ Some held → HeldIs s timer held
+  pub held_is : where_queued s timer ≡ Some held → HeldIs s timer held
   held_is is = by_holder (holder_of s timer) refl is

@@ -21,7 +21,7 @@ use Rattle.play_rules.specs.declared.asks.Queued.{Queued}
 use Rattle.play_rules.specs.Interrupts.{timer_id}
 use Rattle.play_rules.specs.Moments.{left, left_or}
 use Rattle.play_rules.specs.State.{State, cpu_count}
-use Rattle.play_rules.specs.Timers.{bases_at, holder_of, queued_as, queued_at, queued_on}
+use Rattle.play_rules.specs.Timers.{bases_at, holder_of, queued_as, queued_at, where_queued}
 use Rattle.play_rules.specs.Play.{plain_rules}
 use Rattle.play_laws.specs.Told.Kinds.{is_left}
 use Rattle.play_laws.specs.Told.Left.{IsQueuedSo, TellLeft, TimersAscend}
@@ -97,12 +97,12 @@ module _ (timers cpus levels : ℕ) (s : State) (homes : AreHomes timers cpus le
         at.passes in
         ap (queued_at s item.id) same ∙ ap (option_map (queued_as c)) found_here
 
-    pub queued_there : queued_on s item.id ≡ Some (queued_as c (class, item))
+    pub queued_there : where_queued s item.id ≡ Some (queued_as c (class, item))
     queued_there = by_holder (holder_of s item.id) refl
 
 -- THE LINES
 module _ (s : State) where
-  one_queued : (t : ℕ) (o : Option Queued) (others : List Line) → queued_on s t ≡ o
+  one_queued : (t : ℕ) (o : Option Queued) (others : List Line) → where_queued s t ≡ o
       → All (IsQueuedSo s) others → All (IsQueuedSo s) (left_or t o others)
   one_queued t None others is rest = rest
   one_queued t (Some held) others is rest =
@@ -119,7 +119,7 @@ module _ (s : State) where
   unfolding left
   each_queued zero t = All-nil (IsQueuedSo s)
   each_queued (suc n) t =
-      one_queued t (queued_on s t) (left plain_rules n (t + 1) s) refl (each_queued n (t + 1))
+      one_queued t (where_queued s t) (left plain_rules n (t + 1) s) refl (each_queued n (t + 1))
 
   one_ascends : (from t : ℕ) (o : Option Queued) (others : List Line) → from ≤ t
       → ((a : ℕ) → a ≤ t + 1 → TimersAscend a others) → TimersAscend from (left_or t o others)
@@ -130,13 +130,13 @@ module _ (s : State) where
   unfolding left
   all_ascend zero t from low = tt
   all_ascend (suc n) t from low =
-      one_ascends from t (queued_on s t) (left plain_rules n (t + 1) s) low
+      one_ascends from t (where_queued s t) (left plain_rules n (t + 1) s) low
       (λ a by. all_ascend n (t + 1) a by)
 
   pub are_left : (n t : ℕ) → All (λ line. is_left line ≡ true) (left plain_rules n t s)
   unfolding left
   are_left zero t = All-nil (λ line. is_left line ≡ true)
-  are_left (suc n) t = by (queued_on s t) (are_left n (t + 1))
+  are_left (suc n) t = by (where_queued s t) (are_left n (t + 1))
     where
       by : (o : Option Queued) → All (λ line. is_left line ≡ true) (left plain_rules n (t + 1) s)
           → All (λ line. is_left line ≡ true) (left_or t o (left plain_rules n (t + 1) s))
@@ -165,7 +165,7 @@ module _ (s : State) where
       Contains-append_right (lines.Left (timer_id t) held.cpu held.class held.wheel ∷ []) others
       line is
 
-  among_left : (n t id : ℕ) (held : Queued) → t ≤ id → id < t + n → queued_on s id ≡ Some held
+  among_left : (n t id : ℕ) (held : Queued) → t ≤ id → id < t + n → where_queued s id ≡ Some held
       → Contains (left plain_rules n t s)
       (lines.Left (timer_id id) held.cpu held.class held.wheel)
   unfolding left
@@ -175,13 +175,13 @@ module _ (s : State) where
         | inl same ↦
             subst
             (λ k.
-            Contains (left_or t (queued_on s t) (left plain_rules n (t + 1) s))
+            Contains (left_or t (where_queued s t) (left plain_rules n (t + 1) s))
             (lines.Left (timer_id k) held.cpu held.class held.wheel))
             same
-            (one_there t (queued_on s t) (left plain_rules n (t + 1) s) held
-            (ap (queued_on s) same ∙ is))
+            (one_there t (where_queued s t) (left plain_rules n (t + 1) s) held
+            (ap (where_queued s) same ∙ is))
         | inr other ↦
-            one_behind t (queued_on s t) (left plain_rules n (t + 1) s) _
+            one_behind t (where_queued s t) (left plain_rules n (t + 1) s) _
             (among_left n (t + 1) id held (omega (arith, from, other)) (omega (arith, below)) is)
       ]
 

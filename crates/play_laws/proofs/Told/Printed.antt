@@ -205,16 +205,16 @@ module _ {S : Type 0} (r : Rules S) (Q : Line → Type 0)
   control_prints : (o : Option ℕ) (from : ℕ) (s : S) → All Q (moves_to r o from s).lines
   control_prints None from s = All-nil Q
   control_prints (Some d) from s =
-      All-cons Q _ _ (told _ refl) (moves_print (r.queued_on _ from) from d _)
+      All-cons Q _ _ (told _ refl) (moves_print (r.count_queued _ from) from d _)
 
   clear_prints : (queued from : ℕ) (s : S) → All Q (clear_where r queued from s).lines
   clear_prints zero from s = All-nil Q
   clear_prints (suc n) from s = control_prints (r.controller s) from s
 
   clear_told : (b : Bool) (from : ℕ) (s : S)
-      → All Q (if b then silent s else clear_where r (r.queued_on s from) from s).lines
+      → All Q (if b then silent s else clear_where r (r.count_queued s from) from s).lines
   clear_told true from s = All-nil Q
-  clear_told false from s = clear_prints (r.queued_on s from) from s
+  clear_told false from s = clear_prints (r.count_queued s from) from s
 
   pub after_prints : (o : Option ℕ) (s : S) → All Q (clear_after r o s).lines
   after_prints None s = All-nil Q

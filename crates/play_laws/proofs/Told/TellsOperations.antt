@@ -142,7 +142,7 @@ module _ {S : Type 0} (jobs : Replies) (r : Rules S) (cpus timers levels end : �
         then_told jobs r cpus timers levels end P Fits keeps R tells s
         (printing (lines.Control (r.clock s) (cpu_id d)) (r.controlling s d)) (move_all r from d)
         (quiet_then _ s _ refl (tells.controlling d s))
-        (moves_told (r.queued_on (r.controlling s d) from) d _
+        (moves_told (r.count_queued (r.controlling s d) from) d _
         (keeps.controlling now from d s low off is holds))
 
     cleared : (queued : ℕ) (s : S) → r.is_online s from ≡ false → P now between s
@@ -151,9 +151,9 @@ module _ {S : Type 0} (jobs : Replies) (r : Rules S) (cpus timers levels end : �
     cleared (suc n) s off holds = control_told (r.controller s) s off refl holds
 
     clear_by : (online : Bool) (s : S) → r.is_online s from ≡ online → P now between s
-        → Tell R s (if online then silent s else clear_where r (r.queued_on s from) from s)
+        → Tell R s (if online then silent s else clear_where r (r.count_queued s from) from s)
     clear_by true s is holds = tells.none s
-    clear_by false s is holds = cleared (r.queued_on s from) s is holds
+    clear_by false s is holds = cleared (r.count_queued s from) s is holds
 
   pub clear_after_told : (o : Option ℕ) (s : S) → ((c : ℕ) → o ≡ Some c → c < cpus)
       → P now between s → Tell R s (clear_after r o s)

@@ -19,7 +19,7 @@ use Rattle.play_rules.specs.declared.asks.Arming.{Arming}
 use Rattle.play_rules.specs.declared.asks.Cancelling.{Cancelling}
 use Rattle.play_rules.specs.State.{State, with_bases}
 use Rattle.play_rules.specs.Timers.{armed_on, bases_at, cancelled_on}
-use Rattle.play_rules.specs.Timers.{queued_on}
+use Rattle.play_rules.specs.Timers.{where_queued}
 use Rattle.play_laws.proofs.Answered.Bases.{changed_kept}
 use Rattle.play_laws.proofs.Jiffies.Machines.{queued_nowhere}
 use Rattle.play_laws.proofs.Work.Homes.{AreHomes, IsHome, beyond_homes, home_added}
@@ -69,13 +69,13 @@ module _ (timers cpus levels : ℕ) (may : ℕ → Bool) (s : State)
       ]
 
   -- ARMED, where the timer may go out or the wheel expiry is past now
-  nowhere_in : (id : ℕ) → queued_on s id ≡ None → IsNowhere id
+  nowhere_in : (id : ℕ) → where_queued s id ≡ None → IsNowhere id
   nowhere_in id none d k below =
       let count = is.count in
       base_none (bases_at s d) id (queued_nowhere s id none d (omega (arith, below, count))) k
 
   pub arms_home : (c : ℕ) (a : Arming) → a.timer.0 < timers → a.delay < 2 ^ 32
-      → queued_on s a.timer.0 ≡ None
+      → where_queued s a.timer.0 ≡ None
       → ((armed_on s c a).wheel ≤ s.clock → may a.timer.0 ≡ true)
       → AreHomes timers cpus levels may (armed_on s c a).state
   arms_home c a known short none due =

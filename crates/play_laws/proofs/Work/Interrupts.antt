@@ -15,7 +15,7 @@ use Rattle.play_rules.specs.declared.asks.Queued.{Queued}
 use Rattle.play_rules.specs.Parts.{Played, and_then, counting, silent}
 use Rattle.play_rules.specs.State.{State, cpu_count}
 use Rattle.play_rules.specs.Hierarchy.{looks_after, named, told_again}
-use Rattle.play_rules.specs.Timers.{drained_on, queued_on}
+use Rattle.play_rules.specs.Timers.{drained_on, where_queued}
 use Rattle.play_rules.specs.Interrupts.{Replies, again, answered, arming_again, drain, drains}
 use Rattle.play_rules.specs.Interrupts.{interrupt, interrupt_where, interrupts, job_call, look}
 use Rattle.play_rules.specs.Interrupts.{look_at, look_where, looks, run_jobs, try}
@@ -93,7 +93,7 @@ module _ (timers cpus levels now : ℕ) (soon : now ≤ greatest_timeout) where
     -- THE JOBS of the items that go out, one for each
     module _ (runner : ℕ) (low : runner < cpus) (may : ℕ → Bool) where
       again_stands : (o : Option Queued) (item : Item) (class : Class) (delay : ℕ) (s : State)
-          → item.id < timers → queued_on s item.id ≡ o → Stands may s
+          → item.id < timers → where_queued s item.id ≡ o → Stands may s
           → Stands may (again plain_rules o runner item class delay s).state
       again_stands None item class delay s known none is =
           let a = arming_again item class delay in
@@ -113,7 +113,7 @@ module _ (timers cpus levels now : ℕ) (soon : now ≤ greatest_timeout) where
       answer_stands replies.Done item s known is = is
       answer_stands (replies.Mark n) item s known is = is
       answer_stands (replies.Again class delay) item s known is =
-          again_stands (queued_on s item.id) item class delay s known refl is
+          again_stands (where_queued s item.id) item class delay s known refl is
 
       jobs_pay : (home : ℕ) (items : List Item) (s : State) → All (λ item. item.id < timers) items
           → Stands may s

@@ -15,7 +15,7 @@ use Rattle.cpu_bases.proofs.Classes.{class_itself, each_with}
 use Rattle.cpu_bases.proofs.Keeping.{oldest_found}
 use Rattle.play_rules.specs.Rules.{Moved}
 use Rattle.play_rules.specs.State.{Cpu, State, cpu_at, with_bases}
-use Rattle.play_rules.specs.Timers.{bases_at, first_to_move, moved, moved_into, moved_one}
+use Rattle.play_rules.specs.Timers.{bases_at, first_to_move, moved_first, moved_into, moved_one}
 use Rattle.play_laws.proofs.Answered.Bases.{changed_kept}
 use Rattle.play_laws.proofs.Answered.Invariant.{each_put}
 use Rattle.play_laws.proofs.Answered.States.{written}
@@ -115,6 +115,6 @@ module _ (timers cpus levels : ℕ) (may : ℕ → Bool) (always : (id : ℕ) �
       subst (AreHomes timers cpus levels may) (ap (λ (x : Moved State). x.state) same)
       (one_homes class item (first_is (bases_at s from) (class, item) first))
 
-  pub moves_homes : (m : Moved State) → moved s from to ≡ Some m
+  pub moves_homes : (m : Moved State) → moved_first s from to ≡ Some m
       → AreHomes timers cpus levels may m.state
   moves_homes m some = moved_by (first_to_move (bases_at s from)) m refl some

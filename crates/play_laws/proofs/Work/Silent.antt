@@ -77,16 +77,16 @@ module _ {S : Type 0} (r : Rules S) where
 
   control_none : (o : Option ℕ) (from : ℕ) (s : S) → IsNoWork (moves_to r o from s)
   control_none None from s = refl
-  control_none (Some d) from s = both_none 0 _ refl (moves_none (r.queued_on _ from) from d _)
+  control_none (Some d) from s = both_none 0 _ refl (moves_none (r.count_queued _ from) from d _)
 
   clear_none : (queued from : ℕ) (s : S) → IsNoWork (clear_where r queued from s)
   clear_none zero from s = refl
   clear_none (suc n) from s = control_none (r.controller s) from s
 
   clear_no : (b : Bool) (from : ℕ) (s : S)
-      → IsNoWork (if b then silent s else clear_where r (r.queued_on s from) from s)
+      → IsNoWork (if b then silent s else clear_where r (r.count_queued s from) from s)
   clear_no true from s = refl
-  clear_no false from s = clear_none (r.queued_on s from) from s
+  clear_no false from s = clear_none (r.count_queued s from) from s
 
   after_none : (o : Option ℕ) (s : S) → IsNoWork (clear_after r o s)
   after_none None s = refl

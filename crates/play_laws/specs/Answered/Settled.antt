@@ -37,14 +37,14 @@ machine_of s = record {
 }
 
 -- each global timer that is queued on an online idle CPU is held or woken for
-abbrev pub IsSettled : State → Type 0
-IsSettled s =
+abbrev pub EachAnswered : State → Type 0
+EachAnswered s =
     (c : ℕ) → c < cpu_count s → (cpu_at s c).online ≡ true → (cpu_at s c).idle ≡ true
     → All (λ item. IsAnsweredFor (machine_of s) c item.wheel)
     (base_of Global (cpu_at s c).bases).items
 
--- SETTLED: after each moment of every script's play, whatever its jobs answer, each global timer
+-- ANSWERED: after each moment of every script's play, whatever its jobs answer, each global timer
 -- that is queued on an online idle CPU is held or woken for
-abbrev pub SettledAfterEach : Type 0
-SettledAfterEach =
-    (jobs : Replies) (script : Script) → IsScript script → AfterEachMoment IsSettled jobs script
+abbrev pub AnsweredAfterEach : Type 0
+AnsweredAfterEach =
+    (jobs : Replies) (script : Script) → IsScript script → AfterEachMoment EachAnswered jobs script

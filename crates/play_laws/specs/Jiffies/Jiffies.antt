@@ -102,7 +102,7 @@ EachHasEndedAfterEach =
     (jobs : Replies) (script : Script) → IsScript script → AfterEachMoment EachHasEnded jobs script
 
 -- IN THE FIRST DRAIN: the arming at place i of a journal has no end before place k
-pub record StandsAt (journal : List Entry) (i k : ℕ) (arming : Entry) : Type 0 where
+pub record IsArmedAt (journal : List Entry) (i k : ℕ) (arming : Entry) : Type 0 where
   pub later : i < k
   pub arming_there : slice_get journal i ≡ Some arming
   pub arms : is_arming arming.act ≡ true
@@ -113,7 +113,7 @@ pub record StandsAt (journal : List Entry) (i k : ℕ) (arming : Entry) : Type 0
 -- its CPU that isn't before it
 abbrev pub InFirstDrain : Type 0
 InFirstDrain = (cpu : ℕ) (journal : List Entry) (i k : ℕ) (arming drain : Entry)
-    → LegalJournal cpu journal → StandsAt journal i k arming → slice_get journal k ≡ Some drain
+    → LegalJournal cpu journal → IsArmedAt journal i k arming → slice_get journal k ≡ Some drain
     → drain.act ≡ acts.Ticked → drain.class ≡ arming.class → drain.at < arming.wheel
 
 -- BY AN ONLINE CPU: the CPUs that are due an interrupt as those of a moment begin are online, and

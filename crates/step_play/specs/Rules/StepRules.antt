@@ -18,7 +18,7 @@ use Rattle.play_rules.specs.declared.asks.Cancelling.{Cancelling}
 use Rattle.play_rules.specs.Rules.{Drained, Moved, Placed, Rules}
 use Rattle.play_rules.specs.Hierarchy.{first_event, looks_after}
 use Rattle.play_rules.specs.Timers.{armed_item, controller, count_on, due_items, first_to_move}
-use Rattle.play_rules.specs.Timers.{moved_one, queued_on}
+use Rattle.play_rules.specs.Timers.{moved_one, where_queued}
 use Rattle.play_rules.specs.Play.{has_interrupt, next_interrupt, successor}
 use Rattle.play_rules.specs.Covers.{answerer, by_migrator, by_wakeup, led_to, lowest_active_group}
 use Rattle.play_rules.specs.Covers.{waker_by}
@@ -185,7 +185,7 @@ step_rules = record {
   is_idle = λ w c. (cpu_of w c).idle;
   is_placed = λ w c. is_placed_in w.tree c;
   wakeup = λ w c. (cpu_of w c).wakeup;
-  queued = λ w timer. queued_on (state_of w) timer;
+  queued = λ w timer. where_queued (state_of w) timer;
   at_clock = λ now w. stepped w (steps.Clock now);
   has_interrupt = λ w c. has_interrupt (state_of w) c;
   next_interrupt = λ w. next_interrupt (state_of w);
@@ -207,7 +207,7 @@ step_rules = record {
   hands_on = is_waiting;
   handed_on = handed_on_by_steps;
   come_online = come_by_steps;
-  queued_on = λ w c. count_on (state_of w) c;
+  count_queued = λ w c. count_on (state_of w) c;
   controller = λ w. controller (state_of w);
   controlling = made_active;
   moved = λ w from to.

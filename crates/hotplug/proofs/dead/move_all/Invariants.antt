@@ -14,4 +14,4 @@ invariant-loop g l = record {
 }
 
 abbrev pub decreases-loop : goal.decreases-loop
-decreases-loop g l = step_rules.queued_on l.core l.from.0
+decreases-loop g l = step_rules.count_queued l.core l.from.0

@@ -28,7 +28,7 @@ returns-clause-may g c =
 
 pub returns-clause-fewer : goal.returns-clause-fewer
 returns-clause-fewer g c = λ same.
-    ap (λ (w : World). step_rules.queued_on w c.args.from.0 + 1) c.in_ok-move_timer.ensures.ok
+    ap (λ (w : World). step_rules.count_queued w c.args.from.0 + 1) c.in_ok-move_timer.ensures.ok
     ∙ moves_fewer c.args.core.now c.args.from.0 c.args.to.0 c.tree.ensures.lawful c.requires
     c.in-Some.timer c.in-Some.ensures
 

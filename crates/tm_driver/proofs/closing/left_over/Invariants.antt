@@ -6,8 +6,8 @@ use Rattle.tm_driver.proofs.closing.left_over.Given as goal
 
 abbrev pub invariant-loop-number : goal.invariant-loop-number
 invariant-loop-number g l =
-    let r = g.M.Machine.rules in
-    let s = g.M.Machine.world l.machine in
+    let r = g.M.PlayMachine.rules in
+    let s = g.M.PlayMachine.world l.machine in
     let n = r.timers s in
     record {
       rest : Continues (lines_told (left r (n - l.number) l.number s) s) l.telling

@@ -7,8 +7,8 @@ use Rattle.tm_driver.proofs.interrupts.having_interrupt.Goals.{then-has_interrup
 
 pub loop-cpu-init : goal.loop-cpu-init
 loop-cpu-init g c =
-    let r = g.M.Machine.rules in
-    let s = g.M.Machine.world c.args.machine.now in
+    let r = g.M.PlayMachine.rules in
+    let s = g.M.PlayMachine.world c.args.machine.now in
     record {
       set = c.new-due.ensures;
       online = subst (AreOnline r s) (sym c.new-due.ensures) (none_online r s);
@@ -16,8 +16,8 @@ loop-cpu-init g c =
 
 pub loop-cpu-preserved : goal.loop-cpu-preserved
 loop-cpu-preserved g c =
-    let r = g.M.Machine.rules in
-    let s = g.M.Machine.world c.args.machine.now in
+    let r = g.M.PlayMachine.rules in
+    let s = g.M.PlayMachine.world c.args.machine.now in
     let so_far = c.loop-cpu.invariant in
     let asked = c.has_interrupt.ensures in
     elim c.if-has_interrupt.branch [

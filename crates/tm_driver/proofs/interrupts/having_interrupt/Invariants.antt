@@ -7,8 +7,8 @@ use Rattle.tm_driver.proofs.interrupts.having_interrupt.Given as goal
 
 abbrev pub invariant-loop-cpu : goal.invariant-loop-cpu
 invariant-loop-cpu g l =
-    let r = g.M.Machine.rules in
+    let r = g.M.PlayMachine.rules in
     record {
-      set : l.due ≡ set.from_list (filter (r.has_interrupt (g.M.Machine.world l.machine)) (range_with_len 0 l.cpu));
-      online : AreOnline r (g.M.Machine.world l.machine) l.due;
+      set : l.due ≡ set.from_list (filter (r.has_interrupt (g.M.PlayMachine.world l.machine)) (range_with_len 0 l.cpu));
+      online : AreOnline r (g.M.PlayMachine.world l.machine) l.due;
     }

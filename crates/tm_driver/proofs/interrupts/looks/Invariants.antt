@@ -8,14 +8,14 @@ use Rattle.tm_driver.proofs.interrupts.looks.Given as goal
 
 abbrev pub invariant-loop-level : goal.invariant-loop-level
 invariant-loop-level g l =
-    let r = g.M.Machine.rules in
+    let r = g.M.PlayMachine.rules in
     let jobs = g.J.Jobs.replies l.jobs in
-    let levels = r.levels (g.M.Machine.world l.fn.machine) in
+    let levels = r.levels (g.M.PlayMachine.world l.fn.machine) in
     record {
-      rest : Continues (looks jobs r (levels - l.level) l.cpu.0 l.level (g.M.Machine.world l.machine)) l.telling
-          (looks jobs r levels l.cpu.0 0 (g.M.Machine.world l.fn.machine)) l.fn.telling;
-      same : Same r (g.M.Machine.world l.fn.machine) (g.M.Machine.world l.machine);
-      online : SameOnline r (g.M.Machine.world l.fn.machine) (g.M.Machine.world l.machine);
-      fit : g.M.Machine.Fit (inside l.cpu.0) (g.M.Machine.world l.machine);
+      rest : Continues (looks jobs r (levels - l.level) l.cpu.0 l.level (g.M.PlayMachine.world l.machine)) l.telling
+          (looks jobs r levels l.cpu.0 0 (g.M.PlayMachine.world l.fn.machine)) l.fn.telling;
+      same : Same r (g.M.PlayMachine.world l.fn.machine) (g.M.PlayMachine.world l.machine);
+      online : SameOnline r (g.M.PlayMachine.world l.fn.machine) (g.M.PlayMachine.world l.machine);
+      fit : g.M.PlayMachine.Fit (inside l.cpu.0) (g.M.PlayMachine.world l.machine);
       gains : Gains l.fn.telling.text l.telling.text;
     }

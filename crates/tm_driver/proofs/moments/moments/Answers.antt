@@ -37,7 +37,7 @@ loop-now-preserved g c =
       not_back = omega (arith, done.clock);
       by_end = omega (arith, done.clock, said, c.loop-now-test.true);
       rise = rise_from _ _ _ _ rises (omega (arith, done.clock, from));
-      in_range = rw (done.same.cpus, done.same.timers) (after_in_range (IsMomentInRange (g.M.Machine.rules.cpus (g.M.Machine.world c.loop-now.machine)) (g.M.Machine.rules.timers (g.M.Machine.world c.loop-now.machine))) _ _ so_far.in_range);
+      in_range = rw (done.same.cpus, done.same.timers) (after_in_range (IsMomentInRange (g.M.PlayMachine.rules.cpus (g.M.PlayMachine.world c.loop-now.machine)) (g.M.PlayMachine.rules.timers (g.M.PlayMachine.world c.loop-now.machine))) _ _ so_far.in_range);
       same = record { timers = done.same.timers ∙ so_far.same.timers; cpus = done.same.cpus ∙ so_far.same.cpus };
       fit = done.fit;
       gains = gains_then _ _ _ so_far.gains done.gains;

@@ -10,10 +10,10 @@ use Rattle.tm_driver.proofs.moments.moments.Given as goal
 
 abbrev pub invariant-loop-now : goal.invariant-loop-now
 invariant-loop-now g l =
-    let r = g.M.Machine.rules in
+    let r = g.M.PlayMachine.rules in
     let jobs = g.J.Jobs.replies l.jobs in
-    let start = g.M.Machine.world l.fn.machine in
-    let s = g.M.Machine.world l.machine in
+    let start = g.M.PlayMachine.world l.fn.machine in
+    let s = g.M.PlayMachine.world l.machine in
     record {
       far : SoFar jobs r l.script.end l.limit (script_turns jobs r l.script start) start l.fn.telling l.now l.left s l.telling l.count;
       not_back : r.clock s ≤ l.now;
@@ -21,7 +21,7 @@ invariant-loop-now g l =
       rise : Rise l.now l.script.end l.left;
       in_range : All (IsMomentInRange (r.cpus s) (r.timers s)) l.left;
       same : SameBuild r start s;
-      fit : g.M.Machine.Fit resting s;
+      fit : g.M.PlayMachine.Fit resting s;
       gains : Gains l.fn.telling.text l.telling.text;
     }
 

@@ -6,8 +6,8 @@ use Rattle.tm_driver.proofs.moving.covers.Given as goal
 
 abbrev pub invariant-loop-cpu : goal.invariant-loop-cpu
 invariant-loop-cpu g l =
-    let r = g.M.Machine.rules in
-    let s = g.M.Machine.world l.machine in
+    let r = g.M.PlayMachine.rules in
+    let s = g.M.PlayMachine.world l.machine in
     let n = r.cpus s in
     record {
       rest : Continues (lines_told (cover_lines r (n - l.cpu) l.cpu s) s) l.telling

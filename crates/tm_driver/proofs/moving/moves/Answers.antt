@@ -7,7 +7,7 @@ pub returns-in-None-clause-prints : goal.returns-in-None-clause-prints
 returns-in-None-clause-prints g c =
     let done = c.in_ok-move_first.ensures in
     moves_none _ _ _ _ _ _ _ _ _ _ _ c.loop-turn.invariant.rest
-    (omega (arith, c.loop-turn-test.true, c.queued_on-turn-end.ensures)) refl (sym done.moved ∙ c.in-None.is) done.state
+    (omega (arith, c.loop-turn-test.true, c.count_queued-turn-end.ensures)) refl (sym done.moved ∙ c.in-None.is) done.state
 
 pub loop-turn-preserved : goal.loop-turn-preserved
 loop-turn-preserved g c =
@@ -15,7 +15,7 @@ loop-turn-preserved g c =
     let told = c.in_ok-tell-in-Some.ensures in
     record {
       rest = moves_more _ _ _ _ _ _ _ _ _ _ _ _ _ _ c.loop-turn.invariant.rest
-          (omega (arith, c.loop-turn-test.true, c.queued_on-turn-end.ensures)) refl (sym done.moved ∙ c.in-Some.is) done.state
+          (omega (arith, c.loop-turn-test.true, c.count_queued-turn-end.ensures)) refl (sym done.moved ∙ c.in-Some.is) done.state
           (c.clock-now.ensures.clock ∙ sym c.loop-turn.invariant.same.clock) told.text told.tally told.work;
       same = search rules;
       flags = search rules;
@@ -26,4 +26,4 @@ loop-turn-preserved g c =
 pub returns-clause-prints : goal.returns-clause-prints
 returns-clause-prints g c =
     moves_all _ _ _ _ _ _ _ _ _ c.loop-turn.invariant.rest
-    (omega (arith, c.loop-turn-test.false, c.queued_on-turn-end.ensures))
+    (omega (arith, c.loop-turn-test.false, c.count_queued-turn-end.ensures))

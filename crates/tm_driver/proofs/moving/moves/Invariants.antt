@@ -8,13 +8,13 @@ use Rattle.tm_driver.proofs.moving.moves.Given as goal
 
 abbrev pub invariant-loop-turn : goal.invariant-loop-turn
 invariant-loop-turn g l =
-    let r = g.M.Machine.rules in
-    let n = r.queued_on (g.M.Machine.world l.fn.machine) l.from.0 in
+    let r = g.M.PlayMachine.rules in
+    let n = r.count_queued (g.M.PlayMachine.world l.fn.machine) l.from.0 in
     record {
-      rest : Continues (moves r (n - l._turn) l.from.0 l.to.0 (g.M.Machine.world l.machine)) l.telling
-          (moves r n l.from.0 l.to.0 (g.M.Machine.world l.fn.machine)) l.fn.telling;
-      same : Same r (g.M.Machine.world l.fn.machine) (g.M.Machine.world l.machine);
-      flags : SameFlags r (g.M.Machine.world l.fn.machine) (g.M.Machine.world l.machine);
-      fit : g.M.Machine.Fit resting (g.M.Machine.world l.machine);
+      rest : Continues (moves r (n - l._turn) l.from.0 l.to.0 (g.M.PlayMachine.world l.machine)) l.telling
+          (moves r n l.from.0 l.to.0 (g.M.PlayMachine.world l.fn.machine)) l.fn.telling;
+      same : Same r (g.M.PlayMachine.world l.fn.machine) (g.M.PlayMachine.world l.machine);
+      flags : SameFlags r (g.M.PlayMachine.world l.fn.machine) (g.M.PlayMachine.world l.machine);
+      fit : g.M.PlayMachine.Fit resting (g.M.PlayMachine.world l.machine);
       gains : Gains l.fn.telling.text l.telling.text;
     }

@@ -13,9 +13,9 @@ use Rattle.tm_driver.proofs.plain_moments.done_apart.Goals as goal
 
 pub returns-clause-tells : goal.returns-clause-tells
 returns-clause-tells g c =
-    let r = g.M.Machine.rules in
+    let r = g.M.PlayMachine.rules in
     let jobs = g.J.Jobs.replies c.args.jobs.now in
-    let s = g.M.Machine.world c.args.machine.now in
+    let s = g.M.PlayMachine.world c.args.machine.now in
     let n = r.cpus s in
     let ops = c.args.ops.now in
     let due = c.args.due.now in
@@ -24,8 +24,8 @@ returns-clause-tells g c =
     let own = c.operations_apart.new.own.items in
     let old = c.args.telling.now in
     let new = c.gather.new.telling in
-    let after = g.M.Machine.world c.operations_apart.new.machine in
-    let mid = g.M.Machine.world c.interrupts_apart.new.machine in
+    let after = g.M.PlayMachine.world c.operations_apart.new.machine in
+    let mid = g.M.PlayMachine.world c.interrupts_apart.new.machine in
     let interrupted = c.in_ok-interrupts_apart.ensures in
     let operated = c.in_ok-operations_apart.ensures in
     let nobody = subst (λ k. ToldApart k c.in_ok-own.own.items [] 0) c.cpus.ensures.count

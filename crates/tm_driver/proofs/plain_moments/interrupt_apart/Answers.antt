@@ -9,14 +9,14 @@ use Rattle.tm_driver.proofs.plain_moments.interrupt_apart.Goals as goal
 
 pub returns-clause-spreads : goal.returns-clause-spreads
 returns-clause-spreads g c =
-    let r = g.M.Machine.rules in
-    let s = g.M.Machine.world c.args.machine.now in
+    let r = g.M.PlayMachine.rules in
+    let s = g.M.PlayMachine.world c.args.machine.now in
     let jobs = g.J.Jobs.replies c.args.jobs.now in
     let cpu = c.args.cpu.0 in
     let own = c.args.own.now.items in
     let p = interrupt_where jobs r (fins.contains c.args.due.now cpu) cpu s in
     let t = c.interrupt_if_due.new.telling in
-    let after = g.M.Machine.world c.interrupt_if_due.new.machine in
+    let after = g.M.PlayMachine.world c.interrupt_if_due.new.machine in
     let from = c.from.ensures in
     where_ok c.interrupt_if_due.result (Prints p c.index_mut.result.now t after)
     (Spreads (r.cpus s) p own (set own c.from.result t) after)

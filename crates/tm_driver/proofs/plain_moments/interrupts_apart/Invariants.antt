@@ -7,10 +7,10 @@ use Rattle.tm_driver.proofs.plain_moments.interrupts_apart.Given as goal
 
 abbrev pub invariant-loop-cpu : goal.invariant-loop-cpu
 invariant-loop-cpu g l =
-    let r = g.M.Machine.rules in
+    let r = g.M.PlayMachine.rules in
     let jobs = g.J.Jobs.replies l.jobs in
-    let first = g.M.Machine.world l.fn.machine in
-    let now = g.M.Machine.world l.machine in
+    let first = g.M.PlayMachine.world l.fn.machine in
+    let now = g.M.PlayMachine.world l.machine in
     let cpus = r.cpus first in
     record {
       rest : GoesOnApart cpus (interrupts jobs r (cpus - l.cpu) l.cpu l.due now) l.own.items
@@ -18,5 +18,5 @@ invariant-loop-cpu g l =
       count : length l.own.items ≡ length l.fn.own.items;
       same : Same r first now;
       online : SameOnline r first now;
-      fit : g.M.Machine.Fit resting now;
+      fit : g.M.PlayMachine.Fit resting now;
     }

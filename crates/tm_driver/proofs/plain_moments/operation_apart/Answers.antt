@@ -8,13 +8,13 @@ use Rattle.tm_driver.proofs.plain_moments.operation_apart.Goals as goal
 
 pub returns-clause-spreads : goal.returns-clause-spreads
 returns-clause-spreads g c =
-    let r = g.M.Machine.rules in
-    let s = g.M.Machine.world c.args.machine.now in
+    let r = g.M.PlayMachine.rules in
+    let s = g.M.PlayMachine.world c.args.machine.now in
     let op = c.args.op.now in
     let own = c.args.own.now.items in
     let p = operation r op s in
     let t = c.operation.new.telling in
-    let after = g.M.Machine.world c.operation.new.machine in
+    let after = g.M.PlayMachine.world c.operation.new.machine in
     let from = c.from.ensures in
     where_ok c.operation.result (Prints p c.index_mut.result.now t after)
     (Spreads (r.cpus s) p own (set own c.from.result t) after)

@@ -12,14 +12,14 @@ use Rattle.tm_driver.proofs.plain_moments.plain_moment.Goals as goal
 
 pub returns-in_default-clause-tells : goal.returns-in_default-clause-tells
 returns-in_default-clause-tells g c =
-    let r = g.M.Machine.rules in
+    let r = g.M.PlayMachine.rules in
     let jobs = g.J.Jobs.replies c.args.jobs.now in
-    let s = g.M.Machine.world c.args.machine.now in
+    let s = g.M.PlayMachine.world c.args.machine.now in
     let n = r.cpus s in
     let due = c.args.due.now in
     let old = c.args.telling.now in
     let new = c.done_apart.new.telling in
-    let after = g.M.Machine.world c.done_apart.new.machine in
+    let after = g.M.PlayMachine.world c.done_apart.new.machine in
     where_ok c.done_apart.result
     (Tells (by_cpus n (and_then (interrupts jobs r n 0 due s) (operations r []))) c.count.new.self new
     after)
@@ -32,9 +32,9 @@ returns-in_default-clause-tells g c =
 
 pub returns-clause-tells : goal.returns-clause-tells
 returns-clause-tells g c =
-    let r = g.M.Machine.rules in
+    let r = g.M.PlayMachine.rules in
     let jobs = g.J.Jobs.replies c.args.jobs.now in
-    let s = g.M.Machine.world c.args.machine.now in
+    let s = g.M.PlayMachine.world c.args.machine.now in
     let n = r.cpus s in
     let due = c.args.due.now in
     let m = c.in-Some.m.now in
@@ -42,8 +42,8 @@ returns-clause-tells g c =
     let t1 = c.done_apart-2.new.telling in
     let t2 = c.clear_after.new.telling in
     let t3 = c.covers.new.telling in
-    let w1 = g.M.Machine.world c.done_apart-2.new.machine in
-    let w2 = g.M.Machine.world c.clear_after.new.machine in
+    let w1 = g.M.PlayMachine.world c.done_apart-2.new.machine in
+    let w2 = g.M.PlayMachine.world c.clear_after.new.machine in
     where_ok c.covers.result (Prints (covers r w2) t2 t3 w2)
     (Tells (by_cpus n (moment jobs r due (option_copied c.args.m) s)) old t3 w2)
     (λ covered. subst (λ k. Tells (by_cpus n (moment jobs r due (option_copied k) s)) old t3 w2)

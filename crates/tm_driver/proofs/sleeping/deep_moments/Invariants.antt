@@ -11,10 +11,10 @@ use Rattle.tm_driver.proofs.sleeping.deep_moments.Given as goal
 
 abbrev pub invariant-loop-now : goal.invariant-loop-now
 invariant-loop-now g l =
-    let r = g.M.Machine.rules in
+    let r = g.M.PlayMachine.rules in
     let jobs = g.J.Jobs.replies l.jobs in
-    let start = g.M.Machine.world l.fn.machine in
-    let s = g.M.Machine.world l.machine in
+    let start = g.M.PlayMachine.world l.fn.machine in
+    let s = g.M.PlayMachine.world l.machine in
     record {
       far : DeepSoFar jobs r l.script.end l.limit (script_turns jobs r l.script start) start l.fn.device l.fn.telling.text l.now l.left s l.device l.telling;
       not_back : r.clock s ≤ l.now;
@@ -22,7 +22,7 @@ invariant-loop-now g l =
       rise : Rise l.now l.script.end l.left;
       in_range : All (IsMomentInRange (r.cpus s) (r.timers s)) l.left;
       same : SameBuild r start s;
-      fit : g.M.Machine.Fit resting s;
+      fit : g.M.PlayMachine.Fit resting s;
       device : IsFor r s l.device;
       gains : Gains l.fn.telling.text l.telling.text;
     }

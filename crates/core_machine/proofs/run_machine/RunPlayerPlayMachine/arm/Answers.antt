@@ -4,7 +4,7 @@ use Rattle.play_rules.specs.Phases.{MayArmIn, StaysFit}
 use Rattle.core_world.specs.World.{World}
 use Rattle.step_play.specs.Rules.Seen.{InRun}
 use Rattle.step_play.specs.Rules.StepRules.{step_rules}
-use Rattle.core_machine.proofs.run_machine.RunPlayerMachine.arm.Goals as goal
+use Rattle.core_machine.proofs.run_machine.RunPlayerPlayMachine.arm.Goals as goal
 
 pub returns-clause-fit : goal.returns-clause-fit
 returns-clause-fit g c =

@@ -3,7 +3,7 @@ use Rattle.tm_base.specs.declared.names.Class.TheVariants.{Pinned, Global, Defer
 use Rattle.core_world.specs.World.{cpu_of}
 use Rattle.cpu_bases.proofs.Counts.{few_queued}
 use Rattle.core_machine.proofs.Views.Where.{counted}
-use Rattle.core_machine.proofs.readings.timers.queued_on.Goals as goal
+use Rattle.core_machine.proofs.readings.timers.count_queued.Goals as goal
 
 pub overflow_add-result : goal.overflow_add-result
 overflow_add-result g c =
