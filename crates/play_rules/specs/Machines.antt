@@ -26,7 +26,7 @@ pub record SameFlags {S : Type 0} (r : Rules S) (old new : S) : Type 0 where
   pub online : (c : ℕ) → r.is_online new c ≡ r.is_online old c
   pub idle : (c : ℕ) → r.is_idle new c ≡ r.is_idle old c
 
--- a machine of the same timers and CPUs, perhaps at another time (no public clause cites it)
+-- a machine of the same timers and CPUs, perhaps at another time
 pub record SameBuild {S : Type 0} (r : Rules S) (old new : S) : Type 0 where
   pub timers : r.timers new ≡ r.timers old
   pub cpus : r.cpus new ≡ r.cpus old

@@ -49,13 +49,13 @@ pub record Progress : Type 0 where
   pub work : ℕ
 
 -- the report has gained the lines of this part, the work is counted, and the machine is in the
--- state that it leaves (no public clause cites it)
+-- state that it leaves
 pub record Prints {S : Type 0} (p : Played S) (old new : Progress) (after : S) : Type 0 where
   pub text : new.text ≡ old.text ++ report_text p.lines
   pub tally : new.tally ≡ tallied_all old.tally p.lines
   pub work : counted new.work ≡ counted (old.work + p.work)
   pub state : after ≡ p.state
 
--- a report has only gained text (no public clause cites it)
+-- a report has only gained text
 abbrev pub Gains : (old new : List ℕ) → Type 0
 Gains old new = (more : List ℕ) × (new ≡ old ++ more)

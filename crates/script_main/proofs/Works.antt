@@ -11,7 +11,7 @@ use Rattle.tm_script.specs.Texts.{cpu_count}
 use Rattle.play_rules.specs.Interrupts.{Replies}
 use Rattle.play_rules.specs.Parts.{counted}
 use Rattle.play_laws.specs.Work.Work.{WorkIsBounded}
-use Rattle.tm_driver.specs.Outcomes.{work_limit}
+use Rattle.play_driver.specs.Outcomes.{work_limit}
 use Rattle.script_main.specs.declared.inputs.Input.TheVariants as inputs
 use Rattle.script_main.specs.Scripts.{spent_by}
 

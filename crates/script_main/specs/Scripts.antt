@@ -14,7 +14,7 @@ use Rattle.play_rules.specs.Jobs.{first_unknown_job}
 use Rattle.play_rules.specs.Parts.{counted}
 use Rattle.play_rules.specs.Play.{play_text, play_spent}
 use Rattle.tm_driver.specs.Deep.{deep_lines, deep_text, without_device}
-use Rattle.tm_driver.specs.Outcomes.{work_limit}
+use Rattle.play_driver.specs.Outcomes.{work_limit}
 use Rattle.tm_driver.specs.Plays.{CanPlay, LawsHold, summary_of}
 use Rattle.tm_driver.specs.Runs.{BreaksStory, RunsToEnd}
 use Rattle.trace_check.specs.Answers.{IsCheckText}

@@ -19,11 +19,11 @@ use Rattle.core_facts.specs.Cover.Headline.{EachSettled}
 use Rattle.step_play.specs.Rules.Seen.{InPlay, InRun, WalkFits, resting, state_of}
 use Rattle.step_play.specs.Rules.StepRules.{step_rules}
 use Rattle.step_play.specs.SamePlay.{IsPlayOfSteps, core_start, step_turns, turn_seen}
-use Rattle.tm_driver.specs.declared.outcomes.Counts.{Counts}
-use Rattle.tm_driver.specs.declared.outcomes.DriveFault.{DriveFault}
-use Rattle.tm_driver.specs.declared.outcomes.DriveFault.TheVariants.{BadJob, NoMemory, WorkSpent}
+use Rattle.play_driver.specs.declared.outcomes.Counts.{Counts}
+use Rattle.play_driver.specs.declared.outcomes.DriveFault.{DriveFault}
+use Rattle.play_driver.specs.declared.outcomes.DriveFault.TheVariants.{BadJob, NoMemory, WorkSpent}
 use Rattle.tm_driver.specs.OnCore.{EachIsAnsweredFor, IsPlayedBySteps, core_end}
-use Rattle.tm_driver.specs.Outcomes.{PlaysWhole, SaysFault, work_limit}
+use Rattle.play_driver.specs.Outcomes.{PlaysWhole, SaysFault, work_limit}
 use Rattle.tm_driver.specs.Plays.{BreaksPlay}
 
 -- the moments that are finished by a count of work have the same lines

@@ -27,12 +27,12 @@ use Rattle.step_play.specs.Rules.Seen.{state_of}
 use Rattle.step_play.specs.Rules.StepRules.{step_rules}
 use Rattle.step_play.specs.SamePlay.{IsPlayOfSteps, core_start, step_turns, turn_seen}
 use Rattle.step_play.proofs.Queues.Sights.{count_seen, seen_at}
-use Rattle.tm_driver.specs.declared.outcomes.DriveFault.{DriveFault}
-use Rattle.tm_driver.specs.declared.outcomes.DriveFault.TheVariants.{BadJob, NoMemory, WorkSpent}
+use Rattle.play_driver.specs.declared.outcomes.DriveFault.{DriveFault}
+use Rattle.play_driver.specs.declared.outcomes.DriveFault.TheVariants.{BadJob, NoMemory, WorkSpent}
 use Rattle.tm_driver.specs.Deep.{BreaksDeep, DeepToEnd, after_fire, deep_lines, deep_text}
 use Rattle.tm_driver.specs.Deep.{deep_turns, device_after, device_line, sleep_until, told_after}
 use Rattle.tm_driver.specs.Deep.{with_device, with_lines, without_device}
-use Rattle.tm_driver.specs.Outcomes.{work_limit}
+use Rattle.play_driver.specs.Outcomes.{work_limit}
 use Rattle.tm_driver.specs.Plays.{LawsHold}
 use Rattle.tm_driver.specs.Sleepers.{ByWakeups, DeepWhole, IsFor, SaysDeep}
 use Rattle.tm_driver.proofs.BySteps.{finished_seen}

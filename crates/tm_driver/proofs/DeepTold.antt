@@ -16,9 +16,9 @@ use Rattle.play_rules.specs.Moments.{spent_at, turn, turn_lines, turns}
 use Rattle.tm_driver.specs.Deep.{device_after}
 use Rattle.tm_driver.specs.Deep.{told_after, with_device}
 use Rattle.tm_driver.specs.Sleepers.{DeepEarly, DeepOut, Tells}
-use Rattle.tm_driver.specs.declared.outcomes.DriveFault.TheVariants.{WorkSpent}
-use Rattle.tm_driver.proofs.Turns.{below_test, finished_here, finished_more, spent_here, spent_more}
-use Rattle.tm_driver.proofs.Turns.{turns_last, turns_more, turns_some, work_more}
+use Rattle.play_driver.specs.declared.outcomes.DriveFault.TheVariants.{WorkSpent}
+use Rattle.play_driver.proofs.Turns.{below_test, finished_here, finished_more, spent_here, spent_more}
+use Rattle.play_driver.proofs.Turns.{turns_last, turns_more, turns_some, work_more}
 
 -- the text of moments with the device's lines, and of those that are finished by a count of work
 abbrev text_of : {S : Type 0} → Rules S → DeviceState → List (Turn S) → List ℕ

@@ -4,14 +4,9 @@ mod DeepTold
 mod Due
 mod NextMoments
 mod NoDevice
-mod Onlines
 mod Playable
-mod Scripts
 mod StoryTurns
 mod Threaded
-mod Turns
-mod Unheard
-mod Unknown
 mod Wholes
 mod Tellers
 mod Spreading

@@ -11,7 +11,7 @@ use Rattle.tm_script.specs.declared.syntax.Script.{Script}
 use Rattle.tm_script.specs.Texts.{cpu_count}
 use Rattle.tm_script.specs.Grammar.{IsMoment, IsOp, IsScript, IsWhat}
 use Rattle.tree_plan.specs.Shape.{IsWithinLimits}
-use Rattle.tm_driver.specs.Conditions.{IsMomentInRange, IsOpInRange, IsPlayable, IsTimerInRange, Rise}
+use Rattle.play_driver.specs.Conditions.{IsMomentInRange, IsOpInRange, IsPlayable, IsTimerInRange, Rise}
 
 abbrev head_at : List Moment → ℕ
 head_at [] = 0

@@ -26,11 +26,11 @@ use Rattle.story.specs.Rounds.{IsRound}
 use Rattle.step_play.specs.Rules.StepRules.{step_rules}
 use Rattle.story.specs.Stories.{count_due, covers_of, is_hotplug, is_plain, is_run, ops_of, runs_told}
 use Rattle.thread_rounds.specs.Doing.{IsRoundOp, IsTimerThere}
-use Rattle.tm_driver.specs.Conditions.{IsOpInRange, IsTimerInRange}
+use Rattle.play_driver.specs.Conditions.{IsOpInRange, IsTimerInRange}
 use Rattle.tm_driver.specs.Plain.{by_cpus}
 use Rattle.tm_driver.specs.Runs.{IsRunMoment, TellsMoment, TellsThreaded}
 use Rattle.tm_driver.specs.Sleepers.{Tells}
-use Rattle.tm_driver.proofs.Turns.{below_test}
+use Rattle.play_driver.proofs.Turns.{below_test}
 
 -- a test of two, that fails
 neither_left : (a b : Bool) → (a || b) ≡ false → a ≡ false

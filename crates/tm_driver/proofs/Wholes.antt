@@ -5,9 +5,9 @@ use Rattle.play_rules.specs.Interrupts.{Replies}
 use Rattle.play_rules.specs.Play.{plain_rules, play_start}
 use Rattle.core_world.specs.World.{World}
 use Rattle.step_play.specs.Rules.Seen.{state_of}
-use Rattle.tm_driver.specs.declared.outcomes.Counts.{Counts}
+use Rattle.play_driver.specs.declared.outcomes.Counts.{Counts}
 use Rattle.tm_driver.specs.OnCore.{core_end}
-use Rattle.tm_driver.specs.Outcomes.{PlaysWhole}
+use Rattle.play_driver.specs.Outcomes.{PlaysWhole}
 use Rattle.tm_driver.specs.Plays.{LawsHold, PlaysToEnd}
 
 module _ (jobs : Replies) (script : Script) (laws : LawsHold jobs script) where

@@ -1,5 +1,6 @@
 -- the lines of a plain moment of a run, told CPU by CPU (no public clause cites it)
-use Rattle.std.specs.Prelude.{◌≡◌, ℕ, ◌+◌, ◌<◌, List, ◌++◌, filter, length, slice_index_or}
+use Rattle.std.specs.Prelude.{◌≡◌, ℕ, ◌+◌, ◌<◌, List, ◌++◌, OnOk, Result, filter, length}
+use Rattle.std.specs.Prelude.{slice_index_or}
 use Rattle.std.specs.List.{flat_map, range_with_len, sum_by}
 use Rattle.tm_report.specs.declared.lines.Line.{Line}
 use Rattle.tm_report.specs.Lines.{report_text}
@@ -20,6 +21,16 @@ pub record Spreads {S : Type 0} (cpus : ℕ) (p : Played S) (old new : List Prog
   pub apart : (ls : List Line) (work : ℕ) → ToldApart cpus old ls work →
       ToldApart cpus new (ls ++ p.lines) (work + p.work)
   pub state : after ≡ p.state
+
+-- WHAT A PART THAT IS TOLD APART LEAVES: where it came to its end the CPUs have told it, each in the
+-- report that it had; the machine has stayed what it stays, and fits again
+pub record LeavesApart {S E : Type 0} (Says : (old new : List Progress) → S → Type 0)
+    (Stays : S → S → Type 0) (Fits : S → Type 0) (result : Result (Unit {0}) E)
+    (before after : S) (old new : List Progress) : Type 0 where
+  pub spreads : OnOk result (Says old new after)
+  pub count : OnOk result (length new ≡ length old)
+  pub same : OnOk result (Stays before after)
+  pub fit : OnOk result (Fits after)
 
 -- what is left of a whole tells the whole
 abbrev pub GoesOnApart : {S : Type 0} → (cpus : ℕ) → Played S → List Progress → Played S

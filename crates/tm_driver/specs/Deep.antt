@@ -12,10 +12,10 @@ use Rattle.play_rules.specs.Interrupts.{Replies}
 use Rattle.play_rules.specs.Moments.{Turn, finished, turn_lines, whole_lines}
 use Rattle.play_rules.specs.Play.{plain_rules, play_start, play_text, play_turns}
 use Rattle.play_rules.specs.State.{State}
-use Rattle.tm_driver.specs.Outcomes.{work_limit}
+use Rattle.play_driver.specs.Outcomes.{work_limit}
 use Rattle.tm_driver.specs.Plays.{BreaksSummary, CanPlay, LawsHold}
-use Rattle.tm_driver.specs.declared.outcomes.DriveFault.{DriveFault}
-use Rattle.tm_driver.specs.declared.outcomes.DriveFault.TheVariants.{BadJob, NoMemory, WorkSpent}
+use Rattle.play_driver.specs.declared.outcomes.DriveFault.{DriveFault}
+use Rattle.play_driver.specs.declared.outcomes.DriveFault.TheVariants.{BadJob, NoMemory, WorkSpent}
 
 -- THE WAKEUP of CPU c where it is online and idle, and `NEVER` where it isn't
 abbrev pub sleep_until : {S : Type 0} → Rules S → S → (c : ℕ) → ℕ

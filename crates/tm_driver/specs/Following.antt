@@ -1,7 +1,6 @@
--- the moment of a script at a time, those that come after a time, and what holds of the next moment
--- of a core
-use Rattle.std.specs.Prelude.{◌≡◌, ◌≢◌, ℕ, ◌+◌, ◌<◌, ◌≤◌, List, [], ◌∷◌, Option, Some, ◌==◌}
-use Rattle.std.specs.Prelude.{Contains, if◌then◌else◌, find, nat_lt, slice_get, true}
+-- the moments of a script that come after a time, and what holds of the next moment of a core
+use Rattle.std.specs.Prelude.{◌≡◌, ◌≢◌, ℕ, ◌+◌, ◌<◌, ◌≤◌, List, [], ◌∷◌, Some}
+use Rattle.std.specs.Prelude.{Contains, if◌then◌else◌, nat_lt, slice_get, true}
 use Rattle.tm_base.specs.declared.names.Class.{Class}
 use Rattle.tm_base.specs.declared.names.Class.TheVariants.{Deferrable}
 use Rattle.wheel_core.specs.declared.item.Item.{Item}
@@ -17,10 +16,6 @@ use Rattle.step_play.specs.SamePlay.{step_turns}
 abbrev pub moments_past : (now : ℕ) → List Moment → List Moment
 moments_past now [] = []
 moments_past now (m ∷ ms) = if nat_lt now m.at then m ∷ ms else moments_past now ms
-
--- the script's moment of a time, where there is one
-abbrev pub moment_of : (at : ℕ) → List Moment → Option Moment
-moment_of at ms = find (λ m. m.at == at) ms
 
 -- NONE IS PASSED OVER by a moment: it comes no later than the wheel expiry of any pinned or global
 -- timer of an online CPU that is still to come

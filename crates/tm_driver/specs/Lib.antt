@@ -1,8 +1,6 @@
-pub mod Conditions
 pub mod Deep
 pub mod Following
 pub mod OnCore
-pub mod Outcomes
 pub mod Plays
 pub mod Runs
 pub mod Sleepers

@@ -20,9 +20,9 @@ use Rattle.play_rules.specs.declared.tally.Tally.{Tally}
 use Rattle.core_world.specs.World.{World}
 use Rattle.step_play.specs.Rules.Seen.{state_of}
 use Rattle.tm_driver.specs.OnCore.{IsPlayedBySteps, core_end}
-use Rattle.tm_driver.specs.Outcomes.{SaysFault, work_limit}
-use Rattle.tm_driver.specs.declared.outcomes.DriveFault.{DriveFault}
-use Rattle.tm_driver.specs.declared.outcomes.DriveFault.TheVariants.{BadJob, NoMemory, WorkSpent}
+use Rattle.play_driver.specs.Outcomes.{SaysFault, work_limit}
+use Rattle.play_driver.specs.declared.outcomes.DriveFault.{DriveFault}
+use Rattle.play_driver.specs.declared.outcomes.DriveFault.TheVariants.{BadJob, NoMemory, WorkSpent}
 use Rattle.tm_driver.specs.declared.numbers.Summary.{Summary}
 
 -- every job of a script is in the table, and its work stays below the limit

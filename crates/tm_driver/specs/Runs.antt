@@ -17,12 +17,12 @@ use Rattle.step_play.specs.Rules.Seen.{InRun, resting}
 use Rattle.step_play.specs.Rules.StepRules.{step_rules}
 use Rattle.step_play.specs.SamePlay.{core_start}
 use Rattle.story.specs.Stories.{IsBrokenOff, IsMoment, IsStory, IsThreaded}
-use Rattle.tm_driver.specs.Conditions.{IsMomentInRange}
+use Rattle.play_driver.specs.Conditions.{IsMomentInRange}
 use Rattle.tm_driver.specs.OnCore.{EachIsAnsweredFor}
-use Rattle.tm_driver.specs.Outcomes.{work_limit}
+use Rattle.play_driver.specs.Outcomes.{work_limit}
 use Rattle.tm_driver.specs.Sleepers.{Tells}
-use Rattle.tm_driver.specs.declared.outcomes.DriveFault.{DriveFault}
-use Rattle.tm_driver.specs.declared.outcomes.DriveFault.TheVariants.{BadJob, NoMemory, WorkSpent}
+use Rattle.play_driver.specs.declared.outcomes.DriveFault.{DriveFault}
+use Rattle.play_driver.specs.declared.outcomes.DriveFault.TheVariants.{BadJob, NoMemory, WorkSpent}
 
 -- the work of these moments: they, their interrupts and the timers that they handed out
 abbrev pub work_of : List (Turn World) → ℕ

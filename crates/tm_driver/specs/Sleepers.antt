@@ -12,9 +12,9 @@ use Rattle.play_rules.specs.Interrupts.{Replies}
 use Rattle.play_rules.specs.Jobs.{first_unknown_job}
 use Rattle.play_rules.specs.Moments.{Turn, closing, finished, last_state, spent_at, turn_lines}
 use Rattle.tm_driver.specs.Deep.{sleep_until, with_device}
-use Rattle.tm_driver.specs.Outcomes.{script_turns, work_limit}
-use Rattle.tm_driver.specs.declared.outcomes.DriveFault.{DriveFault}
-use Rattle.tm_driver.specs.declared.outcomes.DriveFault.TheVariants.{BadJob, NoMemory, WorkSpent}
+use Rattle.play_driver.specs.Outcomes.{script_turns, work_limit}
+use Rattle.play_driver.specs.declared.outcomes.DriveFault.{DriveFault}
+use Rattle.play_driver.specs.declared.outcomes.DriveFault.TheVariants.{BadJob, NoMemory, WorkSpent}
 
 -- rules by which a CPU has an interrupt where it is online, and active or its wakeup has come; the
 -- clock's coming to a moment changes nothing of that but the clock

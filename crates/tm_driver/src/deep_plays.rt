@@ -4,10 +4,10 @@ ghost use Rattle.std.specs.Prelude.{IfErr, OnOk};
 ghost use Rattle.tm_script.specs.Grammar.{IsScript};
 ghost use Rattle.tm_driver.specs.Deep.{BreaksDeep, DeepToEnd};
 
-use crate::outcomes::DriveFault;
 use crate::plays::{law_plays, started};
 use crate::sleeping::deep_on;
 use job_table::Jobs;
+use play_driver::DriveFault;
 use std::alloc::Global;
 use step_play::law_steps_are_play;
 use tm_report::Report;

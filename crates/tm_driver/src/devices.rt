@@ -6,12 +6,12 @@ ghost use Rattle.deep_idle.specs.Device.{AreSettled, is_due, sleeper_of};
 ghost use Rattle.tm_report.specs.Lines.{report_text};
 ghost use Rattle.play_rules.specs.Interrupts.{having_interrupt};
 ghost use Rattle.play_rules.specs.Parts.{Gains};
-ghost use Rattle.tm_driver.specs.Conditions.{AreOnline};
+ghost use Rattle.play_driver.specs.Conditions.{AreOnline};
 ghost use Rattle.tm_driver.specs.Deep.{after_fire, after_settle, device_line, sleep_until};
 ghost use Rattle.tm_driver.specs.Sleepers.{AnswersDue, ByWakeups};
 
-use crate::telling::Telling;
 use deep_idle::{Device, Wakeups, settle};
+use play_driver::Telling;
 use play_rules::PlayMachine;
 use tm_base::{CpuId, CpuSet, Jiffy, NEVER, NoMemory};
 use tm_report::{Line, Report};

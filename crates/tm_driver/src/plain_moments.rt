@@ -4,23 +4,20 @@ ghost use Rattle.std.specs.Prelude.{◌≡◌, ◌+◌, ◌<◌, ◌++◌, [], A
 ghost use Rattle.std.specs.List as lists;
 ghost use Rattle.std.specs.FinSet as set;
 ghost use Rattle.std.specs.Option.{ForSome, option_copied};
-ghost use Rattle.tm_report.specs.Lines.{report_text};
 ghost use Rattle.play_rules.specs.Interrupts.{interrupt_where, interrupts};
-ghost use Rattle.play_rules.specs.Machines.{Same, SameOnline};
+ghost use Rattle.play_rules.specs.Machines.{Same};
 ghost use Rattle.play_rules.specs.Moments.{moment};
 ghost use Rattle.play_rules.specs.Operations.{operation, operations};
 ghost use Rattle.play_rules.specs.Parts.{Gains, Progress, and_then, counted};
 ghost use Rattle.play_rules.specs.Phases.{resting};
-ghost use Rattle.tm_driver.specs.Apart.{Spreads, ToldApart};
+ghost use Rattle.tm_driver.specs.Apart.{LeavesApart, Spreads, ToldApart};
 ghost use Rattle.tm_driver.specs.Plain.{by_cpus};
 ghost use Rattle.tm_driver.specs.Sleepers.{Tells};
-ghost use Rattle.tm_driver.specs.Conditions.{AreOnline, IsMomentInRange, IsOpInRange};
+ghost use Rattle.play_driver.specs.Conditions.{AreOnline, IsMomentInRange, IsOpInRange};
+ghost use Rattle.play_driver.specs.Leaves.{Leaves, SameInside};
 
-use crate::interrupts::interrupt_if_due;
-use crate::moving::{clear_after, covers};
-use crate::operations::operation;
-use crate::telling::Telling;
 use job_table::Jobs;
+use play_driver::{Telling, clear_after, covers, interrupt_if_due, operation};
 use play_rules::PlayMachine;
 use std::alloc::Global;
 use tm_base::{CpuId, CpuSet, NoMemory};
@@ -50,14 +47,11 @@ fn interrupt_apart<M: PlayMachine, J: Jobs>(
     requires cpu { cpu.0 < M.rules.cpus (M.world machine.old) }
     requires online { AreOnline M.rules (M.world machine.old) due.now }
     requires fit { M.Fit resting (M.world machine.old) }
-    ensures spreads { OnOk result (Spreads (M.rules.cpus (M.world machine.old))
-        (interrupt_where (J.replies jobs.now) M.rules (set.contains due.now cpu.0) cpu.0
-        (M.world machine.old))
-        own.old.items own.new.items (M.world machine.new)) }
-    ensures count { OnOk result (length own.new.items ≡ length own.old.items) }
-    ensures same { OnOk result (Same M.rules (M.world machine.old) (M.world machine.new)) }
-    ensures fit { OnOk result (M.Fit resting (M.world machine.new)) }
-    ensures online { OnOk result (SameOnline M.rules (M.world machine.old) (M.world machine.new)) }
+    ensures { LeavesApart
+        (Spreads (M.rules.cpus (M.world machine.old)) (interrupt_where (J.replies jobs.now) M.rules
+        (set.contains due.now cpu.0) cpu.0 (M.world machine.old)))
+        (SameInside M.rules) (M.Fit resting) result
+        (M.world machine.old) (M.world machine.new) own.old.items own.new.items }
 {
     interrupt_if_due(machine, jobs, due, cpu, &mut own[usize::from(cpu.0)])
 }
@@ -72,13 +66,11 @@ fn interrupts_apart<M: PlayMachine, J: Jobs>(
     requires count { length own.old.items ≡ M.rules.cpus (M.world machine.old) }
     requires online { AreOnline M.rules (M.world machine.old) due.now }
     requires fit { M.Fit resting (M.world machine.old) }
-    ensures spreads { OnOk result (Spreads (M.rules.cpus (M.world machine.old))
-        (interrupts (J.replies jobs.now) M.rules (M.rules.cpus (M.world machine.old)) 0 due.now
-        (M.world machine.old))
-        own.old.items own.new.items (M.world machine.new)) }
-    ensures count { OnOk result (length own.new.items ≡ length own.old.items) }
-    ensures same { OnOk result (Same M.rules (M.world machine.old) (M.world machine.new)) }
-    ensures fit { OnOk result (M.Fit resting (M.world machine.new)) }
+    ensures { LeavesApart
+        (Spreads (M.rules.cpus (M.world machine.old)) (interrupts (J.replies jobs.now) M.rules
+        (M.rules.cpus (M.world machine.old)) 0 due.now (M.world machine.old)))
+        (Same M.rules) (M.Fit resting) result
+        (M.world machine.old) (M.world machine.new) own.old.items own.new.items }
 {
     for cpu in 0..machine.cpus() {
         interrupt_apart(machine, jobs, due, CpuId(cpu), own)?;
@@ -96,12 +88,11 @@ fn operation_apart<M: PlayMachine>(
     requires in_range { IsOpInRange
         (M.rules.cpus (M.world machine.old)) (M.rules.timers (M.world machine.old)) op.now }
     requires fit { M.Fit resting (M.world machine.old) }
-    ensures spreads { OnOk result (Spreads (M.rules.cpus (M.world machine.old))
-        (operation M.rules op.now (M.world machine.old))
-        own.old.items own.new.items (M.world machine.new)) }
-    ensures count { OnOk result (length own.new.items ≡ length own.old.items) }
-    ensures same { OnOk result (Same M.rules (M.world machine.old) (M.world machine.new)) }
-    ensures fit { OnOk result (M.Fit resting (M.world machine.new)) }
+    ensures { LeavesApart
+        (Spreads (M.rules.cpus (M.world machine.old)) (operation M.rules op.now
+        (M.world machine.old)))
+        (Same M.rules) (M.Fit resting) result
+        (M.world machine.old) (M.world machine.new) own.old.items own.new.items }
 {
     operation(machine, op, &mut own[usize::from(op.cpu.0)])
 }
@@ -116,11 +107,11 @@ fn operations_apart<M: PlayMachine>(
     requires in_range { All (IsOpInRange
         (M.rules.cpus (M.world machine.old)) (M.rules.timers (M.world machine.old))) ops.now }
     requires fit { M.Fit resting (M.world machine.old) }
-    ensures spreads { OnOk result (Spreads (M.rules.cpus (M.world machine.old))
-        (operations M.rules ops.now (M.world machine.old))
-        own.old.items own.new.items (M.world machine.new)) }
-    ensures same { OnOk result (Same M.rules (M.world machine.old) (M.world machine.new)) }
-    ensures fit { OnOk result (M.Fit resting (M.world machine.new)) }
+    ensures { LeavesApart
+        (Spreads (M.rules.cpus (M.world machine.old)) (operations M.rules ops.now
+        (M.world machine.old)))
+        (Same M.rules) (M.Fit resting) result
+        (M.world machine.old) (M.world machine.new) own.old.items own.new.items }
 {
     for op in ops {
         operation_apart(machine, op, own)?;
@@ -156,15 +147,12 @@ fn done_apart<M: PlayMachine, J: Jobs>(
         (M.rules.cpus (M.world machine.old)) (M.rules.timers (M.world machine.old))) ops.now }
     requires online { AreOnline M.rules (M.world machine.old) due.now }
     requires fit { M.Fit resting (M.world machine.old) }
-    ensures tells { OnOk result (Tells
-        (by_cpus (M.rules.cpus (M.world machine.old)) (and_then
-        (interrupts (J.replies jobs.now) M.rules (M.rules.cpus (M.world machine.old)) 0 due.now
-        (M.world machine.old))
-        (operations M.rules ops.now)))
-        telling.old telling.new (M.world machine.new)) }
-    ensures same { OnOk result (Same M.rules (M.world machine.old) (M.world machine.new)) }
-    ensures fit { OnOk result (M.Fit resting (M.world machine.new)) }
-    ensures gains { Gains telling.old.text telling.new.text }
+    ensures { Leaves
+        (Tells (by_cpus (M.rules.cpus (M.world machine.old)) (and_then (interrupts (J.replies
+        jobs.now) M.rules (M.rules.cpus (M.world machine.old)) 0 due.now (M.world machine.old))
+        (operations M.rules ops.now))))
+        (Same M.rules) (M.Fit resting) result
+        (M.world machine.old) (M.world machine.new) telling.old telling.new }
 {
     let mut own = nobody(alloc, machine.cpus())?;
     interrupts_apart(machine, jobs, due, &mut own)?;
@@ -187,14 +175,11 @@ pub(crate) fn plain_moment<M: PlayMachine, J: Jobs>(
         (M.rules.cpus (M.world machine.old)) (M.rules.timers (M.world machine.old))) }
     requires online { AreOnline M.rules (M.world machine.old) due.now }
     requires fit { M.Fit resting (M.world machine.old) }
-    ensures tells { OnOk result (Tells
-        (by_cpus (M.rules.cpus (M.world machine.old))
-        (moment (J.replies jobs.now) M.rules due.now (option_copied m.entry)
-        (M.world machine.old)))
-        telling.old telling.new (M.world machine.new)) }
-    ensures same { OnOk result (Same M.rules (M.world machine.old) (M.world machine.new)) }
-    ensures fit { OnOk result (M.Fit resting (M.world machine.new)) }
-    ensures gains { Gains telling.old.text telling.new.text }
+    ensures { Leaves
+        (Tells (by_cpus (M.rules.cpus (M.world machine.old)) (moment (J.replies jobs.now) M.rules
+        due.now (option_copied m.entry) (M.world machine.old))))
+        (Same M.rules) (M.Fit resting) result
+        (M.world machine.old) (M.world machine.new) telling.old telling.new }
 {
     telling.count();
     let Some(m) = m else {

@@ -7,22 +7,20 @@ ghost use Rattle.play_rules.specs.Play.{plain_rules, play_start};
 ghost use Rattle.step_play.specs.Rules.Seen.{InPlay, InRun, resting, state_of};
 ghost use Rattle.step_play.specs.Rules.StepRules.{step_rules};
 ghost use Rattle.step_play.specs.SamePlay.{core_start};
-ghost use Rattle.tm_driver.specs.Conditions.{AreOnline};
-ghost use Rattle.tm_driver.specs.Following.{moment_of};
+ghost use Rattle.play_driver.specs.Conditions.{AreOnline};
+ghost use Rattle.play_driver.specs.Outcomes.{moment_of};
 ghost use Rattle.tm_driver.specs.OnCore.{HasMachineOf, core_end};
-ghost use Rattle.tm_driver.specs.Outcomes.{ForSomeText, PlaysMoment, PlaysWhole};
+ghost use Rattle.play_driver.specs.Outcomes.{ForSomeText, PlaysMoment, PlaysWhole};
 ghost use Rattle.tm_driver.specs.Plays.{BreaksPlay, BreaksSummary, LawsHold, LawsHoldOfEach};
 ghost use Rattle.tm_driver.specs.Plays.{PlaysToEnd, Summarizes, summary_with};
 
-use crate::moments::moment_by_itself;
 use crate::numbers::Summary;
-use crate::outcomes::{Counts, DriveFault};
-use crate::playing::{play_on, play_unheard};
 use crate::starting::start_core;
 use core_facts::law_settled;
 use core_machine::{Player, RunPlayer};
 use core_state::Core;
 use job_table::Jobs;
+use play_driver::{Counts, DriveFault, moment_by_itself, play_on, play_unheard};
 use play_laws::{
     law_covers, law_each_answered, law_each_runs, law_ends, law_in_its_jiffy, law_left, law_lines,
     law_moments,

@@ -14,19 +14,18 @@ ghost use Rattle.step_play.specs.Rules.StepRules.{step_rules};
 ghost use Rattle.step_play.specs.SamePlay.{core_start};
 ghost use Rattle.story.specs.Stories.{count_due, covers_of, is_hotplug, is_plain, is_run, ops_of};
 ghost use Rattle.story.specs.Stories.{runs_told};
-ghost use Rattle.tm_driver.specs.Conditions.{AreOnline, IsPlayable};
+ghost use Rattle.play_driver.specs.Conditions.{AreOnline, IsPlayable};
 ghost use Rattle.tm_driver.specs.Runs.{EndsRunEarly, IsRunMoment, RunsOut, TellsMoment};
 ghost use Rattle.tm_driver.specs.Runs.{TellsThreaded};
 
-use crate::interrupts::having_interrupt;
-use crate::moments::{moment_after, moment_due, still_to_come, work_limit};
-use crate::moving::covers;
-use crate::outcomes::DriveFault;
 use crate::plain_moments::plain_moment;
-use crate::telling::Telling;
 use core_facts::law_settled;
 use core_machine::RunPlayer;
 use job_table::Jobs;
+use play_driver::{
+    DriveFault, Telling, covers, having_interrupt, moment_after, moment_due, still_to_come,
+    work_limit,
+};
 use play_rules::PlayMachine;
 use std::alloc::Global;
 use std::sync::Wait;

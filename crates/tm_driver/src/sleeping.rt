@@ -6,22 +6,21 @@ ghost use Rattle.deep_idle.specs.Device.{new_device};
 ghost use Rattle.play_rules.specs.Jobs.{first_unknown_job};
 ghost use Rattle.play_rules.specs.Machines.{SameBuild};
 ghost use Rattle.play_rules.specs.Moments.{turn};
-ghost use Rattle.play_rules.specs.Parts.{Gains};
 ghost use Rattle.play_rules.specs.Phases.{resting};
-ghost use Rattle.tm_driver.specs.Conditions.{IsMomentInRange, IsPlayable};
+ghost use Rattle.play_driver.specs.Conditions.{IsMomentInRange, IsPlayable};
+ghost use Rattle.play_driver.specs.Leaves.{Leaves};
 ghost use Rattle.tm_driver.specs.Deep.{device_after, told_after};
-ghost use Rattle.tm_driver.specs.Outcomes.{script_turns, work_limit};
+ghost use Rattle.play_driver.specs.Outcomes.{script_turns, work_limit};
 ghost use Rattle.tm_driver.specs.Sleepers.{ByWakeups, DeepEarly, DeepOut, DeepWhole, IsFor};
 ghost use Rattle.tm_driver.specs.Sleepers.{SaysDeep, Tells, script_deep};
 
-use crate::closing::close;
 use crate::devices::{fire_at, interrupted, settle_after};
-use crate::moments::{moment, moment_after, moment_due, still_to_come, work_limit};
-use crate::outcomes::DriveFault;
-use crate::playing::first_unknown_job;
-use crate::telling::Telling;
 use deep_idle::Device;
 use job_table::Jobs;
+use play_driver::{
+    DriveFault, Telling, close, first_unknown_job, moment, moment_after, moment_due, still_to_come,
+    work_limit,
+};
 use play_rules::{PlayMachine, UnknownJob};
 use std::alloc::Global;
 use std::mem;
@@ -46,18 +45,15 @@ fn deep_turn<M: PlayMachine, J: Jobs>(
         (M.rules.cpus (M.world machine.old)) (M.rules.timers (M.world machine.old))) left.now }
     requires fit { M.Fit resting (M.world machine.old) }
     requires device { IsFor M.rules (M.world machine.old) device.old }
-    ensures tells { OnOk result
-        (Tells
-        (told_after M.rules device.old
-        (turn (J.replies jobs.now) M.rules left.now now (M.world machine.old))).played
-        telling.old telling.new (M.world machine.new)) }
     ensures after { OnOk result (device.new ≡ device_after M.rules
         (turn (J.replies jobs.now) M.rules left.now now (M.world machine.old)) device.old) }
     ensures settled { OnOk result (IsFor M.rules (M.world machine.new) device.new) }
     ensures clock { OnOk result (M.rules.clock (M.world machine.new) ≡ now) }
-    ensures same { OnOk result (SameBuild M.rules (M.world machine.old) (M.world machine.new)) }
-    ensures fit { OnOk result (M.Fit resting (M.world machine.new)) }
-    ensures gains { Gains telling.old.text telling.new.text }
+    ensures leaves { Leaves
+        (Tells (told_after M.rules device.old
+        (turn (J.replies jobs.now) M.rules left.now now (M.world machine.old))).played)
+        (SameBuild M.rules) (M.Fit resting) result
+        (M.world machine.old) (M.world machine.new) telling.old telling.new }
 {
     let before = device.time();
     machine.set_clock(now);

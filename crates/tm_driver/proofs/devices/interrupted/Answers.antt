@@ -1,7 +1,7 @@
 use Rattle.std.proofs.Common.{sym, ◌∙◌, subst}
 use Rattle.play_rules.proofs.Loops.{member_less, member_more}
-use Rattle.tm_driver.proofs.Onlines.{none_online, one_online}
-use Rattle.tm_driver.specs.Conditions.{AreOnline}
+use Rattle.play_driver.proofs.Onlines.{none_online, one_online}
+use Rattle.play_driver.specs.Conditions.{AreOnline}
 use Rattle.tm_driver.proofs.devices.interrupted.Goals as goal
 use Rattle.tm_driver.proofs.devices.interrupted.Goals.{then-is_interrupted, else-is_interrupted}
 

@@ -2,7 +2,7 @@ use Rattle.std.proofs.Common.{◌≡◌}
 use Rattle.std.specs.Prelude.{filter}
 use Rattle.std.specs.List.{range_with_len}
 use Rattle.std.specs.FinSet as set
-use Rattle.tm_driver.specs.Conditions.{AreOnline}
+use Rattle.play_driver.specs.Conditions.{AreOnline}
 use Rattle.tm_driver.proofs.devices.interrupted.Given as goal
 
 abbrev pub invariant-loop-cpu : goal.invariant-loop-cpu

@@ -1,4 +1,4 @@
-use Rattle.std.proofs.Common.{◌≡◌, ◌+◌, ◌++◌, [], ap, subst, ◌∙◌}
+use Rattle.std.proofs.Common.{◌≡◌, ◌+◌, ◌++◌, [], ap, rules, subst, ◌∙◌}
 use Rattle.std.specs.List.{flat_map, sum_by}
 use Rattle.play_rules.specs.Interrupts.{interrupts}
 use Rattle.play_rules.specs.Operations.{operations}
@@ -11,8 +11,8 @@ use Rattle.tm_driver.proofs.Spreading.{on_cpus, spread_then, where_both}
 use Rattle.tm_driver.proofs.Tellers.{both_none, interrupts_none, operations_none}
 use Rattle.tm_driver.proofs.plain_moments.done_apart.Goals as goal
 
-pub returns-clause-tells : goal.returns-clause-tells
-returns-clause-tells g c =
+pub returns : goal.returns
+returns g c =
     let r = g.M.PlayMachine.rules in
     let jobs = g.J.Jobs.replies c.args.jobs.now in
     let s = g.M.PlayMachine.world c.args.machine.now in
@@ -36,13 +36,18 @@ returns-clause-tells g c =
     c.interrupts_apart.new.own.items own mid after interrupted.spreads later in
     let none = both_none first.lines (operations r ops first.state).lines
     (interrupts_none jobs r n 0 due s) (operations_none r ops first.state) in
-    where_both c.gather.result
-    (new.text ≡ old.text ++ flat_map (λ (t : Progress). t.text) c.as_slice.result.now)
-    (counted new.work
-    ≡ counted (old.work + sum_by (λ (t : Progress). t.work) c.as_slice.result.now))
-    (Tells (by_cpus n whole) old new after)
-    (λ text work. told_all n whole c.in_ok-own.own.items own after old new nobody spreads none
-    (text ∙ ap (λ xs. old.text ++ flat_map (λ (t : Progress). t.text) xs) c.as_slice.ensures.value)
-    (work ∙ ap (λ xs. counted (old.work + sum_by (λ (t : Progress). t.work) xs))
-    c.as_slice.ensures.value))
-    c.gather.ensures.text c.gather.ensures.work
+    record {
+      prints = where_both c.gather.result
+          (new.text ≡ old.text ++ flat_map (λ (t : Progress). t.text) c.as_slice.result.now)
+          (counted new.work
+          ≡ counted (old.work + sum_by (λ (t : Progress). t.work) c.as_slice.result.now))
+          (Tells (by_cpus n whole) old new after)
+          (λ text work. told_all n whole c.in_ok-own.own.items own after old new nobody spreads none
+          (text ∙ ap (λ xs. old.text ++ flat_map (λ (t : Progress). t.text) xs) c.as_slice.ensures.value)
+          (work ∙ ap (λ xs. counted (old.work + sum_by (λ (t : Progress). t.work) xs))
+          c.as_slice.ensures.value))
+          c.gather.ensures.text c.gather.ensures.work;
+      same = search rules;
+      fit = search rules;
+      gains = c.gather.ensures.gains;
+    }

@@ -1,7 +1,7 @@
 use Rattle.std.proofs.Common.{◌≡◌, ◌-◌, length}
 use Rattle.play_rules.specs.Interrupts.{interrupts}
-use Rattle.play_rules.specs.Machines.{Same, SameOnline}
 use Rattle.play_rules.specs.Phases.{resting}
+use Rattle.play_driver.specs.Leaves.{SameInside}
 use Rattle.tm_driver.specs.Apart.{GoesOnApart}
 use Rattle.tm_driver.proofs.plain_moments.interrupts_apart.Given as goal
 
@@ -16,7 +16,6 @@ invariant-loop-cpu g l =
       rest : GoesOnApart cpus (interrupts jobs r (cpus - l.cpu) l.cpu l.due now) l.own.items
           (interrupts jobs r cpus 0 l.due first) l.fn.own.items;
       count : length l.own.items ≡ length l.fn.own.items;
-      same : Same r first now;
-      online : SameOnline r first now;
+      same : SameInside r first now;
       fit : g.M.PlayMachine.Fit resting now;
     }

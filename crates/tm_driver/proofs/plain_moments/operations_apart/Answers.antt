@@ -14,6 +14,11 @@ loop-op-preserved g c =
       fit = done.fit;
     }
 
-pub returns-clause-spreads : goal.returns-clause-spreads
-returns-clause-spreads g c =
-    operated_last _ _ _ _ _ _ _ _ c.loop-op.invariant.rest c.loop-op-test.false
+pub returns : goal.returns
+returns g c =
+    record {
+      spreads = operated_last _ _ _ _ _ _ _ _ c.loop-op.invariant.rest c.loop-op-test.false;
+      count = c.loop-op.invariant.count;
+      same = c.loop-op.invariant.same;
+      fit = c.loop-op.invariant.fit;
+    }

@@ -3,8 +3,8 @@ use Rattle.std.specs.Prelude.{All}
 use Rattle.play_rules.specs.Parts.{Gains}
 use Rattle.step_play.specs.Rules.Seen.{InRun, resting}
 use Rattle.step_play.specs.SamePlay.{core_start}
-use Rattle.tm_driver.specs.Conditions.{Rise}
-use Rattle.tm_driver.specs.Outcomes.{work_limit}
+use Rattle.play_driver.specs.Conditions.{Rise}
+use Rattle.play_driver.specs.Outcomes.{work_limit}
 use Rattle.tm_driver.specs.Runs.{IsRunMoment}
 use Rattle.tm_driver.proofs.StoryTurns.{SoFar}
 use Rattle.tm_driver.proofs.run_moments.run_moments.Given as goal

@@ -6,7 +6,7 @@ use Rattle.tm_script.specs.declared.syntax.Op.{Op}
 use Rattle.core_world.specs.World.{World}
 use Rattle.story.specs.Stories.{is_hotplug, is_plain}
 use Rattle.tm_driver.specs.Runs.{IsRunMoment, TellsMoment}
-use Rattle.tm_driver.proofs.Scripts.{due_in_range}
+use Rattle.play_driver.proofs.Scripts.{due_in_range}
 use Rattle.tm_driver.proofs.Threaded.{stays_out, told_by_threads, told_plainly}
 use Rattle.tm_driver.proofs.run_moments.run_turn.Goals as goal
 

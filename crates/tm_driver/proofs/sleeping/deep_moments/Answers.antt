@@ -1,7 +1,7 @@
 use Rattle.std.proofs.Common.{rules, sym, refl, arith, ◌∙◌}
 use Rattle.play_rules.proofs.Plays.{gains_then}
-use Rattle.tm_driver.specs.Conditions.{IsMomentInRange}
-use Rattle.tm_driver.proofs.Scripts.{after_in_range, after_rise, from_said, rise_from, said_by_end}
+use Rattle.play_driver.specs.Conditions.{IsMomentInRange}
+use Rattle.play_driver.proofs.Scripts.{after_in_range, after_rise, from_said, rise_from, said_by_end}
 use Rattle.tm_driver.proofs.DeepTold.{all_told, breaks_told, nothing_told, one_told_at}
 use Rattle.tm_driver.proofs.sleeping.deep_moments.Goals as goal
 
@@ -22,7 +22,7 @@ pub returns-then-work-limit-clause-fault : goal.returns-then-work-limit-clause-f
 returns-then-work-limit-clause-fault g c =
     let done = c.in_ok-deep_turn.ensures in
     rw (sym c.work_limit-limit.ensures)
-    (breaks_told _ _ _ _ _ _ _ _ _ _ _ _ _ c.loop-now.invariant.far _ _ done.tells c.loop-now-test.true c.work-then-work-limit.result
+    (breaks_told _ _ _ _ _ _ _ _ _ _ _ _ _ c.loop-now.invariant.far _ _ done.leaves.prints c.loop-now-test.true c.work-then-work-limit.result
     (omega (arith, c.if-work-limit.true, c.work.ensures, c.work-then-work-limit.ensures)) c.work-then-work-limit.ensures c.work-then-work-limit.type_inv)
 
 pub loop-now-preserved : goal.loop-now-preserved
@@ -33,20 +33,20 @@ loop-now-preserved g c =
     let said = said_by_end _ _ _ rises in
     let from = from_said _ _ _ rises (omega (arith, c.loop-now-test.true)) in
     rw (c.moment_after-now.ensures, c.still_to_come-left.ensures) (record {
-      far = one_told_at _ _ _ _ _ _ _ _ _ _ _ _ _ so_far.far _ _ done.tells c.loop-now-test.true
+      far = one_told_at _ _ _ _ _ _ _ _ _ _ _ _ _ so_far.far _ _ done.leaves.prints c.loop-now-test.true
           (omega (arith, c.if-work-limit.false, c.work.ensures)) c.work_limit-limit.type_inv (omega (arith, done.clock)) _ done.after;
       not_back = omega (arith, done.clock);
       by_end = omega (arith, done.clock, said, c.loop-now-test.true);
       rise = rise_from _ _ _ _ rises (omega (arith, done.clock, from));
-      in_range = rw (done.same.cpus, done.same.timers) (after_in_range (IsMomentInRange (g.M.PlayMachine.rules.cpus (g.M.PlayMachine.world c.loop-now.machine)) (g.M.PlayMachine.rules.timers (g.M.PlayMachine.world c.loop-now.machine))) _ _ so_far.in_range);
-      same = record { timers = done.same.timers ∙ so_far.same.timers; cpus = done.same.cpus ∙ so_far.same.cpus };
-      fit = done.fit;
+      in_range = rw (done.leaves.same.cpus, done.leaves.same.timers) (after_in_range (IsMomentInRange (g.M.PlayMachine.rules.cpus (g.M.PlayMachine.world c.loop-now.machine)) (g.M.PlayMachine.rules.timers (g.M.PlayMachine.world c.loop-now.machine))) _ _ so_far.in_range);
+      same = record { timers = done.leaves.same.timers ∙ so_far.same.timers; cpus = done.leaves.same.cpus ∙ so_far.same.cpus };
+      fit = done.leaves.fit;
       device = done.settled;
-      gains = gains_then _ _ _ so_far.gains done.gains;
+      gains = gains_then _ _ _ so_far.gains done.leaves.gains;
     })
 
 pub returns-clause-whole : goal.returns-clause-whole
 returns-clause-whole g c =
     let done = c.in_ok-deep_turn-2.ensures in
     rw (sym c.work_limit-limit.ensures)
-    (all_told _ _ _ _ _ _ _ _ _ _ _ _ _ c.loop-now.invariant.far _ _ done.tells (omega (arith, c.loop-now.invariant.by_end, c.loop-now-test.false)))
+    (all_told _ _ _ _ _ _ _ _ _ _ _ _ _ c.loop-now.invariant.far _ _ done.leaves.prints (omega (arith, c.loop-now.invariant.by_end, c.loop-now-test.false)))

@@ -2,8 +2,8 @@ use Rattle.std.proofs.Common.{◌-◌, ◌≤◌}
 use Rattle.std.specs.Prelude.{All}
 use Rattle.play_rules.specs.Machines.{SameBuild}
 use Rattle.play_rules.specs.Phases.{resting}
-use Rattle.tm_driver.specs.Conditions.{IsMomentInRange, Rise}
-use Rattle.tm_driver.specs.Outcomes.{script_turns}
+use Rattle.play_driver.specs.Conditions.{IsMomentInRange, Rise}
+use Rattle.play_driver.specs.Outcomes.{script_turns}
 use Rattle.tm_driver.specs.Sleepers.{IsFor}
 use Rattle.tm_driver.proofs.DeepTold.{DeepSoFar}
 use Rattle.play_rules.specs.Parts.{Gains}

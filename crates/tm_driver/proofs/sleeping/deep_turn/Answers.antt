@@ -1,4 +1,4 @@
-use Rattle.tm_driver.proofs.Scripts.{due_in_range}
+use Rattle.play_driver.proofs.Scripts.{due_in_range}
 use Rattle.tm_driver.proofs.sleeping.deep_turn.Goals as goal
 
 pub moment-requires-clause-in_range : goal.moment-requires-clause-in_range

@@ -1,0 +1,5 @@
+mod Unheard
+mod Unknown
+pub mod Onlines
+pub mod Scripts
+pub mod Turns
