@@ -29,7 +29,8 @@ use Rattle.core_world.specs.declared.step.Step.TheVariants as steps
 use Rattle.core_world.specs.Enabled.{Enabled}
 use Rattle.core_world.specs.Frames.{QuietSteps, SizesStay, is_quiet}
 use Rattle.core_world.specs.Lawful.{IsLawful}
-use Rattle.core_world.specs.Steps.{begun_where, child_here, child_on, finished, here, stepped}
+use Rattle.core_world.specs.Steps.{child_here, child_on, finished, here, stepped}
+use Rattle.walk_rules.specs.Stages.{begun_where}
 use Rattle.core_world.specs.Steps.{swapped, walk_made, walked, with_walk}
 use Rattle.core_world.specs.World.{CpuRecord, World, cpu_of, group_of, moved, own}
 use Rattle.core_world.proofs.Moves.{cpu_same, moved_laws}

@@ -4,7 +4,7 @@ use Rattle.walk_rules.specs.Scene.{Group}
 use Rattle.walk_rules.specs.Stages.{joined_by, left_by, with_event, with_lock, with_mark}
 use Rattle.core_state.specs.declared.change.GroupChange.{GroupChange}
 use Rattle.core_state.specs.declared.change.GroupChange.TheVariants as changes
-use Rattle.core_state.specs.Status.{EventFits}
+use Rattle.walk_rules.specs.Ranges.{EventFits}
 
 -- a group after a change that a walk's step makes
 abbrev pub changed : GroupChange → Group → Group

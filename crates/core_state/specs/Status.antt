@@ -1,9 +1,6 @@
 -- what a CPU is besides its timers, and its record with another one of it
-use Rattle.std.specs.Prelude.{ℕ, ◌==◌, ◌^◌, ◌<◌, Option, Some, None, false, if◌then◌else◌, min}
-use Rattle.std.specs.Prelude.{slice_set}
+use Rattle.std.specs.Prelude.{ℕ, ◌==◌, Option, Some, None, false, if◌then◌else◌, min, slice_set}
 use Rattle.tm_base.specs.declared.names.TheConstants.{NEVER}
-use Rattle.event_queue.specs.declared.event.Event.{Event}
-use Rattle.event_queue.specs.EventMap.{FitsWord}
 use Rattle.cpu_bases.specs.CpuBases.{CpuBases}
 use Rattle.walk_rules.specs.declared.walk.Walk.{Walk}
 use Rattle.walk_rules.specs.declared.walk.WalkKind.{WalkKind}
@@ -45,21 +42,6 @@ abbrev pub with_cpu_status : World → (c : ℕ) → CpuStatus → World
 with_cpu_status w c status = record w {
   cpus = slice_set w.cpus c (with_status (cpu_of w c) status);
 }
-
--- what a walk writes into a slot fits there
-abbrev pub EventFits : Option Event → Type 0
-EventFits None = Unit {0}
-EventFits (Some e) = FitsWord e
-
--- a walk's time to tell has 48 bits, and a word can hold its best event
-pub record WalkRanges (k : Walk) : Type 0 where
-  pub next : k.next < 2 ^ 48
-  pub best : EventFits k.best
-
--- a walk is in range, where there is one
-abbrev pub IsInRange : Option Walk → Type 0
-IsInRange None = Unit {0}
-IsInRange (Some k) = WalkRanges k
 
 -- what a walk leaves in its CPU as it ends (no public clause cites it)
 abbrev pub handing_walk : Walk → Option Walk

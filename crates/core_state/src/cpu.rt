@@ -6,7 +6,8 @@ ghost use Rattle.cpu_bases.specs.CpuBases.{IsConsistent, empty_bases, events_of}
 ghost use Rattle.walk_rules.specs.declared.walk.Walk.{Walk};
 ghost use Rattle.core_world.specs.Start.{start_cpu};
 ghost use Rattle.core_world.specs.World.{is_reading};
-ghost use Rattle.core_state.specs.Status.{IsInRange, record_of, status_of, with_status};
+ghost use Rattle.core_state.specs.Status.{record_of, status_of, with_status};
+ghost use Rattle.walk_rules.specs.Ranges.{IsInRange};
 
 use crate::stale::is_reading;
 use crate::status::CpuStatus;
@@ -27,7 +28,7 @@ impl<B: TimerBase> Model for CoreCpu<B> {
 
     ghost Value = { CpuRecord };
 
-    ghost use Rattle.core_state.specs.Status.{IsInRange};
+    ghost use Rattle.walk_rules.specs.Ranges.{IsInRange};
 
     ghost view = { λ c.
         record {

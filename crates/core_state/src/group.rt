@@ -7,7 +7,7 @@ ghost use Rattle.event_queue.specs.EventMap.{event_at};
 ghost use Rattle.core_world.specs.Start.{start_group};
 ghost use Rattle.walk_rules.specs.Stages.{joined_by, left_by, with_event, with_lock, with_mark};
 ghost use Rattle.core_state.specs.Changes.{ChangeFits, changed};
-ghost use Rattle.core_state.specs.Status.{EventFits};
+ghost use Rattle.walk_rules.specs.Ranges.{EventFits};
 
 use crate::change::GroupChange;
 use event_queue::{Event, Events};

@@ -8,7 +8,8 @@ ghost use Rattle.core_world.specs.Steps.{stepped};
 ghost use Rattle.core_world.specs.World.{cpu_of, group_of, moved};
 ghost use Rattle.core_state.specs.Changes.{ChangeFits, changed};
 ghost use Rattle.core_state.specs.Kept.{StaysFit, WorldFits};
-ghost use Rattle.core_state.specs.Status.{IsInRange, status_of, with_cpu_status, with_status};
+ghost use Rattle.core_state.specs.Status.{status_of, with_cpu_status, with_status};
+ghost use Rattle.walk_rules.specs.Ranges.{IsInRange};
 
 use crate::change::GroupChange;
 use crate::cpu::CoreCpu;

@@ -13,7 +13,7 @@ ghost use Rattle.core_world.specs.World.{cpu_of, group_of, moved, own};
 ghost use Rattle.core_world.specs.Steps.{with_walk};
 ghost use Rattle.core_state.specs.Changes.{ChangeFits, changed};
 ghost use Rattle.core_state.specs.Kept.{HasLevel, StaysFit, WorldFits};
-ghost use Rattle.core_state.specs.Status.{EventFits, IsInRange};
+ghost use Rattle.walk_rules.specs.Ranges.{EventFits, IsInRange};
 ghost use Rattle.core_state.specs.Tally.{OthersOnline};
 
 use crate::change::GroupChange;

@@ -5,7 +5,7 @@ ghost use Rattle.std.specs.Prelude.{◌==◌, false, slice_index_or, true};
 ghost use Rattle.std.specs.Option.{option_map_or};
 ghost use Rattle.tree_plan.specs.Paths.{IsBelow, cpu_count_of, group_at_of};
 ghost use Rattle.core_world.specs.World.{is_reading, no_cpu, stale, stale_if, stale_walk};
-ghost use Rattle.core_state.specs.Status.{IsInRange, WalkRanges};
+ghost use Rattle.walk_rules.specs.Ranges.{IsInRange, WalkRanges};
 
 use crate::below::{behind_below, first_below};
 use crate::cpu::CoreCpu;

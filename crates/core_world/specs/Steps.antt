@@ -17,11 +17,11 @@ use Rattle.walk_rules.specs.declared.walk.Stage.{Stage}
 use Rattle.walk_rules.specs.declared.walk.Stage.TheVariants as stages
 use Rattle.walk_rules.specs.Hierarchy.{group_on, side, at_top}
 use Rattle.walk_rules.specs.Scene.{Group}
-use Rattle.walk_rules.specs.Stages.{at_stage, child_next, first_next, first_sight, free_group_next}
-use Rattle.walk_rules.specs.Stages.{freed_next, joined_by, left_by, mark_next, read_next, scan_next}
-use Rattle.walk_rules.specs.Stages.{see_child_next, see_group_next, started, store_next}
-use Rattle.walk_rules.specs.Stages.{stored_event, swap_next, up_next, with_event, with_lock}
-use Rattle.walk_rules.specs.Stages.{with_mark}
+use Rattle.walk_rules.specs.Stages.{at_stage, begun_where, child_next, first_next, first_sight}
+use Rattle.walk_rules.specs.Stages.{free_group_next, freed_next, joined_by, left_by, mark_next}
+use Rattle.walk_rules.specs.Stages.{read_next, scan_next, see_child_next, see_group_next}
+use Rattle.walk_rules.specs.Stages.{store_next, stored_event, swap_next, up_next, with_event}
+use Rattle.walk_rules.specs.Stages.{with_lock, with_mark}
 use Rattle.core_world.specs.declared.step.Step.{Step}
 use Rattle.core_world.specs.declared.step.Step.TheVariants as steps
 use Rattle.core_world.specs.World.{CpuRecord, World, cpu_of, group_of, moved, own}
@@ -121,20 +121,6 @@ walked w c k stages.Handing = w
 abbrev pub walk_made : World → (c : ℕ) → Option Walk → World
 walk_made w c None = w
 walk_made w c (Some k) = walked w c k k.stage
-
--- a walk begins; without a group an activation ends at once, and the others have the wakeup alone
--- to set
-abbrev pub begun_where : (has_group : Bool) → WalkKind → Stage → (pin next : ℕ) → Option Walk
-begun_where true kind stage pin next = Some (started kind stage pin next NEVER)
-begun_where false kinds.Activate stage pin next = None
-begun_where false kinds.Deactivate stage pin next =
-    Some (started kinds.Deactivate stages.Finish pin next next)
-begun_where false kinds.Offline stage pin next =
-    Some (started kinds.Offline stages.Finish pin next next)
-begun_where false kinds.Reeval stage pin next =
-    Some (started kinds.Reeval stages.Finish pin next next)
-begun_where false (kinds.Remote by) stage pin next =
-    Some (started (kinds.Remote by) stages.Finish pin next next)
 
 -- the walk that CPU c begins, which tells the time `next`
 abbrev pub begins_with : World → (c : ℕ) → WalkKind → Stage → (next : ℕ) → Option Walk

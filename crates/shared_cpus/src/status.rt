@@ -1,15 +1,12 @@
 //! What the steps of a CPU share: its word, a walk that begins, and what is kept of the pass that
 //! is brought.
 
-ghost use Rattle.std.specs.Prelude.{◌≡◌, ◌+◌, ◌^◌, ◌<◌, Some, false, is_some, length};
+ghost use Rattle.std.specs.Prelude.{◌≡◌, ◌+◌, ◌^◌, ◌<◌, Some, is_some, length};
 ghost use Rattle.std.specs.Prelude.{option_map, true};
 ghost use Rattle.std.specs.Option.{ForSome};
 ghost use Rattle.cpu_bases.specs.CpuBases.{CpuBases};
 ghost use Rattle.cpu_word.specs.declared.state.TheConstants.{MARKER_LIMIT};
 ghost use Rattle.tree_plan.specs.Paths.{group_at_of};
-ghost use Rattle.walk_rules.specs.Stages.{started};
-ghost use Rattle.walk_rules.specs.declared.walk.Stage.{Stage};
-ghost use Rattle.core_world.specs.Steps.{begun_where};
 ghost use Rattle.core_state.specs.Shown.{as_cpu};
 ghost use Rattle.core_state.specs.Status.{record_of};
 ghost use Rattle.shared_rule.specs.Whole.{own_word};
@@ -19,8 +16,8 @@ ghost use Rattle.shared_cpus.specs.Guests.{guest_cpu, one_more};
 use core_state::CpuStatus;
 use cpu_word::{CpuState, pack_cpu};
 use shared_rule::{BoxPart, Guest, Run, RunName};
-use tm_base::{CpuId, Jiffy, NEVER};
-use walk_rules::{Stage, Walk, WalkKind};
+use tm_base::CpuId;
+use walk_rules::{Stage, Walk, WalkKind, begun_where};
 use wheel_core::TimerBase;
 
 /// The CPU of a number.
@@ -46,56 +43,6 @@ pub(crate) fn status_word(status: CpuStatus) -> u64
         remote: cpu_of_number(status.mark),
         wakeup: status.wakeup,
     })
-}
-
-/// A walk at level 0 that knows nothing yet but these times, in jiffies.
-fn started(kind: WalkKind, stage: Stage, pin: Jiffy, next: Jiffy, first: Jiffy) -> Walk
-    ensures { result ≡ started kind stage pin next first }
-{
-    Walk {
-        kind,
-        level: 0,
-        stage,
-        pin,
-        next,
-        first,
-        best: None,
-        fresh: false,
-        child_on: false,
-        on: false,
-        over: false,
-    }
-}
-
-/// A walk of a CPU without a group has its wakeup alone to set; an activation of one ends at once.
-fn begun_alone(kind: WalkKind, pin: Jiffy, next: Jiffy) -> Option<Walk>
-    ensures { (stage : Stage) → result ≡ begun_where false kind stage pin next }
-{
-    let walk = started(kind, Stage::Finish, pin, next, next);
-    match kind {
-        WalkKind::Activate => None,
-        WalkKind::Deactivate => Some(walk),
-        WalkKind::Offline => Some(walk),
-        WalkKind::Reeval => Some(walk),
-        WalkKind::Remote { by: _ } => Some(walk),
-    }
-}
-
-/// A walk begins, for a CPU that has a group or not; times are in jiffies.
-fn begun_where(
-    has_group: bool,
-    kind: WalkKind,
-    stage: Stage,
-    pin: Jiffy,
-    next: Jiffy,
-) -> Option<Walk>
-    ensures { result ≡ begun_where has_group kind stage pin next }
-{
-    if has_group {
-        Some(started(kind, stage, pin, next, NEVER))
-    } else {
-        begun_alone(kind, pin, next)
-    }
 }
 
 /// Whether a CPU has a group.

@@ -13,7 +13,8 @@ use Rattle.walk_rules.specs.declared.walk.Stage.TheVariants as stages
 use Rattle.walk_rules.specs.Stages.{forget}
 use Rattle.core_world.specs.declared.step.Step.TheVariants as steps
 use Rattle.core_world.specs.Enabled.{MayGoOn}
-use Rattle.core_world.specs.Steps.{begun_where, finished, walk_made, walked, with_walk}
+use Rattle.core_world.specs.Steps.{finished, walk_made, walked, with_walk}
+use Rattle.walk_rules.specs.Stages.{begun_where}
 use Rattle.core_world.specs.World.{World, CpuRecord, cpu_of, own}
 use Rattle.shared_rule.specs.declared.parts.BoxView.{BoxView}
 use Rattle.shared_rule.specs.declared.parts.Deed.TheVariants as deeds

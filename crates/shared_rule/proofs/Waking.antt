@@ -14,7 +14,7 @@ use Rattle.walk_rules.specs.declared.walk.WalkKind.TheVariants as kinds
 use Rattle.walk_rules.specs.declared.walk.Stage.TheVariants as stages
 use Rattle.walk_rules.specs.Stages.{forget}
 use Rattle.core_world.specs.declared.step.Step.TheVariants as steps
-use Rattle.core_world.specs.Steps.{begun_where}
+use Rattle.walk_rules.specs.Stages.{begun_where}
 use Rattle.core_world.specs.World.{World, CpuRecord, cpu_of, group_of, is_reading}
 use Rattle.core_world.proofs.Moves.{cpu_same}
 use Rattle.core_world.proofs.Quiet.{own_field}

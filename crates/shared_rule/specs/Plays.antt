@@ -24,7 +24,7 @@ use Rattle.walk_rules.specs.Stages.{free_group_next, freed_next, leaf_event, mar
 use Rattle.walk_rules.specs.Stages.{scan_next, see_child_next, see_group_next, store_next}
 use Rattle.walk_rules.specs.Stages.{swap_next, up_next}
 use Rattle.core_world.specs.World.{World, CpuRecord, cpu_of, is_reading}
-use Rattle.core_world.specs.Steps.{begun_where}
+use Rattle.walk_rules.specs.Stages.{begun_where}
 use Rattle.core_world.specs.Wakeups.{WalkTimes}
 use Rattle.core_facts.specs.Ranges.{WalkInRange}
 use Rattle.core_facts.specs.Told.{SaysOf}

@@ -11,7 +11,8 @@ use Rattle.walk_rules.specs.declared.walk.WalkKind.{WalkKind}
 use Rattle.walk_rules.specs.declared.walk.WalkKind.TheVariants as kinds
 use Rattle.walk_rules.specs.declared.walk.Stage.{Stage}
 use Rattle.walk_rules.specs.declared.walk.Stage.TheVariants as stages
-use Rattle.core_world.specs.Steps.{begun_where, finished}
+use Rattle.core_world.specs.Steps.{finished}
+use Rattle.walk_rules.specs.Stages.{begun_where}
 use Rattle.core_world.specs.World.{World, CpuRecord}
 use Rattle.shared_rule.specs.declared.parts.BoxView.{BoxView}
 use Rattle.shared_rule.specs.declared.parts.PassView.{PassView}

@@ -6,13 +6,13 @@ ghost use Rattle.shared_rule.specs.Plays.{by_walk, marked_walk, own_marked_box};
 ghost use Rattle.shared_walks.specs.Steps.{HasMissed, HasRisen, WalkStands, on_part};
 
 use crate::path::{at_top, group_on, side_on, state_place};
-use crate::stages::{as_ignored, at_stage, mark_next, up_next};
+use crate::stages::as_ignored;
 use core_state::CpuStatus;
 use shared_rule::{
     BoxPart, FindsMark, Looks, Marks, MarksOwn, Rises, Run, RunName, law_ignore, law_rise,
 };
 use shared_words::{SharedWord, has_migrator, joined_word};
-use walk_rules::{Stage, Walk};
+use walk_rules::{Stage, Walk, at_stage, mark_next, up_next};
 use wheel_core::TimerBase;
 
 /// The bit of a slot's word by which its event is marked as ignored.

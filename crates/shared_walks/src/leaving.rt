@@ -7,12 +7,12 @@ ghost use Rattle.shared_rule.specs.Plays.{reading, swap_box};
 ghost use Rattle.shared_walks.specs.Steps.{WalkStands, on_part};
 
 use crate::path::{group_below, group_on, side_on};
-use crate::stages::{child_next, read_next, swapped_next};
+use crate::stages::read_in_box;
 use core_state::CpuStatus;
 use shared_rule::{BoxPart, ReadsChild, ReadsGroup, ReadsOwn, Run, RunName, Swaps, law_leave};
 use shared_words::{SharedWord, has_migrator, swapped_word};
 use tree_plan::law_paths;
-use walk_rules::{Walk, law_hierarchy};
+use walk_rules::{Walk, child_next, law_hierarchy, swap_next};
 use wheel_core::TimerBase;
 
 /// The walk loads its group's word, which it is to exchange.
@@ -27,7 +27,7 @@ pub fn read_step<N: RunName, B: TimerBase>(run: &Run<N, B>, part: &mut BoxPart<N
     let found = run.words.shared.load::<ReadsGroup>(&mut part.seat, place);
     part.read = found;
     part.status = CpuStatus {
-        walk: Some(read_next(walk)),
+        walk: Some(read_in_box(walk)),
         ..part.status
     };
 }
@@ -92,13 +92,13 @@ pub fn swap_step<N: RunName, B: TimerBase>(
     if found != old {
         part.read = found;
         part.status = CpuStatus {
-            walk: Some(read_next(walk)),
+            walk: Some(read_in_box(walk)),
             ..part.status
         };
         return false;
     }
     part.status = CpuStatus {
-        walk: Some(swapped_next(walk)),
+        walk: Some(swap_next(true, walk)),
         ..part.status
     };
     true

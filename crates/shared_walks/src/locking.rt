@@ -8,14 +8,15 @@ ghost use Rattle.shared_rule.specs.Plays.{group_freed_walk, locked_walk};
 ghost use Rattle.shared_walks.specs.Steps.{LockTried, WalkStands, on_part};
 
 use crate::path::{group_below, group_on, lock_below, lock_place};
-use crate::stages::{at_stage, first_sight, free_group_next, freed_next};
 use core_state::CpuStatus;
 use shared_rule::{
     BoxPart, FreesChild, FreesGroup, Locks, LocksChild, Run, RunName, law_free, law_lock_child,
     law_lock_group,
 };
 use shared_words::{SharedWord, pack_lock};
-use walk_rules::{Stage, Walk, law_hierarchy};
+use walk_rules::{
+    Stage, Walk, at_stage, first_sight, free_group_next, freed_next, law_hierarchy,
+};
 use wheel_core::TimerBase;
 
 /// The walk tries to take its child's lock, and then goes on to its group's; false where the

@@ -7,12 +7,12 @@ ghost use Rattle.shared_rule.specs.Plays.{stored_box};
 ghost use Rattle.shared_walks.specs.Steps.{WalkStands, on_part};
 
 use crate::path::{at_top, group_on, side_on};
-use crate::stages::{store_next, stored_event, stored_leaf};
+use crate::stages::stored_leaf;
 use core_state::CpuStatus;
 use event_queue::pack_event;
 use shared_rule::{BoxPart, Run, RunName, Stores, law_store};
 use shared_words::SharedWord;
-use walk_rules::Walk;
+use walk_rules::{Walk, store_next, stored_event};
 use wheel_core::TimerBase;
 
 /// The walk stores its event into its child's slot of the group, or empties the slot.

@@ -1,16 +1,23 @@
 //! The stages of an activation.
 
-ghost use Rattle.std.specs.Prelude.{◌≡◌};
+ghost use Rattle.std.specs.Prelude.{◌≡◌, ◌<◌, suc};
 ghost use Rattle.walk_rules.specs.declared.walk.Stage.TheVariants as stages;
 ghost use Rattle.core_world.specs.Steps.{walked};
 ghost use Rattle.step_core.specs.Stands.{StandsAt};
-ghost use Rattle.core_state.specs.Status.{WalkRanges};
+ghost use Rattle.walk_rules.specs.Ranges.{WalkRanges};
 
-use crate::stages::{above, at_stage, mark_next, up_next};
 use core_state::{Core, GroupChange};
 use tm_base::CpuId;
-use walk_rules::{Stage, Walk};
+use walk_rules::{Stage, Walk, at_stage, mark_next, up_next};
 use wheel_core::TimerBase;
+
+/// The level above.
+fn above(level: u8) -> u8
+    requires level { level < 255 }
+    ensures above { result ≡ suc level }
+{
+    level + 1
+}
 
 /// Marks the CPU's own event as ignored.
 pub(crate) fn pass_own<B: TimerBase>(core: &mut Core<B>, cpu: CpuId, walk: Walk)

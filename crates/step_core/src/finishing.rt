@@ -6,17 +6,17 @@ ghost use Rattle.core_world.specs.declared.step.Step.TheVariants as steps;
 ghost use Rattle.core_world.specs.Enabled.{Enabled};
 ghost use Rattle.core_world.specs.Steps.{stepped, walked};
 ghost use Rattle.step_core.specs.Stands.{StandsAt};
-ghost use Rattle.core_state.specs.Status.{IsInRange, WalkRanges, finished_status};
+ghost use Rattle.core_state.specs.Status.{finished_status};
+ghost use Rattle.walk_rules.specs.Ranges.{IsInRange, WalkRanges};
 ghost use Rattle.core_state.specs.Status.{handing_walk};
 
 use crate::activation::{go_up, pass_mark, pass_own};
 use crate::leaving::{exchange, read_again, read_child, read_group};
 use crate::locking::{free_child, free_group, lock_child, lock_group};
-use crate::stages::at_stage;
 use crate::telling::{read_first, scan, see_child, see_group, store};
 use core_state::{Core, CpuStatus};
 use tm_base::{CpuId, NEVER};
-use walk_rules::{Stage, Walk, WalkKind};
+use walk_rules::{Stage, Walk, WalkKind, at_stage};
 use wheel_core::TimerBase;
 
 /// The walk of a CPU that went offline ends, or waits for another CPU to take over.

@@ -4,12 +4,11 @@ ghost use Rattle.std.specs.Prelude.{◌≡◌, false, true};
 ghost use Rattle.walk_rules.specs.declared.walk.Stage.TheVariants as stages;
 ghost use Rattle.core_world.specs.Steps.{swapped, walked};
 ghost use Rattle.step_core.specs.Stands.{StandsAt};
-ghost use Rattle.core_state.specs.Status.{WalkRanges};
+ghost use Rattle.walk_rules.specs.Ranges.{WalkRanges};
 
-use crate::stages::{child_next, read_next, swap_next};
 use core_state::{Core, GroupChange};
 use tm_base::CpuId;
-use walk_rules::Walk;
+use walk_rules::{Walk, child_next, read_next, swap_next};
 use wheel_core::TimerBase;
 
 /// Reads the group's word.

@@ -10,7 +10,6 @@ mod finishing;
 mod flags;
 mod leaving;
 mod locking;
-mod stages;
 mod steps;
 mod telling;
 

@@ -4,12 +4,11 @@ ghost use Rattle.std.specs.Prelude.{◌≡◌};
 ghost use Rattle.walk_rules.specs.declared.walk.Stage.TheVariants as stages;
 ghost use Rattle.core_world.specs.Steps.{walked};
 ghost use Rattle.step_core.specs.Stands.{StandsAt};
-ghost use Rattle.core_state.specs.Status.{WalkRanges};
+ghost use Rattle.walk_rules.specs.Ranges.{WalkRanges};
 
-use crate::stages::{at_stage, first_sight, free_group_next, freed_next};
 use core_state::{Core, GroupChange};
 use tm_base::CpuId;
-use walk_rules::{Stage, Walk};
+use walk_rules::{Stage, Walk, at_stage, first_sight, free_group_next, freed_next};
 use wheel_core::TimerBase;
 
 /// Takes the child's lock.

@@ -4,14 +4,13 @@ ghost use Rattle.std.specs.Prelude.{◌≡◌};
 ghost use Rattle.walk_rules.specs.declared.walk.Stage.TheVariants as stages;
 ghost use Rattle.core_world.specs.Steps.{walked};
 ghost use Rattle.step_core.specs.Stands.{StandsAt};
-ghost use Rattle.core_state.specs.Status.{WalkRanges};
+ghost use Rattle.walk_rules.specs.Ranges.{WalkRanges};
 
-use crate::stages::{
-    first_next, scan_next, see_child_next, see_group_next, store_next, stored_event,
-};
 use core_state::{Core, GroupChange};
 use tm_base::CpuId;
-use walk_rules::Walk;
+use walk_rules::{
+    Walk, first_next, scan_next, see_child_next, see_group_next, store_next, stored_event,
+};
 use wheel_core::TimerBase;
 
 /// Reads the child's word under its lock.

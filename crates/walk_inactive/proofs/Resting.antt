@@ -15,7 +15,8 @@ use Rattle.walk_rules.specs.declared.walk.Stage.TheVariants as stages
 use Rattle.walk_rules.specs.Hierarchy.{HasGroup}
 use Rattle.walk_rules.specs.Stages.{started}
 use Rattle.walk_rules.specs.Standing.{Tells, is_leaving}
-use Rattle.core_world.specs.Steps.{begun_where, with_walk}
+use Rattle.core_world.specs.Steps.{with_walk}
+use Rattle.walk_rules.specs.Stages.{begun_where}
 use Rattle.core_world.specs.World.{CpuRecord, World}
 use Rattle.shared_rule.specs.declared.parts.BoxView.{BoxView}
 use Rattle.shared_rule.specs.declared.parts.Looked.{Looked}

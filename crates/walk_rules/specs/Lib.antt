@@ -1,6 +1,7 @@
 pub mod Hierarchy
 pub mod Scene
 pub mod Stages
+pub mod Ranges
 pub mod Standing
 pub mod Edges
 pub mod Clearing

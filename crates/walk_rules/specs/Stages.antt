@@ -29,6 +29,20 @@ started kind stage pin next first = record {
   over = false;
 }
 
+-- a walk begins; without a group an activation ends at once, and the others have the wakeup alone
+-- to set
+abbrev pub begun_where : (has_group : Bool) → WalkKind → Stage → (pin next : ℕ) → Option Walk
+begun_where true kind stage pin next = Some (started kind stage pin next NEVER)
+begun_where false kinds.Activate stage pin next = None
+begun_where false kinds.Deactivate stage pin next =
+    Some (started kinds.Deactivate stages.Finish pin next next)
+begun_where false kinds.Offline stage pin next =
+    Some (started kinds.Offline stages.Finish pin next next)
+begun_where false kinds.Reeval stage pin next =
+    Some (started kinds.Reeval stages.Finish pin next next)
+begun_where false (kinds.Remote by) stage pin next =
+    Some (started (kinds.Remote by) stages.Finish pin next next)
+
 -- the walk without its `fresh`, which its own reading sets and another CPU's exchange of its group
 -- takes away
 abbrev pub forget : Walk → Walk

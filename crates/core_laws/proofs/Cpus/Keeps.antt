@@ -22,7 +22,8 @@ use Rattle.walk_rules.specs.Stages.{after_sight, at_stage, first_lock, first_sig
 use Rattle.walk_rules.specs.Standing.{IsWalker}
 use Rattle.core_world.specs.declared.step.Step.TheVariants as steps
 use Rattle.core_world.specs.Enabled.{MayGoOn}
-use Rattle.core_world.specs.Steps.{begins_with, begun_where, child_on, finished, first_moved, giver, marker_of, moved_with, swapped, taker, walk_made, walked, with_bases, with_walk}
+use Rattle.core_world.specs.Steps.{begins_with, child_on, finished, first_moved, giver, marker_of, moved_with, swapped, taker, walk_made, walked, with_bases, with_walk}
+use Rattle.walk_rules.specs.Stages.{begun_where}
 use Rattle.core_world.specs.Wakeups.{IsAtRest, WalkTimes, next_for}
 use Rattle.core_world.specs.World.{CpuRecord, World, cpu_of, group_of, is_active, moved, no_cpu, own, reads_at, scene_of, stale_walk}
 use Rattle.core_world.proofs.Moves.{beside, cpu_else, cpu_same}

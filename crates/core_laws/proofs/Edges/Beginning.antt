@@ -11,7 +11,7 @@ use Rattle.walk_rules.specs.declared.walk.Stage.TheVariants as stages
 use Rattle.walk_rules.specs.Edges.{edge_of, passed_of}
 use Rattle.walk_rules.specs.Hierarchy.{IsHierarchy}
 use Rattle.walk_rules.specs.Stages.{forget}
-use Rattle.core_world.specs.Steps.{begun_where}
+use Rattle.walk_rules.specs.Stages.{begun_where}
 use Rattle.core_world.specs.World.{CpuRecord, World, cpu_of, group_of, is_active, own, scene_of}
 use Rattle.core_world.proofs.Moves.{moved_laws}
 use Rattle.core_world.proofs.Quiet.{own_group}

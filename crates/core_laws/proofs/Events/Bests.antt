@@ -21,7 +21,8 @@ use Rattle.walk_rules.specs.Queues.{BestHolds, FirstBelow, group_under, read_of}
 use Rattle.walk_rules.specs.Scene.{Group, Scene}
 use Rattle.walk_rules.specs.Stages.{after_sight, at_stage, first_lock, first_sight, first_stage, forget, free_group_next, freed_next, is_remote, joined_by, left_by, mark_next, scan_next, see_child_next, see_group_next, sooner_event, store_next, stored_event, swap_next, up_next, with_event, with_mark}
 use Rattle.core_world.specs.Frames.{ChangesOnly}
-use Rattle.core_world.specs.Steps.{begun_where, child_here, child_on, finished, here, swapped, walked, with_walk}
+use Rattle.core_world.specs.Steps.{child_here, child_on, finished, here, swapped, walked, with_walk}
+use Rattle.walk_rules.specs.Stages.{begun_where}
 use Rattle.core_world.specs.World.{CpuRecord, World, cpu_of, group_of, moved, own, scene_of}
 use Rattle.core_world.proofs.Moves.{moved_laws}
 use Rattle.core_world.proofs.Quiet.{moved_group_field}

@@ -21,7 +21,8 @@ use Rattle.walk_rules.specs.Stages.{at_stage, first_lock, first_next, first_sigh
 use Rattle.walk_rules.specs.Standing.{is_leaving}
 use Rattle.core_world.specs.Enabled.{MayGoOn}
 use Rattle.core_world.specs.Frames.{ChangesOnly}
-use Rattle.core_world.specs.Steps.{begun_where, child_here, child_on, finished, here, swapped, walked, with_walk}
+use Rattle.core_world.specs.Steps.{child_here, child_on, finished, here, swapped, walked, with_walk}
+use Rattle.walk_rules.specs.Stages.{begun_where}
 use Rattle.core_world.specs.World.{CpuRecord, World, cpu_of, group_of, moved, own, scene_of}
 use Rattle.core_world.proofs.Moves.{moved_laws}
 use Rattle.core_laws.proofs.Events.Rises.{swap_off, up_off}

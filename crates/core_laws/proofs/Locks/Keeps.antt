@@ -21,7 +21,8 @@ use Rattle.core_world.specs.declared.step.Step.{Step}
 use Rattle.core_world.specs.declared.step.Step.TheVariants as steps
 use Rattle.core_world.specs.Enabled.{Enabled, MayGoOn}
 use Rattle.core_world.specs.Frames.{IsSized, is_quiet}
-use Rattle.core_world.specs.Steps.{begun_where, child_here, child_on, finished, here, stepped, swapped, walk_made, walked, with_walk}
+use Rattle.core_world.specs.Steps.{child_here, child_on, finished, here, stepped, swapped, walk_made, walked, with_walk}
+use Rattle.walk_rules.specs.Stages.{begun_where}
 use Rattle.core_world.specs.World.{CpuRecord, World, cpu_of, group_of, moved, own, scene_of}
 use Rattle.core_world.proofs.Moves.{moved_laws}
 use Rattle.core_world.proofs.Quiet.{moved_group_field, quiet_steps}

@@ -20,7 +20,8 @@ use Rattle.walk_rules.specs.Stages.{at_stage, mark_next, see_child_next, swap_ne
 use Rattle.core_world.specs.declared.step.Step.TheVariants as steps
 use Rattle.core_world.specs.Enabled.{IsReevaluating, MayGoOn}
 use Rattle.core_world.specs.Marks.{IsMarker, SomePlaced}
-use Rattle.core_world.specs.Steps.{begun_where, child_on, finished, first_moved, giver, moved_with, swapped, taker, walk_made, walked, with_walk}
+use Rattle.core_world.specs.Steps.{child_on, finished, first_moved, giver, moved_with, swapped, taker, walk_made, walked, with_walk}
+use Rattle.walk_rules.specs.Stages.{begun_where}
 use Rattle.core_world.specs.World.{CpuRecord, World, cpu_of, group_of, moved, no_cpu, own, reads_at, stale_walk}
 use Rattle.core_world.proofs.Moves.{beside, cpu_else, cpu_same}
 use Rattle.core_world.proofs.Quiet.{own_field}

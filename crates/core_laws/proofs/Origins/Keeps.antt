@@ -24,7 +24,8 @@ use Rattle.walk_rules.specs.Scene.{Group}
 use Rattle.walk_rules.specs.Stages.{at_stage, first_next, forget, left_by, scan_next, swap_next}
 use Rattle.core_world.specs.declared.step.Step.TheVariants as steps
 use Rattle.core_world.specs.Origins.{HasOrigin, IsBelowGroup}
-use Rattle.core_world.specs.Steps.{begun_where, child_here, child_on, finished, first_moved, giver}
+use Rattle.core_world.specs.Steps.{child_here, child_on, finished, first_moved, giver}
+use Rattle.walk_rules.specs.Stages.{begun_where}
 use Rattle.core_world.specs.Steps.{here, moved_with, swapped, taker, walk_made, walked, with_bases}
 use Rattle.core_world.specs.Steps.{with_walk}
 use Rattle.core_world.specs.World.{CpuRecord, World, cpu_of, group_of, moved, no_cpu, own, scene_of}

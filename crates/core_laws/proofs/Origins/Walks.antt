@@ -25,7 +25,7 @@ use Rattle.walk_rules.specs.Stages.{at_stage, free_group_next, freed_next, mark_
 use Rattle.walk_rules.specs.Stages.{see_child_next, sooner_event, started, up_next}
 use Rattle.walk_rules.specs.Stages as rules
 use Rattle.core_world.specs.Origins.{HasOrigin}
-use Rattle.core_world.specs.Steps.{begun_where}
+use Rattle.walk_rules.specs.Stages.{begun_where}
 use Rattle.core_world.specs.World.{World, cpu_of}
 use Rattle.core_laws.specs.Timers.Layer.{TimersFit}
 use Rattle.core_laws.proofs.Origins.Frame.{WalkHas}

@@ -27,7 +27,8 @@ use Rattle.core_world.specs.declared.step.Step.TheVariants as steps
 use Rattle.core_world.specs.Enabled.{Enabled, MayGoOn}
 use Rattle.core_world.specs.Frames.{is_quiet}
 use Rattle.core_world.specs.IdleTop.{FirstHolds}
-use Rattle.core_world.specs.Steps.{begun_where, child_on, finished, here, stepped, swapped}
+use Rattle.core_world.specs.Steps.{child_on, finished, here, stepped, swapped}
+use Rattle.walk_rules.specs.Stages.{begun_where}
 use Rattle.core_world.specs.Steps.{walk_made, walked, with_walk}
 use Rattle.core_world.specs.World.{CpuRecord, World, cpu_of, group_of, moved, own, scene_of}
 use Rattle.core_world.proofs.Moves.{moved_laws}

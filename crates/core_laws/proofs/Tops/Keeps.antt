@@ -18,7 +18,8 @@ use Rattle.core_world.specs.declared.step.Step.{Step}
 use Rattle.core_world.specs.declared.step.Step.TheVariants as steps
 use Rattle.core_world.specs.Enabled.{Enabled, MayGoOn}
 use Rattle.core_world.specs.IdleTop.{TopAnswered}
-use Rattle.core_world.specs.Steps.{begun_where, first_moved, giver, marker_of, moved_with, stepped}
+use Rattle.core_world.specs.Steps.{first_moved, giver, marker_of, moved_with, stepped}
+use Rattle.walk_rules.specs.Stages.{begun_where}
 use Rattle.core_world.specs.Steps.{taker, walk_made, walked, with_walk}
 use Rattle.core_world.specs.Wakeups.{is_undisturbed}
 use Rattle.core_world.specs.World.{CpuRecord, World, cpu_of, group_of, no_cpu, own}

@@ -21,7 +21,8 @@ use Rattle.walk_rules.specs.Stages.{store_next, swap_next, up_next, with_mark}
 use Rattle.core_world.specs.declared.step.Step.{Step}
 use Rattle.core_world.specs.declared.step.Step.TheVariants as steps
 use Rattle.core_world.specs.Enabled.{Enabled, MayGoOn}
-use Rattle.core_world.specs.Steps.{begun_where, child_here, child_on, finished, here, stepped}
+use Rattle.core_world.specs.Steps.{child_here, child_on, finished, here, stepped}
+use Rattle.walk_rules.specs.Stages.{begun_where}
 use Rattle.core_world.specs.Steps.{swapped, walk_made, walked, with_walk}
 use Rattle.core_world.specs.Timers.{NoNever}
 use Rattle.core_world.specs.World.{CpuRecord, World, cpu_of, group_of, moved, own, scene_of}

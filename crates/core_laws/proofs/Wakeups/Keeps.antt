@@ -19,7 +19,8 @@ use Rattle.walk_rules.specs.declared.walk.Stage.{Stage}
 use Rattle.walk_rules.specs.declared.walk.Stage.TheVariants as stages
 use Rattle.walk_rules.specs.Hierarchy.{HasGroup}
 use Rattle.core_world.specs.declared.step.Step.TheVariants as steps
-use Rattle.core_world.specs.Steps.{begins_with, begun_where, first_moved, giver, marker_of, moved_with, taker, walk_made, with_bases, with_walk}
+use Rattle.core_world.specs.Steps.{begins_with, first_moved, giver, marker_of, moved_with, taker, walk_made, with_bases, with_walk}
+use Rattle.walk_rules.specs.Stages.{begun_where}
 use Rattle.core_world.specs.Wakeups.{Keeps, is_past_store, is_undisturbed}
 use Rattle.core_world.specs.World.{CpuRecord, World, cpu_of, no_cpu, own}
 use Rattle.core_laws.specs.Wakeups.Layer.{WakeupsFit, WakeupsStayFit}

@@ -20,7 +20,8 @@ use Rattle.walk_rules.specs.Stages.{started, store_next, swap_next, up_next}
 use Rattle.core_laws.specs.Laws.{StepsStayLawful}
 use Rattle.core_world.specs.declared.step.Step.TheVariants as steps
 use Rattle.core_world.specs.Lawful.{IsLawful}
-use Rattle.core_world.specs.Steps.{begun_where, child_here, child_on, finished, here, swapped}
+use Rattle.core_world.specs.Steps.{child_here, child_on, finished, here, swapped}
+use Rattle.walk_rules.specs.Stages.{begun_where}
 use Rattle.core_world.specs.Steps.{walk_made, walked, with_walk}
 use Rattle.core_world.specs.World.{CpuRecord, World, cpu_of, group_of, moved, own}
 use Rattle.core_world.proofs.Moves.{cpu_same, moved_laws}

@@ -18,7 +18,8 @@ use Rattle.walk_rules.specs.declared.walk.Stage.TheVariants as stages
 use Rattle.walk_rules.specs.Scene.{Group}
 use Rattle.walk_rules.specs.Stages.{started}
 use Rattle.core_world.specs.Lawful.{IsLawful}
-use Rattle.core_world.specs.Steps.{begins, begun_where, with_walk}
+use Rattle.core_world.specs.Steps.{begins, with_walk}
+use Rattle.walk_rules.specs.Stages.{begun_where}
 use Rattle.core_world.specs.World.{CpuRecord, World, cpu_of, group_of, own}
 use Rattle.core_world.proofs.Moves.{cpu_else, cpu_same, moved_laws}
 use Rattle.core_world.proofs.Quiet.{own_group}

@@ -24,7 +24,8 @@ use Rattle.walk_rules.specs.declared.walk.Stage.{Stage}
 use Rattle.walk_rules.specs.declared.walk.Stage.TheVariants as stages
 use Rattle.core_laws.specs.Laws.{StepsStayLawful}
 use Rattle.core_world.specs.Lawful.{IsLawful}
-use Rattle.core_world.specs.Steps.{begun_where, finished}
+use Rattle.core_world.specs.Steps.{finished}
+use Rattle.walk_rules.specs.Stages.{begun_where}
 use Rattle.core_world.specs.Wakeups.{next_for}
 use Rattle.walk_rules.specs.Stages.{is_remote}
 use Rattle.core_world.specs.World.{CpuRecord, World, cpu_of, group_of, own}

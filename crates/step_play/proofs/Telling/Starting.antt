@@ -13,7 +13,8 @@ use Rattle.walk_rules.specs.declared.walk.Stage.TheVariants as stages
 use Rattle.walk_rules.specs.Stages.{started}
 use Rattle.core_laws.specs.Laws.{StepsStayLawful}
 use Rattle.core_world.specs.Lawful.{IsLawful}
-use Rattle.core_world.specs.Steps.{begun_where, with_walk}
+use Rattle.core_world.specs.Steps.{with_walk}
+use Rattle.walk_rules.specs.Stages.{begun_where}
 use Rattle.core_world.specs.World.{CpuRecord, World, cpu_of, group_of, own}
 use Rattle.core_world.proofs.Moves.{cpu_else, cpu_same, moved_laws}
 use Rattle.step_play.specs.Rules.Alone.{walked_out}

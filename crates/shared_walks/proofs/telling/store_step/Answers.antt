@@ -51,7 +51,7 @@ store-requires g c =
     part.seat.table_id part.seat.id c.index-place.result part.seat.me b ps (slot_at group child)
     (λ n. new) (λ i v n w. plays.Stores (step table.slots i new 0 none) v new w)
     (c.part.invariant.named) (c.part.invariant.seat) (c.index-place.ensures ∙ ap (λ n. index_of run.layout (slot_at group n)) c.side_on-child.ensures.side) ((low, a_child)) (c.law_store.ensures o table.slots part.seat.id group new b k ps a_child (record { group = low; walk = at; stage = c.requires.stage; path = path })
-    (c.pack_event-word.ensures ∙ ap slot_word c.stored_event-event.ensures))
+    (c.pack_event-word.ensures ∙ ap slot_word c.stored_event-event.ensures.event))
 
 pub at_top-top-requires-clause-level : goal.at_top-top-requires-clause-level
 at_top-top-requires-clause-level g c =
@@ -67,5 +67,5 @@ pack_event-word-requires g c =
     let k : Walk = c.args.walk in
     let at = ap (λ z. z.box.own.walk) c.part.view_is ∙ c.requires.walk in
     let fits = c.part.invariant.fits in
-    subst (λ (e : Option Event). ForSome e FitsWord) (sym c.stored_event-event.ensures)
+    subst (λ (e : Option Event). ForSome e FitsWord) (sym c.stored_event-event.ensures.event)
     (stored_fits o part.cpu.0 k fits.many fits.cpu (fits.walk k at).ranges)

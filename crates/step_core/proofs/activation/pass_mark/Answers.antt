@@ -28,8 +28,8 @@ returns g c =
     (λ i. changes.Mark ((c.side-child.ensures.side ∙ ap (side c.args.core.now.tree c.args.cpu.0) c.above-level.ensures.above) i))
     c.mark_next-next.ensures.next
 
-pub mark_next-next-requires-clause-level : goal.mark_next-next-requires-clause-level
-mark_next-next-requires-clause-level g c =
+pub mark_next-next-requires : goal.mark_next-next-requires
+mark_next-next-requires g c =
     let low = c.kept.ensures.levels c.args.cpu.0 c.args.walk.level (level_here c.args.core.now c.kept.ensures.fits c.args.cpu.0 c.args.walk (stages.Mark c.args.more) c.requires.stands (λ e. cc)) in omega (arith, low)
 
 pub above-level-requires : goal.above-level-requires

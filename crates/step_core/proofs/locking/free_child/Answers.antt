@@ -29,6 +29,6 @@ returns g c =
     (λ i. changes.Free)
     (λ i. Some (c.freed_next-next.ensures.next i))
 
-pub freed_next-next-requires-clause-level : goal.freed_next-next-requires-clause-level
-freed_next-next-requires-clause-level g c =
+pub freed_next-next-requires : goal.freed_next-next-requires
+freed_next-next-requires g c =
     let low = c.kept.ensures.levels c.args.cpu.0 c.args.walk.level (level_here c.args.core.now c.kept.ensures.fits c.args.cpu.0 c.args.walk stages.FreeChild c.requires.stands (λ e. cc)) in omega (arith, low)

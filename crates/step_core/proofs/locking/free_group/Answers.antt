@@ -27,6 +27,6 @@ returns g c =
     (λ i. changes.Free)
     (λ i. Some (c.free_group_next-next.ensures.next i))
 
-pub free_group_next-next-requires-clause-level : goal.free_group_next-next-requires-clause-level
-free_group_next-next-requires-clause-level g c =
+pub free_group_next-next-requires : goal.free_group_next-next-requires
+free_group_next-next-requires g c =
     let low = c.kept.ensures.levels c.args.cpu.0 c.args.walk.level (level_here c.args.core.now c.kept.ensures.fits c.args.cpu.0 c.args.walk stages.FreeGroup c.requires.stands (λ e. cc)) in omega (arith, low)

@@ -18,7 +18,7 @@ walk_at-requires-clause-fits g c =
     (sym
     (walk_moved c.args.core.now c.args.cpu.0 false _ _ _ _ _ _ c.group_on-group.ensures.group
     (λ i. changes.Lock c.args.cpu.0)
-    (λ i. Some ((c.at_stage-next.ensures.next ∙ ap (at_stage c.args.walk) c.first_sight-stage.ensures.next) i))))
+    (λ i. Some ((c.at_stage-next.ensures.next ∙ ap (at_stage c.args.walk) c.first_sight-stage.ensures) i))))
     (walked_fits c.args.core.now c.args.cpu c.args.walk stages.LockGroup c.kept.ensures.stays c.requires.stands)
 
 pub returns : goal.returns
@@ -26,4 +26,4 @@ returns g c =
     c.walk_at.ensures
     ∙ walk_moved c.args.core.now c.args.cpu.0 false _ _ _ _ _ _ c.group_on-group.ensures.group
     (λ i. changes.Lock c.args.cpu.0)
-    (λ i. Some ((c.at_stage-next.ensures.next ∙ ap (at_stage c.args.walk) c.first_sight-stage.ensures.next) i))
+    (λ i. Some ((c.at_stage-next.ensures.next ∙ ap (at_stage c.args.walk) c.first_sight-stage.ensures) i))

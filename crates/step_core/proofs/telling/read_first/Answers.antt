@@ -30,6 +30,6 @@ pub event_of-event-requires-clause-a_child : goal.event_of-event-requires-clause
 event_of-event-requires-clause-a_child g c =
     (fit c.args.core.now c.kept.ensures.fits c.args.cpu.0 c.args.walk (stages.First c.args.k) c.requires.stands (λ e. cc)).2
 
-pub first_next-next-requires-clause-k : goal.first_next-next-requires-clause-k
-first_next-next-requires-clause-k g c =
+pub first_next-next-requires : goal.first_next-next-requires
+first_next-next-requires g c =
     (fit c.args.core.now c.kept.ensures.fits c.args.cpu.0 c.args.walk (stages.First c.args.k) c.requires.stands (λ e. cc)).2

@@ -32,6 +32,6 @@ pub event_of-event-requires-clause-a_child : goal.event_of-event-requires-clause
 event_of-event-requires-clause-a_child g c =
     (fit c.args.core.now c.kept.ensures.fits c.args.cpu.0 c.args.walk (stages.Scan c.args.k) c.requires.stands (λ e. cc)).2
 
-pub scan_next-next-requires-clause-k : goal.scan_next-next-requires-clause-k
-scan_next-next-requires-clause-k g c =
+pub scan_next-next-requires : goal.scan_next-next-requires
+scan_next-next-requires g c =
     (fit c.args.core.now c.kept.ensures.fits c.args.cpu.0 c.args.walk (stages.Scan c.args.k) c.requires.stands (λ e. cc)).2

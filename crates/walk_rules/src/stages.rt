@@ -1,6 +1,6 @@
 //! What each stage makes of a walk.
 
-ghost use Rattle.std.specs.Prelude.{◌≡◌, ◌^◌, ◌<◌, Some, suc};
+ghost use Rattle.std.specs.Prelude.{◌≡◌, ◌^◌, ◌<◌, Some};
 ghost use Rattle.event_queue.specs.EventMap.{FitsWord};
 ghost use Rattle.walk_rules.specs.Stages.{after_sight, at_stage, best_event, child_next};
 ghost use Rattle.walk_rules.specs.Stages.{first_lock};
@@ -10,38 +10,28 @@ ghost use Rattle.walk_rules.specs.Stages.{leaf_event};
 ghost use Rattle.walk_rules.specs.Stages.{mark_next, read_next, scan_next, see_child_next};
 ghost use Rattle.walk_rules.specs.Stages.{see_group_next, sooner_event, store_next, stored_event};
 ghost use Rattle.walk_rules.specs.Stages.{swap_next, up_next};
-ghost use Rattle.core_state.specs.Status.{EventFits, IsInRange, WalkRanges};
+ghost use Rattle.walk_rules.specs.Ranges.{EventFits, IsInRange, WalkRanges};
 
+use crate::walk::{Stage, Walk, WalkKind};
 use event_queue::Event;
 use tm_base::{CpuId, Jiffy, NEVER};
-use walk_rules::{Stage, Walk, WalkKind};
 
 /// How many slots a group has.
 const SLOTS: u8 = 8;
 
-/// The level above.
-pub(crate) fn above(level: u8) -> u8
-    requires level { level < 255 }
-    ensures above { result ≡ suc level }
-{
-    level + 1
-}
-
 /// The walk at another stage.
-pub(crate) fn at_stage(walk: Walk, stage: Stage) -> Walk
-    requires in_range { WalkRanges walk }
+pub fn at_stage(walk: Walk, stage: Stage) -> Walk
     ensures next { result ≡ at_stage walk stage }
-    ensures in_range { WalkRanges result }
+    ensures in_range { WalkRanges walk → WalkRanges result }
 {
     Walk { stage, ..walk }
 }
 
 /// One level higher, where it knows nothing yet.
 fn higher(walk: Walk, stage: Stage) -> Walk
-    requires in_range { WalkRanges walk }
-    requires level { walk.level < 255 }
+    requires { walk.level < 255 }
     ensures next { result ≡ higher walk stage }
-    ensures in_range { WalkRanges result }
+    ensures in_range { WalkRanges walk → WalkRanges result }
 {
     Walk {
         level: walk.level + 1,
@@ -56,10 +46,9 @@ fn higher(walk: Walk, stage: Stage) -> Walk
 }
 
 /// After Up an activation ends at the top.
-pub(crate) fn up_next(top: bool, more: bool, walk: Walk) -> Option<Walk>
-    requires in_range { WalkRanges walk }
+pub fn up_next(top: bool, more: bool, walk: Walk) -> Option<Walk>
     ensures next { result ≡ up_next top more walk }
-    ensures in_range { IsInRange result }
+    ensures in_range { WalkRanges walk → IsInRange result }
 {
     if top {
         None
@@ -69,11 +58,10 @@ pub(crate) fn up_next(top: bool, more: bool, walk: Walk) -> Option<Walk>
 }
 
 /// After Mark it ends where the group had a migrator before.
-pub(crate) fn mark_next(more: bool, walk: Walk) -> Option<Walk>
-    requires in_range { WalkRanges walk }
-    requires level { walk.level < 255 }
+pub fn mark_next(more: bool, walk: Walk) -> Option<Walk>
+    requires { walk.level < 255 }
     ensures next { result ≡ mark_next more walk }
-    ensures in_range { IsInRange result }
+    ensures in_range { WalkRanges walk → IsInRange result }
 {
     if more {
         Some(higher(walk, Stage::Up))
@@ -83,10 +71,9 @@ pub(crate) fn mark_next(more: bool, walk: Walk) -> Option<Walk>
 }
 
 /// The group's word was read.
-pub(crate) fn read_next(walk: Walk) -> Walk
-    requires in_range { WalkRanges walk }
+pub fn read_next(walk: Walk) -> Walk
     ensures next { result ≡ read_next walk }
-    ensures in_range { WalkRanges result }
+    ensures in_range { WalkRanges walk → WalkRanges result }
 {
     Walk {
         fresh: true,
@@ -96,10 +83,9 @@ pub(crate) fn read_next(walk: Walk) -> Walk
 }
 
 /// The child's word was read.
-pub(crate) fn child_next(child_on: bool, walk: Walk) -> Walk
-    requires in_range { WalkRanges walk }
+pub fn child_next(child_on: bool, walk: Walk) -> Walk
     ensures next { result ≡ child_next child_on walk }
-    ensures in_range { WalkRanges result }
+    ensures in_range { WalkRanges walk → WalkRanges result }
 {
     Walk {
         child_on,
@@ -110,7 +96,7 @@ pub(crate) fn child_next(child_on: bool, walk: Walk) -> Walk
 
 /// The first lock that is taken at a level.
 fn first_lock(level: u8) -> Stage
-    ensures next { result ≡ first_lock level }
+    ensures { result ≡ first_lock level }
 {
     if level == 0 {
         Stage::LockGroup
@@ -120,10 +106,9 @@ fn first_lock(level: u8) -> Stage
 }
 
 /// The exchange was made, or it failed and read the word again.
-pub(crate) fn swap_next(fresh: bool, walk: Walk) -> Walk
-    requires in_range { WalkRanges walk }
+pub fn swap_next(fresh: bool, walk: Walk) -> Walk
     ensures next { result ≡ swap_next fresh walk }
-    ensures in_range { WalkRanges result }
+    ensures in_range { WalkRanges walk → WalkRanges result }
 {
     if fresh {
         at_stage(walk, first_lock(walk.level))
@@ -133,8 +118,8 @@ pub(crate) fn swap_next(fresh: bool, walk: Walk) -> Walk
 }
 
 /// The first word that is read under the locks at a level.
-pub(crate) fn first_sight(level: u8) -> Stage
-    ensures next { result ≡ first_sight level }
+pub fn first_sight(level: u8) -> Stage
+    ensures { result ≡ first_sight level }
 {
     if level == 0 {
         Stage::SeeGroup
@@ -144,10 +129,9 @@ pub(crate) fn first_sight(level: u8) -> Stage
 }
 
 /// The child's word was read under its lock.
-pub(crate) fn see_child_next(child_on: bool, walk: Walk) -> Walk
-    requires in_range { WalkRanges walk }
+pub fn see_child_next(child_on: bool, walk: Walk) -> Walk
     ensures next { result ≡ see_child_next child_on walk }
-    ensures in_range { WalkRanges result }
+    ensures in_range { WalkRanges walk → WalkRanges result }
 {
     if child_on {
         Walk {
@@ -162,7 +146,7 @@ pub(crate) fn see_child_next(child_on: bool, walk: Walk) -> Walk
 
 /// What comes after the group's word at a level.
 fn after_sight(level: u8) -> Stage
-    ensures next { result ≡ after_sight level }
+    ensures { result ≡ after_sight level }
 {
     if level == 0 {
         Stage::Store
@@ -172,10 +156,9 @@ fn after_sight(level: u8) -> Stage
 }
 
 /// The group's word was read under its lock.
-pub(crate) fn see_group_next(on: bool, top: bool, walk: Walk) -> Walk
-    requires in_range { WalkRanges walk }
+pub fn see_group_next(on: bool, top: bool, walk: Walk) -> Walk
     ensures next { result ≡ see_group_next on top walk }
-    ensures in_range { WalkRanges result }
+    ensures in_range { WalkRanges walk → WalkRanges result }
 {
     Walk {
         on,
@@ -188,10 +171,8 @@ pub(crate) fn see_group_next(on: bool, top: bool, walk: Walk) -> Walk
 /// The sooner of the first event so far and one more, which counts where it is there and isn't
 /// ignored.
 fn sooner_event(best: Option<Event>, one_more: Option<Event>) -> Option<Event>
-    requires best { EventFits best }
-    requires one_more { EventFits one_more }
     ensures next { result ≡ sooner_event best one_more }
-    ensures fits { EventFits result }
+    ensures fits { EventFits best → EventFits one_more → EventFits result }
 {
     let Some(event) = one_more else {
         return best;
@@ -205,10 +186,8 @@ fn sooner_event(best: Option<Event>, one_more: Option<Event>) -> Option<Event>
 
 /// The sooner of the first event so far and another one.
 fn sooner_of(best: Event, event: Event) -> Event
-    requires best { FitsWord best }
-    requires event { FitsWord event }
     ensures next { Some result ≡ sooner_event (Some best) (Some event) }
-    ensures fits { FitsWord result }
+    ensures fits { FitsWord best → FitsWord event → FitsWord result }
 {
     if event.ignored {
         best
@@ -220,12 +199,10 @@ fn sooner_of(best: Event, event: Event) -> Event
 }
 
 /// An event of the child was read.
-pub(crate) fn scan_next(event: Option<Event>, k: u8, walk: Walk) -> Walk
-    requires in_range { WalkRanges walk }
-    requires event { EventFits event }
-    requires k { k < 8 }
+pub fn scan_next(event: Option<Event>, k: u8, walk: Walk) -> Walk
+    requires { k < 8 }
     ensures next { result ≡ scan_next event k walk }
-    ensures in_range { WalkRanges result }
+    ensures in_range { WalkRanges walk → EventFits event → WalkRanges result }
 {
     Walk {
         best: sooner_event(walk.best, event),
@@ -239,11 +216,9 @@ pub(crate) fn scan_next(event: Option<Event>, k: u8, walk: Walk) -> Walk
 }
 
 /// What a CPU tells its leaf.
-fn leaf_event(cpu: CpuId, next: Jiffy) -> Option<Event>
-    requires cpu { cpu.0 < 1024 }
-    requires next { next < 2 ^ 48 }
+pub fn leaf_event(cpu: CpuId, next: Jiffy) -> Option<Event>
     ensures event { result ≡ leaf_event cpu.0 next }
-    ensures fits { EventFits result }
+    ensures fits { cpu.0 < 1024 → next < 2 ^ 48 → EventFits result }
 {
     if next == NEVER {
         None
@@ -258,9 +233,8 @@ fn leaf_event(cpu: CpuId, next: Jiffy) -> Option<Event>
 
 /// What a group tells its parent.
 fn best_event(best: Option<Event>) -> Option<Event>
-    requires { EventFits best }
     ensures event { result ≡ best_event best }
-    ensures fits { EventFits result }
+    ensures fits { EventFits best → EventFits result }
 {
     match best {
         Some(event) => Some(Event {
@@ -272,11 +246,9 @@ fn best_event(best: Option<Event>) -> Option<Event>
 }
 
 /// What Store writes.
-pub(crate) fn stored_event(cpu: CpuId, walk: Walk) -> Option<Event>
-    requires in_range { WalkRanges walk }
-    requires cpu { cpu.0 < 1024 }
+pub fn stored_event(cpu: CpuId, walk: Walk) -> Option<Event>
     ensures event { result ≡ stored_event walk.level cpu.0 walk }
-    ensures fits { EventFits result }
+    ensures fits { WalkRanges walk → cpu.0 < 1024 → EventFits result }
 {
     if walk.level == 0 {
         leaf_event(cpu, walk.next)
@@ -293,10 +265,9 @@ fn is_remote(kind: WalkKind) -> bool
 }
 
 /// The event was written.
-pub(crate) fn store_next(top: bool, walk: Walk) -> Walk
-    requires in_range { WalkRanges walk }
+pub fn store_next(top: bool, walk: Walk) -> Walk
     ensures next { result ≡ store_next top walk }
-    ensures in_range { WalkRanges result }
+    ensures in_range { WalkRanges walk → WalkRanges result }
 {
     let stage = if top && !walk.on && !is_remote(walk.kind) {
         Stage::First { k: 0 }
@@ -317,11 +288,10 @@ fn first_of(first: Jiffy, event: Option<Event>) -> Jiffy
 }
 
 /// An event of the top was read.
-pub(crate) fn first_next(event: Option<Event>, k: u8, walk: Walk) -> Walk
-    requires in_range { WalkRanges walk }
-    requires k { k < 8 }
+pub fn first_next(event: Option<Event>, k: u8, walk: Walk) -> Walk
+    requires { k < 8 }
     ensures next { result ≡ first_next event k walk }
-    ensures in_range { WalkRanges result }
+    ensures in_range { WalkRanges walk → WalkRanges result }
 {
     Walk {
         first: first_of(walk.first, event),
@@ -336,7 +306,7 @@ pub(crate) fn first_next(event: Option<Event>, k: u8, walk: Walk) -> Walk
 
 /// Where a level begins.
 fn first_stage(kind: WalkKind) -> Stage
-    ensures next { result ≡ first_stage kind }
+    ensures { result ≡ first_stage kind }
 {
     match kind {
         WalkKind::Activate => Stage::Up,
@@ -348,11 +318,10 @@ fn first_stage(kind: WalkKind) -> Stage
 }
 
 /// The last lock of a level was given back.
-pub(crate) fn freed_next(over: bool, walk: Walk) -> Walk
-    requires in_range { WalkRanges walk }
-    requires level { walk.level < 255 }
+pub fn freed_next(over: bool, walk: Walk) -> Walk
+    requires { walk.level < 255 }
     ensures next { result ≡ freed_next over walk }
-    ensures in_range { WalkRanges result }
+    ensures in_range { WalkRanges walk → WalkRanges result }
 {
     if over {
         at_stage(walk, Stage::Finish)
@@ -362,11 +331,10 @@ pub(crate) fn freed_next(over: bool, walk: Walk) -> Walk
 }
 
 /// The group's lock was given back.
-pub(crate) fn free_group_next(walk: Walk) -> Walk
-    requires in_range { WalkRanges walk }
-    requires level { walk.level < 255 }
+pub fn free_group_next(walk: Walk) -> Walk
+    requires { walk.level < 255 }
     ensures next { result ≡ free_group_next walk.level walk }
-    ensures in_range { WalkRanges result }
+    ensures in_range { WalkRanges walk → WalkRanges result }
 {
     if walk.level == 0 {
         freed_next(walk.over, walk)
