@@ -1,6 +1,6 @@
 //! Where steps that change what a CPU is are enabled.
 
-ghost use Rattle.std.specs.Prelude.{◌≡◌, ◌<◌, Some, length, true};
+ghost use Rattle.std.specs.Prelude.{◌≡◌, ◌↔◌, ◌<◌, Some, length, IsTrue};
 ghost use Rattle.tree_plan.specs.Paths.{is_placed_in};
 ghost use Rattle.core_world.specs.Enabled.{IsDueAtLeaf, IsFree, IsReevaluating, MayBeMissed};
 ghost use Rattle.core_world.specs.Enabled.{MayCarry, MayComeOnline, MayEnter};
@@ -19,8 +19,7 @@ use wheel_core::TimerBase;
 
 /// Whether a mark names this CPU.
 pub(crate) fn names(mark: Option<u16>, cpu: CpuId) -> bool
-    ensures yes { result ≡ true → mark ≡ Some cpu.0 }
-    ensures no { mark ≡ Some cpu.0 → result ≡ true }
+    ensures { IsTrue result ↔ (mark ≡ Some cpu.0) }
 {
     match mark {
         Some(number) => number == cpu.0,
@@ -29,9 +28,8 @@ pub(crate) fn names(mark: Option<u16>, cpu: CpuId) -> bool
 }
 
 /// Whether a walk is a re-evaluation.
-fn is_reeval(walk: Option<Walk>) -> bool
-    ensures yes { result ≡ true → (k : Walk) × (walk ≡ Some k) × (k.kind ≡ kinds.Reeval) }
-    ensures no { (k : Walk) → walk ≡ Some k → k.kind ≡ kinds.Reeval → result ≡ true }
+pub fn is_reeval(walk: Option<Walk>) -> bool
+    ensures { IsTrue result ↔ ((k : Walk) × (walk ≡ Some k) × (k.kind ≡ kinds.Reeval)) }
 {
     match walk {
         Some(walk) => matches!(walk.kind, WalkKind::Reeval),
@@ -41,8 +39,7 @@ fn is_reeval(walk: Option<Walk>) -> bool
 
 /// Whether a walk stands at Handing.
 fn is_handing(walk: Option<Walk>) -> bool
-    ensures yes { result ≡ true → (k : Walk) × (walk ≡ Some k) × (k.stage ≡ stages.Handing) }
-    ensures no { (k : Walk) → walk ≡ Some k → k.stage ≡ stages.Handing → result ≡ true }
+    ensures { IsTrue result ↔ ((k : Walk) × (walk ≡ Some k) × (k.stage ≡ stages.Handing)) }
 {
     match walk {
         Some(walk) => matches!(walk.stage, Stage::Handing),
@@ -52,8 +49,7 @@ fn is_handing(walk: Option<Walk>) -> bool
 
 /// Whether a CPU is there and has no walk.
 pub(crate) fn is_free<B: TimerBase>(core: &Core<B>, cpu: CpuId) -> bool
-    ensures yes { result ≡ true → IsFree core.now cpu.0 }
-    ensures no { IsFree core.now cpu.0 → result ≡ true }
+    ensures { IsTrue result ↔ IsFree core.now cpu.0 }
 {
     if cpu.0 >= core.count() {
         return false;
@@ -70,15 +66,13 @@ pub(crate) fn is_active<B: TimerBase>(core: &Core<B>, cpu: CpuId) -> bool
 }
 
 pub(crate) fn may_time<B: TimerBase>(core: &Core<B>, now: Jiffy) -> bool
-    ensures yes { result ≡ true → MayTime core.now now }
-    ensures no { MayTime core.now now → result ≡ true }
+    ensures { IsTrue result ↔ MayTime core.now now }
 {
     core.now() <= now && now < TIME_LIMIT - 2
 }
 
 pub(crate) fn may_enter<B: TimerBase>(core: &Core<B>, cpu: CpuId) -> bool
-    ensures yes { result ≡ true → MayEnter core.now cpu.0 }
-    ensures no { MayEnter core.now cpu.0 → result ≡ true }
+    ensures { IsTrue result ↔ MayEnter core.now cpu.0 }
 {
     if !is_free(core, cpu) {
         return false;
@@ -88,8 +82,7 @@ pub(crate) fn may_enter<B: TimerBase>(core: &Core<B>, cpu: CpuId) -> bool
 }
 
 pub(crate) fn may_wake<B: TimerBase>(core: &Core<B>, cpu: CpuId) -> bool
-    ensures yes { result ≡ true → MayWake core.now cpu.0 }
-    ensures no { MayWake core.now cpu.0 → result ≡ true }
+    ensures { IsTrue result ↔ MayWake core.now cpu.0 }
 {
     if !is_free(core, cpu) {
         return false;
@@ -99,10 +92,9 @@ pub(crate) fn may_wake<B: TimerBase>(core: &Core<B>, cpu: CpuId) -> bool
 }
 
 /// Whether the CPU is isolated, or another placed CPU is online.
-pub(crate) fn may_be_missed<B: TimerBase>(core: &Core<B>, cpu: CpuId) -> bool
+pub fn may_be_missed<B: TimerBase>(core: &Core<B>, cpu: CpuId) -> bool
     requires { cpu.0 < length core.now.cpus }
-    ensures yes { result ≡ true → MayBeMissed core.now cpu.0 }
-    ensures no { MayBeMissed core.now cpu.0 → result ≡ true }
+    ensures { IsTrue result ↔ MayBeMissed core.now cpu.0 }
 {
     if !core.is_placed(cpu) {
         return true;
@@ -111,8 +103,7 @@ pub(crate) fn may_be_missed<B: TimerBase>(core: &Core<B>, cpu: CpuId) -> bool
 }
 
 pub(crate) fn may_leave<B: TimerBase>(core: &Core<B>, cpu: CpuId) -> bool
-    ensures yes { result ≡ true → MayLeave core.now cpu.0 }
-    ensures no { MayLeave core.now cpu.0 → result ≡ true }
+    ensures { IsTrue result ↔ MayLeave core.now cpu.0 }
 {
     if !is_free(core, cpu) {
         return false;
@@ -122,8 +113,7 @@ pub(crate) fn may_leave<B: TimerBase>(core: &Core<B>, cpu: CpuId) -> bool
 }
 
 pub(crate) fn may_idle<B: TimerBase>(core: &Core<B>, cpu: CpuId) -> bool
-    ensures yes { result ≡ true → MayIdle core.now cpu.0 }
-    ensures no { MayIdle core.now cpu.0 → result ≡ true }
+    ensures { IsTrue result ↔ MayIdle core.now cpu.0 }
 {
     if !is_free(core, cpu) {
         return false;
@@ -135,8 +125,7 @@ pub(crate) fn may_idle<B: TimerBase>(core: &Core<B>, cpu: CpuId) -> bool
 }
 
 pub(crate) fn may_go_offline<B: TimerBase>(core: &Core<B>, cpu: CpuId) -> bool
-    ensures yes { result ≡ true → MayGoOffline core.now cpu.0 }
-    ensures no { MayGoOffline core.now cpu.0 → result ≡ true }
+    ensures { IsTrue result ↔ MayGoOffline core.now cpu.0 }
 {
     if !is_free(core, cpu) {
         return false;
@@ -145,8 +134,7 @@ pub(crate) fn may_go_offline<B: TimerBase>(core: &Core<B>, cpu: CpuId) -> bool
 }
 
 pub(crate) fn may_come_online<B: TimerBase>(core: &Core<B>, cpu: CpuId) -> bool
-    ensures yes { result ≡ true → MayComeOnline core.now cpu.0 }
-    ensures no { MayComeOnline core.now cpu.0 → result ≡ true }
+    ensures { IsTrue result ↔ MayComeOnline core.now cpu.0 }
 {
     if !is_free(core, cpu) {
         return false;
@@ -155,8 +143,7 @@ pub(crate) fn may_come_online<B: TimerBase>(core: &Core<B>, cpu: CpuId) -> bool
 }
 
 pub(crate) fn may_reevaluate<B: TimerBase>(core: &Core<B>, cpu: CpuId) -> bool
-    ensures yes { result ≡ true → MayReeval core.now cpu.0 }
-    ensures no { MayReeval core.now cpu.0 → result ≡ true }
+    ensures { IsTrue result ↔ MayReeval core.now cpu.0 }
 {
     if !is_free(core, cpu) {
         return false;
@@ -166,10 +153,9 @@ pub(crate) fn may_reevaluate<B: TimerBase>(core: &Core<B>, cpu: CpuId) -> bool
 }
 
 /// Whether a CPU's event in its leaf is due.
-fn is_due_at_leaf<B: TimerBase>(core: &Core<B>, cpu: CpuId) -> bool
+pub fn is_due_at_leaf<B: TimerBase>(core: &Core<B>, cpu: CpuId) -> bool
     requires { cpu.0 < length core.now.cpus }
-    ensures yes { result ≡ true → IsDueAtLeaf core.now cpu.0 }
-    ensures no { IsDueAtLeaf core.now cpu.0 → result ≡ true }
+    ensures { IsTrue result ↔ IsDueAtLeaf core.now cpu.0 }
 {
     if !core.has_group(cpu) {
         return false;
@@ -184,8 +170,7 @@ fn is_due_at_leaf<B: TimerBase>(core: &Core<B>, cpu: CpuId) -> bool
 
 /// Whether a CPU may look after others.
 pub(crate) fn may_look<B: TimerBase>(core: &Core<B>, by: CpuId) -> bool
-    ensures yes { result ≡ true → MayLook core.now by.0 }
-    ensures no { MayLook core.now by.0 → result ≡ true }
+    ensures { IsTrue result ↔ MayLook core.now by.0 }
 {
     if by.0 >= core.count() {
         return false;
@@ -195,8 +180,7 @@ pub(crate) fn may_look<B: TimerBase>(core: &Core<B>, by: CpuId) -> bool
 }
 
 pub(crate) fn may_take<B: TimerBase>(core: &Core<B>, cpu: CpuId, by: CpuId) -> bool
-    ensures yes { result ≡ true → MayTake core.now cpu.0 by.0 }
-    ensures no { MayTake core.now cpu.0 by.0 → result ≡ true }
+    ensures { IsTrue result ↔ MayTake core.now cpu.0 by.0 }
 {
     if !is_free(core, cpu) || !may_look(core, by) {
         return false;
@@ -206,8 +190,7 @@ pub(crate) fn may_take<B: TimerBase>(core: &Core<B>, cpu: CpuId, by: CpuId) -> b
 }
 
 pub(crate) fn may_carry<B: TimerBase>(core: &Core<B>, cpu: CpuId) -> bool
-    ensures yes { result ≡ true → MayCarry core.now cpu.0 }
-    ensures no { MayCarry core.now cpu.0 → result ≡ true }
+    ensures { IsTrue result ↔ MayCarry core.now cpu.0 }
 {
     if !is_free(core, cpu) {
         return false;
@@ -217,8 +200,7 @@ pub(crate) fn may_carry<B: TimerBase>(core: &Core<B>, cpu: CpuId) -> bool
 }
 
 pub(crate) fn may_release<B: TimerBase>(core: &Core<B>, cpu: CpuId) -> bool
-    ensures yes { result ≡ true → MayRelease core.now cpu.0 }
-    ensures no { MayRelease core.now cpu.0 → result ≡ true }
+    ensures { IsTrue result ↔ MayRelease core.now cpu.0 }
 {
     if !is_free(core, cpu) {
         return false;
@@ -228,8 +210,7 @@ pub(crate) fn may_release<B: TimerBase>(core: &Core<B>, cpu: CpuId) -> bool
 }
 
 pub(crate) fn may_hand_on<B: TimerBase>(core: &Core<B>, cpu: CpuId, to: CpuId) -> bool
-    ensures yes { result ≡ true → MayHandOn core.now cpu.0 to.0 }
-    ensures no { MayHandOn core.now cpu.0 to.0 → result ≡ true }
+    ensures { IsTrue result ↔ MayHandOn core.now cpu.0 to.0 }
 {
     if cpu.0 >= core.count() || to.0 >= core.count() {
         return false;

@@ -1,6 +1,6 @@
 //! Where steps of timers and walks are enabled.
 
-ghost use Rattle.std.specs.Prelude.{◌≡◌, ◌<◌, ℕ, None, Some, length, true};
+ghost use Rattle.std.specs.Prelude.{◌≡◌, ◌↔◌, ◌<◌, ℕ, None, Some, length, IsTrue};
 ghost use Rattle.tm_base.specs.declared.names.Class.TheVariants.{Global};
 ghost use Rattle.wheel_core.specs.PlainBase.{NoneBehind};
 ghost use Rattle.cpu_bases.specs.CpuBases.{base_of, class_in};
@@ -18,8 +18,7 @@ use wheel_core::{Item, TimerBase};
 
 /// Whether an item is a timer's.
 fn is_of(item: Option<Item>, timer: TimerId) -> bool
-    ensures yes { result ≡ true → (i : Item) × (item ≡ Some i) × (i.id ≡ timer.0) }
-    ensures no { (i : Item) → item ≡ Some i → i.id ≡ timer.0 → result ≡ true }
+    ensures { IsTrue result ↔ ((i : Item) × (item ≡ Some i) × (i.id ≡ timer.0)) }
 {
     match item {
         Some(item) => item.id == u32::from(timer.0),
@@ -28,9 +27,8 @@ fn is_of(item: Option<Item>, timer: TimerId) -> bool
 }
 
 /// Whether an id is a timer's.
-fn is_id(id: Option<u32>, timer: TimerId) -> bool
-    ensures yes { result ≡ true → id ≡ Some timer.0 }
-    ensures no { id ≡ Some timer.0 → result ≡ true }
+pub fn is_id(id: Option<u32>, timer: TimerId) -> bool
+    ensures { IsTrue result ↔ (id ≡ Some timer.0) }
 {
     match id {
         Some(id) => id == u32::from(timer.0),
@@ -40,8 +38,7 @@ fn is_id(id: Option<u32>, timer: TimerId) -> bool
 
 /// Whether any CPU may run timers of a class.
 fn is_global(class: Class) -> bool
-    ensures yes { result ≡ true → class ≡ Global }
-    ensures no { class ≡ Global → result ≡ true }
+    ensures { IsTrue result ↔ (class ≡ Global) }
 {
     matches!(class, Class::Global)
 }
@@ -49,19 +46,15 @@ fn is_global(class: Class) -> bool
 /// Whether a timer is queued nowhere.
 fn is_nowhere<B: TimerBase>(core: &Core<B>, timer: TimerId) -> bool
     requires { timer.0 < core.now.timers }
-    ensures yes { result ≡ true
-        → (d : ℕ) → class_in timer.0 (cpu_of core.now d).bases ≡ None }
-    ensures no { ((d : ℕ) → class_in timer.0 (cpu_of core.now d).bases ≡ None)
-        → result ≡ true }
+    ensures { IsTrue result ↔ ((d : ℕ) → class_in timer.0 (cpu_of core.now d).bases ≡ None) }
 {
     core.queued_on(timer).is_none()
 }
 
 /// Whether the runner may run timers of a class of a CPU.
-fn may_run<B: TimerBase>(core: &Core<B>, cpu: CpuId, class: Class, runner: CpuId) -> bool
+pub fn may_run<B: TimerBase>(core: &Core<B>, cpu: CpuId, class: Class, runner: CpuId) -> bool
     requires { cpu.0 < length core.now.cpus }
-    ensures yes { result ≡ true → MayRun core.now cpu.0 class runner.0 }
-    ensures no { MayRun core.now cpu.0 class runner.0 → result ≡ true }
+    ensures { IsTrue result ↔ MayRun core.now cpu.0 class runner.0 }
 {
     let status = core.status(cpu);
     if runner.0 == cpu.0 && status.inside {
@@ -77,8 +70,7 @@ pub(crate) fn may_arm<B: TimerBase>(
     class: Class,
     expires: Jiffy,
 ) -> bool
-    ensures yes { result ≡ true → MayArm core.now cpu.0 timer.0 class expires }
-    ensures no { MayArm core.now cpu.0 timer.0 class expires → result ≡ true }
+    ensures { IsTrue result ↔ MayArm core.now cpu.0 timer.0 class expires }
 {
     if !is_free(core, cpu) || !core.knows(timer) {
         return false;
@@ -94,8 +86,7 @@ pub(crate) fn may_arm<B: TimerBase>(
 }
 
 pub(crate) fn may_cancel<B: TimerBase>(core: &Core<B>, cpu: CpuId, timer: TimerId) -> bool
-    ensures yes { result ≡ true → MayCancel core.now cpu.0 timer.0 }
-    ensures no { MayCancel core.now cpu.0 timer.0 → result ≡ true }
+    ensures { IsTrue result ↔ MayCancel core.now cpu.0 timer.0 }
 {
     if !is_free(core, cpu) {
         return false;
@@ -109,8 +100,7 @@ pub(crate) fn may_hand<B: TimerBase>(
     timer: TimerId,
     runner: CpuId,
 ) -> bool
-    ensures yes { result ≡ true → MayHand core.now cpu.0 timer.0 runner.0 }
-    ensures no { MayHand core.now cpu.0 timer.0 runner.0 → result ≡ true }
+    ensures { IsTrue result ↔ MayHand core.now cpu.0 timer.0 runner.0 }
 {
     if !is_free(core, cpu) {
         return false;
@@ -128,8 +118,7 @@ pub(crate) fn may_tick<B: TimerBase>(
     class: Class,
     runner: CpuId,
 ) -> bool
-    ensures yes { result ≡ true → MayTick core.now cpu.0 class runner.0 }
-    ensures no { MayTick core.now cpu.0 class runner.0 → result ≡ true }
+    ensures { IsTrue result ↔ MayTick core.now cpu.0 class runner.0 }
 {
     if !is_free(core, cpu) {
         return false;
@@ -142,8 +131,7 @@ pub(crate) fn may_tick<B: TimerBase>(
 fn may_go<B: TimerBase>(core: &Core<B>, from: CpuId, to: CpuId, timer: TimerId) -> bool
     requires from { from.0 < length core.now.cpus }
     requires to { to.0 < length core.now.cpus }
-    ensures yes { result ≡ true → MayGo core.now from.0 to.0 timer.0 }
-    ensures no { MayGo core.now from.0 to.0 timer.0 → result ≡ true }
+    ensures { IsTrue result ↔ MayGo core.now from.0 to.0 timer.0 }
 {
     let Some(class) = core.class_to_move(from) else {
         return false;
@@ -152,8 +140,7 @@ fn may_go<B: TimerBase>(core: &Core<B>, from: CpuId, to: CpuId, timer: TimerId) 
 }
 
 pub(crate) fn may_move<B: TimerBase>(core: &Core<B>, from: CpuId, to: CpuId, timer: TimerId) -> bool
-    ensures yes { result ≡ true → MayMove core.now from.0 to.0 timer.0 }
-    ensures no { MayMove core.now from.0 to.0 timer.0 → result ≡ true }
+    ensures { IsTrue result ↔ MayMove core.now from.0 to.0 timer.0 }
 {
     if !is_free(core, from) || !is_free(core, to) {
         return false;
@@ -170,8 +157,7 @@ pub(crate) fn may_move<B: TimerBase>(core: &Core<B>, from: CpuId, to: CpuId, tim
 fn may_go_on<B: TimerBase>(core: &Core<B>, cpu: CpuId, walk: Walk) -> bool
     requires cpu { cpu.0 < length core.now.cpus }
     requires walk { (cpu_of core.now cpu.0).walk ≡ Some walk }
-    ensures yes { result ≡ true → MayGoOn core.now cpu.0 walk walk.stage }
-    ensures no { MayGoOn core.now cpu.0 walk walk.stage → result ≡ true }
+    ensures { IsTrue result ↔ MayGoOn core.now cpu.0 walk walk.stage }
 {
     core.kept();
     match walk.stage {
@@ -202,8 +188,7 @@ fn may_go_on<B: TimerBase>(core: &Core<B>, cpu: CpuId, walk: Walk) -> bool
 }
 
 pub(crate) fn may_walk<B: TimerBase>(core: &Core<B>, cpu: CpuId) -> bool
-    ensures yes { result ≡ true → MayWalk core.now cpu.0 }
-    ensures no { MayWalk core.now cpu.0 → result ≡ true }
+    ensures { IsTrue result ↔ MayWalk core.now cpu.0 }
 {
     if cpu.0 >= core.count() {
         return false;

@@ -1,7 +1,6 @@
 //! Where any step is enabled.
 
-ghost use Rattle.std.specs.Prelude.{◌≡◌, true};
-ghost use Rattle.std.specs.Bool.{OnFalse, OnTrue};
+ghost use Rattle.std.specs.Prelude.{◌↔◌, IsTrue};
 ghost use Rattle.core_world.specs.Enabled.{Enabled};
 
 use crate::asking::{
@@ -14,8 +13,7 @@ use core_world::Step;
 use wheel_core::TimerBase;
 
 fn is_enabled<B: TimerBase>(core: &Core<B>, step: Step) -> bool
-    ensures yes { result ≡ true → Enabled core.now step }
-    ensures no { Enabled core.now step → result ≡ true }
+    ensures { IsTrue result ↔ Enabled core.now step }
 {
     match step {
         Step::Clock { now } => may_time(core, now),
@@ -54,8 +52,7 @@ fn is_enabled<B: TimerBase>(core: &Core<B>, step: Step) -> bool
 
 /// Whether a step may be made now.
 pub fn enabled<B: TimerBase>(core: &Core<B>, step: &Step) -> bool
-    ensures yes { OnTrue result (Enabled core.now step.now) }
-    ensures no { OnFalse result (Enabled core.now step.now → ⊥) }
+    ensures { IsTrue result ↔ Enabled core.now step.now }
 {
     let step = *step;
     is_enabled(core, step)

@@ -13,5 +13,7 @@ mod locking;
 mod steps;
 mod telling;
 
+pub use asking::{is_due_at_leaf, is_reeval, may_be_missed};
+pub use asking_timers::{is_id, may_run};
 pub use enabling::enabled;
 pub use steps::apply;

@@ -12,6 +12,7 @@ use Rattle.walk_rules.specs.declared.walk.Walk.{Walk}
 use Rattle.walk_rules.specs.Edges.{StandsBelow, edge_level, edge_of}
 use Rattle.walk_rules.specs.Queues.{IsCarried, group_under, is_past_swap, is_up_to_store}
 use Rattle.walk_rules.specs.Queues.{tells_by, will_tell_by}
+use Rattle.walk_rules.specs.Hierarchy.{IsHierarchy}
 use Rattle.walk_rules.specs.Stages.{forget, is_remote}
 use Rattle.core_world.specs.Covered.{Carried, LeadsTo, machine_of}
 use Rattle.core_world.specs.Covered as covers
@@ -30,6 +31,17 @@ use Rattle.trace_check.proofs.ToldLaws.{IsActiveEnd, IsTopEnd}
 leads_on : (w : World) (z : Child) (g : ℕ) → LeadsTo w z g → is_some (group_of w g).migrator ≡ true
 leads_on w z g (covers.there x k is at) = ap is_some is
 leads_on w z g (covers.further x k h is at rest) = ap is_some is
+
+-- two paths meet at one level, in one group
+pub meet_once : (w : World) (d c level at one two : ℕ) → IsHierarchy w.tree
+    → group_at_of w.tree c at ≡ Some one → group_at_of w.tree d at ≡ Some two
+    → MeetsBelow w d (Some at) c level → one ≡ two
+meet_once w d c level at one two lawful path other m =
+    let same : m.meeting ≡ at = lawful.one_level c d m.meeting at m.group m.path m.other in
+    let there : group_at_of w.tree c at ≡ Some m.group =
+    subst (λ l. group_at_of w.tree c l ≡ Some m.group) same m.path in
+    let here : group_at_of w.tree d at ≡ Some m.group = m.other in
+    cc (path, other, there, here)
 
 -- ---- walks
 

@@ -1,6 +1,6 @@
 //! Whose walk carries.
 
-ghost use Rattle.std.specs.Prelude.{◌≡◌, ℕ, ◌<◌, ◌||◌, None, Option, Some, length, not, true};
+ghost use Rattle.std.specs.Prelude.{◌≡◌, ◌↔◌, ℕ, ◌<◌, ◌||◌, Option, Some, length, not, IsTrue};
 ghost use Rattle.core_world.specs.Wakeups.{is_undisturbed};
 ghost use Rattle.core_world.specs.World.{cpu_of};
 ghost use Rattle.walk_rules.specs.Edges.{edge_level};
@@ -80,8 +80,7 @@ fn tells_level(walk: Walk) -> Option<u8>
 fn meets<B: TimerBase>(core: &Core<B>, other: CpuId, at: Option<u8>, cpu: CpuId, level: u8) -> bool
     requires other { other.0 < length core.now.cpus }
     requires cpu { cpu.0 < length core.now.cpus }
-    ensures yes { result ≡ true → MeetsBelow core.now other.0 at cpu.0 level }
-    ensures no { MeetsBelow core.now other.0 at cpu.0 level → result ≡ true }
+    ensures { IsTrue result ↔ MeetsBelow core.now other.0 at cpu.0 level }
 {
     core.kept();
     let Some(at) = at else {
@@ -105,8 +104,7 @@ fn meets<B: TimerBase>(core: &Core<B>, other: CpuId, at: Option<u8>, cpu: CpuId,
 fn sees_to<B: TimerBase>(core: &Core<B>, other: CpuId, cpu: CpuId, level: u8) -> bool
     requires other { other.0 < length core.now.cpus }
     requires cpu { cpu.0 < length core.now.cpus }
-    ensures yes { result ≡ true → SeesToBelow core.now other.0 cpu.0 level }
-    ensures no { SeesToBelow core.now other.0 cpu.0 level → result ≡ true }
+    ensures { IsTrue result ↔ SeesToBelow core.now other.0 cpu.0 level }
 {
     core.kept();
     let Some(walk) = core.walk(other) else {
@@ -121,8 +119,7 @@ fn sees_to<B: TimerBase>(core: &Core<B>, other: CpuId, cpu: CpuId, level: u8) ->
 /// it.
 pub(crate) fn is_seen_to<B: TimerBase>(core: &Core<B>, cpu: CpuId, level: u8) -> bool
     requires { cpu.0 < length core.now.cpus }
-    ensures yes { result ≡ true → (d : ℕ) × SeesToBelow core.now d cpu.0 level }
-    ensures no { (d : ℕ) → SeesToBelow core.now d cpu.0 level → result ≡ true }
+    ensures { IsTrue result ↔ ((d : ℕ) × SeesToBelow core.now d cpu.0 level) }
 {
     core.kept();
     for other in 0..core.count() {

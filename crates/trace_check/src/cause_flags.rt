@@ -1,7 +1,7 @@
 //! What forbids steps that change what a CPU is.
 
 ghost use Rattle.std.specs.Prelude.{◌≡◌, ◌<◌, IfNone, IfSome, Some, length, true};
-ghost use Rattle.core_world.specs.Enabled.{IsDueAtLeaf, IsFree, MayBeMissed, MayCarry};
+ghost use Rattle.core_world.specs.Enabled.{IsFree, MayCarry};
 ghost use Rattle.core_world.specs.Enabled.{MayComeOnline, MayEnter, MayGoOffline, MayIdle};
 ghost use Rattle.core_world.specs.Enabled.{MayLeave, MayReeval, MayRelease, MayTake, MayTime};
 ghost use Rattle.core_world.specs.Enabled.{MayWake};
@@ -13,6 +13,7 @@ ghost use Rattle.trace_check.specs.Causes.{IsCause};
 
 use crate::causes::{Cause, CpuFact};
 use core_state::{Core, CpuStatus};
+use step_core::may_be_missed;
 use tm_base::{CpuId, Jiffy, TIME_LIMIT};
 use walk_rules::{Walk, WalkKind};
 use wheel_core::TimerBase;
@@ -137,18 +138,6 @@ pub(crate) fn no_wake<B: TimerBase>(core: &Core<B>, cpu: CpuId) -> Option<Cause>
         return Some(Cause::Cpu(cpu, CpuFact::NotIdle));
     }
     None
-}
-
-/// Whether the CPU is isolated, or another placed CPU is online.
-fn may_be_missed<B: TimerBase>(core: &Core<B>, cpu: CpuId) -> bool
-    requires { cpu.0 < length core.now.cpus }
-    ensures yes { result ≡ true → MayBeMissed core.now cpu.0 }
-    ensures no { MayBeMissed core.now cpu.0 → result ≡ true }
-{
-    if !core.is_placed(cpu) {
-        return true;
-    }
-    core.others_online(cpu)
 }
 
 pub(crate) fn no_offline<B: TimerBase>(core: &Core<B>, cpu: CpuId) -> Option<Cause>

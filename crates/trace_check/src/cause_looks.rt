@@ -1,13 +1,11 @@
 //! What forbids that a CPU looks after another one, hands on to it, or makes a step of its walk.
 
-ghost use Rattle.std.specs.Prelude.{◌≡◌, ◌≢◌, ◌<◌, IfNone, IfSome, None, Some, length, true};
+ghost use Rattle.std.specs.Prelude.{◌≡◌, ◌≢◌, ◌<◌, IfNone, IfSome, None, Some, length};
 ghost use Rattle.tree_plan.specs.Paths.{level_of, place_of};
-ghost use Rattle.core_world.specs.Enabled.{IsDueAtLeaf, IsReevaluating, MayGoOn, MayHandOn};
-ghost use Rattle.core_world.specs.Enabled.{MayTake, MayWalk};
+ghost use Rattle.core_world.specs.Enabled.{MayGoOn, MayHandOn, MayTake, MayWalk};
 ghost use Rattle.core_world.specs.World.{cpu_of, group_of};
 ghost use Rattle.step_core.specs.Asking.{MayLook};
 ghost use Rattle.walk_rules.specs.declared.walk.Walk.{Walk};
-ghost use Rattle.walk_rules.specs.declared.walk.WalkKind.TheVariants as kinds;
 ghost use Rattle.walk_rules.specs.declared.walk.Stage.TheVariants as stages;
 ghost use Rattle.trace_check.specs.CauseParts.{IsTakenFor};
 ghost use Rattle.trace_check.specs.Causes.{IsCause, IsHandingOn};
@@ -15,37 +13,10 @@ ghost use Rattle.trace_check.specs.Causes.{IsCause, IsHandingOn};
 use crate::cause_flags::{no_active, no_wake};
 use crate::causes::{Cause, CpuFact};
 use core_state::{Core, CpuStatus};
+use step_core::{is_due_at_leaf, is_reeval};
 use tm_base::{CpuId, GroupId};
-use walk_rules::{Stage, Walk, WalkKind};
+use walk_rules::{Stage, Walk};
 use wheel_core::TimerBase;
-
-/// Whether a CPU's event in its leaf is due.
-fn is_due_at_leaf<B: TimerBase>(core: &Core<B>, cpu: CpuId) -> bool
-    requires { cpu.0 < length core.now.cpus }
-    ensures yes { result ≡ true → IsDueAtLeaf core.now cpu.0 }
-    ensures no { IsDueAtLeaf core.now cpu.0 → result ≡ true }
-{
-    if !core.has_group(cpu) {
-        return false;
-    }
-    let leaf = core.group_on(cpu, 0);
-    let child = core.side(cpu, 0);
-    match core.event_of(leaf, child) {
-        Some(event) => !event.ignored && event.expiry <= core.now(),
-        None => false,
-    }
-}
-
-/// Whether a walk is a re-evaluation.
-fn is_reeval(walk: Option<Walk>) -> bool
-    ensures yes { result ≡ true → (k : Walk) × (walk ≡ Some k) × (k.kind ≡ kinds.Reeval) }
-    ensures no { (k : Walk) → walk ≡ Some k → k.kind ≡ kinds.Reeval → result ≡ true }
-{
-    match walk {
-        Some(walk) => matches!(walk.kind, WalkKind::Reeval),
-        None => false,
-    }
-}
 
 /// What forbids that a CPU looks after others.
 fn no_look<B: TimerBase>(core: &Core<B>, by: CpuId) -> Option<Cause>

@@ -1,11 +1,10 @@
 //! What forbids steps of timers.
 
-ghost use Rattle.std.specs.Prelude.{◌≡◌, ◌<◌, ℕ, IfNone, IfSome, None, Some, length, true};
-ghost use Rattle.tm_base.specs.declared.names.Class.TheVariants.{Global};
+ghost use Rattle.std.specs.Prelude.{◌≡◌, ◌<◌, ℕ, IfNone, IfSome, None, Some, length};
 ghost use Rattle.wheel_core.specs.declared.item.Item.{Item};
 ghost use Rattle.wheel_core.specs.PlainBase.{NoneBehind};
 ghost use Rattle.cpu_bases.specs.CpuBases.{base_of, class_in};
-ghost use Rattle.core_world.specs.Enabled.{IsFree, MayArm, MayCancel, MayHand, MayMove, MayRun};
+ghost use Rattle.core_world.specs.Enabled.{IsFree, MayArm, MayCancel, MayHand, MayMove};
 ghost use Rattle.core_world.specs.Enabled.{MayTick};
 ghost use Rattle.core_world.specs.Steps.{first_moved};
 ghost use Rattle.core_world.specs.World.{cpu_of};
@@ -16,6 +15,7 @@ ghost use Rattle.trace_check.specs.Causes.{IsCause, MovesNotFirst};
 use crate::cause_flags::{no_active, no_free, no_online};
 use crate::causes::{Cause, CpuFact};
 use core_state::Core;
+use step_core::{is_id, may_run};
 use tm_base::{Class, CpuId, Jiffy, TIME_LIMIT, TimerId};
 use wheel_core::{Item, TimerBase};
 
@@ -106,38 +106,6 @@ pub(crate) fn no_cancel<B: TimerBase>(
     None
 }
 
-/// Whether any CPU may run timers of a class.
-fn is_global(class: Class) -> bool
-    ensures yes { result ≡ true → class ≡ Global }
-    ensures no { class ≡ Global → result ≡ true }
-{
-    matches!(class, Class::Global)
-}
-
-/// Whether a mark names this CPU.
-fn names(mark: Option<u16>, cpu: CpuId) -> bool
-    ensures yes { result ≡ true → mark ≡ Some cpu.0 }
-    ensures no { mark ≡ Some cpu.0 → result ≡ true }
-{
-    match mark {
-        Some(number) => number == cpu.0,
-        None => false,
-    }
-}
-
-/// Whether the runner may run timers of a class of a CPU.
-fn may_run<B: TimerBase>(core: &Core<B>, cpu: CpuId, class: Class, runner: CpuId) -> bool
-    requires { cpu.0 < length core.now.cpus }
-    ensures yes { result ≡ true → MayRun core.now cpu.0 class runner.0 }
-    ensures no { MayRun core.now cpu.0 class runner.0 → result ≡ true }
-{
-    let status = core.status(cpu);
-    if runner.0 == cpu.0 && status.inside {
-        return true;
-    }
-    is_global(class) && names(status.mark, runner)
-}
-
 /// What forbids that a timer goes out next of the class in which it is queued.
 fn no_next_out<B: TimerBase>(
     core: &Core<B>,
@@ -210,17 +178,6 @@ pub(crate) fn no_tick<B: TimerBase>(
         return Some(Cause::NoRunner { cpu, class, runner });
     }
     None
-}
-
-/// Whether an id is a timer's.
-fn is_id(id: Option<u32>, timer: TimerId) -> bool
-    ensures yes { result ≡ true → id ≡ Some timer.0 }
-    ensures no { id ≡ Some timer.0 → result ≡ true }
-{
-    match id {
-        Some(id) => id == u32::from(timer.0),
-        None => false,
-    }
 }
 
 /// The class of a timer that is the first to move from a CPU.

@@ -10,7 +10,7 @@ returns-then-is_busy g c =
 
 pub returns-then-is_seen_to : goal.returns-then-is_seen_to
 returns-then-is_seen_to g c =
-    let by = c.is_seen_to.ensures.yes c.if-is_seen_to.true in
+    let by = c.is_seen_to.ensures.0 c.if-is_seen_to.true in
     case_2 c.args.core.now c.args.cpu.0 c.args.wheel (sym c.is_busy.ensures ∙ c.if-is_busy.false)
     c.args.reach.level c.requires.reach.below by.0 by.1
 
@@ -19,7 +19,7 @@ returns-in-Active g c =
     let w = c.args.core.now in
     case_3 w c.args.cpu.0 c.args.wheel (sym c.is_busy.ensures ∙ c.if-is_busy.false)
     c.args.reach.level c.requires.reach.below
-    (λ d sees. true≢false (sym (c.is_seen_to.ensures.no d sees) ∙ c.if-is_seen_to.false))
+    (λ d sees. true≢false (sym (c.is_seen_to.ensures.1 (d, sees)) ∙ c.if-is_seen_to.false))
     (ends.Active c.in-Active.field-0)
     (subst (EndsAt w c.args.cpu.0 c.args.wheel c.args.reach.level) c.in-Active.is
     c.requires.reach.end) (λ o at. at) c.requires.left
@@ -29,7 +29,7 @@ returns-in-Top g c =
     let w = c.args.core.now in
     case_4 w c.args.cpu.0 c.args.wheel (sym c.is_busy.ensures ∙ c.if-is_busy.false)
     c.args.reach.level c.requires.reach.below
-    (λ d sees. true≢false (sym (c.is_seen_to.ensures.no d sees) ∙ c.if-is_seen_to.false))
+    (λ d sees. true≢false (sym (c.is_seen_to.ensures.1 (d, sees)) ∙ c.if-is_seen_to.false))
     (ends.Top c.in-Top.field-0)
     (subst (EndsAt w c.args.cpu.0 c.args.wheel c.args.reach.level) c.in-Top.is
     c.requires.reach.end) (λ n at. at) c.requires.left
@@ -39,7 +39,7 @@ returns-in-Untold g c =
     let w = c.args.core.now in
     case_4 w c.args.cpu.0 c.args.wheel (sym c.is_busy.ensures ∙ c.if-is_busy.false)
     c.args.reach.level c.requires.reach.below
-    (λ d sees. true≢false (sym (c.is_seen_to.ensures.no d sees) ∙ c.if-is_seen_to.false))
+    (λ d sees. true≢false (sym (c.is_seen_to.ensures.1 (d, sees)) ∙ c.if-is_seen_to.false))
     ends.Untold
     (subst (EndsAt w c.args.cpu.0 c.args.wheel c.args.reach.level) c.in-Untold.is
     c.requires.reach.end) (λ n at. at) c.requires.left
