@@ -13,10 +13,10 @@ use Rattle.walk_rules.specs.declared.walk.WalkKind.{WalkKind}
 use Rattle.walk_rules.specs.declared.walk.WalkKind.TheVariants as kinds
 use Rattle.core_world.specs.Steps.{finished}
 use Rattle.core_world.specs.World.{CpuRecord, World, cpu_of, no_cpu, own}
-use Rattle.core_state.specs.declared.status.CpuStatus.{CpuStatus}
+use Rattle.core_parts.specs.declared.status.CpuStatus.{CpuStatus}
 use Rattle.core_state.specs.Kept.{IsHeld, IsKept, WorldFits, WorldsStayFit, is_queued}
 use Rattle.core_state.specs.Tally.{CpuTally, IsTallied}
-use Rattle.core_state.specs.Status.{finished_status, status_of, with_cpu_status, with_status}
+use Rattle.core_parts.specs.Status.{finished_status, status_of, with_cpu_status, with_status}
 
 pub cpu_read : (cpus : List CpuRecord) (c i : ℕ) (x : CpuRecord) → i ≡ c → c < length cpus
     → x ≡ get_or cpus i x → get_or cpus c no_cpu ≡ x

@@ -4,13 +4,8 @@ pub mod Fits
 pub mod Holders
 pub mod Making
 pub mod MoveStep
-pub mod Pairs
 pub mod Paths
 pub mod Queues
-pub mod Ranges
-pub mod Readings
-pub mod Oldest
 pub mod Starts
 pub mod Tallies
 pub mod TimerSteps
-pub mod Under

@@ -9,15 +9,15 @@ use Rattle.walk_rules.specs.Scene.{Group, no_group}
 use Rattle.walk_rules.specs.declared.walk.Walk.{Walk}
 use Rattle.core_world.specs.Steps.{with_walk}
 use Rattle.core_world.specs.World.{CpuRecord, World, cpu_of, group_of, moved, no_cpu, stale_if}
-use Rattle.core_state.specs.declared.change.GroupChange.{GroupChange}
-use Rattle.core_state.specs.declared.status.CpuStatus.{CpuStatus}
-use Rattle.core_state.specs.Changes.{changed}
+use Rattle.core_parts.specs.declared.change.GroupChange.{GroupChange}
+use Rattle.core_parts.specs.declared.status.CpuStatus.{CpuStatus}
+use Rattle.core_parts.specs.Changes.{changed}
 use Rattle.core_state.specs.Kept.{IsHeld, IsKept, WorldFits}
-use Rattle.core_state.specs.Status.{with_status}
+use Rattle.core_parts.specs.Status.{with_status}
 use Rattle.core_state.specs.Tally.{CpuTally, IsTallied}
 use Rattle.core_state.proofs.Changes.{cpu_read, held_on}
 use Rattle.core_world.proofs.Moves.{stale_if_length}
-use Rattle.core_state.proofs.Readings.{same_part, same_timers}
+use Rattle.core_parts.proofs.Readings.{same_part, same_timers}
 use Rattle.core_state.proofs.Tallies.{set_alike}
 
 group_read : (groups : List Group) (g i : ℕ) (x : Group) → i ≡ g → g < length groups

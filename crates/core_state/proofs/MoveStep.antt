@@ -20,11 +20,11 @@ use Rattle.core_world.specs.Steps.{first_moved, moved_with, stepped, with_bases}
 use Rattle.core_world.specs.World.{CpuRecord, World, cpu_of, is_active, no_cpu, own}
 use Rattle.core_state.specs.Kept.{IsHeld, IsKept, StaysFit, WorldFits, but, holds, is_queued, noted}
 use Rattle.core_state.specs.Tally.{CpuTally, IsTallied}
-use Rattle.core_state.specs.Moves.{MayTakeIn, after_moving, taken_in, wheel_in, wheel_moved}
-use Rattle.core_state.specs.Moves.{wheel_taken}
+use Rattle.core_parts.specs.Moves.{MayTakeIn, after_moving, taken_in, wheel_in, wheel_moved}
+use Rattle.core_parts.specs.Moves.{wheel_taken}
 use Rattle.core_state.proofs.Holders.{came, note_low, queued_noted, went}
 use Rattle.core_state.proofs.Queues.{moving_in_queues, moving_out_queues, some_or_none}
-use Rattle.core_state.proofs.Oldest.{oldest_in_time, oldest_narrow}
+use Rattle.core_parts.proofs.Oldest.{oldest_in_time, oldest_narrow}
 use Rattle.core_state.proofs.Tallies.{one_alike}
 use Rattle.core_state.proofs.TimerSteps.{is_there}
 

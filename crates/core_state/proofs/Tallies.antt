@@ -2,7 +2,7 @@
 use Rattle.std.proofs.Common.{◌≡◌, ◌≢◌, ℕ, ◌+◌, ◌-◌, ◌^◌, ◌<◌, Bool, true, false, true≢false, List}
 use Rattle.std.proofs.Common.{Option, Some, None, length, refl, sym, ap, ◌∙◌, arith, inl, inr, get_or}
 use Rattle.std.proofs.Common.{get_or-set_other, get_or-set_same, length-set}
-use Rattle.std.specs.Prelude.{◌==◌, ◌&&◌, not, replicate, slice_set}
+use Rattle.std.specs.Prelude.{◌==◌, ◌&&◌, ◌↔◌, not, replicate, slice_set}
 use Rattle.std.proofs.lemmas.Bool.{and_parts, cases_eq, cases_lt, eq-eqb, eqb-true}
 use Rattle.std.proofs.lemmas.List.{get_or-replicate, get_or_past, length-replicate}
 use Rattle.std.proofs.lemmas.Option.{none-some}
@@ -10,8 +10,8 @@ use Rattle.tree_plan.specs.Shape.{Shape}
 use Rattle.tree_plan.specs.Paths.{is_placed_in}
 use Rattle.core_world.specs.Enabled.{MarksNobody}
 use Rattle.core_world.specs.World.{CpuRecord, World, cpu_of, no_cpu}
-use Rattle.core_state.specs.declared.status.CpuStatus.{CpuStatus}
-use Rattle.core_state.specs.Status.{status_of}
+use Rattle.core_parts.specs.declared.status.CpuStatus.{CpuStatus}
+use Rattle.core_parts.specs.Status.{status_of}
 use Rattle.core_state.specs.Tally.{CpuTally, IsTallied, MayCountIn, MayCountOut, TalliesFirst}
 use Rattle.core_state.specs.Tally.{TalliesOneMore}
 use Rattle.core_state.specs.Tally.{OthersOnline, count_first, is_marked_by, is_placed_online, names}
@@ -243,6 +243,13 @@ module _ (t : Shape) (cpus : List CpuRecord) (n : ℕ) (tally : CpuTally)
         let at = ap one_if online_is_so in
         omega (arith, last, was, is, at);
   }
+
+-- a CPU that isn't said to have marked another one has a count of none
+pub none_counted : (b : Bool) (n : ℕ) → (b ≡ true) ↔ (0 < n) → b ≡ false → n ≡ 0
+none_counted b n is no = elim (cases_lt 0 n) [
+  | inl some ↦ absurd (true≢false (sym (is.1 some) ∙ no))
+  | inr none ↦ omega (arith, none)
+]
 
 -- WHAT IS READ FROM IT
 names_it : (o : Option ℕ) (c : ℕ) → names o c ≡ true → o ≡ Some c

@@ -3,10 +3,9 @@
 ghost use Rattle.std.specs.Prelude.{◌≡◌, length};
 ghost use Rattle.core_state.specs.Kept.{IsHeld, WorldFits, world_of};
 
-use crate::cpu::CoreCpu;
-use crate::group::CoreGroup;
 use crate::machine::Core;
 use crate::tally::{Tally, tally_in};
+use core_parts::{CoreCpu, CoreGroup};
 use tm_base::{CpuId, Jiffy};
 use tree_plan::Tree;
 use wheel_core::TimerBase;

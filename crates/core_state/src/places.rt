@@ -1,7 +1,7 @@
 //! What a step of a walk reads.
 
-ghost use Rattle.std.specs.Prelude.{◌≡◌, ℕ, ◌-◌, ◌^◌, ◌<◌, None, false, is_none, is_some};
-ghost use Rattle.std.specs.Prelude.{length, true};
+ghost use Rattle.std.specs.Prelude.{◌≡◌, ℕ, ◌-◌, ◌^◌, ◌<◌, ◌↔◌, IsFalse, IsTrue, None};
+ghost use Rattle.std.specs.Prelude.{is_none, is_some, length, true};
 ghost use Rattle.tree_plan.specs.Paths.{IsBelow, group_at_of, is_placed_in};
 ghost use Rattle.cpu_bases.specs.CpuBases.{events_of};
 ghost use Rattle.event_queue.specs.EventMap.{event_at};
@@ -11,18 +11,17 @@ ghost use Rattle.core_world.specs.Enabled.{MarksNobody};
 ghost use Rattle.core_world.specs.Steps.{child_on};
 ghost use Rattle.core_world.specs.World.{cpu_of, group_of, moved, own};
 ghost use Rattle.core_world.specs.Steps.{with_walk};
-ghost use Rattle.core_state.specs.Changes.{ChangeFits, changed};
+ghost use Rattle.core_parts.specs.Changes.{ChangeFits, changed};
 ghost use Rattle.core_state.specs.Kept.{HasLevel, StaysFit, WorldFits};
 ghost use Rattle.walk_rules.specs.Ranges.{EventFits, IsInRange};
 ghost use Rattle.core_state.specs.Tally.{OthersOnline};
 
-use crate::change::GroupChange;
 use crate::laws::law_fits;
 use crate::machine::Core;
-use crate::status::CpuStatus;
 use crate::tally::is_placed_online;
 use crate::tree;
 use core_facts::law_height;
+use core_parts::{CpuStatus, GroupChange};
 use cpu_bases::NextEvents;
 use event_queue::Event;
 use tm_base::{CpuId, GroupId};
@@ -162,8 +161,7 @@ impl<B: TimerBase> Core<B> {
     /// Whether the lock of a group is free.
     pub fn is_unlocked(&self, group: GroupId) -> bool
         requires { group.0 < length self.now.groups }
-        ensures yes { result ≡ true → (group_of self.now group.0).lock ≡ None }
-        ensures no { (group_of self.now group.0).lock ≡ None → result ≡ true }
+        ensures { IsTrue result ↔ ((group_of self.now group.0).lock ≡ None) }
     {
         self.group(group).lock().is_none()
     }
@@ -203,8 +201,7 @@ impl<B: TimerBase> Core<B> {
     /// Whether a CPU has marked another one, to run its timers. It costs no walk over CPUs.
     pub fn has_marked(&self, cpu: CpuId) -> bool
         requires { cpu.0 < length self.now.cpus }
-        ensures no { result ≡ false → MarksNobody self.now cpu.0 }
-        ensures yes { MarksNobody self.now cpu.0 → result ≡ false }
+        ensures { IsFalse result ↔ MarksNobody self.now cpu.0 }
     {
         self.tally.has_marked(cpu)
     }
@@ -212,8 +209,7 @@ impl<B: TimerBase> Core<B> {
     /// Whether another placed CPU is online. It costs no walk over CPUs.
     pub fn others_online(&self, cpu: CpuId) -> bool
         requires { cpu.0 < length self.now.cpus }
-        ensures yes { result ≡ true → OthersOnline self.now cpu.0 }
-        ensures no { OthersOnline self.now cpu.0 → result ≡ true }
+        ensures { IsTrue result ↔ OthersOnline self.now cpu.0 }
     {
         let placed_online = is_placed_online(&self.tree, cpu, self.status(cpu).online);
         self.tally.counts_others(placed_online)

@@ -6,10 +6,10 @@ ghost use Rattle.core_world.specs.declared.step.Step.TheVariants as steps;
 ghost use Rattle.core_world.specs.Enabled.{Enabled};
 ghost use Rattle.core_world.specs.Steps.{first_moved, stepped};
 ghost use Rattle.core_world.specs.World.{cpu_of};
-ghost use Rattle.core_state.specs.Moves.{wheel_moved};
+ghost use Rattle.core_parts.specs.Moves.{wheel_moved};
 
 use crate::machine::Core;
-use crate::moving::move_between;
+use core_parts::move_between;
 use cpu_bases::law_bases;
 use tm_base::{Class, CpuId, Jiffy, NoMemory, TimerId};
 use wheel_core::TimerBase;

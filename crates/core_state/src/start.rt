@@ -6,12 +6,11 @@ ghost use Rattle.tree_plan.specs.Paths.{child_count_of, cpu_count_of, group_coun
 ghost use Rattle.cpu_bases.specs.CpuBases.{empty_bases};
 ghost use Rattle.core_world.specs.Start.{start_cpu, start_group, start_of};
 
-use crate::cpu::CoreCpu;
-use crate::group::CoreGroup;
 use crate::machine::Core;
 use crate::tally::tally_of;
 use core_facts::{law_height, law_replay};
 use core_laws::law_start;
+use core_parts::{CoreCpu, CoreGroup};
 use cpu_bases::Bases;
 use std::alloc::Global;
 use tm_base::{CpuId, GroupId, NoMemory};

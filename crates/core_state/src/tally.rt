@@ -1,15 +1,14 @@
 //! What is noted of all CPUs, so that asking for it costs no walk over them.
 
-ghost use Rattle.std.specs.Prelude.{◌≡◌, ◌<◌, ◌&&◌, IfOk, false, length, replicate, true};
+ghost use Rattle.std.specs.Prelude.{◌≡◌, ◌<◌, ◌&&◌, ◌↔◌, IfOk, IsTrue, length, replicate, true};
 ghost use Rattle.std.specs.Prelude.{slice_index_or, slice_set};
 ghost use Rattle.tree_plan.specs.Paths.{cpu_count_of, is_placed_in};
 ghost use Rattle.core_world.specs.World.{no_cpu};
-ghost use Rattle.core_state.specs.Status.{with_status};
+ghost use Rattle.core_parts.specs.Status.{with_status};
 ghost use Rattle.core_state.specs.Tally.{IsTallied, MayCountIn, MayCountOut, TalliesFirst};
 ghost use Rattle.core_state.specs.Tally.{TalliesOneMore, one_if};
 
-use crate::cpu::CoreCpu;
-use crate::status::CpuStatus;
+use core_parts::{CoreCpu, CpuStatus};
 use std::alloc::Global;
 use std::marker::Model;
 use tm_base::{CpuId, NoMemory};
@@ -64,16 +63,14 @@ impl Tally {
     /// Whether a CPU has marked another one.
     pub(crate) fn has_marked(&self, cpu: CpuId) -> bool
         requires { cpu.0 < length self.now.marks }
-        ensures no { result ≡ false → slice_index_or self.now.marks cpu.0 0 ≡ 0 }
-        ensures yes { result ≡ true → 0 < slice_index_or self.now.marks cpu.0 0 }
+        ensures { IsTrue result ↔ (0 < slice_index_or self.now.marks cpu.0 0) }
     {
         self.marks[usize::from(cpu.0)] > 0
     }
 
     /// Whether a placed CPU is online besides this one, which may be such a CPU itself.
     pub(crate) fn counts_others(&self, placed_online: bool) -> bool
-        ensures yes { result ≡ true → one_if placed_online < self.now.online }
-        ensures no { one_if placed_online < self.now.online → result ≡ true }
+        ensures { IsTrue result ↔ (one_if placed_online < self.now.online) }
     {
         if placed_online {
             self.online > 1

@@ -14,9 +14,7 @@ use shared_rule::{
     law_lock_group,
 };
 use shared_words::{SharedWord, pack_lock};
-use walk_rules::{
-    Stage, Walk, at_stage, first_sight, free_group_next, freed_next, law_hierarchy,
-};
+use walk_rules::{Stage, Walk, at_stage, first_sight, free_group_next, freed_next, law_hierarchy};
 use wheel_core::TimerBase;
 
 /// The walk tries to take its child's lock, and then goes on to its group's; false where the

@@ -10,9 +10,7 @@ use core_state::CpuStatus;
 use event_queue::unpack_event;
 use shared_rule::{BoxPart, Run, RunName, Scans, ScansTop, SeesChild, SeesGroup, law_sight};
 use shared_words::{SharedWord, has_migrator};
-use walk_rules::{
-    Walk, first_next, law_hierarchy, scan_next, see_child_next, see_group_next,
-};
+use walk_rules::{Walk, first_next, law_hierarchy, scan_next, see_child_next, see_group_next};
 use wheel_core::TimerBase;
 
 /// The walk loads its child's word: where the child is active, the walk ends here.

@@ -16,9 +16,9 @@ use Rattle.wheel_core.specs.declared.base.TimerBase as base
 use Rattle.cpu_bases.specs.contracts.bases.Bases as Bases
 use Rattle.cpu_bases.specs.contracts.trio.Trio as Trio
 use Rattle.cpu_bases.specs.contracts.journal.Journal as Journal
-use Rattle.core_state.specs.contracts.cpu.CoreCpu as CoreCpu
-use Rattle.core_state.specs.contracts.status.CpuStatus as CpuStatus
-use Rattle.core_state.specs.contracts.group.CoreGroup as CoreGroup
+use Rattle.core_parts.specs.contracts.cpu.CoreCpu as CoreCpu
+use Rattle.core_parts.specs.contracts.status.CpuStatus as CpuStatus
+use Rattle.core_parts.specs.contracts.group.CoreGroup as CoreGroup
 use Rattle.core_state.specs.contracts.tally.Tally as Tally
 use Rattle.tree_plan.specs.contracts.hierarchy.Tree as Tree
 use Rattle.shared_rule.specs.declared.run.RunName as name

@@ -43,7 +43,7 @@ fn begun_alone(kind: WalkKind, pin: Jiffy, next: Jiffy) -> Option<Walk>
     }
 }
 
-/// A walk begins, for a CPU that has a group or not.
+/// A walk begins, for a CPU that has a group or not; times are in jiffies.
 pub fn begun_where(
     has_group: bool,
     kind: WalkKind,

@@ -3,7 +3,7 @@ use Rattle.std.specs.Prelude.{is_none}
 use Rattle.walk_rules.specs.declared.walk.Stage.TheVariants as stages
 use Rattle.walk_rules.specs.Stages.{up_next}
 use Rattle.core_world.specs.World.{group_of}
-use Rattle.core_state.specs.declared.change.GroupChange.TheVariants as changes
+use Rattle.core_state.specs.Changes as changes
 use Rattle.core_state.specs.Kept.{WorldFits}
 use Rattle.core_state.proofs.Making.{walk_moved}
 use Rattle.step_core.proofs.Standing.{below_here, level_here, walked_fits}

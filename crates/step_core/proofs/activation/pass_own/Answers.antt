@@ -1,6 +1,6 @@
 use Rattle.std.proofs.Common.{sym, subst, ◌∙◌, false, Some}
 use Rattle.walk_rules.specs.declared.walk.Stage.TheVariants as stages
-use Rattle.core_state.specs.declared.change.GroupChange.TheVariants as changes
+use Rattle.core_state.specs.Changes as changes
 use Rattle.core_state.specs.Kept.{HasLevel, WorldFits}
 use Rattle.core_state.proofs.Making.{walk_moved}
 use Rattle.step_core.proofs.Standing.{fit, level_here, walked_fits}

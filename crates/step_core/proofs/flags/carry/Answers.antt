@@ -4,7 +4,7 @@ use Rattle.walk_rules.specs.declared.walk.WalkKind.TheVariants as kinds
 use Rattle.walk_rules.specs.declared.walk.Stage.TheVariants as stages
 use Rattle.core_world.specs.Steps.{begins}
 use Rattle.core_world.specs.declared.step.Step.TheVariants as steps
-use Rattle.core_state.specs.declared.status.CpuStatus.{CpuStatus}
+use Rattle.core_state.specs.Status.{CpuStatus}
 use Rattle.core_state.proofs.Changes.{status_fits}
 use Rattle.step_core.proofs.flags.carry.Goals as goal
 

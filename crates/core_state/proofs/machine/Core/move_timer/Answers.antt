@@ -3,7 +3,7 @@ use Rattle.std.specs.Prelude.{option_map}
 use Rattle.std.proofs.lemmas.Option.{same_Some}
 use Rattle.core_world.specs.World.{World, cpu_of}
 use Rattle.core_state.specs.Kept.{IsHeld}
-use Rattle.core_state.specs.Moves.{MayTakeIn}
+use Rattle.core_parts.specs.Moves.{MayTakeIn}
 use Rattle.core_state.proofs.Holders.{note_low}
 use Rattle.core_state.proofs.MoveStep.{may_take_in, move_done, move_kept, move_wheel, noted_here}
 use Rattle.core_state.proofs.machine.Core.move_timer.Goals as goal

@@ -1,7 +1,7 @@
 use Rattle.std.proofs.Common.{ap, arith, ◌∙◌}
 use Rattle.std.specs.Prelude.{◌&&◌}
 use Rattle.tree_plan.specs.Paths.{is_placed_in}
-use Rattle.core_state.specs.declared.status.CpuStatus.{CpuStatus}
+use Rattle.core_parts.specs.declared.status.CpuStatus.{CpuStatus}
 use Rattle.core_state.proofs.Tallies.{one_counted, read_status, room_at}
 use Rattle.core_state.proofs.tally.Tally.count_all.Goals as goal
 

@@ -1,7 +1,7 @@
 use Rattle.std.proofs.Common.{ap, arith, refl, sym, ◌∙◌}
 use Rattle.std.specs.Prelude.{◌&&◌}
 use Rattle.tree_plan.specs.Paths.{is_placed_in}
-use Rattle.core_state.specs.declared.status.CpuStatus.{CpuStatus}
+use Rattle.core_parts.specs.declared.status.CpuStatus.{CpuStatus}
 use Rattle.core_state.proofs.Tallies.{again, may_count_out, may_count_in, one_alike, read_status}
 use Rattle.core_state.proofs.tally.Tally.recount.Goals as goal
 

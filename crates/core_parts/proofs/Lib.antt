@@ -1,0 +1,5 @@
+pub mod Oldest
+pub mod Pairs
+pub mod Ranges
+pub mod Readings
+pub mod Under
