@@ -2,7 +2,8 @@
 use Rattle.std.proofs.Common.{ℕ, ◌<◌, ◌≤◌, length, sym, subst, arith, inl, inr}
 use Rattle.std.proofs.lemmas.Bool.{cases_lt}
 use Rattle.tm_base.specs.declared.names.Class.TheVariants.{Pinned, Global, Deferrable}
-use Rattle.cpu_bases.specs.CpuBases.{empty_bases}
+use Rattle.wheel_core.specs.PlainBase.{NoneBehind}
+use Rattle.cpu_bases.specs.CpuBases.{CpuBases, base_of, empty_bases}
 use Rattle.core_world.specs.World.{CpuRecord, World, cpu_of}
 use Rattle.step_play.proofs.Queues.Sights.{past_of}
 use Rattle.hotplug.specs.Settled.{AllWhole, IsWhole}
@@ -11,6 +12,13 @@ empty_whole : IsWhole empty_bases
 empty_whole Pinned = λ wheel is. omega arith
 empty_whole Global = λ wheel is. omega arith
 empty_whole Deferrable = λ wheel is. omega arith
+
+-- the three bases of a CPU
+pub whole_by : (bases : CpuBases) → NoneBehind (base_of Pinned bases)
+    → NoneBehind (base_of Global bases) → NoneBehind (base_of Deferrable bases) → IsWhole bases
+whole_by bases pinned global deferrable Pinned = pinned
+whole_by bases pinned global deferrable Global = global
+whole_by bases pinned global deferrable Deferrable = deferrable
 
 pub whole_up_to : (w : World) (n : ℕ) → length w.cpus ≤ n →
     ((d : ℕ) → d < n → IsWhole (cpu_of w d).bases) → AllWhole w

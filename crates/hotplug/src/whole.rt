@@ -1,6 +1,6 @@
 //! Whether any queued timer is behind the clock of its base.
 
-ghost use Rattle.std.specs.Prelude.{◌≡◌, ◌<◌, length, true};
+ghost use Rattle.std.specs.Prelude.{◌↔◌, ◌<◌, length, IsTrue};
 ghost use Rattle.wheel_core.specs.PlainBase.{NoneBehind};
 ghost use Rattle.cpu_bases.specs.CpuBases.{base_of};
 ghost use Rattle.core_world.specs.World.{cpu_of};
@@ -13,8 +13,7 @@ use wheel_core::TimerBase;
 /// Whether in no base of a CPU a queued wheel expiry is below the base's clock.
 fn is_whole_on<B: TimerBase>(core: &Core<B>, cpu: CpuId) -> bool
     requires { cpu.0 < length core.now.cpus }
-    ensures yes { result ≡ true → IsWhole (cpu_of core.now cpu.0).bases }
-    ensures no { IsWhole (cpu_of core.now cpu.0).bases → result ≡ true }
+    ensures { IsTrue result ↔ IsWhole (cpu_of core.now cpu.0).bases }
 {
     if !core.none_behind(cpu, Class::Pinned) {
         return false;
@@ -28,8 +27,7 @@ fn is_whole_on<B: TimerBase>(core: &Core<B>, cpu: CpuId) -> bool
 /// Whether in no base of any CPU a queued wheel expiry is below the base's clock. It looks at each
 /// CPU.
 pub fn is_whole<B: TimerBase>(core: &Core<B>) -> bool
-    ensures yes { result ≡ true → AllWhole core.now }
-    ensures no { AllWhole core.now → result ≡ true }
+    ensures { IsTrue result ↔ AllWhole core.now }
 {
     for cpu in 0..core.count() {
         if !is_whole_on(core, CpuId(cpu)) {

@@ -1,6 +1,6 @@
 //! Whether anything is under way.
 
-ghost use Rattle.std.specs.Prelude.{◌≡◌, ◌<◌, None, false, length, true};
+ghost use Rattle.std.specs.Prelude.{◌≡◌, ◌↔◌, ◌<◌, None, false, length, true, IsTrue};
 ghost use Rattle.core_world.specs.Covered.{IsSettled};
 ghost use Rattle.core_world.specs.World.{cpu_of};
 
@@ -22,8 +22,7 @@ fn rests<B: TimerBase>(core: &Core<B>, cpu: CpuId) -> bool
 
 /// Whether no walk and no interrupt is under way. It looks at each CPU.
 pub fn is_settled<B: TimerBase>(core: &Core<B>) -> bool
-    ensures yes { result ≡ true → IsSettled core.now }
-    ensures no { IsSettled core.now → result ≡ true }
+    ensures { IsTrue result ↔ IsSettled core.now }
 {
     for cpu in 0..core.count() {
         if !rests(core, CpuId(cpu)) {
