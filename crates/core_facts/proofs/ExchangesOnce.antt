@@ -14,7 +14,7 @@ use Rattle.core_world.specs.Steps.{stepped, walk_made, with_walk}
 use Rattle.core_world.specs.World.{CpuRecord, World, cpu_of, group_of, own}
 use Rattle.core_world.proofs.Moves.{cpu_same}
 use Rattle.core_facts.specs.Exchanges.{EachGoesOn, EachStaysPast, IsPast, NoneIsPast}
-use Rattle.core_facts.specs.Exchanges.{past_exchange, place_of}
+use Rattle.core_facts.specs.Exchanges.{past_exchange, stage_number}
 use Rattle.core_facts.specs.Reach.{EachKeeps, reach_of}
 use Rattle.core_facts.proofs.ExchangesRead.{Goes, stage_goes}
 
@@ -32,8 +32,8 @@ each_goes_on w cpu k j may is becomes =
     let it = goes w cpu.0 k j may is becomes in
     record { kind = it.kind; further = it.further; exchanged = it.exchanged }
 
-past_swap : (k : Walk) → past_exchange ≤ place_of k.stage → k.stage ≡ stages.Swap → ⊥
-past_swap k past at = let place = ap place_of at in omega arith
+past_swap : (k : Walk) → past_exchange ≤ stage_number k.stage → k.stage ≡ stages.Swap → ⊥
+past_swap k past at = let place = ap stage_number at in omega arith
 
 -- and being past it lasts
 past_goes : (level : ℕ) (k j : Walk) → Goes k k.stage j → IsPast level k → IsPast level j
@@ -120,5 +120,5 @@ each_stays_past frame w step c level k j e is becomes past =
 
 pub none_is_past : NoneIsPast
 none_is_past level k (inl above) exchange same = omega (arith, above, same)
-none_is_past level k (inr past) (inl up) same = let place = ap place_of up in omega (arith, past.1)
+none_is_past level k (inr past) (inl up) same = let place = ap stage_number up in omega (arith, past.1)
 none_is_past level k (inr past) (inr swap) same = past_swap k past.1 swap.0

@@ -19,7 +19,7 @@ use Rattle.core_world.specs.Steps.{finished, swapped, walked}
 use Rattle.core_world.specs.World.{CpuRecord, World, cpu_of, group_of, no_cpu, stale_if}
 use Rattle.core_world.proofs.Moves.{cpu_same}
 use Rattle.core_facts.specs.Exchanges.{IsPast}
-use Rattle.core_facts.specs.Exchanges.{past_exchange, place_of}
+use Rattle.core_facts.specs.Exchanges.{past_exchange, stage_number}
 
 -- the walk that a step of the general form leaves
 is_next : (w : World) (g c : ℕ) (y : CpuRecord) (q : Bool) (j : Walk) → c < length w.cpus
@@ -32,7 +32,7 @@ is_next w g c y q j low is =
 pub record Goes (k : Walk) (at : Stage) (j : Walk) : Type 0 where
   pub kind : j.kind ≡ k.kind
   pub further : (at ≡ stages.Swap → k.fresh ≡ true)
-      → (k.level < j.level) ⊎ ((j.level ≡ k.level) × (place_of at < place_of j.stage))
+      → (k.level < j.level) ⊎ ((j.level ≡ k.level) × (stage_number at < stage_number j.stage))
   pub exchanged : (at ≡ stages.Up) ⊎ ((at ≡ stages.Swap) × (k.fresh ≡ true)) → IsPast k.level j
   pub not_lower : k.level ≤ j.level
 
@@ -47,7 +47,7 @@ up_higher k at next = record {
 
 -- one that comes to a further stage which is past the exchange
 comes_past : (k : Walk) (at : Stage) (j : Walk) → j.kind ≡ k.kind → j.level ≡ k.level
-    → place_of at < place_of j.stage → past_exchange ≤ place_of j.stage → Goes k at j
+    → stage_number at < stage_number j.stage → past_exchange ≤ stage_number j.stage → Goes k at j
 comes_past k at j kind level further past = record {
   kind = kind;
   further = λ _. inr (level, further);
@@ -57,7 +57,7 @@ comes_past k at j kind level further past = record {
 
 -- one that comes to a further stage and makes no exchange
 comes_further : (k : Walk) (at : Stage) (j : Walk) → j.kind ≡ k.kind → j.level ≡ k.level
-    → place_of at < place_of j.stage → (at ≡ stages.Up → ⊥) → (at ≡ stages.Swap → ⊥) → Goes k at j
+    → stage_number at < stage_number j.stage → (at ≡ stages.Up → ⊥) → (at ≡ stages.Swap → ⊥) → Goes k at j
 comes_further k at j kind level further not_up not_swap = record {
   kind = kind;
   further = λ _. inr (level, further);
@@ -77,31 +77,31 @@ mark_goes k j true is =
     subst (Goes k (stages.Mark true)) (same_Some _ _ is) (up_higher k (stages.Mark true) stages.Up)
 mark_goes k j false is = absurd (none-some j is)
 
-lock_late : (level : ℕ) → 6 ≤ place_of (first_lock level)
+lock_late : (level : ℕ) → 6 ≤ stage_number (first_lock level)
 lock_late zero = omega arith
 lock_late (suc l) = omega arith
 
-sight_late : (level : ℕ) → 8 ≤ place_of (first_sight level)
+sight_late : (level : ℕ) → 8 ≤ stage_number (first_sight level)
 sight_late zero = omega arith
 sight_late (suc l) = omega arith
 
-after_late : (level : ℕ) → 10 ≤ place_of (after_sight level)
+after_late : (level : ℕ) → 10 ≤ stage_number (after_sight level)
 after_late zero = omega arith
 after_late (suc l) = omega arith
 
-scan_late : (n : ℕ) → 10 + n < place_of (cond (n == 7) stages.Store (stages.Scan (n + 1)))
+scan_late : (n : ℕ) → 10 + n < stage_number (cond (n == 7) stages.Store (stages.Scan (n + 1)))
 scan_late n = elim (cases_eq n 7) [
   | inl last ↦ rw (eq-eqb n 7 last) (omega (arith, last))
   | inr other ↦ rw (ne_eqb n 7 other) (omega arith)
 ]
 
-first_late : (n : ℕ) → 19 + n < place_of (cond (n == 7) stages.FreeGroup (stages.First (n + 1)))
+first_late : (n : ℕ) → 19 + n < stage_number (cond (n == 7) stages.FreeGroup (stages.First (n + 1)))
 first_late n = elim (cases_eq n 7) [
   | inl last ↦ rw (eq-eqb n 7 last) (omega (arith, last))
   | inr other ↦ rw (ne_eqb n 7 other) (omega arith)
 ]
 
-store_late : (b : Bool) → 18 < place_of (cond b (stages.First 0) stages.FreeGroup)
+store_late : (b : Bool) → 18 < stage_number (cond b (stages.First 0) stages.FreeGroup)
 store_late true = omega arith
 store_late false = omega arith
 
@@ -111,7 +111,7 @@ see_goes k true =
 see_goes k false =
     comes_past k stages.SeeChild (see_child_next false k) refl refl (omega arith) (omega arith)
 
-freed_goes : (k : Walk) (at : Stage) (over : Bool) → place_of at < 29
+freed_goes : (k : Walk) (at : Stage) (over : Bool) → stage_number at < 29
     → Goes k at (freed_next over k)
 freed_goes k at true low = comes_past k at (at_stage k stages.Finish) refl refl low (omega arith)
 freed_goes k at false low = up_higher k at (first_stage k.kind)

@@ -11,7 +11,7 @@ use Rattle.event_queue.specs.declared.event.Event.{Event}
 use Rattle.event_queue.specs.EventMap.{event_at}
 use Rattle.group_word.specs.Group.{GroupLaw, IsActive}
 use Rattle.wheel_core.specs.declared.item.Item.{Item}
-use Rattle.wheel_core.specs.PlainBase.{IsPlaced}
+use Rattle.wheel_core.specs.PlainBase.{FitsWheel}
 use Rattle.cpu_bases.specs.CpuBases.{base_of}
 use Rattle.tree_plan.specs.Paths.{cpu_count_of, group_at_of, is_placed_in}
 use Rattle.walk_rules.specs.declared.walk.Walk.{Walk}
@@ -33,7 +33,7 @@ child_in active m eight law k is = elim (cases_lt k 8) [
       absurd (omega (arith, bit_at_above active 8 k eight high, on))
 ]
 
-both : (w : World) (items : List Item) → All (λ item. item.id < w.timers) items → All IsPlaced items
+both : (w : World) (items : List Item) → All (λ item. item.id < w.timers) items → All FitsWheel items
     → All (ItemInRange w) items
 both w items known placed = λ k d low. record {
   timer = known k d low;
@@ -109,7 +109,7 @@ module _ (w : World) (l : IsLawful w) where
     clock = λ class. ((l.timers.consistent c).fits class).clock;
     timers =
         λ class. both w (base_of class (cpu_of w c).bases).items (l.times.known c class)
-        ((l.timers.consistent c).fits class).sound.placed;
+        ((l.timers.consistent c).fits class).sound.in_wheel;
   }
 
   group_in : (g : ℕ) → GroupInRange w (group_of w g)

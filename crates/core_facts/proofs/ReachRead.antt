@@ -18,7 +18,7 @@ use Rattle.core_world.specs.Frames.{SameSize, SizesStay}
 use Rattle.core_world.specs.Steps.{first_moved, giver, moved_with, stepped}
 use Rattle.core_world.specs.Steps.{taker}
 use Rattle.core_world.specs.World.{CpuRecord, World, cpu_of, no_cpu, own}
-use Rattle.core_facts.specs.Reach.{CpuKeeps, EachKeeps, Grows, Keeps, Reach, only, reach_of}
+use Rattle.core_facts.specs.Reach.{CpuKeeps, EachKeeps, Grows, KeepsReach, Reach, only, reach_of}
 use Rattle.core_facts.specs.Reach.{with_timers}
 use Rattle.core_facts.proofs.Reaches.{Here, cancel_grows, drained_same, hand_grows, handed_grows}
 use Rattle.core_facts.proofs.Reaches.{itself_reached, made_keeps, no_step, one_more, out_grows}
@@ -88,7 +88,7 @@ module _ (w : World) (from to : ℕ) (a b : CpuRecord) (low : from < length w.cp
 
 move_keeps : (w : World) (from to : ℕ) (m : Option (Class × Item))
     → SameSize w (moved_with w from to m) → from < length w.cpus → to < length w.cpus
-    → Keeps (by_two from to) w (moved_with w from to m)
+    → KeepsReach (by_two from to) w (moved_with w from to m)
 move_keeps w from to None size low high = no_step (by_two from to) w size
 move_keeps w from to (Some (class, item)) size low high = record {
   size = size;
@@ -115,19 +115,19 @@ move_keeps w from to (Some (class, item)) size low high = record {
 }
 
 own_quiet : (w : World) (c : ℕ) (y : CpuRecord) → SameSize w (own w c y) → c < length w.cpus
-    → y.bases ≡ (cpu_of w c).bases → y.online ≡ (cpu_of w c).online → Keeps (only c) w (own w c y)
+    → y.bases ≡ (cpu_of w c).bases → y.online ≡ (cpu_of w c).online → KeepsReach (only c) w (own w c y)
 own_quiet w c y size low same on =
     own_keeps (only c) w c y size low (itself_reached c) (quiet (only c) (cpu_of w c) y same on)
 
 own_timed : (w : World) (c : ℕ) (y : CpuRecord) → SameSize w (own w c y) → c < length w.cpus
     → Grows (cpu_of w c).bases.journal y.bases.journal → y.online ≡ (cpu_of w c).online
-    → Keeps (with_timers (only c)) w (own w c y)
+    → KeepsReach (with_timers (only c)) w (own w c y)
 own_timed w c y size low grows on =
     own_keeps (with_timers (only c)) w c y size low (itself_reached c)
     (timed c (cpu_of w c) y grows on)
 
 own_plugged : (w : World) (c : ℕ) (y : CpuRecord) → SameSize w (own w c y) → c < length w.cpus
-    → y.bases ≡ (cpu_of w c).bases → Keeps (record (only c) { online = true }) w (own w c y)
+    → y.bases ≡ (cpu_of w c).bases → KeepsReach (record (only c) { online = true }) w (own w c y)
 own_plugged w c y size low same =
     own_keeps (record (only c) { online = true }) w c y size low (itself_reached c) (record {
       journal = same_grows (cpu_of w c).bases y.bases same;
@@ -139,7 +139,7 @@ own_plugged w c y size low same =
 own_ticked : (w : World) (c : ℕ) (class : Class) (runner : CpuId)
     → SameSize w (stepped w (steps.Ticked (record { 0 = c }) class runner)) → c < length w.cpus
     → next_out w.clock (base_of class (cpu_of w c).bases) ≡ None
-    → Keeps (record (only c) { journals = true }) w
+    → KeepsReach (record (only c) { journals = true }) w
     (stepped w (steps.Ticked (record { 0 = c }) class runner))
 own_ticked w c class runner size low none =
     own_keeps (record (only c) { journals = true }) w c _ size low (itself_reached c) (record {

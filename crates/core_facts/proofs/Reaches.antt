@@ -25,7 +25,7 @@ use Rattle.core_world.specs.Steps.{swapped, walk_made, walked}
 use Rattle.core_world.specs.World.{CpuRecord, World, cpu_of, group_of, moved, own}
 use Rattle.core_world.proofs.Moves.{beside, cpu_else, cpu_same, moved_laws}
 use Rattle.core_world.proofs.Quiet.{own_group}
-use Rattle.core_facts.specs.Reach.{CpuKeeps, Grows, IsBeside, Keeps, Reach, only}
+use Rattle.core_facts.specs.Reach.{CpuKeeps, Grows, IsBeside, KeepsReach, Reach, only}
 use Rattle.core_facts.specs.Reach.{with_timers}
 
 -- JOURNALS
@@ -177,7 +177,7 @@ module _ (r : Reach) (w : World) (g : ℕ) (x : Group) (c : ℕ) (y : CpuRecord)
 
   keeps : SameSize w (moved w g x c y q)
       → (r.group ≡ false → (h : ℕ) → group_of (moved w g x c y q) h ≡ group_of w h)
-      → Keeps r w (moved w g x c y q)
+      → KeepsReach r w (moved w g x c y q)
   keeps size groups = record {
     size = size;
     clock = omega arith;
@@ -189,7 +189,7 @@ module _ (r : Reach) (w : World) (g : ℕ) (x : Group) (c : ℕ) (y : CpuRecord)
 
 -- one CPU's own data
 pub own_keeps : (r : Reach) (w : World) (c : ℕ) (y : CpuRecord) → SameSize w (own w c y)
-    → c < length w.cpus → r.cpu c ≡ true → Here r (cpu_of w c) y → Keeps r w (own w c y)
+    → c < length w.cpus → r.cpu c ≡ true → Here r (cpu_of w c) y → KeepsReach r w (own w c y)
 own_keeps r w c y size low reaches here =
     keeps r w 0 (group_of w 0) c y false low reaches (λ _. refl) here size
     (λ _ h. own_group w c y h)
@@ -203,12 +203,12 @@ by_walk c = record (only c) { group = true }
 
 walk_keeps : (w : World) (g : ℕ) (x : Group) (c : ℕ) (y : CpuRecord) (q : Bool)
     → SameSize w (moved w g x c y q) → c < length w.cpus → y.bases ≡ (cpu_of w c).bases
-    → y.online ≡ (cpu_of w c).online → Keeps (by_walk c) w (moved w g x c y q)
+    → y.online ≡ (cpu_of w c).online → KeepsReach (by_walk c) w (moved w g x c y q)
 walk_keeps w g x c y q size low same on =
     keeps (by_walk c) w g x c y q low (itself_reached c) (λ e. cc)
     (quiet (by_walk c) (cpu_of w c) y same on) size (λ e. cc)
 
-pub no_step : (r : Reach) (w : World) → SameSize w w → Keeps r w w
+pub no_step : (r : Reach) (w : World) → SameSize w w → KeepsReach r w w
 no_step r w size = record {
   size = size;
   clock = omega arith;
@@ -234,12 +234,12 @@ finished_online y k kinds.Reeval = refl
 finished_online y k (kinds.Remote by) = refl
 
 swap_keeps : (w : World) (c : ℕ) (k : Walk) (fresh : Bool) → SameSize w (swapped w c k fresh)
-    → c < length w.cpus → Keeps (by_walk c) w (swapped w c k fresh)
+    → c < length w.cpus → KeepsReach (by_walk c) w (swapped w c k fresh)
 swap_keeps w c k true size low = walk_keeps w _ _ c _ true size low refl refl
 swap_keeps w c k false size low = walk_keeps w _ _ c _ false size low refl refl
 
 stage_keeps : (w : World) (c : ℕ) (k : Walk) (st : Stage) → SameSize w (walked w c k st)
-    → c < length w.cpus → Keeps (by_walk c) w (walked w c k st)
+    → c < length w.cpus → KeepsReach (by_walk c) w (walked w c k st)
 stage_keeps w c k stages.Own size low = walk_keeps w _ _ c _ false size low refl refl
 stage_keeps w c k stages.Up size low = walk_keeps w _ _ c _ true size low refl refl
 stage_keeps w c k (stages.Mark more) size low = walk_keeps w _ _ c _ false size low refl refl
@@ -261,6 +261,6 @@ stage_keeps w c k stages.Finish size low =
 stage_keeps w c k stages.Handing size low = no_step (by_walk c) w size
 
 pub made_keeps : (w : World) (c : ℕ) (m : Option Walk) → SameSize w (walk_made w c m)
-    → c < length w.cpus → Keeps (by_walk c) w (walk_made w c m)
+    → c < length w.cpus → KeepsReach (by_walk c) w (walk_made w c m)
 made_keeps w c None size low = no_step (by_walk c) w size
 made_keeps w c (Some k) size low = stage_keeps w c k k.stage size low

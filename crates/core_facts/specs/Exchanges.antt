@@ -16,24 +16,24 @@ abbrev pub past_exchange : ℕ
 past_exchange = 5
 
 -- the place of a stage among those of a level
-abbrev pub place_of : Stage → ℕ
-place_of stages.Own = 0
-place_of stages.Up = 1
-place_of stages.Read = 2
-place_of stages.Child = 3
-place_of stages.Swap = 4
-place_of (stages.Mark more) = 5
-place_of stages.LockChild = 6
-place_of stages.LockGroup = 7
-place_of stages.SeeChild = 8
-place_of stages.SeeGroup = 9
-place_of (stages.Scan k) = 10 + k
-place_of stages.Store = 18
-place_of (stages.First k) = 19 + k
-place_of stages.FreeGroup = 27
-place_of stages.FreeChild = 28
-place_of stages.Finish = 29
-place_of stages.Handing = 30
+abbrev pub stage_number : Stage → ℕ
+stage_number stages.Own = 0
+stage_number stages.Up = 1
+stage_number stages.Read = 2
+stage_number stages.Child = 3
+stage_number stages.Swap = 4
+stage_number (stages.Mark more) = 5
+stage_number stages.LockChild = 6
+stage_number stages.LockGroup = 7
+stage_number stages.SeeChild = 8
+stage_number stages.SeeGroup = 9
+stage_number (stages.Scan k) = 10 + k
+stage_number stages.Store = 18
+stage_number (stages.First k) = 19 + k
+stage_number stages.FreeGroup = 27
+stage_number stages.FreeChild = 28
+stage_number stages.Finish = 29
+stage_number stages.Handing = 30
 
 -- the next step of the walk is an exchange: Up, or Swap with a reading that is still fresh
 abbrev pub Exchanges : Walk → Type 0
@@ -42,12 +42,12 @@ Exchanges k = (k.stage ≡ stages.Up) ⊎ ((k.stage ≡ stages.Swap) × (k.fresh
 -- the walk is past its exchange at a level
 abbrev pub IsPast : (level : ℕ) → Walk → Type 0
 IsPast level k =
-    (level < k.level) ⊎ ((k.level ≡ level) × (past_exchange ≤ place_of k.stage))
+    (level < k.level) ⊎ ((k.level ≡ level) × (past_exchange ≤ stage_number k.stage))
 
 -- walk j stands higher than walk k, or further on at the same level
 abbrev pub StandsFurther : (k j : Walk) → Type 0
 StandsFurther k j =
-    (k.level < j.level) ⊎ ((j.level ≡ k.level) × (place_of k.stage < place_of j.stage))
+    (k.level < j.level) ⊎ ((j.level ≡ k.level) × (stage_number k.stage < stage_number j.stage))
 
 -- walk k has become j by a step of its own: it is further on but where its exchange failed, and
 -- past it where that was made

@@ -82,7 +82,7 @@ pub record CpuKeeps (r : Reach) (d : ℕ) (old new : CpuRecord) : Type 0 where
   pub untouched : r.cpu d ≡ false → r.group ≡ false → new ≡ old
 
 -- a world after a step of this reach
-pub record Keeps (r : Reach) (old new : World) : Type 0 where
+pub record KeepsReach (r : Reach) (old new : World) : Type 0 where
   pub size : SameSize old new
   pub clock : old.clock ≤ new.clock
   pub time : r.time ≡ false → new.clock ≡ old.clock
@@ -92,4 +92,5 @@ pub record Keeps (r : Reach) (old new : World) : Type 0 where
 
 -- THE FRAME
 abbrev pub EachKeeps : Type 0
-EachKeeps = (w : World) (step : Step) → Enabled w step → Keeps (reach_of step) w (stepped w step)
+EachKeeps = (w : World) (step : Step) → Enabled w step →
+    KeepsReach (reach_of step) w (stepped w step)

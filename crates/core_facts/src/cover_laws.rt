@@ -25,7 +25,7 @@ pub fn law_answered()
     ensures { EachLawfulIsAnswered }
 {
     law_covered();
-    law_settled();
+    law_each_settled();
 }
 
 /// In every lawful world a global timer that is queued on an online idle CPU is covered: held,
@@ -36,7 +36,7 @@ pub fn law_covered()
 
 /// In a lawful world where no walk and no interrupt is under way, each global timer that is queued
 /// on an online idle CPU is held or woken for.
-pub fn law_settled()
+pub fn law_each_settled()
     ensures { EachSettled }
 {}
 

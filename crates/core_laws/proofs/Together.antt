@@ -13,7 +13,7 @@ use Rattle.core_laws.specs.Edges.Layer.{BitsFit, BitsStayFit, EdgesFit, EdgesSta
 use Rattle.core_laws.specs.Locks.Layer.{LocksStay}
 use Rattle.core_laws.specs.Events.Layer.{EventsFit, EventsStayFit}
 use Rattle.core_laws.specs.Cpus.Layer.{CpusFit, CpusStayFit}
-use Rattle.core_laws.specs.Marks.Layer.{MarkersStayFit, MarksFit}
+use Rattle.core_laws.specs.Marks.Layer.{MarkersStayFit, PlacedAndMarked}
 use Rattle.core_laws.specs.Timers.Layer.{TimersFit, TimersStayFit}
 use Rattle.core_laws.specs.Wakeups.Layer.{WakeupsFit, WakeupsStayFit}
 use Rattle.core_laws.specs.Tops.Layer.{TopsFit, TopsStayFit}
@@ -43,7 +43,7 @@ module _ (w : World) (l : IsLawful w) where
     remote = l.remote;
   }
 
-  marks_fit : MarksFit w
+  marks_fit : PlacedAndMarked w
   marks_fit = record { some_placed = l.some_placed; markers = l.markers }
 
   timers_fit : TimersFit w

@@ -16,7 +16,7 @@ pub oldest_in_time : (cpu : CpuBases) (class : Class) → IsConsistent cpu
     → IfSome (oldest_in (base_of class cpu).items) (λ item. item.expires < 2 ^ 47)
 oldest_in_time cpu class consistent =
     oldest_holds (λ item. item.expires < 2 ^ 47) (base_of class cpu).items
-    (λ k d low. ((consistent.fits class).sound.placed k d low).expires)
+    (λ k d low. ((consistent.fits class).sound.in_wheel k d low).expires)
 
 pub oldest_narrow : (cpu : CpuBases) (class : Class) → IsConsistent cpu
     → IfSome (oldest_in (base_of class cpu).items) (λ item. item.id < 2 ^ 16)

@@ -7,10 +7,10 @@ use Rattle.tm_base.specs.declared.names.TheConstants.{NEVER, TIME_LIMIT}
 use Rattle.tm_base.specs.declared.names.Class.TheVariants.{Global}
 use Rattle.group_word.specs.Group.{IsActive}
 use Rattle.cpu_bases.specs.declared.entry.Entry.{Entry}
-use Rattle.cpu_bases.specs.CpuBases.{CpuBases, IsConsistent, events_of, first_of}
+use Rattle.cpu_bases.specs.CpuBases.{CpuBases, IsConsistent, events_of, first_expiry}
 use Rattle.cpu_bases.specs.Laws.{FirstWasArmed}
 
-first_in_range : FirstWasArmed → (cpu : CpuBases) → IsConsistent cpu → first_of Global cpu < 2 ^ 48
+first_in_range : FirstWasArmed → (cpu : CpuBases) → IsConsistent cpu → first_expiry Global cpu < 2 ^ 48
 first_in_range law cpu consistent = elim (law cpu Global consistent) [
   | inl never ↦ omega (arith, never)
   | inr armed ↦

@@ -12,8 +12,8 @@ use Rattle.core_state.specs.Tally.{one_if}
 abbrev count_from : (ℕ → Bool) → (a n : ℕ) → ℕ
 count_from p a n = count_by p (range_with_len a n)
 
-first_of : (p : ℕ → Bool) (a n : ℕ) → count_from p a (suc n) ≡ one_if (p a) + count_from p (a + 1) n
-first_of p a n = sum_by-cons (λ d. one_if (p d)) a (range_with_len (a + 1) n)
+count_split : (p : ℕ → Bool) (a n : ℕ) → count_from p a (suc n) ≡ one_if (p a) + count_from p (a + 1) n
+count_split p a n = sum_by-cons (λ d. one_if (p d)) a (range_with_len (a + 1) n)
 
 -- one more at the end
 one_more_counted : (p : ℕ → Bool) (a n : ℕ)
@@ -22,8 +22,8 @@ one_more_counted p a zero =
     let at : a ≡ a + 0 = omega arith in
     ap (λ d. 0 + one_if (p d)) at
 one_more_counted p a (suc n) =
-    let first = first_of p a (suc n) in
-    let again = first_of p a n in
+    let first = count_split p a (suc n) in
+    let again = count_split p a n in
     let rest = one_more_counted p (a + 1) n in
     let at : a + 1 + n ≡ a + suc n = omega arith in
     let last = ap (λ d. one_if (p d)) at in
@@ -43,8 +43,8 @@ alike : (p q : ℕ → Bool) (a n : ℕ) → ((d : ℕ) → a ≤ d → q d ≡ 
 alike p q a zero same = refl
 alike p q a (suc n) same =
     let here = ap one_if (same a (omega arith)) in
-    let first = first_of p a n in
-    let again = first_of q a n in
+    let first = count_split p a n in
+    let again = count_split q a n in
     let rest = alike p q (a + 1) n (λ d high. same d (omega (arith, high))) in
     omega (arith, here, first, again, rest)
 
@@ -53,8 +53,8 @@ pub but_for : (p q : ℕ → Bool) (c a n : ℕ) → ((d : ℕ) → d ≢ c → 
     → count_from q a n + one_if (p c) ≡ count_from p a n + one_if (q c)
 but_for p q c a zero same low high = absurd (omega (arith, low, high))
 but_for p q c a (suc n) same low high =
-    let first = first_of p a n in
-    let again = first_of q a n in
+    let first = count_split p a n in
+    let again = count_split q a n in
     elim (cases_eq a c) [
       | inl is ↦
           let rest = alike p q (a + 1) n
@@ -125,7 +125,7 @@ one_there p a zero some = absurd (omega (arith, some))
 one_there p a (suc n) some = elim (cases_Bool (p a)) [
   | inl is ↦ (a, omega arith, is)
   | inr other ↦
-      let first = first_of p a n in
+      let first = count_split p a n in
       let here = ap one_if other in
       let (d, low, is) = one_there p (a + 1) n (omega (arith, some, first, here)) in
       (d, omega (arith, low), is)

@@ -13,7 +13,7 @@ use Rattle.tm_base.specs.declared.names.Class.TheVariants.{Pinned, Global, Defer
 use Rattle.tm_base.specs.declared.names.CpuId.{CpuId}
 use Rattle.tm_base.specs.declared.names.TheConstants.{TIME_LIMIT}
 use Rattle.wheel_core.specs.declared.item.Item.{Item}
-use Rattle.wheel_core.specs.PlainBase.{IsPlaced, IsSound, NoneDue, PlainBase, added, forwarded}
+use Rattle.wheel_core.specs.PlainBase.{FitsWheel, IsSound, NoneDue, PlainBase, added, forwarded}
 use Rattle.wheel_core.specs.PlainBase.{item_of, without}
 use Rattle.wheel_core.proofs.Ids.{all_without, item_holds, sound_without}
 use Rattle.wheel_core.proofs.Plain.{clock-forwarded_le, placed_in_range, sound_added}
@@ -209,7 +209,7 @@ keeps_gone act line at class item by base cpu follows shorter consistent found l
       sound = subst IsSound (sym left) (sound_without item.id items fits.sound);
       timers = subst (All (λ i. i.id < 2 ^ 16)) (sym left)
           (all_without (λ i. i.id < 2 ^ 16) item.id items fits.timers);
-    }) (item_holds IsPlaced item.id items item fits.sound.placed found).wheel
+    }) (item_holds FitsWheel item.id items item fits.sound.in_wheel found).wheel
 
 -- DRAINED: nothing of the class is due
 pub keeps_ticked : (now : ℕ) (class : Class) (by : CpuId) (cpu : CpuBases) → IsConsistent cpu

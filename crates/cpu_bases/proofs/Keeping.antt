@@ -30,7 +30,7 @@ use Rattle.cpu_bases.specs.CpuBases.{found_in, found_or, handed_out, oldest_in, 
 use Rattle.cpu_bases.specs.CpuBases.{ticked_entry, written}
 use Rattle.cpu_bases.specs.Laws.{ArmingKeeps, CancellingKeeps}
 use Rattle.cpu_bases.specs.Laws.{HandingOutKeeps}
-use Rattle.cpu_bases.specs.Laws.{HandsOut, Keeps, MayQueue, MovingInKeeps, MovingOutKeeps}
+use Rattle.cpu_bases.specs.Laws.{HandsOut, CallKeeps, MayQueue, MovingInKeeps, MovingOutKeeps}
 use Rattle.cpu_bases.specs.Replay.{AddsReplay}
 use Rattle.cpu_bases.proofs.Classes.{each_with, of_class-other, with_itself}
 use Rattle.cpu_bases.proofs.Consistent.{keeps_gone, keeps_queued, keeps_ticked, queued_item}
@@ -49,7 +49,7 @@ queueing_keeps : (act : Act) (line at time : ℕ) (class : Class) (timer expires
     → AddsReplay cpu (queued act line at time class timer expires job arg by cpu)
     → IsConsistent cpu → MayQueue at class timer expires cpu → time ≤ at + 1
     → let new = queued act line at time class timer expires job arg by cpu in
-    IsConsistent new × Keeps at cpu new
+    IsConsistent new × CallKeeps at cpu new
 queueing_keeps act line at time class timer expires job arg by cpu follows longer right replay
     consistent may near =
     let base = base_of class cpu in
@@ -103,7 +103,7 @@ going_keeps : (act : Act) (line at : ℕ) (class : Class) (item : Item) (by : Cp
     → queued_after act queued entry ≡ ended entry.timer.0 queued)
     → ((number : ℕ) (entry : Entry) → HandedByRight number act entry)
     → AddsReplay cpu new → IsConsistent cpu
-    → item_of item.id (base_of class cpu).items ≡ Some item → IsConsistent new × Keeps at cpu new
+    → item_of item.id (base_of class cpu).items ≡ Some item → IsConsistent new × CallKeeps at cpu new
 going_keeps act line at class item by cpu follows shorter right replay consistent found =
     let base = base_of class cpu in
     let entry = entry_of act line at class item by in
@@ -127,7 +127,7 @@ going_keeps act line at class item by cpu follows shorter right replay consisten
       },
     )
 
-keeps_all : (now : ℕ) (cpu : CpuBases) → IsConsistent cpu → IsConsistent cpu × Keeps now cpu cpu
+keeps_all : (now : ℕ) (cpu : CpuBases) → IsConsistent cpu → IsConsistent cpu × CallKeeps now cpu cpu
 keeps_all now cpu consistent = (
   consistent,
   record {
@@ -184,7 +184,7 @@ found_at timer class item cpu is =
 -- CANCELLING
 cancel_keeps : (now timer line : ℕ) (by : CpuId) (cpu : CpuBases) (found : Option (Class × Item))
     → found_in timer cpu ≡ found → IsConsistent cpu
-    → let new = after_cancel found now line by cpu in IsConsistent new × Keeps now cpu new
+    → let new = after_cancel found now line by cpu in IsConsistent new × CallKeeps now cpu new
 cancel_keeps now timer line by cpu None is consistent = keeps_all now cpu consistent
 cancel_keeps now timer line by cpu (Some (class, item)) is consistent =
     let at = found_at timer class item cpu is in
@@ -210,7 +210,7 @@ oldest_found (first ∷ items) item is =
 
 move_out_keeps : (now : ℕ) (class : Class) (by : CpuId) (cpu : CpuBases) (out : Option Item)
     → oldest_in (base_of class cpu).items ≡ out → IsConsistent cpu
-    → let new = after_move_out out now class by cpu in IsConsistent new × Keeps now cpu new
+    → let new = after_move_out out now class by cpu in IsConsistent new × CallKeeps now cpu new
 move_out_keeps now class by cpu None is consistent = keeps_all now cpu consistent
 move_out_keeps now class by cpu (Some item) is consistent =
     let says : IsSomeAnd (oldest_in (base_of class cpu).items)

@@ -7,7 +7,7 @@ use Rattle.cpu_bases.specs.declared.calls.BasesCall.{BasesCall}
 use Rattle.cpu_bases.specs.declared.calls.BasesAnswer.{BasesAnswer}
 use Rattle.cpu_bases.specs.CpuBases.{RoomyBases}
 use Rattle.cpu_bases.specs.Journals.{LegalUpTo}
-use Rattle.cpu_bases.specs.Calls.{InOrder, IsByRight, MayCallAll, StandsAfterSome, after, after_all}
+use Rattle.cpu_bases.specs.Calls.{InOrder, IsByRight, MayCallAll, StandsAfterSome, after, after_calls}
 use Rattle.cpu_bases.specs.Calls.{answer_of, answers_to, time_after, time_of}
 use Rattle.cpu_bases.specs.Replay.{AddsReplay}
 use Rattle.cpu_bases.proofs.Replays.{adds_both}
@@ -17,18 +17,18 @@ use Rattle.cpu_bases.proofs.Replays.{adds_both}
 pub record RanSoFar (list : List BasesCall) (i : ℕ) (told : List BasesAnswer)
     (start bases : RoomyBases) : Type 0 where
   pub all_told : told ++ answers_to (drop i list) bases ≡ answers_to list start
-  pub all_made : after_all (drop i list) bases ≡ after_all list start
-  pub made : bases ≡ after_all (take i list) start
+  pub all_made : after_calls (drop i list) bases ≡ after_calls list start
+  pub made : bases ≡ after_calls (take i list) start
   pub may : MayCallAll (drop i list) bases
   pub replay : AddsReplay start.plain bases.plain
   pub legal : (cpu time : ℕ) → InOrder cpu time list → LegalUpTo cpu time start.plain.journal
       → (now : ℕ) × InOrder cpu now (drop i list) × LegalUpTo cpu now bases.plain.journal
       × (time_after now (drop i list) ≡ time_after time list)
 
-after_all_push : (list : List BasesCall) (call : BasesCall) (bases : RoomyBases)
-    → after_all (list ++ call ∷ []) bases ≡ after call (after_all list bases)
-after_all_push [] call bases = refl
-after_all_push (first ∷ list) call bases = after_all_push list call (after first bases)
+after_calls_push : (list : List BasesCall) (call : BasesCall) (bases : RoomyBases)
+    → after_calls (list ++ call ∷ []) bases ≡ after call (after_calls list bases)
+after_calls_push [] call bases = refl
+after_calls_push (first ∷ list) call bases = after_calls_push list call (after first bases)
 
 next_call : (list : List BasesCall) (i : ℕ) (d : BasesCall) → i < length list
     → drop i list ≡ get_or list i d ∷ drop (i + 1) list
@@ -41,13 +41,13 @@ may_next list i d told start bases within so_far =
     subst (λ rest. MayCallAll rest bases) (next_call list i d within) so_far.may
 
 made_more : (list : List BasesCall) (i : ℕ) (d : BasesCall) (start bases next : RoomyBases)
-    → i < length list → bases ≡ after_all (take i list) start
-    → next ≡ after (get_or list i d) bases → next ≡ after_all (take (i + 1) list) start
+    → i < length list → bases ≡ after_calls (take i list) start
+    → next ≡ after (get_or list i d) bases → next ≡ after_calls (take (i + 1) list) start
 made_more list i d start bases next within so_far is =
     is
     ∙ (ap (after (get_or list i d)) so_far
-    ∙ (sym (after_all_push (take i list) (get_or list i d) start)
-    ∙ ap (λ made. after_all made start) (sym (take_more list i d within))))
+    ∙ (sym (after_calls_push (take i list) (get_or list i d) start)
+    ∙ ap (λ made. after_calls made start) (sym (take_more list i d within))))
 
 pub run_more : (list : List BasesCall) (i : ℕ) (d : BasesCall) (told now_told : List BasesAnswer)
     (answer : BasesAnswer) (start bases next : RoomyBases) → i < length list
@@ -67,7 +67,7 @@ run_more list i d told now_told answer start bases next within so_far says is ad
           (append_assoc told (answer_of call bases.plain ∷ [])
           (answers_to (drop (i + 1) list) (after call bases))
           ∙ (ap (λ rest. told ++ answers_to rest bases) (sym split) ∙ so_far.all_told));
-      all_made = rw is (ap (λ rest. after_all rest bases) (sym split) ∙ so_far.all_made);
+      all_made = rw is (ap (λ rest. after_calls rest bases) (sym split) ∙ so_far.all_made);
       made = made_more list i d start bases next within so_far.made is;
       may = subst (MayCallAll (drop (i + 1) list)) (sym is) may.1;
       replay = adds_both start.plain bases.plain next.plain so_far.replay adds;

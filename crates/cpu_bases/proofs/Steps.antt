@@ -7,7 +7,7 @@ use Rattle.tm_base.specs.declared.names.Class.TheVariants.{Pinned, Global, Defer
 use Rattle.tm_base.specs.declared.names.CpuId.{CpuId}
 use Rattle.wheel_core.specs.declared.item.Item.{Item}
 use Rattle.wheel_core.specs.PlainBase.{PlainBase, RoomyBase, added, after_out, forwarded, item_of}
-use Rattle.wheel_core.specs.PlainBase.{next_out, placed, removed, taken}
+use Rattle.wheel_core.specs.PlainBase.{next_out, item_added, removed, taken}
 use Rattle.wheel_core.proofs.Ids.{item_holds}
 use Rattle.cpu_bases.specs.declared.entry.Act.{Act}
 use Rattle.cpu_bases.specs.declared.entry.Act.TheVariants.{Handed, Cancelled, MovedOut}
@@ -60,7 +60,7 @@ stored class change trio next journal after entry next_is after_is =
 pub stored_queued : (act : Act) (line at time : ℕ) (class : Class) (timer expires job arg : ℕ)
     (by : CpuId) (trio next : ByClass RoomyBase) (journal after : List Entry) (item : Item)
     (entry : Entry)
-    → item ≡ placed (forwarded time (of_class class trio).plain).clock timer expires job arg
+    → item ≡ item_added (forwarded time (of_class class trio).plain).clock timer expires job arg
     → next ≡ on_class class (λ b. added timer expires job arg (forwarded time b)) trio
     → entry ≡ entry_of act line at class item by → after ≡ journal ++ entry ∷ []
     → plain_of next after
@@ -69,10 +69,10 @@ stored_queued act line at time class timer expires job arg by trio next journal 
     item_is next_is entry_is after_is =
     let same =
     item_is
-    ∙ ap (λ b. placed (forwarded time b).clock timer expires job arg)
+    ∙ ap (λ b. item_added (forwarded time b).clock timer expires job arg)
     (sym (plain_base class trio)) in
     stored class (λ b. added timer expires job arg (forwarded time b)) trio next journal after
-    (entry_of act line at class (placed (forwarded time (of_class class (plains trio))).clock timer
+    (entry_of act line at class (item_added (forwarded time (of_class class (plains trio))).clock timer
     expires job arg) by)
     next_is
     (after_is

@@ -7,7 +7,7 @@ use Rattle.cpu_bases.specs.declared.calls.BasesCall.{BasesCall}
 use Rattle.cpu_bases.specs.declared.calls.BasesCall.TheVariants as calls
 use Rattle.cpu_bases.specs.declared.calls.BasesAnswer.{BasesAnswer}
 use Rattle.cpu_bases.specs.declared.calls.BasesAnswer.TheVariants as answers
-use Rattle.cpu_bases.specs.Journals.{LegalUpTo, MayHand}
+use Rattle.cpu_bases.specs.Journals.{LegalUpTo, MayHandOut}
 use Rattle.cpu_bases.specs.CpuBases.{CpuBases, RoomyBases, armed, base_of, cancelled, class_in}
 use Rattle.cpu_bases.specs.CpuBases.{events_of, handed_out, item_in, item_queued, moved_in}
 use Rattle.cpu_bases.specs.CpuBases.{moved_out, oldest_in, on_bases, with_room}
@@ -91,7 +91,7 @@ abbrev pub IsByRight : (number : ℕ) → BasesCall → Type 0
 IsByRight number (calls.Reserve timers entries) = Unit {0}
 IsByRight number (calls.Arm now class timer expires job arg line by) = Unit {0}
 IsByRight number (calls.Cancel now timer line by) = Unit {0}
-IsByRight number (calls.TakeDue now class by) = MayHand number class by.0
+IsByRight number (calls.TakeDue now class by) = MayHandOut number class by.0
 IsByRight number (calls.MoveOut now class by) = Unit {0}
 IsByRight number (calls.MoveIn now class timer expires job arg by) = Unit {0}
 IsByRight number calls.Next = Unit {0}
@@ -114,14 +114,14 @@ answers_to [] all = []
 answers_to (call ∷ rest) all = answer_of call all.plain ∷ answers_to rest (after call all)
 
 -- what a list of calls leaves
-abbrev pub after_all : List BasesCall → RoomyBases → RoomyBases
-after_all [] all = all
-after_all (call ∷ rest) all = after_all rest (after call all)
+abbrev pub after_calls : List BasesCall → RoomyBases → RoomyBases
+after_calls [] all = all
+after_calls (call ∷ rest) all = after_calls rest (after call all)
 
 -- all stands where the first so many of the calls bring it
 abbrev pub StandsAfterSome : List BasesCall → (before now : RoomyBases) → Type 0
 StandsAfterSome list before now =
-    (n : ℕ) × (n ≤ length list) × (now ≡ after_all (take n list) before)
+    (n : ℕ) × (n ≤ length list) × (now ≡ after_calls (take n list) before)
 
 -- where the journal of a CPU was legal, and each call is given a time that isn't before the last
 -- and hands out by right, it still is

@@ -8,7 +8,7 @@ use Rattle.tm_base.specs.declared.names.Class.TheVariants.{Pinned, Global, Defer
 use Rattle.tm_base.specs.declared.names.CpuId.{CpuId}
 use Rattle.wheel_core.specs.declared.item.Item.{Item}
 use Rattle.wheel_core.specs.PlainBase.{PlainBase, IsSound, added, empty_base, forwarded}
-use Rattle.wheel_core.specs.PlainBase.{item_of, least, next_out, placed, removed, taken}
+use Rattle.wheel_core.specs.PlainBase.{item_of, least, next_out, item_added, removed, taken}
 use Rattle.cpu_bases.specs.declared.entry.Act.{Act}
 use Rattle.cpu_bases.specs.declared.entry.Act.TheVariants as acts
 use Rattle.cpu_bases.specs.declared.entry.Entry.{Entry}
@@ -77,7 +77,7 @@ changed class base entry cpu = record {
 -- QUEUEING: the base of a class is forwarded to a time, and a timer is added to it
 abbrev pub item_queued : (time : ℕ) → Class → (timer expires job arg : ℕ) → CpuBases → Item
 item_queued time class timer expires job arg cpu =
-    placed (forwarded time (base_of class cpu)).clock timer expires job arg
+    item_added (forwarded time (base_of class cpu)).clock timer expires job arg
 
 -- QUEUEING, with its entry: the base of a class is forwarded to a time, and a timer is added
 abbrev pub queued : Act → (line at time : ℕ) → Class → (timer expires job arg : ℕ) → CpuId
@@ -166,14 +166,14 @@ moved_out now class by cpu = after_move_out (oldest_in (base_of class cpu).items
 
 -- FIRST EVENTS (fetch_next_timer_interrupt): the least wheel expiries of the pinned and the global
 -- base, and the global one where it comes before the pinned one
-abbrev pub first_of : Class → CpuBases → ℕ
-first_of class cpu = unwrap_or (least (base_of class cpu).items) NEVER
+abbrev pub first_expiry : Class → CpuBases → ℕ
+first_expiry class cpu = unwrap_or (least (base_of class cpu).items) NEVER
 
 -- FIRST EVENTS of a CPU (fetch_next_timer_interrupt)
 abbrev pub events_of : CpuBases → NextEvents
 events_of cpu =
-    let pin = first_of Pinned cpu in
-    let first_global = first_of Global cpu in
+    let pin = first_expiry Pinned cpu in
+    let first_global = first_expiry Global cpu in
     record {
       pin = pin;
       first_global = first_global;

@@ -84,14 +84,14 @@ last_time time [] = time
 last_time time (entry ∷ journal) = last_time entry.at journal
 
 -- a CPU's pinned and deferrable timers are handed out by itself alone
-abbrev pub MayHand : (cpu : ℕ) → Class → (by : ℕ) → Type 0
-MayHand cpu Pinned by = by ≡ cpu
-MayHand cpu Global by = Unit {0}
-MayHand cpu Deferrable by = by ≡ cpu
+abbrev pub MayHandOut : (cpu : ℕ) → Class → (by : ℕ) → Type 0
+MayHandOut cpu Pinned by = by ≡ cpu
+MayHandOut cpu Global by = Unit {0}
+MayHandOut cpu Deferrable by = by ≡ cpu
 
 -- what was handed out, was so by a CPU that may
 abbrev pub HandedByRight : (cpu : ℕ) → Act → Entry → Type 0
-HandedByRight cpu Handed entry = MayHand cpu entry.class entry.by.0
+HandedByRight cpu Handed entry = MayHandOut cpu entry.class entry.by.0
 HandedByRight cpu Armed entry = Unit {0}
 HandedByRight cpu Cancelled entry = Unit {0}
 HandedByRight cpu MovedOut entry = Unit {0}

@@ -13,9 +13,9 @@ use Rattle.cpu_bases.specs.declared.entry.Act.TheVariants.{Armed, Handed, Cancel
 use Rattle.cpu_bases.specs.declared.entry.Act.TheVariants.{MovedOut, MovedIn, Ticked}
 use Rattle.cpu_bases.specs.declared.entry.Entry.{Entry}
 use Rattle.cpu_bases.specs.CpuBases.{CpuBases, IsConsistent, NotAhead, armed}
-use Rattle.cpu_bases.specs.CpuBases.{base_of, cancelled, class_in, drained, first_of, found_in}
+use Rattle.cpu_bases.specs.CpuBases.{base_of, cancelled, class_in, drained, first_expiry, found_in}
 use Rattle.cpu_bases.specs.CpuBases.{handed_out, moved_in, moved_out}
-use Rattle.cpu_bases.specs.Journals.{HandedByRight, LegalJournal, LegalUpTo, MayHand}
+use Rattle.cpu_bases.specs.Journals.{HandedByRight, LegalJournal, LegalUpTo, MayHandOut}
 use Rattle.cpu_bases.specs.Journals.{told_by_entry, told_by_item}
 use Rattle.cpu_bases.specs.Replay.{AddsReplay, KeepsReplay}
 
@@ -103,13 +103,13 @@ QueuedOnce = (cpu : CpuBases) (timer : ℕ) (class : Class) (item : Item) → Is
 -- the first event of a class is `NEVER`, or the wheel expiry of an arming
 abbrev pub FirstWasArmed : Type 0
 FirstWasArmed = (cpu : CpuBases) (class : Class) → IsConsistent cpu
-    → (first_of class cpu ≡ NEVER)
+    → (first_expiry class cpu ≡ NEVER)
     ⊎ ((entry : Entry) × Contains cpu.journal entry × (is_arming entry.act ≡ true)
-    × (entry.class ≡ class) × (entry.wheel ≡ first_of class cpu))
+    × (entry.class ≡ class) × (entry.wheel ≡ first_expiry class cpu))
 
 -- WHAT A CALL KEEPS at a time, on whatever CPU: the journal stays legal and the bases its replay,
 -- clocks stay near, and nothing comes to be behind them
-pub record Keeps (now : ℕ) (old new : CpuBases) : Type 0 where
+pub record CallKeeps (now : ℕ) (old new : CpuBases) : Type 0 where
   pub legal : (cpu : ℕ) → LegalUpTo cpu now old.journal → LegalUpTo cpu now new.journal
   pub replay : AddsReplay old new
   pub not_ahead : (class : Class) → NotAhead now (base_of class old)
@@ -130,28 +130,28 @@ abbrev pub ArmingKeeps : Type 0
 ArmingKeeps = (now : ℕ) (class : Class) (timer expires job arg line : ℕ) (by : CpuId)
     (cpu : CpuBases) → IsConsistent cpu → MayQueue now class timer expires cpu
     → let new = armed now class timer expires job arg line by cpu in
-    IsConsistent new × Keeps now cpu new
+    IsConsistent new × CallKeeps now cpu new
 
 -- moving in keeps bases consistent, and what stands in their journal
 abbrev pub MovingInKeeps : Type 0
 MovingInKeeps = (now : ℕ) (class : Class) (timer expires job arg : ℕ) (by : CpuId)
     (cpu : CpuBases) → IsConsistent cpu → MayQueue now class timer expires cpu
     → let new = moved_in now class timer expires job arg by cpu in
-    IsConsistent new × Keeps now cpu new
+    IsConsistent new × CallKeeps now cpu new
 
 -- cancelling keeps bases consistent, and what stands in their journal
 abbrev pub CancellingKeeps : Type 0
 CancellingKeeps = (now timer line : ℕ) (by : CpuId) (cpu : CpuBases) → IsConsistent cpu
-    → let new = cancelled now timer line by cpu in IsConsistent new × Keeps now cpu new
+    → let new = cancelled now timer line by cpu in IsConsistent new × CallKeeps now cpu new
 
 -- moving out keeps bases consistent, and what stands in their journal
 abbrev pub MovingOutKeeps : Type 0
 MovingOutKeeps = (now : ℕ) (class : Class) (by : CpuId) (cpu : CpuBases) → IsConsistent cpu
-    → let new = moved_out now class by cpu in IsConsistent new × Keeps now cpu new
+    → let new = moved_out now class by cpu in IsConsistent new × CallKeeps now cpu new
 
 -- what handing out timers of a class keeps: the journal stays legal where they are by right
 pub record HandsOut (now : ℕ) (class : Class) (by : ℕ) (old new : CpuBases) : Type 0 where
-  pub legal : (cpu : ℕ) → MayHand cpu class by → LegalUpTo cpu now old.journal
+  pub legal : (cpu : ℕ) → MayHandOut cpu class by → LegalUpTo cpu now old.journal
       → LegalUpTo cpu now new.journal
   pub replay : AddsReplay old new
   pub not_ahead : (any : Class) → NotAhead now (base_of any old) → NotAhead now (base_of any new)

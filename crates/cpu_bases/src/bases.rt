@@ -7,10 +7,10 @@ ghost use Rattle.wheel_core.specs.PlainBase.{NoneBehind, NoneSooner, OneFewer, O
 ghost use Rattle.wheel_core.specs.PlainBase.{next_out};
 ghost use Rattle.cpu_bases.specs.CpuBases.{HasRoom, IsConsistent, NotAhead, armed, base_of};
 ghost use Rattle.cpu_bases.specs.CpuBases.{cancelled};
-ghost use Rattle.cpu_bases.specs.CpuBases.{class_in, entry_of, events_of, first_of, handed_out};
+ghost use Rattle.cpu_bases.specs.CpuBases.{class_in, entry_of, events_of, first_expiry, handed_out};
 ghost use Rattle.cpu_bases.specs.CpuBases.{item_in, item_queued, moved_in, moved_out, oldest_in};
 ghost use Rattle.cpu_bases.specs.CpuBases.{on_bases, ticked_entry, with_room};
-ghost use Rattle.cpu_bases.specs.Laws.{HandsOut, Keeps};
+ghost use Rattle.cpu_bases.specs.Laws.{HandsOut, CallKeeps};
 
 use crate::trio::Trio;
 use crate::{Act, Entry, Journal, NextEvents};
@@ -153,7 +153,7 @@ impl<B: TimerBase> Bases<B> {
             (forwarded now (base_of class self.old.plain)).clock }
         ensures after { self.new
             ≡ on_bases (armed now class timer.0 expires job arg line by) self.old }
-        ensures keeps { Keeps now self.old.plain self.new.plain }
+        ensures keeps { CallKeeps now self.old.plain self.new.plain }
     {
         let id = u32::from(timer.0);
         let item = self.trio.queue(class, now, id, expires, job, arg);
@@ -170,7 +170,7 @@ impl<B: TimerBase> Bases<B> {
         ensures item { result ≡ item_in timer.0 self.old.plain }
         ensures gone { class_in timer.0 self.new.plain ≡ None }
         ensures after { self.new ≡ on_bases (cancelled now timer.0 line by) self.old }
-        ensures keeps { Keeps now self.old.plain self.new.plain }
+        ensures keeps { CallKeeps now self.old.plain self.new.plain }
     {
         let Some((class, item)) = self.trio.take_out(u32::from(timer.0)) else {
             return None;
@@ -215,7 +215,7 @@ impl<B: TimerBase> Bases<B> {
         ensures one_fewer { OnSome result
             (OneFewer (base_of class self.old.plain) (base_of class self.new.plain)) }
         ensures after { self.new ≡ on_bases (moved_out now class by) self.old }
-        ensures keeps { Keeps now self.old.plain self.new.plain }
+        ensures keeps { CallKeeps now self.old.plain self.new.plain }
     {
         let Some(item) = self.trio.take_oldest(class) else {
             return None;
@@ -250,7 +250,7 @@ impl<B: TimerBase> Bases<B> {
             (forwarded (now + 1) (base_of class self.old.plain)).clock }
         ensures after { self.new
             ≡ on_bases (moved_in now class timer.0 expires job arg by) self.old }
-        ensures keeps { Keeps now self.old.plain self.new.plain }
+        ensures keeps { CallKeeps now self.old.plain self.new.plain }
     {
         let id = u32::from(timer.0);
         let item = self.trio.queue(class, now + 1, id, expires, job, arg);
@@ -282,7 +282,7 @@ impl<B: TimerBase> Bases<B> {
 
     /// The least wheel expiry of a class; `NEVER` where nothing of it is queued.
     fn first(&self, class: Class) -> Jiffy
-        ensures first { result ≡ first_of class self.now.plain }
+        ensures first { result ≡ first_expiry class self.now.plain }
         ensures bounds { NoneSooner result (base_of class self.now.plain).items }
     {
         self.base(class).first().unwrap_or(NEVER)

@@ -2,7 +2,7 @@
 
 ghost use Rattle.std.specs.Prelude.{◌≡◌, ℕ, ◌≤◌, IfOk, OnOk, OnErr};
 ghost use Rattle.cpu_bases.specs.Calls.{IsByRight, MayCall, MayCallAll, StandsAfterSome};
-ghost use Rattle.cpu_bases.specs.Calls.{StaysLegal, after, after_all, answer_of, answers_to};
+ghost use Rattle.cpu_bases.specs.Calls.{StaysLegal, after, after_calls, answer_of, answers_to};
 ghost use Rattle.cpu_bases.specs.Calls.{time_of};
 ghost use Rattle.cpu_bases.specs.CpuBases.{IsConsistent};
 ghost use Rattle.cpu_bases.specs.Journals.{LegalUpTo};
@@ -135,7 +135,7 @@ pub fn make_calls<B: TimerBase>(
 ) -> Result<Vec<BasesAnswer>, NoMemory>
     requires { MayCallAll calls.now bases.old }
     ensures answers { IfOk result (λ answers. answers.items ≡ answers_to calls.now bases.old) }
-    ensures after { OnOk result (bases.new ≡ after_all calls.now bases.old) }
+    ensures after { OnOk result (bases.new ≡ after_calls calls.now bases.old) }
     ensures consistent { OnOk result (IsConsistent bases.new.plain) }
     ensures legal { OnOk result (StaysLegal calls.now bases.old.plain bases.new.plain) }
     ensures replay { KeepsReplay bases.old.plain bases.new.plain }

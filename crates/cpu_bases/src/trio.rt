@@ -3,7 +3,7 @@
 ghost use Rattle.std.specs.Prelude.{◌≡◌, ℕ, ◌<◌, ◌≤◌, [], None, IsOk, OnOk, OnSome, length};
 ghost use Rattle.wheel_core.specs.WheelExpiry.{KeepsTime};
 ghost use Rattle.wheel_core.specs.PlainBase.{NoneBehind, OneFewer, OutIsDue, added, forwarded};
-ghost use Rattle.wheel_core.specs.PlainBase.{item_of, next_out, on_plain, placed, taken};
+ghost use Rattle.wheel_core.specs.PlainBase.{item_of, next_out, on_plain, item_added, taken};
 ghost use Rattle.cpu_bases.specs.ByClass.{of_class};
 ghost use Rattle.cpu_bases.specs.CpuBases.{class_in, found_in, most_queued, oldest_in};
 ghost use Rattle.cpu_bases.specs.Trio.{HasCapacity, on_class, plain_of, plains, without_found};
@@ -50,7 +50,7 @@ fn queue_in<B: TimerBase>(
     requires time_in_time { time < TIME_LIMIT }
     requires none_behind { NoneBehind (B.base base.old).plain }
     ensures item { result
-        ≡ placed (forwarded time (B.base base.old).plain).clock id expires job arg }
+        ≡ item_added (forwarded time (B.base base.old).plain).clock id expires job arg }
     ensures keeps_time { KeepsTime expires (forwarded time (B.base base.old).plain).clock }
     ensures base { B.base base.new
         ≡ on_plain (λ b. added id expires job arg (forwarded time b)) (B.base base.old) }
@@ -142,7 +142,7 @@ impl<B: TimerBase> Trio<B> {
         requires time_in_time { time < TIME_LIMIT }
         requires none_behind { NoneBehind (of_class class self.old).plain }
         ensures item { result
-            ≡ placed (forwarded time (of_class class self.old).plain).clock id expires job arg }
+            ≡ item_added (forwarded time (of_class class self.old).plain).clock id expires job arg }
         ensures keeps_time { KeepsTime expires
             (forwarded time (of_class class self.old).plain).clock }
         ensures after { self.new

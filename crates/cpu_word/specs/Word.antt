@@ -18,8 +18,8 @@ mark_of None = 0
 mark_of (Some c) = 1 + c.0
 
 -- the CPU of such a number
-abbrev pub marker_of : ℕ → Option CpuId
-marker_of mark = if mark == 0 then None else Some (record { 0 = mark - 1 })
+abbrev pub cpu_of_mark : ℕ → Option CpuId
+cpu_of_mark mark = if mark == 0 then None else Some (record { 0 = mark - 1 })
 
 -- bits 0 to 47 are the wakeup, 48 says that the CPU is online, 49 that it is idle and 50 that it is
 -- inside its interrupt, and 51 to 60 are its mark

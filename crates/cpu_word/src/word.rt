@@ -5,7 +5,7 @@
 ghost use Rattle.std.specs.Prelude.{◌≡◌, ◌<◌, IfNone, IfSome, Some};
 ghost use Rattle.std.specs.Option.{ForSome};
 ghost use Rattle.cpu_word.specs.declared.state.TheConstants.{MARKER_LIMIT};
-ghost use Rattle.cpu_word.specs.Word.{FitsWord, IsStateOf, cpu_word, mark_of, marker_of};
+ghost use Rattle.cpu_word.specs.Word.{FitsWord, IsStateOf, cpu_word, mark_of, cpu_of_mark};
 
 use crate::CpuState;
 use tm_base::CpuId;
@@ -57,7 +57,7 @@ fn mark(remote: Option<CpuId>) -> u16
 
 /// The CPU of such a number.
 fn marker(mark: u16) -> Option<CpuId>
-    ensures { result ≡ marker_of mark }
+    ensures { result ≡ cpu_of_mark mark }
 {
     if mark == 0 {
         None

@@ -9,7 +9,7 @@ ghost use Rattle.deep_idle.specs.Device.{AreDue, DeviceLaw, fired, new_device, r
 ghost use Rattle.deep_idle.specs.Device.{asleep_still, is_due, slept};
 ghost use Rattle.deep_idle.specs.Order.{IsQueueOf, first_wakeup};
 
-use crate::order::{Sleeper, place_of, place_with};
+use crate::order::{Sleeper, index_for, place_with};
 use std::alloc::Global;
 use std::marker::Model;
 use tm_base::{CPU_SET_SIZE, CpuId, CpuSet, Jiffy, NEVER, NoMemory};
@@ -73,7 +73,7 @@ impl Device {
         ensures after { self.new ≡ slept cpu.0 wakeup self.old }
         ensures law { DeviceLaw self.new }
     {
-        let place = place_of(&self.queue, wakeup);
+        let place = index_for(&self.queue, wakeup);
         self.queue.insert(place, Sleeper { wakeup, cpu }).unwrap();
         self.sleepers[usize::from(cpu.0)] = Some(wakeup);
         self.time = self.time.min(wakeup);
@@ -105,7 +105,7 @@ impl Device {
         ensures law { DeviceLaw self.new }
     {
         let due = wake_due(&mut self.sleepers, &mut self.queue, now);
-        self.time = first_of(&self.queue);
+        self.time = first_wakeup(&self.queue);
         due
     }
 
@@ -127,7 +127,7 @@ impl Device {
 }
 
 /// The least wakeup of a queue, `NEVER` where it is empty.
-fn first_of(queue: &[Sleeper]) -> Jiffy
+fn first_wakeup(queue: &[Sleeper]) -> Jiffy
     ensures { result ≡ first_wakeup queue.now }
 {
     let len = queue.len();
@@ -148,7 +148,7 @@ fn wake_due(sleepers: &mut Vec<Option<Jiffy>>, queue: &mut Vec<Sleeper>, now: Ji
     ensures capacity { vec_capacity queue.new ≡ vec_capacity queue.old }
 {
     let mut due = CpuSet::new();
-    while first_of(queue) <= now {
+    while first_wakeup(queue) <= now {
         match queue.pop() {
             None => return due,
             Some(first) => {

@@ -16,7 +16,7 @@ pub(crate) struct Sleeper {
 
 /// The place in a queue before which all wake after a time, and from which on none does. It looks
 /// at those that wake first, as many as make way for one that is put there.
-pub(crate) fn place_of(queue: &[Sleeper], wakeup: Jiffy) -> usize
+pub(crate) fn index_for(queue: &[Sleeper], wakeup: Jiffy) -> usize
     requires { AreDescending queue.now }
     ensures within { result ≤ length queue.now }
     ensures before { After wakeup (take result queue.now) }

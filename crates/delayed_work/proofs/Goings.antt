@@ -13,7 +13,7 @@ use Rattle.delayed_work.specs.declared.faults.WorksFault.TheVariants.{WorkSpent}
 use Rattle.delayed_work.specs.declared.standing.Standing.TheVariants.{Free}
 use Rattle.delayed_work.specs.Calls.{Replies}
 use Rattle.delayed_work.specs.Play.{Finished, Outcome, Playing, PlaysEnd, Spent, Stand, Unfinished, count_after, moment, moments_after, next_moment, ops_at, play_start, played_from, playing_after, stand_after, work_of, works_played}
-use Rattle.delayed_work.specs.Playable.{AreAllInRange, AreInRange, BreaksOff, Keeps, Stands}
+use Rattle.delayed_work.specs.Playable.{AreAllInRange, AreInRange, BreaksOff, StaysPlayable, Stands}
 
 -- ---- no play is unfinished
 
@@ -140,7 +140,7 @@ module _ (replies : Replies) (end count : ℕ) (s : Stand) (outcome : Outcome) (
         cond-false (leb end s.now) _ _ (lt-leb end s.now early) ∙ cond-true (leb WORK_LIMIT_V1 (count_after s)) _ _ full
         ∙ ap (λ n. Spent n) (sym count_same)
 
-    pub stands_next : Stands replies end count s outcome → s.count < WORK_LIMIT_V1 → s.now < end → work ≤ 1 + count → Keeps s.now s.playing after → s.now < next → next ≤ end
+    pub stands_next : Stands replies end count s outcome → s.count < WORK_LIMIT_V1 → s.now < end → work ≤ 1 + count → StaysPlayable s.now s.playing after → s.now < next → next ≤ end
         → Stands replies end count new outcome
     stands_next st low early few keeps later last =
         let g = step st low in

@@ -5,7 +5,7 @@ use Rattle.std.specs.Prelude.{slice_set}
 use Rattle.std.proofs.lemmas.List.{length-set}
 use Rattle.std.proofs.lemmas.Option.{same_Some, slice_get-get_or, slice_get_within}
 use Rattle.tm_base.specs.declared.limits.TheConstants.{MOST_TIMERS}
-use Rattle.key_lists.specs.Tables.{KeyTable, Lacks, first_of, list_of, without}
+use Rattle.key_lists.specs.Tables.{KeyTable, Lacks, first_key, list_of, without}
 use Rattle.delayed_work.specs.declared.standing.Standing.{Standing}
 use Rattle.delayed_work.specs.declared.standing.Standing.TheVariants.{Free, Waiting, Ready}
 use Rattle.delayed_work.specs.declared.standing.End.{End}
@@ -175,7 +175,7 @@ counts_one standings table ready_len story work number job arg b =
 -- the first ready work is one of the works
 pub first_low : (standings : List Standing) (table : KeyTable) (ready_len : ℕ) (story : List Told)
     (first : ℕ) (found : Option ℕ) → IsKept standings table ready_len story
-    → found ≡ first_of (list_of table 0) → found ≡ Some first → first < MOST_TIMERS
+    → found ≡ first_key (list_of table 0) → found ≡ Some first → first < MOST_TIMERS
 first_low standings table ready_len story first found kept is some =
     let low = ready_within (ledger_of standings table story) first kept.sound
     (first_holds first (list_of table 0) (sym is ∙ some)) in

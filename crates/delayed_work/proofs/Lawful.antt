@@ -14,7 +14,7 @@ use Rattle.wheel_core.specs.declared.item.Item.{Item}
 use Rattle.wheel_core.specs.PlainBase.{NoneDue, item_of, without}
 use Rattle.wheel_core.proofs.Ids.{item_there}
 use Rattle.wheel_core.proofs.Rooms.{no_more}
-use Rattle.key_lists.specs.Tables.{first_of}
+use Rattle.key_lists.specs.Tables.{first_key}
 use Rattle.cpu_bases.specs.CpuBases.{CpuBases, after_cancel, armed, base_of, cancelled}
 use Rattle.cpu_bases.specs.CpuBases.{class_in, found_in, found_or, item_queued}
 use Rattle.cpu_bases.proofs.Drains.{drain_is_whole}
@@ -251,7 +251,7 @@ few_items works lawful =
 
 -- the first ready work is one of the works
 pub first_within : (works : WorksState) (work : ℕ) (found : Option ℕ) → IsLawful works
-    → found ≡ first_of works.ledger.ready → found ≡ Some work
+    → found ≡ first_key works.ledger.ready → found ≡ Some work
     → work < length works.ledger.standings
 first_within works work found lawful is some =
     ready_within works.ledger work lawful.sound (first_holds work works.ledger.ready (sym is ∙ some))

@@ -4,7 +4,7 @@ use Rattle.std.proofs.Common.{length, refl, sym, ◌∙◌, subst, inl, inr, ari
 use Rattle.std.specs.Prelude.{◌==◌}
 use Rattle.std.proofs.lemmas.Bool.{cases_Bool, eqb-true, eqb-false, eq-eqb, ne_eqb}
 use Rattle.std.proofs.lemmas.Option.{same_Some}
-use Rattle.key_lists.specs.Tables.{Holds, Lacks, first_of, without}
+use Rattle.key_lists.specs.Tables.{Holds, Lacks, first_key, without}
 use Rattle.delayed_work.specs.Ledger.{AreDistinct}
 
 pub holds_push : (work : ℕ) (works : List ℕ) → Holds work (works ++ work ∷ [])
@@ -100,7 +100,7 @@ few (suc n) works distinct none =
     let fewer = fewer_without n works in
     omega arith
 
-pub first_holds : (first : ℕ) (works : List ℕ) → first_of works ≡ Some first → Holds first works
+pub first_holds : (first : ℕ) (works : List ℕ) → first_key works ≡ Some first → Holds first works
 first_holds first [] is = absurd cc
 first_holds first (work ∷ works) is = inl (same_Some work first is)
 

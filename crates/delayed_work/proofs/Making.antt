@@ -19,7 +19,7 @@ use Rattle.cpu_bases.proofs.Drains.{one_fewer}
 use Rattle.cpu_bases.proofs.Keeping.{handing_out_keeps, or_item}
 use Rattle.job_table.specs.declared.jobs.JobReply.{JobReply}
 use Rattle.job_table.specs.declared.jobs.JobReply.TheVariants.{Done, Mark, Again}
-use Rattle.key_lists.specs.Tables.{first_of}
+use Rattle.key_lists.specs.Tables.{first_key}
 use Rattle.delayed_work.specs.declared.calls.WorksCall.{WorksCall}
 use Rattle.delayed_work.specs.declared.calls.WorksCall.TheVariants.{Queue, Cancel, Expire, RunNext}
 use Rattle.delayed_work.specs.declared.standing.Standing.{Standing}
@@ -122,7 +122,7 @@ run_lawful (Ready number job arg) replies now work works short may is =
 
 first_lawful : (found : Option ℕ) (replies : Replies) (now : ℕ) (works : WorksState)
     → AreReplies replies → IsLawful works → now ≤ TIME_LIMIT - 2 ^ 32 → works.time ≤ now
-    → found ≡ first_of works.ledger.ready → IsLawful (ran_first found replies now works)
+    → found ≡ first_key works.ledger.ready → IsLawful (ran_first found replies now works)
 first_lawful None replies now works short lawful in_time not_before is = lawful
 first_lawful (Some work) replies now works short lawful in_time not_before is =
     run_lawful (standing_of work works.ledger) replies now work works short (record {
@@ -143,11 +143,11 @@ made_lawful replies (Cancel now work line) works short lawful may =
 made_lawful replies (Expire now) works short lawful may =
     expired_lawful now works lawful may.in_time may.not_before
 made_lawful replies (RunNext now) works short lawful may =
-    first_lawful (first_of works.ledger.ready) replies now works short lawful may.in_time may.not_before refl
+    first_lawful (first_key works.ledger.ready) replies now works short lawful may.in_time may.not_before refl
 
 -- the first ready work is ready
 pub first_is_ready : (ledger : LedgerState) (work : ℕ) → IsSound ledger
-    → first_of ledger.ready ≡ Some work → is_ready (standing_of work ledger) ≡ true
+    → first_key ledger.ready ≡ Some work → is_ready (standing_of work ledger) ≡ true
 first_is_ready ledger work sound is = elim (cases_Bool (is_ready (standing_of work ledger))) [
   | inl ready ↦ ready
   | inr idle ↦ absurd (not_both work ledger.ready (first_holds work ledger.ready is) (sound.not_in_list work idle))
@@ -329,4 +329,4 @@ made_not_early replies (Expire now) works work lawful may waits ready =
     (record { sound = lawful.sound; waits = lawful.waiting; count_is = refl }) waits ready in
     record { now = now; expires = refl; item = item; queued = queued; due = due }
 made_not_early replies (RunNext now) works work lawful may waits ready =
-    absurd (first_unready (first_of works.ledger.ready) replies now work works waits ready)
+    absurd (first_unready (first_key works.ledger.ready) replies now work works waits ready)

@@ -4,7 +4,7 @@ use Rattle.std.proofs.lemmas.List.{length-set}
 use Rattle.wheel_core.specs.declared.item.Item.{Item}
 use Rattle.job_table.specs.declared.jobs.JobReply.{JobReply}
 use Rattle.job_table.specs.declared.jobs.JobReply.TheVariants.{Done, Mark, Again}
-use Rattle.key_lists.specs.Tables.{first_of}
+use Rattle.key_lists.specs.Tables.{first_key}
 use Rattle.work_script.specs.declared.syntax.WorkOp.{WorkOp}
 use Rattle.work_script.specs.declared.syntax.WorkOp.TheVariants.{Queue, Cancel}
 use Rattle.delayed_work.specs.declared.standing.End.{End}
@@ -17,7 +17,7 @@ use Rattle.delayed_work.proofs.Sound.{few_ready}
 use Rattle.tm_base.specs.declared.limits.TheConstants.{MOST_TIMERS}
 use Rattle.delayed_work.specs.Works.{IsLawful, WorksState, accepted, all_ready, cancelled_from, cancelled_work, expired, items_out, queued, queued_again, queued_from, ran, ran_first, ran_from}
 use Rattle.delayed_work.specs.Play.{Playing, done, run_one}
-use Rattle.delayed_work.specs.Playable.{Keeps}
+use Rattle.delayed_work.specs.Playable.{StaysPlayable}
 
 abbrev KeepsWorks : (now : ℕ) → WorksState → WorksState → Type 0
 KeepsWorks now old new = (new.time ≤ now) × (length new.ledger.standings ≡ length old.ledger.standings)
@@ -80,7 +80,7 @@ again_keeps (Again class delay) now work job arg works early = accepted_keeps no
 
 ran_keeps : (replies : Replies) (now : ℕ) (works : WorksState) → works.time ≤ now
     → KeepsWorks now works (ran replies now works)
-ran_keeps replies now works early = first (first_of works.ledger.ready)
+ran_keeps replies now works early = first (first_key works.ledger.ready)
   where
     by : (standing : Standing) (work : ℕ) → KeepsWorks now works (ran_from standing work replies now works)
     by Free work = (early, refl)
@@ -96,7 +96,7 @@ ran_keeps replies now works early = first (first_of works.ledger.ready)
 
 -- ---- in play
 
-pub done_keeps : (now : ℕ) (op : WorkOp) (p : Playing) → p.works.time ≤ now → Keeps now p (done now op p)
+pub done_keeps : (now : ℕ) (op : WorkOp) (p : Playing) → p.works.time ≤ now → StaysPlayable now p (done now op p)
 done_keeps now (Queue line work delay job arg) p early =
     let k = queued_keeps now work delay job arg line p.works early in
     record { time = k.0; len = k.1 }
@@ -104,19 +104,19 @@ done_keeps now (Cancel line work) p early =
     let k = cancelled_keeps now work line p.works early in
     record { time = k.0; len = k.1 }
 
-pub run_keeps : (replies : Replies) (now : ℕ) (p : Playing) → p.works.time ≤ now → Keeps now p (run_one replies now p)
+pub run_keeps : (replies : Replies) (now : ℕ) (p : Playing) → p.works.time ≤ now → StaysPlayable now p (run_one replies now p)
 run_keeps replies now p early =
     let k = ran_keeps replies now p.works early in
     record { time = k.0; len = k.1 }
 
-pub keeps_then : (now : ℕ) (p q r : Playing) → Keeps now p q → Keeps now q r → Keeps now p r
+pub keeps_then : (now : ℕ) (p q r : Playing) → StaysPlayable now p q → StaysPlayable now q r → StaysPlayable now p r
 keeps_then now p q r a b = record { time = b.time; len = b.len ∙ a.len }
 
-pub keeps_self : (now : ℕ) (p : Playing) → p.works.time ≤ now → Keeps now p p
+pub keeps_self : (now : ℕ) (p : Playing) → p.works.time ≤ now → StaysPlayable now p p
 keeps_self now p early = record { time = early; len = refl }
 
 pub expired_in_play : (now : ℕ) (p : Playing) (text : List ℕ) (works old : WorksState) → works ≡ expired now old → record { works = old; text = text } ≡ p
-    → Keeps now p (record { works = works; text = text })
+    → StaysPlayable now p (record { works = works; text = text })
 expired_in_play now p text works old is view =
     let k = expired_keeps now old in
     record {
@@ -125,7 +125,7 @@ expired_in_play now p text works old is view =
     }
 
 -- no more works run than there are
-pub few_runs : (now : ℕ) (p mid q : Playing) (works : WorksState) (text : List ℕ) (n : ℕ) → Keeps now p mid → Keeps now mid q → record { works = works; text = text } ≡ q → IsLawful works → n ≡ length works.ledger.ready
+pub few_runs : (now : ℕ) (p mid q : Playing) (works : WorksState) (text : List ℕ) (n : ℕ) → StaysPlayable now p mid → StaysPlayable now mid q → record { works = works; text = text } ≡ q → IsLawful works → n ≡ length works.ledger.ready
     → (n ≤ length p.works.ledger.standings) × (n ≤ MOST_TIMERS)
 few_runs now p mid q works text n a b view lawful is =
     let few = few_ready works.ledger lawful.sound in

@@ -10,7 +10,7 @@ use Rattle.delayed_work.specs.declared.standing.End.TheVariants.{Pending, Cancel
 use Rattle.delayed_work.specs.Ledger.{Told}
 use Rattle.delayed_work.specs.Works.{IsLawful, WorksState, new_works}
 use Rattle.delayed_work.specs.Calls.{MayMake, MayMakeAll, Replies, accepts_all, after}
-use Rattle.delayed_work.specs.Calls.{after_all, runs}
+use Rattle.delayed_work.specs.Calls.{after_calls, runs}
 use Rattle.delayed_work.specs.Laws.{AreReplies, IsStory, RunsAt, WorksLaw, before}
 use Rattle.delayed_work.proofs.Making.{made_lawful, made_not_early, new_lawful}
 use Rattle.delayed_work.proofs.Telling.{made_answers, made_tells, runs_pending}
@@ -18,7 +18,7 @@ use Rattle.delayed_work.proofs.Telling.{made_answers, made_tells, runs_pending}
 module _ (replies : Replies) (short : AreReplies replies) where
   -- after a list of calls works are lawful
   all_lawful : (calls : List WorksCall) (works : WorksState) → IsLawful works
-      → MayMakeAll replies calls works → IsLawful (after_all replies calls works)
+      → MayMakeAll replies calls works → IsLawful (after_calls replies calls works)
   all_lawful [] works lawful may = lawful
   all_lawful (call ∷ calls) works lawful may =
       all_lawful calls (after replies call works) (made_lawful replies call works short lawful may.0) may.1
@@ -35,7 +35,7 @@ module _ (replies : Replies) (short : AreReplies replies) where
 
   all_counts : (calls : List WorksCall) (works : WorksState) → IsLawful works
       → MayMakeAll replies calls works
-      → length (after_all replies calls works).ledger.story
+      → length (after_calls replies calls works).ledger.story
       ≡ length works.ledger.story + accepts_all replies calls works
   all_counts [] works lawful may = omega arith
   all_counts (call ∷ calls) works lawful may =
@@ -46,7 +46,7 @@ module _ (replies : Replies) (short : AreReplies replies) where
   -- an end stays
   stays : (calls : List WorksCall) (works : WorksState) (n : ℕ) (told : Told) → IsLawful works
       → MayMakeAll replies calls works → slice_get works.ledger.story n ≡ Some told
-      → told.2 ≢ Pending → slice_get (after_all replies calls works).ledger.story n ≡ Some told
+      → told.2 ≢ Pending → slice_get (after_calls replies calls works).ledger.story n ≡ Some told
   stays [] works n told lawful may is over = is
   stays (call ∷ calls) works n told lawful may is over =
       stays calls (after replies call works) n told (made_lawful replies call works short lawful may.0) may.1
@@ -69,7 +69,7 @@ module _ (replies : Replies) (short : AreReplies replies) where
   did_run : (calls : List WorksCall) (works : WorksState) (i n work : ℕ) (call : WorksCall)
       → IsLawful works → MayMakeAll replies calls works → slice_get calls i ≡ Some call
       → runs call (before replies calls works i).ledger ≡ Some (n, work)
-      → slice_get (after_all replies calls works).ledger.story n ≡ Some (n, work, Ran)
+      → slice_get (after_calls replies calls works).ledger.story n ≡ Some (n, work, Ran)
   did_run [] works i n work call lawful may there runs_it = absurd (none-some call there)
   did_run (first ∷ calls) works zero n work call lawful may there runs_it =
       let here : runs first works.ledger ≡ Some (n, work) =
@@ -120,7 +120,7 @@ module _ (replies : Replies) (short : AreReplies replies) where
   was_run : (calls : List WorksCall) (works : WorksState) (n : ℕ) (told : Told) → IsLawful works
       → MayMakeAll replies calls works
       → ((old : Told) → slice_get works.ledger.story n ≡ Some old → old.2 ≡ Ran → ⊥)
-      → slice_get (after_all replies calls works).ledger.story n ≡ Some told → told.2 ≡ Ran
+      → slice_get (after_calls replies calls works).ledger.story n ≡ Some told → told.2 ≡ Ran
       → (i : ℕ) × RunsAt replies calls works i n told.1
   was_run [] works n told lawful may none is ran = absurd (none told is ran)
   was_run (call ∷ calls) works n told lawful may none is ran =

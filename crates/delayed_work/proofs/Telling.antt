@@ -10,7 +10,7 @@ use Rattle.std.proofs.lemmas.Option.{none-some, same_Some, slice_get_within}
 use Rattle.wheel_core.specs.declared.item.Item.{Item}
 use Rattle.job_table.specs.declared.jobs.JobReply.{JobReply}
 use Rattle.job_table.specs.declared.jobs.JobReply.TheVariants.{Done, Mark, Again}
-use Rattle.key_lists.specs.Tables.{first_of}
+use Rattle.key_lists.specs.Tables.{first_key}
 use Rattle.delayed_work.specs.declared.calls.WorksCall.{WorksCall}
 use Rattle.delayed_work.specs.declared.calls.WorksCall.TheVariants.{Queue, Cancel, Expire, RunNext}
 use Rattle.delayed_work.specs.declared.standing.Standing.{Standing}
@@ -22,8 +22,8 @@ use Rattle.delayed_work.specs.Ledger.{IsSound, LedgerState, Told, accepted_ready
 use Rattle.delayed_work.specs.Ledger.{come_ready, ended, ended_from, is_ready, number_in, ready_from}
 use Rattle.delayed_work.specs.Ledger.{standing_of}
 use Rattle.delayed_work.specs.Works.{Run, WorksState, all_ready, call_of, cancelled_from}
-use Rattle.delayed_work.specs.Works.{items_out, ledger_queued, placed_again, placed_free}
-use Rattle.delayed_work.specs.Works.{placed_from, queued_again, queued_from, ran_first, ran_from}
+use Rattle.delayed_work.specs.Works.{items_out, ledger_queued, queue_answer_again, queue_answer_free}
+use Rattle.delayed_work.specs.Works.{queue_answer_from, queued_again, queued_from, ran_first, ran_from}
 use Rattle.delayed_work.specs.Works.{told_first, told_from, told_run}
 use Rattle.delayed_work.specs.Calls.{Replies, accepts, after, first_run, numbered, one_if}
 use Rattle.delayed_work.specs.Calls.{one_if_again, one_if_run, runs}
@@ -126,7 +126,7 @@ queued_story work delay job arg ledger =
     elim (cases_Bool (delay == 0)) [ inl is ↦ subst P (sym is) refl | inr is ↦ subst P (sym is) refl ]
 
 free_counts : (now work delay job arg : ℕ) (bases : CpuBases)
-    → one_if (placed_free now work delay job arg bases) ≡ 1
+    → one_if (queue_answer_free now work delay job arg bases) ≡ 1
 free_counts now work delay job arg bases =
     let P : Bool → Type 0 = λ b. one_if (if b then placing.Ready
     else placing.Waiting (item_queued now Global work (now + delay) job arg bases).wheel) ≡ 1 in
@@ -134,14 +134,14 @@ free_counts now work delay job arg bases =
 
 tells_queued : (now work delay job arg : ℕ) (ledger : LedgerState) (bases : CpuBases)
     → Tells ledger.story (ledger_queued work delay job arg ledger).story None
-    (one_if (placed_free now work delay job arg bases))
+    (one_if (queue_answer_free now work delay job arg bases))
 tells_queued now work delay job arg ledger bases =
     rw (queued_story work delay job arg ledger, free_counts now work delay job arg bases)
     (tells_accept ledger.story (length ledger.story, work, Pending) refl)
 
 queue_tells : (standing : Standing) (now work delay job arg line : ℕ) (works : WorksState)
     → Tells works.ledger.story (queued_from standing now work delay job arg line works).ledger.story None
-    (one_if (placed_from standing now work delay job arg works.bases))
+    (one_if (queue_answer_from standing now work delay job arg works.bases))
 queue_tells Free now work delay job arg line works =
     tells_queued now work delay job arg works.ledger works.bases
 queue_tells (Waiting number) now work delay job arg line works = tells_same works.ledger.story
@@ -175,7 +175,7 @@ ready_story (item ∷ items) ledger =
 -- running
 again_tells : (reply : JobReply) (now work job arg : ℕ) (over : WorksState) (bases : CpuBases)
     → Tells over.ledger.story (queued_again reply now work job arg over).ledger.story None
-    (one_if_again (placed_again reply now work job arg bases))
+    (one_if_again (queue_answer_again reply now work job arg bases))
 again_tells Done now work job arg over bases = tells_same over.ledger.story
 again_tells (Mark m) now work job arg over bases = tells_same over.ledger.story
 again_tells (Again class delay) now work job arg over bases =
@@ -194,13 +194,13 @@ run_tells (Ready number job arg) replies now work works sound is ready =
     subst (λ s. Tells works.ledger.story (ended_from s work Ran works.ledger).story (Some (number, work)) 0) (sym is)
     (tells_run works.ledger.story number work (sound.numbered work number (ap number_in is))) in
     let two = again_tells reply now work job arg over works.bases in
-    let k = one_if_again (placed_again reply now work job arg works.bases) in
+    let k = one_if_again (queue_answer_again reply now work job arg works.bases) in
     let none : 0 + k ≡ k = omega arith in
     subst (λ m. Tells works.ledger.story (queued_again reply now work job arg over).ledger.story (Some (number, work)) m)
     none (tells_then works.ledger.story over.ledger.story _ (Some (number, work)) 0 k one two)
 
 first_tells : (found : Option ℕ) (replies : Replies) (now : ℕ) (works : WorksState)
-    → IsSound works.ledger → first_of works.ledger.ready ≡ found
+    → IsSound works.ledger → first_key works.ledger.ready ≡ found
     → Tells works.ledger.story (ran_first found replies now works).ledger.story
     (first_run found works.ledger) (one_if_run (told_first found replies now works))
 first_tells None replies now works sound is = tells_same works.ledger.story
@@ -218,7 +218,7 @@ made_tells replies (Cancel now work line) works sound =
 made_tells replies (Expire now) works sound =
     rw (ready_story (items_out _ now works.bases) works.ledger) (tells_same works.ledger.story)
 made_tells replies (RunNext now) works sound =
-    first_tells (first_of works.ledger.ready) replies now works sound refl
+    first_tells (first_key works.ledger.ready) replies now works sound refl
 
 -- what a call of `run_next` runs is what it answers
 run_answers : (standing : Standing) (replies : Replies) (now work : ℕ) (works : WorksState)
@@ -230,7 +230,7 @@ run_answers (Waiting number) replies now work works ready = absurd cc
 run_answers (Ready number job arg) replies now work works ready = refl
 
 first_answers : (found : Option ℕ) (replies : Replies) (now : ℕ) (works : WorksState)
-    → IsSound works.ledger → first_of works.ledger.ready ≡ found
+    → IsSound works.ledger → first_key works.ledger.ready ≡ found
     → option_map (λ (run : Run). run.0) (told_first found replies now works)
     ≡ option_map (λ (run : ℕ × ℕ). run.1) (first_run found works.ledger)
 first_answers None replies now works sound is = refl
@@ -242,7 +242,7 @@ pub made_answers : (replies : Replies) (now : ℕ) (works : WorksState) → IsSo
     → option_map (λ (run : Run). run.0) (told_run replies now works)
     ≡ option_map (λ (run : ℕ × ℕ). run.1) (runs (RunNext now) works.ledger)
 made_answers replies now works sound =
-    first_answers (first_of works.ledger.ready) replies now works sound refl
+    first_answers (first_key works.ledger.ready) replies now works sound refl
 
 -- what is run is pending
 numbered_is : (work : ℕ) (number : Option ℕ) (n w : ℕ) → numbered work number ≡ Some (n, w)
@@ -264,4 +264,4 @@ pub runs_pending : (call : WorksCall) (ledger : LedgerState) (n work : ℕ)
 runs_pending (Queue now w delay job arg line) ledger n work is = absurd (none-some (n, work) is)
 runs_pending (Cancel now w line) ledger n work is = absurd (none-some (n, work) is)
 runs_pending (Expire now) ledger n work is = absurd (none-some (n, work) is)
-runs_pending (RunNext now) ledger n work is = first_pending (first_of ledger.ready) ledger n work is
+runs_pending (RunNext now) ledger n work is = first_pending (first_key ledger.ready) ledger n work is

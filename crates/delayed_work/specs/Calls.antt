@@ -4,13 +4,14 @@ use Rattle.std.specs.Prelude.{None}
 use Rattle.tm_base.specs.declared.names.TheConstants.{TIME_LIMIT}
 use Rattle.job_table.specs.declared.jobs.JobCall.{JobCall}
 use Rattle.job_table.specs.declared.jobs.JobReply.{JobReply}
-use Rattle.key_lists.specs.Tables.{first_of}
+use Rattle.key_lists.specs.Tables.{first_key}
 use Rattle.delayed_work.specs.declared.calls.WorksCall.{WorksCall}
 use Rattle.delayed_work.specs.declared.calls.WorksCall.TheVariants.{Queue, Cancel, Expire, RunNext}
 use Rattle.delayed_work.specs.declared.standing.Placed.{Placed}
 use Rattle.delayed_work.specs.declared.standing.Placed.TheVariants as placing
 use Rattle.delayed_work.specs.Ledger.{LedgerState, number_in, standing_of}
-use Rattle.delayed_work.specs.Works.{Run, WorksState, cancelled_work, expired, placed, queued, ran}
+use Rattle.delayed_work.specs.Works.{Run, WorksState, cancelled_work, expired, queue_answer, queued}
+use Rattle.delayed_work.specs.Works.{ran}
 use Rattle.delayed_work.specs.Works.{told_run}
 
 -- what the jobs answer
@@ -26,9 +27,9 @@ after replies (Expire now) works = expired now works
 after replies (RunNext now) works = ran replies now works
 
 -- after a list of calls
-abbrev pub after_all : Replies → List WorksCall → WorksState → WorksState
-after_all replies [] works = works
-after_all replies (call ∷ calls) works = after_all replies calls (after replies call works)
+abbrev pub after_calls : Replies → List WorksCall → WorksState → WorksState
+after_calls replies [] works = works
+after_calls replies (call ∷ calls) works = after_calls replies calls (after replies call works)
 
 -- the time of a call, in jiffies
 abbrev pub time_of : WorksCall → ℕ
@@ -75,7 +76,7 @@ one_if_run (Some run) = one_if_again run.2
 -- how many queueings a call accepts
 abbrev pub accepts : Replies → WorksCall → WorksState → ℕ
 accepts replies (Queue now work delay job arg line) works =
-    one_if (placed now work delay job arg works)
+    one_if (queue_answer now work delay job arg works)
 accepts replies (Cancel now work line) works = 0
 accepts replies (Expire now) works = 0
 accepts replies (RunNext now) works = one_if_run (told_run replies now works)
@@ -99,5 +100,5 @@ first_run (Some work) ledger = numbered work (number_in (standing_of work ledger
 
 -- what a call runs: the number of a queueing and its work
 abbrev pub runs : WorksCall → LedgerState → Option (ℕ × ℕ)
-runs (RunNext now) ledger = first_run (first_of ledger.ready) ledger
+runs (RunNext now) ledger = first_run (first_key ledger.ready) ledger
 runs _ ledger = None

@@ -13,12 +13,12 @@ use Rattle.delayed_work.specs.declared.calls.WorksCall.{WorksCall}
 use Rattle.delayed_work.specs.declared.calls.WorksCall.TheVariants.{Expire, RunNext}
 use Rattle.delayed_work.specs.declared.standing.End.TheVariants.{Pending, Ran}
 use Rattle.delayed_work.specs.Ledger.{Told, is_ready, is_waiting, number_in, standing_of}
-use Rattle.delayed_work.specs.Calls.{MayMakeAll, Replies, accepts_all, after, after_all, runs}
+use Rattle.delayed_work.specs.Calls.{MayMakeAll, Replies, accepts_all, after, after_calls, runs}
 use Rattle.delayed_work.specs.Works.{Run, WorksState, new_works, told_run}
 
 -- the works before the call at a place
 abbrev pub before : Replies → List WorksCall → WorksState → (i : ℕ) → WorksState
-before replies calls start i = after_all replies (take i calls) start
+before replies calls start i = after_calls replies (take i calls) start
 
 -- the call at a place runs this work by this number
 pub record RunsAt (replies : Replies) (calls : List WorksCall) (start : WorksState)
@@ -45,22 +45,22 @@ pub record WentOut (call : WorksCall) (works : WorksState) (work : ℕ) : Type 0
 -- what holds after a list of calls
 pub record IsStory (replies : Replies) (calls : List WorksCall) (start : WorksState) : Type 0 where
   -- each accepted queueing has an entry, whose number is its place
-  pub accepted : length (after_all replies calls start).ledger.story
+  pub accepted : length (after_calls replies calls start).ledger.story
       ≡ accepts_all replies calls start
   pub numbered : (number : ℕ) (told : Told)
-      → slice_get (after_all replies calls start).ledger.story number ≡ Some told
+      → slice_get (after_calls replies calls start).ledger.story number ≡ Some told
       → told.0 ≡ number
   -- it is pending exactly where its work is pending by that number
   pub pending : (number : ℕ) (told : Told)
-      → slice_get (after_all replies calls start).ledger.story number ≡ Some told
+      → slice_get (after_calls replies calls start).ledger.story number ≡ Some told
       → (told.2 ≡ Pending)
-      ↔ (number_in (standing_of told.1 (after_all replies calls start).ledger) ≡ Some number)
+      ↔ (number_in (standing_of told.1 (after_calls replies calls start).ledger) ≡ Some number)
   -- each that ran was run by exactly one call, and whatever a call ran did run
   pub ran : (number : ℕ) (told : Told)
-      → slice_get (after_all replies calls start).ledger.story number ≡ Some told
+      → slice_get (after_calls replies calls start).ledger.story number ≡ Some told
       → told.2 ≡ Ran → RanOnce replies calls start number told.1
   pub did_run : (i number work : ℕ) → RunsAt replies calls start i number work
-      → slice_get (after_all replies calls start).ledger.story number
+      → slice_get (after_calls replies calls start).ledger.story number
       ≡ Some (number, work, Ran)
   -- a call of `run_next` answers the work that it runs
   pub answered : (i now : ℕ) → slice_get calls i ≡ Some (RunNext now)

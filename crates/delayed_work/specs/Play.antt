@@ -17,7 +17,8 @@ use Rattle.delayed_work.specs.declared.faults.WorksFault.TheVariants.{BadJob, Wo
 use Rattle.delayed_work.specs.Calls.{Replies}
 use Rattle.delayed_work.specs.Ledger.{is_free, standing_of}
 use Rattle.delayed_work.specs.Lines.{cancelled_line, end_line, left_line, queued_line, ran_line}
-use Rattle.delayed_work.specs.Works.{WorksState, cancelled_work, expired, left, new_works, placed}
+use Rattle.delayed_work.specs.Works.{WorksState, cancelled_work, expired, left, new_works}
+use Rattle.delayed_work.specs.Works.{queue_answer}
 use Rattle.delayed_work.specs.Works.{queued, ran, told_run}
 
 -- works in play, and what was told so far
@@ -31,7 +32,7 @@ pub record Playing : Type 0 where
 abbrev pub done : (now : ℕ) → WorkOp → Playing → Playing
 done now (Queue line work delay job arg) p = record {
   works = queued now work delay job arg line p.works;
-  text = p.text ++ queued_line now work (placed now work delay job arg p.works);
+  text = p.text ++ queued_line now work (queue_answer now work delay job arg p.works);
 }
 done now (Cancel line work) p = record {
   works = cancelled_work now work line p.works;

@@ -25,7 +25,7 @@ AreAllInRange count [] = Unit {0}
 AreAllInRange count (m ∷ ms) = AreInRange count m.ops × AreAllInRange count ms
 
 -- no time is past now, and there are as many works
-pub record Keeps (now : ℕ) (old new : Playing) : Type 0 where
+pub record StaysPlayable (now : ℕ) (old new : Playing) : Type 0 where
   pub time : new.works.time ≤ now
   pub len : length new.works.ledger.standings ≡ length old.works.ledger.standings
 

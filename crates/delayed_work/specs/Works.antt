@@ -11,7 +11,7 @@ use Rattle.cpu_bases.specs.CpuBases.{drained, handed_out, item_queued}
 use Rattle.job_table.specs.declared.jobs.JobCall.{JobCall}
 use Rattle.job_table.specs.declared.jobs.JobReply.{JobReply}
 use Rattle.job_table.specs.declared.jobs.JobReply.TheVariants.{Again}
-use Rattle.key_lists.specs.Tables.{first_of}
+use Rattle.key_lists.specs.Tables.{first_key}
 use Rattle.delayed_work.specs.declared.standing.Standing.{Standing}
 use Rattle.delayed_work.specs.declared.standing.Standing.TheVariants as standings
 use Rattle.delayed_work.specs.declared.standing.Placed.{Placed}
@@ -37,8 +37,8 @@ first_cpu = record { 0 = 0 }
 
 -- QUEUEING (queue_delayed_work): a free work is ready at once where the delay is 0; else its timer
 -- is armed for so many jiffies from now
-abbrev pub placed_free : (now work delay job arg : ℕ) → CpuBases → Placed
-placed_free now work delay job arg bases =
+abbrev pub queue_answer_free : (now work delay job arg : ℕ) → CpuBases → Placed
+queue_answer_free now work delay job arg bases =
     if delay == 0 then Ready
     else Waiting (item_queued now Global work (now + delay) job arg bases).wheel
 
@@ -73,15 +73,15 @@ queued now work delay job arg line works =
     queued_from (standing_of work works.ledger) now work delay job arg line works
 
 -- what queueing answers, by how the work stands
-abbrev pub placed_from : Standing → (now work delay job arg : ℕ) → CpuBases → Placed
-placed_from standings.Free now work delay job arg bases =
-    placed_free now work delay job arg bases
-placed_from _ now work delay job arg bases = Pending
+abbrev pub queue_answer_from : Standing → (now work delay job arg : ℕ) → CpuBases → Placed
+queue_answer_from standings.Free now work delay job arg bases =
+    queue_answer_free now work delay job arg bases
+queue_answer_from _ now work delay job arg bases = Pending
 
 -- what queueing answers
-abbrev pub placed : (now work delay job arg : ℕ) → WorksState → Placed
-placed now work delay job arg works =
-    placed_from (standing_of work works.ledger) now work delay job arg works.bases
+abbrev pub queue_answer : (now work delay job arg : ℕ) → WorksState → Placed
+queue_answer now work delay job arg works =
+    queue_answer_from (standing_of work works.ledger) now work delay job arg works.bases
 
 -- CANCELLING (cancel_delayed_work): a pending work becomes free, and its timer is taken out where
 -- it waits
@@ -141,10 +141,10 @@ queued_again (Again class delay) now work job arg works =
 queued_again _ now work job arg works = works
 
 -- .. and what that answers
-abbrev pub placed_again : JobReply → (now work job arg : ℕ) → CpuBases → Option Placed
-placed_again (Again class delay) now work job arg bases =
-    Some (placed_free now work delay job arg bases)
-placed_again _ now work job arg bases = None
+abbrev pub queue_answer_again : JobReply → (now work job arg : ℕ) → CpuBases → Option Placed
+queue_answer_again (Again class delay) now work job arg bases =
+    Some (queue_answer_free now work delay job arg bases)
+queue_answer_again _ now work job arg bases = None
 
 -- a ready work runs
 abbrev pub ran_from : Standing → (work : ℕ) → (ℕ → JobCall → JobReply) → (now : ℕ)
@@ -162,7 +162,7 @@ ran_first (Some work) replies now works =
 
 -- RUNNING the next ready work
 abbrev pub ran : (ℕ → JobCall → JobReply) → (now : ℕ) → WorksState → WorksState
-ran replies now works = ran_first (first_of works.ledger.ready) replies now works
+ran replies now works = ran_first (first_key works.ledger.ready) replies now works
 
 -- what a run answers: the work, its job's reply, and where it was queued again
 abbrev pub Run : Type 0
@@ -173,7 +173,7 @@ abbrev pub told_from : Standing → (work : ℕ) → (ℕ → JobCall → JobRep
     → WorksState → Option Run
 told_from (standings.Ready number job arg) work replies now works =
     let reply = replies job (call_of work arg now) in
-    Some (work, reply, placed_again reply now work job arg works.bases)
+    Some (work, reply, queue_answer_again reply now work job arg works.bases)
 told_from _ work replies now works = None
 
 -- .. of the first ready one, if there is one
@@ -184,7 +184,7 @@ told_first (Some work) replies now works =
 
 -- what running the next ready work tells
 abbrev pub told_run : (ℕ → JobCall → JobReply) → (now : ℕ) → WorksState → Option Run
-told_run replies now works = told_first (first_of works.ledger.ready) replies now works
+told_run replies now works = told_first (first_key works.ledger.ready) replies now works
 
 -- LEFT: where a pending work stands, with the wheel expiry of the timer that it waits for
 abbrev pub due_with : Option Item → Option Placed

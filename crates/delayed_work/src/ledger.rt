@@ -3,7 +3,7 @@
 ghost use Rattle.std.specs.Prelude.{◌≡◌, ◌≢◌, ◌<◌, ◌≤◌, IfOk, OnOk, OnErr, length};
 ghost use Rattle.std.specs.Prelude.{slice_set};
 ghost use Rattle.tm_base.specs.declared.limits.TheConstants.{MOST_TIMERS};
-ghost use Rattle.key_lists.specs.Tables.{first_of};
+ghost use Rattle.key_lists.specs.Tables.{first_key};
 ghost use Rattle.delayed_work.specs.Ledger.{IsSound, accepted_ready, accepted_waiting, come_ready};
 ghost use Rattle.delayed_work.specs.Ledger.{ended, new_ledger, standing_of};
 
@@ -106,7 +106,7 @@ impl Ledger {
 
     /// The first ready work; None exactly where none is ready.
     pub fn first_ready(&self) -> Option<u16>
-        ensures { result ≡ first_of self.now.plain.ready }
+        ensures { result ≡ first_key self.now.plain.ready }
     {
         let Some(work) = self.ready.oldest(0) else {
             return None;

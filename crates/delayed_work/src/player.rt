@@ -2,7 +2,7 @@
 
 ghost use Rattle.std.specs.Prelude.{◌≡◌, ◌+◌, ◌-◌, ◌^◌, ◌<◌, ◌≤◌, ◌++◌, length, IfOk, OnOk};
 ghost use Rattle.tm_base.specs.declared.names.TheConstants.{TIME_LIMIT};
-ghost use Rattle.delayed_work.specs.Playable.{AreInRange, Keeps, NamesWork};
+ghost use Rattle.delayed_work.specs.Playable.{AreInRange, StaysPlayable, NamesWork};
 ghost use Rattle.delayed_work.specs.Play.{all_done, before_running, closing_lines, done};
 ghost use Rattle.delayed_work.specs.Play.{left_lines, moment, next_moment, ready_count, run_all};
 ghost use Rattle.delayed_work.specs.Play.{run_one, run_ready, work_of};
@@ -37,7 +37,7 @@ impl<B: TimerBase> Player<B> {
         requires times { self.old.works.time ≤ now }
         requires work { NamesWork (length self.old.works.ledger.standings) op.now }
         ensures after { OnOk result (self.new ≡ done now op.now self.old) }
-        ensures keeps { OnOk result (Keeps now self.old self.new) }
+        ensures keeps { OnOk result (StaysPlayable now self.old self.new) }
     {
         match *op {
             WorkOp::Queue {
@@ -63,7 +63,7 @@ impl<B: TimerBase> Player<B> {
         requires times { self.old.works.time ≤ now }
         requires works { AreInRange (length self.old.works.ledger.standings) ops.now }
         ensures after { OnOk result (self.new ≡ all_done now ops.now self.old) }
-        ensures keeps { OnOk result (Keeps now self.old self.new) }
+        ensures keeps { OnOk result (StaysPlayable now self.old self.new) }
     {
         for op in ops {
             self.do_one(now, op)?;
@@ -76,7 +76,7 @@ impl<B: TimerBase> Player<B> {
         requires now_in_time { now ≤ TIME_LIMIT - 2 ^ 32 }
         requires times { self.old.works.time ≤ now }
         ensures after { OnOk result (self.new ≡ run_one (J.replies jobs.now) now self.old) }
-        ensures keeps { OnOk result (Keeps now self.old self.new) }
+        ensures keeps { OnOk result (StaysPlayable now self.old self.new) }
     {
         let Some((work, reply, placed)) = self.works.run_next(now, jobs)? else {
             return Ok(());
@@ -89,7 +89,7 @@ impl<B: TimerBase> Player<B> {
         requires now_in_time { now ≤ TIME_LIMIT - 2 ^ 32 }
         requires times { self.old.works.time ≤ now }
         ensures after { OnOk result (self.new ≡ run_all (J.replies jobs.now) n now self.old) }
-        ensures keeps { OnOk result (Keeps now self.old self.new) }
+        ensures keeps { OnOk result (StaysPlayable now self.old self.new) }
     {
         for _ in 0..n {
             self.run_one(now, jobs)?;
@@ -111,7 +111,7 @@ impl<B: TimerBase> Player<B> {
             (self.new ≡ moment (J.replies jobs.now) now ops.now self.old) }
         ensures work { IfOk result (λ n. n ≡ work_of now ops.now self.old) }
         ensures few { IfOk result (λ n. n ≤ 1 + length self.old.works.ledger.standings) }
-        ensures keeps { OnOk result (Keeps now self.old self.new) }
+        ensures keeps { OnOk result (StaysPlayable now self.old self.new) }
     {
         self.works.expire(now)?;
         self.do_all(now, ops)?;

@@ -10,7 +10,8 @@ ghost use Rattle.cpu_bases.specs.CpuBases.{base_of, class_in, drained, empty_bas
 ghost use Rattle.delayed_work.specs.Ledger.{is_free, standing_of};
 ghost use Rattle.delayed_work.specs.Works.{IsLawful, all_ready, bases_queued, cancelled_work};
 ghost use Rattle.delayed_work.specs.Works.{expired, first_cpu, items_out, ledger_queued, new_works};
-ghost use Rattle.delayed_work.specs.Works.{due_with, left, placed, placed_free, queued, ran};
+ghost use Rattle.delayed_work.specs.Works.{due_with, left, queue_answer, queue_answer_free, queued};
+ghost use Rattle.delayed_work.specs.Works.{ran};
 ghost use Rattle.delayed_work.specs.Works.{told_run};
 ghost use Rattle.delayed_work.specs.declared.standing.Standing.{Standing};
 
@@ -71,7 +72,7 @@ fn accept<B: TimerBase>(
     requires entry_room { length bases.old.plain.journal < bases.old.room.entries }
     requires not_queued { class_in work bases.old.plain ≡ None }
     requires none_behind { NoneBehind (base_of Class.Global bases.old.plain) }
-    ensures placed { result ≡ placed_free now work delay job arg bases.old.plain }
+    ensures answer { result ≡ queue_answer_free now work delay job arg bases.old.plain }
     ensures bases { bases.new.plain
         ≡ bases_queued now work delay job arg line bases.old.plain }
     ensures ledger { ledger.new.plain ≡ ledger_queued work delay job arg ledger.old.plain }
@@ -157,7 +158,8 @@ impl<B: TimerBase> Works<B> {
         requires now_in_time { now ≤ TIME_LIMIT - 2 ^ 32 }
         requires times { self.old.time ≤ now }
         requires work { work < length self.old.ledger.standings }
-        ensures placed { IfOk result (λ answer. answer ≡ placed now work delay job arg self.old) }
+        ensures answer { IfOk result
+            (λ answer. answer ≡ queue_answer now work delay job arg self.old) }
         ensures after { OnOk result (self.new ≡ queued now work delay job arg line self.old) }
         ensures err { OnErr result (self.new ≡ self.old) }
     {

@@ -47,7 +47,7 @@ Counts e = e.ignored ≡ false
 
 -- an event that a look at this time takes up: it isn't ignored and not later, and its CPU wasn't
 -- tried yet (tmigr_next_expired_groupevt)
-pub record IsDue (time : ℕ) (tried : Cpus) (e : Event) : Type 0 where
+pub record IsTakenUp (time : ℕ) (tried : Cpus) (e : Event) : Type 0 where
   pub counts : Counts e
   pub come : e.expiry ≤ time
   pub untried : Contains tried e.cpu.0 → ⊥

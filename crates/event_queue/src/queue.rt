@@ -5,7 +5,7 @@ ghost use Rattle.std.specs.Prelude.{slice_set, replicate};
 ghost use Rattle.std.specs.Option.{option_map};
 ghost use Rattle.event_queue.specs.Search.{Picks, earlier_of};
 ghost use Rattle.event_queue.specs.EventMap.{EventMap, FitsWord, IsEventMap, ChangesOnly};
-ghost use Rattle.event_queue.specs.EventMap.{NoEvents, IsFirst, NoneFits, IsDue, Counts};
+ghost use Rattle.event_queue.specs.EventMap.{NoEvents, IsFirst, NoneFits, IsTakenUp, Counts};
 ghost use Rattle.event_queue.specs.EventMap.{as_ignored, marked_slot, event_at};
 
 use crate::Event;
@@ -101,9 +101,9 @@ impl Events {
     /// of the least expiry, and among equal expiries that of the lowest child. None exactly where
     /// there is no such event.
     pub fn due(&self, now: Jiffy, tried: &CpuSet) -> Option<(u8, Event)>
-        ensures found { IfSome result (λ f. IsFirst (IsDue now tried.now) self.now f.0 f.1) }
+        ensures found { IfSome result (λ f. IsFirst (IsTakenUp now tried.now) self.now f.0 f.1) }
         ensures child { IfSome result (λ f. f.0 < 8) }
-        ensures none { IfNone result (NoneFits (IsDue now tried.now) self.now) }
+        ensures none { IfNone result (NoneFits (IsTakenUp now tried.now) self.now) }
     {
         let mut best = None;
         for child in 0..8 {
@@ -125,7 +125,7 @@ fn counting(slot: Option<Event>) -> Option<Event>
 
 /// The slot's event where a look at `now` takes it up.
 fn due_in(slot: Option<Event>, now: Jiffy, tried: &CpuSet) -> Option<Event>
-    ensures { Picks (IsDue now tried.now) slot result }
+    ensures { Picks (IsTakenUp now tried.now) slot result }
 {
     let Some(event) = counting(slot) else {
         return None;

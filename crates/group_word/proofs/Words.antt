@@ -6,7 +6,7 @@ use Rattle.std.proofs.lemmas.Nat.{or_shifted, and_mask, pow_below, pow_pos}
 use Rattle.std.proofs.lemmas.Nat.Bits.{bit_at_above, bit_at-trailing_zeros, bit_at-pow_other}
 use Rattle.group_word.specs.declared.state.GroupState.{GroupState}
 use Rattle.group_word.specs.Group.{IsActive, GroupLaw}
-use Rattle.group_word.specs.State.{IsLawfulState, IsStateOf, lowest_child, mark_of, state_word}
+use Rattle.group_word.specs.State.{IsLawfulState, IsStateOf, lowest_child, migrator_bits, state_word}
 
 -- an active child is below 8
 is_child : (active m : ℕ) → active < 2 ^ 8 → IsActive active m → m < 8
@@ -21,7 +21,7 @@ migrator_child s law m e =
     is_child s.active m law.eight_children (subst (λ o. GroupLaw s.active o) e law.group)
 
 -- a migrator as one bit has eight bits
-mark_fits : (migrator : Option ℕ) → ((m : ℕ) → migrator ≡ Some m → m < 8) → mark_of migrator < 2 ^ 8
+mark_fits : (migrator : Option ℕ) → ((m : ℕ) → migrator ≡ Some m → m < 8) → migrator_bits migrator < 2 ^ 8
 mark_fits None child = omega arith
 mark_fits (Some m) child = pow_below m 8 (child m refl)
 
@@ -35,12 +35,12 @@ fields active mark seq a m s =
     rw (high, middle, two, together) (omega (arith, or_shifted (seq * 256 + mark) 8 active a))
 
 -- a lawful state's word
-pub packed : (s : GroupState) → IsLawfulState s → bit_or (bit_or (s.seq * 65536 % 18446744073709551616) (mark_of s.migrator * 256 % 18446744073709551616)) s.active ≡ state_word s
+pub packed : (s : GroupState) → IsLawfulState s → bit_or (bit_or (s.seq * 65536 % 18446744073709551616) (migrator_bits s.migrator * 256 % 18446744073709551616)) s.active ≡ state_word s
 packed s law =
-    fields s.active (mark_of s.migrator) s.seq law.eight_children (mark_fits s.migrator (migrator_child s law)) law.sequence
+    fields s.active (migrator_bits s.migrator) s.seq law.eight_children (mark_fits s.migrator (migrator_child s law)) law.sequence
 
 -- what a word holds where a lawful state has it
-pub parts : (word : ℕ) (s : GroupState) → IsStateOf word s → (bit_and word 255 ≡ s.active) × (bit_and (word / 256) 255 ≡ mark_of s.migrator) × (word / 65536 ≡ s.seq)
+pub parts : (word : ℕ) (s : GroupState) → IsStateOf word s → (bit_and word 255 ≡ s.active) × (bit_and (word / 256) 255 ≡ migrator_bits s.migrator) × (word / 65536 ≡ s.seq)
 parts word s is =
     let eight = is.lawful.eight_children in
     let mark = mark_fits s.migrator (migrator_child s is.lawful) in
@@ -48,7 +48,7 @@ parts word s is =
     (and_mask word 8 ∙ omega arith, and_mask (word / 256) 8 ∙ omega arith, omega arith)
 
 -- the lowest child of one bit is that child
-lowest_of_mark : (migrator : Option ℕ) → ((m : ℕ) → migrator ≡ Some m → m < 8) → lowest_child (mark_of migrator) ≡ migrator
+lowest_of_mark : (migrator : Option ℕ) → ((m : ℕ) → migrator ≡ Some m → m < 8) → lowest_child (migrator_bits migrator) ≡ migrator
 lowest_of_mark None child = refl
 lowest_of_mark (Some m) child =
     let at = bit_at-trailing_zeros w8 (2 ^ m) (pow_pos m) (pow_below m 8 (child m refl)) in

@@ -50,14 +50,14 @@ swapped_state s k false = record {
 }
 
 -- a migrator as one bit, or 0 where there is none
-abbrev pub mark_of : Option ℕ → ℕ
-mark_of None = 0
-mark_of (Some migrator) = 2 ^ migrator
+abbrev pub migrator_bits : Option ℕ → ℕ
+migrator_bits None = 0
+migrator_bits (Some migrator) = 2 ^ migrator
 
 -- bits 0 to 7 are the active set, 8 to 15 the migrator, 16 to 63 the sequence (union tmigr_state,
 -- whose sequence has 16 bits)
 abbrev pub state_word : GroupState → ℕ
-state_word s = s.active + 2 ^ 8 * mark_of s.migrator + 2 ^ 16 * s.seq
+state_word s = s.active + 2 ^ 8 * migrator_bits s.migrator + 2 ^ 16 * s.seq
 
 -- s is lawful and has this word
 pub record IsStateOf (word : ℕ) (s : GroupState) : Type 0 where

@@ -4,7 +4,7 @@
 ghost use Rattle.std.specs.Prelude.{◌≡◌, ◌<◌, ◌↔◌, IfSome, IfNone, IsTrue, Some};
 ghost use Rattle.std.specs.Option.{ForSome};
 ghost use Rattle.group_word.specs.Group.{GroupLaw};
-ghost use Rattle.group_word.specs.State.{IsLawfulState, IsStateOf, mark_of, state_word};
+ghost use Rattle.group_word.specs.State.{IsLawfulState, IsStateOf, migrator_bits, state_word};
 
 use crate::GroupState;
 use crate::exchange::lowest;
@@ -41,7 +41,7 @@ pub fn unpack(word: u64) -> Option<GroupState>
 /// A migrator as one bit, or 0 where there is none.
 fn mark(migrator: Option<u8>) -> u8
     requires { ForSome migrator (λ m. m < 8) }
-    ensures { result ≡ mark_of migrator }
+    ensures { result ≡ migrator_bits migrator }
 {
     match migrator {
         Some(migrator) => 1 << migrator,

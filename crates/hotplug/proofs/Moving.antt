@@ -8,7 +8,7 @@ use Rattle.tm_base.specs.declared.names.Class.{Class}
 use Rattle.tm_base.specs.declared.names.Class.TheVariants.{Pinned, Global, Deferrable}
 use Rattle.tm_base.specs.declared.names.TimerId.{TimerId}
 use Rattle.wheel_core.specs.declared.item.Item.{Item}
-use Rattle.wheel_core.specs.PlainBase.{IsPlaced, NoneBehind}
+use Rattle.wheel_core.specs.PlainBase.{FitsWheel, NoneBehind}
 use Rattle.wheel_core.proofs.Ids.{item_holds}
 use Rattle.cpu_bases.specs.declared.entry.Act.TheVariants as acts
 use Rattle.cpu_bases.specs.ByClass.{of_class}
@@ -139,10 +139,10 @@ module _ (w : World) (from to : ℕ) (lawful : IsLawful w) (may : MayMoveAll w f
   tree : v.tree ≡ w.tree
   tree = ap (λ (u : World). u.tree) v_is
 
-  placed : IsPlaced item
+  placed : FitsWheel item
   placed =
-      item_holds IsPlaced item.id (base_of class (cpu_of w from).bases).items item
-      ((lawful.timers.consistent from).fits class).sound.placed
+      item_holds FitsWheel item.id (base_of class (cpu_of w from).bases).items item
+      ((lawful.timers.consistent from).fits class).sound.in_wheel
       (oldest_found (base_of class (cpu_of w from).bases).items item
       (first_is (cpu_of w from).bases f.found f.first))
 

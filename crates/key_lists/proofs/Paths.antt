@@ -4,7 +4,7 @@ use Rattle.std.specs.Prelude.{◌==◌, ◌⊎◌, unwrap_or}
 use Rattle.std.specs.List.{AllByRecursion, IsDistinct, list_any}
 use Rattle.std.proofs.lemmas.Bool.{cases_eq, eq-eqb, eqb-true, ne_eqb, cond-true, cond-false, or_cases}
 use Rattle.std.proofs.lemmas.Map.Steps.{length-le_from_distinct_below}
-use Rattle.key_lists.specs.Tables.{Lacks, Holds, first_of, last_of}
+use Rattle.key_lists.specs.Tables.{Lacks, Holds, first_key, last_of}
 use Rattle.key_lists.specs.Rings.{walk, IsPath}
 
 pub path_walk : (m : ℕ) (f g : ℕ → ℕ) (n size c a : ℕ) (ks : List ℕ) → c < n → IsPath f g n size c a ks → length ks ≤ m → walk m f n c a ≡ ks
@@ -100,11 +100,11 @@ last_at f g n size c (k ∷ ks) end path some =
     let last = tail_last f g n size c k ks path.3 in
     let is : g c - n ≡ unwrap_or (last_of ks) k = omega arith in ap Some is
 
-pub first_is : (f g : ℕ → ℕ) (n size c : ℕ) (ks : List ℕ) → c < n → IsPath f g n size c c ks → f c < n → None ≡ first_of ks
+pub first_is : (f g : ℕ → ℕ) (n size c : ℕ) (ks : List ℕ) → c < n → IsPath f g n size c c ks → f c < n → None ≡ first_key ks
 first_is f g n size c [] end path none = refl
 first_is f g n size c (k ∷ ks) end path none = absurd (omega arith)
 
-pub first_at : (f g : ℕ → ℕ) (n size c : ℕ) (ks : List ℕ) → c < n → IsPath f g n size c c ks → n ≤ f c → Some (f c - n) ≡ first_of ks
+pub first_at : (f g : ℕ → ℕ) (n size c : ℕ) (ks : List ℕ) → c < n → IsPath f g n size c c ks → n ≤ f c → Some (f c - n) ≡ first_key ks
 first_at f g n size c [] end path some = absurd (omega arith)
 first_at f g n size c (k ∷ ks) end path some = let is : f c - n ≡ k = omega arith in ap Some is
 

@@ -4,7 +4,7 @@ use Rattle.std.specs.Prelude.{◌==◌, if◌then◌else◌}
 use Rattle.std.proofs.lemmas.Bool.{cases_eq, eq-eqb, ne_eqb, cond-true, cond-false}
 use Rattle.std.proofs.lemmas.List.{get_or_read, get_or-set_same, get_or-set_other, length-set}
 use Rattle.key_lists.specs.declared.link.Link.{Link}
-use Rattle.key_lists.specs.Tables.{KeyTable, Lacks, Holds, first_of, last_of, list_of, without}
+use Rattle.key_lists.specs.Tables.{KeyTable, Lacks, Holds, first_key, last_of, list_of, without}
 use Rattle.key_lists.specs.Rings.{no_link, newer_of, older_of, keys_of, table_of, IsPath, IsRings}
 use Rattle.key_lists.proofs.Paths.{Around, around, path_from, last_ends, last_other, last_within, before_none, before_some, first_is, first_at, last_is, last_at}
 use Rattle.key_lists.proofs.Changes.{Joins, unlinked, Puts, kept, pushed}
@@ -213,19 +213,19 @@ last_some n s c x old view rings end_old is above =
     ap (λ y. Some (y - n)) is ∙ (last_at (newer_of s) (older_of s) n (length s) c (keys_of n s c) end (rings.ring c end) (subst (λ y. n ≤ y) is above)
     ∙ ap last_of (sym (list_is n s c end) ∙ ap (λ t. list_of t c) view))
 
-pub first_none : (n : ℕ) (s : List Link) (c x : ℕ) (old : KeyTable) → table_of n s ≡ old → IsRings n s → c < old.number → x ≡ newer_of s c → x < n → None ≡ first_of (list_of old c)
+pub first_none : (n : ℕ) (s : List Link) (c x : ℕ) (old : KeyTable) → table_of n s ≡ old → IsRings n s → c < old.number → x ≡ newer_of s c → x < n → None ≡ first_key (list_of old c)
 first_none n s c x old view rings end_old is below =
     let number = ap (λ (t : KeyTable). t.number) view in
     let end : c < n = omega arith in
     first_is (newer_of s) (older_of s) n (length s) c (keys_of n s c) end (rings.ring c end) (subst (λ y. y < n) is below)
-    ∙ ap first_of (sym (list_is n s c end) ∙ ap (λ t. list_of t c) view)
+    ∙ ap first_key (sym (list_is n s c end) ∙ ap (λ t. list_of t c) view)
 
-pub first_some : (n : ℕ) (s : List Link) (c x : ℕ) (old : KeyTable) → table_of n s ≡ old → IsRings n s → c < old.number → x ≡ newer_of s c → n ≤ x → Some (x - n) ≡ first_of (list_of old c)
+pub first_some : (n : ℕ) (s : List Link) (c x : ℕ) (old : KeyTable) → table_of n s ≡ old → IsRings n s → c < old.number → x ≡ newer_of s c → n ≤ x → Some (x - n) ≡ first_key (list_of old c)
 first_some n s c x old view rings end_old is above =
     let number = ap (λ (t : KeyTable). t.number) view in
     let end : c < n = omega arith in
     ap (λ y. Some (y - n)) is ∙ (first_at (newer_of s) (older_of s) n (length s) c (keys_of n s c) end (rings.ring c end) (subst (λ y. n ≤ y) is above)
-    ∙ ap first_of (sym (list_is n s c end) ∙ ap (λ t. list_of t c) view))
+    ∙ ap first_key (sym (list_is n s c end) ∙ ap (λ t. list_of t c) view))
 
 pub older_none : (n : ℕ) (s : List Link) (key x : ℕ) (old : KeyTable) → table_of n s ≡ old → IsRings n s → x ≡ older_of s (n + key) → x < n
     → (c : ℕ) (front back : List ℕ) → c < old.number → list_of old c ≡ front ++ key ∷ back → None ≡ last_of front

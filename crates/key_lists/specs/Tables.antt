@@ -28,9 +28,9 @@ without key [] = []
 without key (k ∷ ks) = if k == key then ks else k ∷ without key ks
 
 -- the first key of a list, if it has one
-abbrev pub first_of : List ℕ → Option ℕ
-first_of [] = None
-first_of (k ∷ ks) = Some k
+abbrev pub first_key : List ℕ → Option ℕ
+first_key [] = None
+first_key (k ∷ ks) = Some k
 
 -- the last key of a list, if it has one
 abbrev pub last_of : List ℕ → Option ℕ

@@ -1,7 +1,7 @@
 //! Lists of keys, each a ring of links.
 
 ghost use Rattle.std.specs.Prelude.{◌≡◌, ℕ, ◌+◌, ◌<◌, ◌≤◌, ◌^◌, ◌∷◌, ◌++◌, [], List, OnOk, IfOk};
-ghost use Rattle.key_lists.specs.Tables.{IsEmptyTable, Lacks, Holds, first_of, last_of, list_of};
+ghost use Rattle.key_lists.specs.Tables.{IsEmptyTable, Lacks, Holds, first_key, last_of, list_of};
 ghost use Rattle.key_lists.specs.Tables.{without};
 ghost use Rattle.key_lists.specs.Rings.{AreEmptyRings};
 
@@ -105,7 +105,7 @@ impl KeyLists {
     /// The oldest key of a list; None exactly where it is empty.
     pub fn oldest(&self, list: usize) -> Option<usize>
         requires { list < self.now.number }
-        ensures { result ≡ first_of (list_of self.now list) }
+        ensures { result ≡ first_key (list_of self.now list) }
     {
         let first = self.links[list].newer as usize;
         if first < self.lists {

@@ -11,7 +11,7 @@ use Rattle.std.proofs.lemmas.List.Elements.{Contains-append_left, Contains-appen
 use Rattle.std.proofs.lemmas.Option.{none-some, same_Some}
 use Rattle.atomic_table.specs.Seated.{TableId}
 use Rattle.event_queue.specs.declared.event.Event.{Event}
-use Rattle.event_queue.specs.EventMap.{IsDue}
+use Rattle.event_queue.specs.EventMap.{IsTakenUp}
 use Rattle.event_queue.specs.Word.{slot_of}
 use Rattle.tm_base.specs.declared.names.CpuId.{CpuId}
 use Rattle.cpu_word.specs.declared.state.CpuState.{CpuState}
@@ -295,7 +295,7 @@ shows_word b fits = record {
   spelled = refl;
 }
 
-none_due : (now : ℕ) (m : Option Event) → ((e : Event) → m ≡ Some e → IsDue now empty e → ⊥)
+none_due : (now : ℕ) (m : Option Event) → ((e : Event) → m ≡ Some e → IsTakenUp now empty e → ⊥)
     → IsNoneDue now m
 none_due now None not_due = tt
 none_due now (Some e) not_due = not_due e refl

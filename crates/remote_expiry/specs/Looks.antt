@@ -6,7 +6,7 @@ use Rattle.tm_base.specs.declared.names.Class.TheVariants.{Global}
 use Rattle.tm_base.specs.declared.names.CpuId.{CpuId}
 use Rattle.tm_base.specs.CpuSet as cpus
 use Rattle.event_queue.specs.declared.event.Event.{Event}
-use Rattle.event_queue.specs.EventMap.{IsDue, NoneFits}
+use Rattle.event_queue.specs.EventMap.{IsTakenUp, NoneFits}
 use Rattle.event_queue.specs.Word.{slot_of}
 use Rattle.cpu_word.specs.declared.state.CpuState.{CpuState}
 use Rattle.cpu_word.specs.Word.{IsStateOf}
@@ -28,7 +28,7 @@ saw x = deeds.Saw x.word x.found
 -- an event that is none to take up at this time: there is none, or it is ignored or not due
 abbrev pub IsNoneDue : (now : ℕ) → Option Event → Type 0
 IsNoneDue now None = ⊤
-IsNoneDue now (Some e) = IsDue now empty e → ⊥
+IsNoneDue now (Some e) = IsTakenUp now empty e → ⊥
 
 -- whether a mark is that of a third
 abbrev pub is_for_others : (looker : ℕ) → Option CpuId → Bool
@@ -90,7 +90,7 @@ pub record HasLooked (o : World) (looker level : ℕ) (receipts : List Receipt)
   pub eight : length founds ≡ 8
   pub loads : did
       ≡ before ++ map saw (state_look o group word ∷ slot_looks o group 0 founds) ++ rest
-  pub none : NoneFits (IsDue o.clock tried) (events_in founds)
+  pub none : NoneFits (IsTakenUp o.clock tried) (events_in founds)
   pub each : (d : ℕ) → cpus.Contains tried d → IsTried o looker before receipts d
 
 -- the look ends at a group whose word showed another migrator

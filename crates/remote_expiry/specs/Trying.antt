@@ -4,7 +4,7 @@ use Rattle.std.specs.Prelude.{◌≡◌, ℕ, ◌+◌, ◌^◌, ◌<◌, ◌≤�
 use Rattle.std.specs.Prelude.{◌++◌, None, Some, All, length, map, MatchResult, Result}
 use Rattle.std.specs.FinSet.{insert}
 use Rattle.tm_base.specs.CpuSet.{Contains, Cpus}
-use Rattle.event_queue.specs.EventMap.{IsDue, NoneFits}
+use Rattle.event_queue.specs.EventMap.{IsTakenUp, NoneFits}
 use Rattle.walk_rules.specs.Hierarchy.{side}
 use Rattle.timer_calls.specs.Sights.{LooksBy, events_in, slot_looks, state_look}
 use Rattle.remote_expiry.specs.declared.looking.Round.{Round}
@@ -178,7 +178,7 @@ pub record SeesNothing (table : TableId) (o : World) (level : ℕ) (tried : Cpus
   pub founds : List ℕ
   pub eight : length founds ≡ 8
   pub loads : deeds_of did ≡ map saw (state_look o group word ∷ slot_looks o group 0 founds)
-  pub none : NoneFits (IsDue o.clock tried) (events_in founds)
+  pub none : NoneFits (IsTakenUp o.clock tried) (events_in founds)
 
 -- or there is no group, or another CPU looks after it
 pub record SeesEnd (table : TableId) (o : World) (level : ℕ) (held after : HeldPass) : Type 0 where

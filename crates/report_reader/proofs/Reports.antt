@@ -11,7 +11,7 @@ use Rattle.tm_report.specs.declared.lines.Line.{Line}
 use Rattle.report_reader.specs.declared.faults.Kind.{Kind}
 use Rattle.report_reader.specs.declared.faults.Kind.TheVariants.{UnknownName, WrongWords, NoLineFeed}
 use Rattle.report_reader.specs.Candidates.{later_of}
-use Rattle.report_reader.specs.Names.{first_of}
+use Rattle.report_reader.specs.Names.{head_word}
 use Rattle.report_reader.specs.Widths.{Fits}
 use Rattle.report_reader.specs.Reader.{IsReportOf, AreOnlyLinesOf, IsNoLine, IsCause, IsFirstFault}
 use Rattle.report_reader.specs.Reading.{IsLineOf, ReadsLine}
@@ -84,7 +84,7 @@ same_lines [] [] h g e = refl
 same_lines [] (l ∷ ls) h g e = absurd (no_end (map words_text ls) [] [] (ap later_of e))
 same_lines (k ∷ ks) [] h g e = absurd (no_end (map words_text ks) [] [] (sym (ap later_of e)))
 same_lines (k ∷ ks) (l ∷ ls) h g e =
-    let same = g.0.only k h.0 (ap first_of e) in
+    let same = g.0.only k h.0 (ap head_word e) in
     let more = same_lines ks ls h.1 g.1 (ap later_of e) in
     λ i. same i ∷ more i
 
@@ -100,9 +100,9 @@ Stops text behind = (IsNoLine text × (behind ≢ [])) ⊎ ((behind ≡ []) × (
 stopped : (ks ls : List Line) (text : List ℕ) (behind : List (List ℕ)) → Stops text behind → AllByRecursion Fits ks → map words_text ks ++ [] ∷ [] ≢ map words_text ls ++ text ∷ behind
 unfolding IsNoLine
 stopped [] [] text behind (inl h) fit e = h.1 (sym (ap later_of e))
-stopped [] [] text behind (inr h) fit e = h.1 (sym (ap first_of e))
+stopped [] [] text behind (inr h) fit e = h.1 (sym (ap head_word e))
 stopped [] (l ∷ ls) text behind h fit e = no_end (map words_text ls) text behind (ap later_of e)
-stopped (k ∷ ks) [] text behind (inl h) fit e = h.0 k fit.0 (ap first_of e)
+stopped (k ∷ ks) [] text behind (inl h) fit e = h.0 k fit.0 (ap head_word e)
 stopped (k ∷ ks) [] text behind (inr h) fit e = no_end (map words_text ks) [] [] (sym (ap later_of e ∙ h.0))
 stopped (k ∷ ks) (l ∷ ls) text behind h fit e = stopped ks ls text behind h fit.1 (ap later_of e)
 

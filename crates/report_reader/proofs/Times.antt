@@ -18,7 +18,7 @@ use Rattle.tm_base.specs.declared.names.Class.TheVariants.{Pinned, Global, Defer
 use Rattle.tm_base.specs.declared.names.TheConstants.{NEVER}
 use Rattle.tm_report.specs.Words.{time_word, group_text}
 use Rattle.report_reader.specs.Candidates.{later_of, number_of, time_of, class_of, level_of, place_of, byte_of, short_of}
-use Rattle.report_reader.specs.Names.{first_of}
+use Rattle.report_reader.specs.Names.{head_word}
 use Rattle.report_reader.specs.Widths.{FitsTime, FitsGroup}
 use Rattle.report_reader.proofs.Numbers.{number_again, number_fits, byte_again, short_again}
 
@@ -99,8 +99,8 @@ group_split level place h =
 
 pub level_again : (level place : ℕ) → FitsGroup level place → level_of (group_text level place) ≡ level
 unfolding level_of
-level_again level place h = ap (λ (ws : List (List ℕ)). byte_of (first_of ws)) (group_split level place h) ∙ byte_again level h.0
+level_again level place h = ap (λ (ws : List (List ℕ)). byte_of (head_word ws)) (group_split level place h) ∙ byte_again level h.0
 
 pub place_again : (level place : ℕ) → FitsGroup level place → place_of (group_text level place) ≡ place
 unfolding place_of
-place_again level place h = ap (λ (ws : List (List ℕ)). short_of (first_of (later_of ws))) (group_split level place h) ∙ short_again place h.1
+place_again level place h = ap (λ (ws : List (List ℕ)). short_of (head_word (later_of ws))) (group_split level place h) ∙ short_again place h.1

@@ -6,7 +6,7 @@ use Rattle.text_words.specs.Words.{split}
 use Rattle.report_reader.specs.declared.names.Name.{Name}
 use Rattle.report_reader.specs.declared.names.Name.TheVariants.{Arm, Run, Cancel, NotQueued, Idle, Stay, Wake, Offline, Handed, Online, Control, Moved, Cover, Refused, Left, End, Why, Yes, No, Device}
 use Rattle.report_reader.specs.Candidates.{words_from, word_at, later_of, is_over, level_of, place_of, reply_of, cover_of, reason_of, refusal_of, line_of}
-use Rattle.report_reader.specs.Names.{first_of}
+use Rattle.report_reader.specs.Names.{head_word}
 use Rattle.report_reader.specs.Widths.{Fits, FitsGroup, FitsReply, FitsCover, FitsReason}
 use Rattle.report_reader.proofs.Numbers.{number_fits, count_fits, short_fits, byte_fits}
 use Rattle.report_reader.proofs.Times.{time_fits}
@@ -17,7 +17,7 @@ cond_keeps P false x y h g = g
 
 group_fits : (word : List ℕ) → FitsGroup (level_of word) (place_of word)
 unfolding level_of place_of
-group_fits word = (byte_fits (first_of (split 58 word)), short_fits (first_of (later_of (split 58 word))))
+group_fits word = (byte_fits (head_word (split 58 word)), short_fits (head_word (later_of (split 58 word))))
 
 reply_fits : (ws : List (List ℕ)) → FitsReply (reply_of ws)
 unfolding reply_of

@@ -17,7 +17,7 @@ use Rattle.tm_report.specs.declared.lines.ShownCover.{ShownCover}
 use Rattle.tm_report.specs.declared.lines.ShownCover.TheVariants as cover
 use Rattle.tm_report.specs.declared.lines.ShownReason.{ShownReason}
 use Rattle.tm_report.specs.declared.lines.ShownReason.TheVariants as reason
-use Rattle.report_reader.specs.Names.{first_of}
+use Rattle.report_reader.specs.Names.{head_word}
 use Rattle.report_reader.specs.declared.names.Name.{Name}
 use Rattle.report_reader.specs.declared.names.Name.TheVariants.{Arm, Run, Cancel, NotQueued, Idle}
 use Rattle.report_reader.specs.declared.names.Name.TheVariants.{Stay, Wake, Offline, Handed}
@@ -49,7 +49,7 @@ words_from ws (suc i) = words_from (later_of ws) i
 
 -- word number i
 abbrev pub word_at : List (List ℕ) → ℕ → List ℕ
-word_at ws i = first_of (words_from ws i)
+word_at ws i = head_word (words_from ws i)
 
 -- ---- what a word spells
 
@@ -99,11 +99,11 @@ class_of word =
 
 -- the level of a group
 unfoldable pub level_of : List ℕ → ℕ
-level_of word = byte_of (first_of (split 58 word))
+level_of word = byte_of (head_word (split 58 word))
 
 -- the place of a group at its level
 unfoldable pub place_of : List ℕ → ℕ
-place_of word = short_of (first_of (later_of (split 58 word)))
+place_of word = short_of (head_word (later_of (split 58 word)))
 
 -- ---- what several words spell
 

@@ -9,9 +9,9 @@ use Rattle.report_reader.specs.declared.names.Name.TheVariants.{Refused, Left, E
 use Rattle.report_reader.specs.declared.names.Name.TheVariants.{Device}
 
 -- the first of some words
-abbrev pub first_of : List (List ℕ) → List ℕ
-first_of [] = []
-first_of (w ∷ ws) = w
+abbrev pub head_word : List (List ℕ) → List ℕ
+head_word [] = []
+head_word (w ∷ ws) = w
 
 -- the first word of a line of this name
 abbrev pub word_of : Name → List ℕ

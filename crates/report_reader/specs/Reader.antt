@@ -10,7 +10,7 @@ use Rattle.report_reader.specs.declared.faults.Kind.TheVariants.{NoLineFeed}
 use Rattle.report_reader.specs.declared.faults.ReportFault.{ReportFault}
 use Rattle.report_reader.specs.declared.faults.ReadReport.{ReadReport}
 use Rattle.report_reader.specs.declared.faults.ReadReport.TheVariants.{Refused, NoMemory}
-use Rattle.report_reader.specs.Names.{first_of, name_of}
+use Rattle.report_reader.specs.Names.{head_word, name_of}
 use Rattle.report_reader.specs.Widths.{Fits}
 
 -- these bytes are the texts of these lines
@@ -28,7 +28,7 @@ IsNoLine text = (line : Line) → Fits line → words_text line ≢ text
 
 -- whether the first word of a text is the name of a line
 unfoldable pub is_named : List ℕ → Bool
-is_named text = is_some (name_of (first_of (words_of text)))
+is_named text = is_some (name_of (head_word (words_of text)))
 
 -- What is wrong with a part of the bytes, where these parts stand behind the line feed that ends
 -- it. Behind a part that no line feed ends stands none.

@@ -24,7 +24,7 @@ pub fn line_of(name: Name, words: &mut Words) -> Line
         Name::Handed => handed(words),
         Name::Online => online(words),
         Name::Control => control(words),
-        Name::Moved => moved(words),
+        Name::Moved => moved_timer(words),
         Name::Cover => cover(words),
         Name::Refused => refusal(words),
         Name::Left => left(words),
@@ -160,7 +160,7 @@ fn control(words: &mut Words) -> Line
 }
 
 #[tactic(auto, unfolding(crate::specs::Candidates::line_of))]
-fn moved(words: &mut Words) -> Line
+fn moved_timer(words: &mut Words) -> Line
     ensures { result ≡ line_of names.Moved words.old }
 {
     Line::Moved {

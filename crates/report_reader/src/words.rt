@@ -4,7 +4,7 @@
 ghost use Rattle.std.specs.Prelude.{◌≡◌};
 ghost use Rattle.text_words.specs.Words.{words_of};
 ghost use Rattle.report_reader.specs.Candidates.{later_of, number_of, count_of, short_of};
-ghost use Rattle.report_reader.specs.Names.{first_of};
+ghost use Rattle.report_reader.specs.Names.{head_word};
 ghost use Rattle.report_reader.specs.Candidates.{byte_of, cpu_of, timer_of, time_of, class_of};
 ghost use Rattle.report_reader.specs.Candidates.{level_of, place_of, with_digit, is_over};
 
@@ -48,7 +48,7 @@ impl<'a> Words<'a> {
 
     /// The next word.
     pub fn word(&mut self) -> &'a [u8]
-        ensures word { result.now ≡ first_of self.old }
+        ensures word { result.now ≡ head_word self.old }
         ensures later { self.new ≡ later_of self.old }
     {
         let Some(bytes) = self.rest else {
@@ -68,7 +68,7 @@ impl<'a> Words<'a> {
 
     /// A number of 64 bits.
     pub fn number(&mut self) -> u64
-        ensures value { result ≡ number_of (first_of self.old) }
+        ensures value { result ≡ number_of (head_word self.old) }
         ensures later { self.new ≡ later_of self.old }
     {
         number(self.word())
@@ -76,7 +76,7 @@ impl<'a> Words<'a> {
 
     /// A number of 32 bits.
     pub fn count(&mut self) -> u32
-        ensures value { result ≡ count_of (first_of self.old) }
+        ensures value { result ≡ count_of (head_word self.old) }
         ensures later { self.new ≡ later_of self.old }
     {
         count(self.word())
@@ -84,7 +84,7 @@ impl<'a> Words<'a> {
 
     /// A number of 8 bits.
     pub fn byte(&mut self) -> u8
-        ensures value { result ≡ byte_of (first_of self.old) }
+        ensures value { result ≡ byte_of (head_word self.old) }
         ensures later { self.new ≡ later_of self.old }
     {
         byte(self.word())
@@ -92,7 +92,7 @@ impl<'a> Words<'a> {
 
     /// A CPU.
     pub fn cpu(&mut self) -> CpuId
-        ensures value { result ≡ cpu_of (first_of self.old) }
+        ensures value { result ≡ cpu_of (head_word self.old) }
         ensures later { self.new ≡ later_of self.old }
     {
         CpuId(short(self.word()))
@@ -100,7 +100,7 @@ impl<'a> Words<'a> {
 
     /// A timer.
     pub fn timer(&mut self) -> TimerId
-        ensures value { result ≡ timer_of (first_of self.old) }
+        ensures value { result ≡ timer_of (head_word self.old) }
         ensures later { self.new ≡ later_of self.old }
     {
         TimerId(short(self.word()))
@@ -108,7 +108,7 @@ impl<'a> Words<'a> {
 
     /// A wakeup or an expiry, in jiffies.
     pub fn time(&mut self) -> Jiffy
-        ensures value { result ≡ time_of (first_of self.old) }
+        ensures value { result ≡ time_of (head_word self.old) }
         ensures later { self.new ≡ later_of self.old }
     {
         time(self.word())
@@ -116,7 +116,7 @@ impl<'a> Words<'a> {
 
     /// A class.
     pub fn class(&mut self) -> Class
-        ensures value { result ≡ class_of (first_of self.old) }
+        ensures value { result ≡ class_of (head_word self.old) }
         ensures later { self.new ≡ later_of self.old }
     {
         class(self.word())
@@ -124,8 +124,8 @@ impl<'a> Words<'a> {
 
     /// The level of a group, and its place there.
     pub fn group(&mut self) -> (u8, u16)
-        ensures level { result.0 ≡ level_of (first_of self.old) }
-        ensures place { result.1 ≡ place_of (first_of self.old) }
+        ensures level { result.0 ≡ level_of (head_word self.old) }
+        ensures place { result.1 ≡ place_of (head_word self.old) }
         ensures later { self.new ≡ later_of self.old }
     {
         group(self.word())

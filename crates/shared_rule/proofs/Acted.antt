@@ -18,7 +18,7 @@ use Rattle.core_world.specs.Lawful.{IsLawful}
 use Rattle.core_world.specs.Steps.{stepped}
 use Rattle.core_world.proofs.Moves.{cpu_same, cpu_else}
 use Rattle.core_world.proofs.Quiet.{own_field, own_group}
-use Rattle.core_facts.specs.Reach.{Keeps, reach_of}
+use Rattle.core_facts.specs.Reach.{KeepsReach, reach_of}
 use Rattle.core_facts.specs.Played.{AllPlayed}
 use Rattle.core_facts.specs.Levels.{LevelsFit}
 use Rattle.core_state.specs.Kept.{WorldFits}
@@ -109,8 +109,8 @@ module _ (law : CoreLaws) (o : World) (s : Whole) (h : IsShown o s) (c q : ℕ) 
   hc : c < length w.cpus
   hc = omega (arith, a.in_range, h.same.cpus)
 
-  kept : Keeps (reach_of a.step) w v
-  kept = subst (Keeps (reach_of a.step) w) a.is (law.frame w a.step a.enabled)
+  kept : KeepsReach (reach_of a.step) w v
+  kept = subst (KeepsReach (reach_of a.step) w) a.is (law.frame w a.step a.enabled)
 
   next_fits : WorldFits v
   next_fits = record {

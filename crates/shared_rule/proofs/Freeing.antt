@@ -11,7 +11,7 @@ use Rattle.walk_rules.specs.Stages.{first_stage, forget, free_group_next, freed_
 use Rattle.core_world.specs.Enabled.{MayGoOn}
 use Rattle.core_world.specs.Steps.{child_here, here, walked, walks_at}
 use Rattle.core_world.specs.World.{World, group_of, is_reading}
-use Rattle.core_facts.specs.Exchanges.{place_of}
+use Rattle.core_facts.specs.Exchanges.{stage_number}
 use Rattle.shared_rule.specs.declared.parts.BoxView.{BoxView}
 use Rattle.shared_rule.specs.declared.parts.PassView.{PassView}
 use Rattle.shared_rule.specs.CoreLaws.{CoreLaws}
@@ -84,7 +84,7 @@ frees_group law o slots id g b k ps may =
     (λ s j is same q.
     let w = s.world in
     let at_g : here w b.cpu j ≡ g = ap (λ m. unwrap_or m 0) q.path in
-    let past : nat_le 5 (place_of j.stage) ≡ true = ap (λ z. nat_le 5 (place_of z)) q.stage in
+    let past : nat_le 5 (stage_number j.stage) ≡ true = ap (λ z. nat_le 5 (stage_number z)) q.stage in
     frees law o s b.cpu g j (free_group_next j.level j) ps stages.FreeGroup j.level
     group_freed_walk q (subst (MayGoOn w b.cpu j) (sym q.stage) tt)
     (ap (walked w b.cpu j) q.stage
@@ -101,7 +101,7 @@ frees_child law o slots id g b k ps may =
     (λ s j is same q.
     let w = s.world in
     let at_g : child_here w b.cpu j ≡ g = ap (λ m. unwrap_or m 0) q.path in
-    let past : nat_le 5 (place_of j.stage) ≡ true = ap (λ z. nat_le 5 (place_of z)) q.stage in
+    let past : nat_le 5 (stage_number j.stage) ≡ true = ap (λ z. nat_le 5 (stage_number z)) q.stage in
     frees law o s b.cpu g j (freed_next j.over j) ps stages.FreeChild (j.level - 1)
     child_freed_walk q (subst (MayGoOn w b.cpu j) (sym q.stage) tt)
     (ap (walked w b.cpu j) q.stage

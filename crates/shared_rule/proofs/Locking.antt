@@ -16,7 +16,7 @@ use Rattle.core_world.specs.declared.step.Step.TheVariants as steps
 use Rattle.core_world.specs.Enabled.{MayGoOn}
 use Rattle.core_world.specs.Steps.{child_here, here, walk_made, walked, walks_at, with_walk}
 use Rattle.core_world.specs.World.{World, CpuRecord, cpu_of, group_of, moved, is_reading}
-use Rattle.core_facts.specs.Exchanges.{place_of}
+use Rattle.core_facts.specs.Exchanges.{stage_number}
 use Rattle.shared_words.specs.Words.{lock_word}
 use Rattle.shared_rule.specs.declared.parts.BoxView.{BoxView}
 use Rattle.shared_rule.specs.declared.parts.PassView.{PassView}
@@ -132,7 +132,7 @@ sight_reads : (l : ℕ) → is_reading (first_sight l) ≡ false
 sight_reads zero = refl
 sight_reads (suc l) = refl
 
-sight_past : (l : ℕ) → nat_le 5 (place_of (first_sight l)) ≡ true
+sight_past : (l : ℕ) → nat_le 5 (stage_number (first_sight l)) ≡ true
 sight_past zero = refl
 sight_past (suc l) = refl
 
@@ -148,7 +148,7 @@ module _ (law : CoreLaws) (o : World) (s : Whole) (c g : ℕ) (k j : Walk) (ps :
       → walked s.world c k k.stage
       ≡ walks_at s.world c g (with_lock (group_of s.world g) (Some c)) j
       → j.kind ≡ k.kind → j.level ≡ k.level → is_reading j.stage ≡ false
-      → nat_le 5 (place_of j.stage) ≡ nat_le 5 (place_of k.stage)
+      → nat_le 5 (stage_number j.stage) ≡ nat_le 5 (stage_number k.stage)
       → next (box_of o s c) (forget k) ≡ Some (forget j)
       → Goes o s (box_of o s c) ps (lock_at g) (λ n. either (eqb n 0) (1 + c) n)
       (λ n v. v
@@ -201,7 +201,7 @@ locks law o slots id g b k ps may =
     ∙ (λ i. walks_at w b.cpu (at_g i) (with_lock (group_of w (at_g i)) (Some b.cpu))
     (at_stage j (first_sight j.level))))
     refl refl (sight_reads j.level)
-    (sight_past j.level ∙ ap (λ z. nat_le 5 (place_of z)) (sym q.stage)) refl)
+    (sight_past j.level ∙ ap (λ z. nat_le 5 (stage_number z)) (sym q.stage)) refl)
 
 pub locks_child : (law : CoreLaws) (o : World) → LockChildStays o
 locks_child law o slots id g b k ps may =
@@ -218,4 +218,4 @@ locks_child law o slots id g b k ps may =
     (ap (walked w b.cpu j) q.stage
     ∙ (λ i. walks_at w b.cpu (at_g i) (with_lock (group_of w (at_g i)) (Some b.cpu))
     (at_stage j stages.LockGroup)))
-    refl refl refl (ap (λ z. nat_le 5 (place_of z)) (sym q.stage)) refl)
+    refl refl refl (ap (λ z. nat_le 5 (stage_number z)) (sym q.stage)) refl)

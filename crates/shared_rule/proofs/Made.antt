@@ -22,7 +22,7 @@ use Rattle.core_world.specs.Enabled.{Enabled}
 use Rattle.core_world.specs.Lawful.{IsLawful}
 use Rattle.core_world.specs.Steps.{stepped}
 use Rattle.core_world.proofs.Moves.{cpu_same, cpu_else, beside}
-use Rattle.core_facts.specs.Reach.{Reach, reach_of, Keeps}
+use Rattle.core_facts.specs.Reach.{Reach, reach_of, KeepsReach}
 use Rattle.core_facts.specs.Played.{AllPlayed}
 use Rattle.core_facts.specs.Levels.{LevelsFit}
 use Rattle.core_state.specs.Kept.{WorldFits}
@@ -113,8 +113,8 @@ module _ (law : CoreLaws) (o : World) (s : Whole) (h : IsShown o s) (c g : ℕ) 
   abbrev next : Whole
   next = after s g x c y r n stray looked pass
 
-  keeps : Keeps (reach_of q.step) s.world v
-  keeps = subst (Keeps (reach_of q.step) s.world) q.is (law.frame s.world q.step q.enabled)
+  keeps : KeepsReach (reach_of q.step) s.world v
+  keeps = subst (KeepsReach (reach_of q.step) s.world) q.is (law.frame s.world q.step q.enabled)
 
   pub next_fits : WorldFits v
   next_fits = record {

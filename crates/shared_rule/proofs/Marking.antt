@@ -18,7 +18,7 @@ use Rattle.walk_rules.specs.Stages.{at_stage, forget, mark_next, with_event, wit
 use Rattle.core_world.specs.Enabled.{MayGoOn}
 use Rattle.core_world.specs.Steps.{walked, walks_at, with_walk}
 use Rattle.core_world.specs.World.{World, CpuRecord, cpu_of, group_of, is_reading, moved}
-use Rattle.core_facts.specs.Exchanges.{place_of}
+use Rattle.core_facts.specs.Exchanges.{stage_number}
 use Rattle.shared_words.specs.declared.layout.SharedWord.{SharedWord}
 use Rattle.shared_words.specs.Words.{word_of_slot}
 use Rattle.shared_words.proofs.Back.{mark_slot}
@@ -135,7 +135,7 @@ marks_own law o slots id g b k ps low may =
       reads = λ z u. ap (λ (x : Walk). is_reading x.stage) (sym (same_Some _ _ u));
       reeval = refl;
       owed = λ m.
-          owes_kept o.tree m c to j refl refl (sym (ap (λ z. nat_le 5 (place_of z)) q.stage));
+          owes_kept o.tree m c to j refl refl (sym (ap (λ z. nat_le 5 (stage_number z)) q.stage));
       leaf_is =
           ap (λ m. option_map as_ignored (leaf_in w c m)) q.path
           ∙ sym (own_at law o s h c g 0 q.group q.path low' e y refl);

@@ -14,7 +14,7 @@ use Rattle.walk_rules.specs.declared.walk.Stage.{Stage}
 use Rattle.walk_rules.specs.declared.walk.Stage.TheVariants as stages
 use Rattle.walk_rules.specs.Stages.{at_stage, first_stage, free_group_next, freed_next, higher}
 use Rattle.walk_rules.specs.Stages.{up_next}
-use Rattle.core_facts.specs.Exchanges.{place_of}
+use Rattle.core_facts.specs.Exchanges.{stage_number}
 use Rattle.shared_rule.specs.Shows.{is_past, exchanges, is_on_path, owes, raised}
 
 one_at_most : (b : Bool) → cond b 1 0 ≤ 1
@@ -45,7 +45,7 @@ owed_with e q a b d = cond (e && (q && not (a || (b && d)))) 1 0
 
 -- a walk that makes its exchange at the group g of its level
 module _ (t : Shape) (g c : ℕ) (k : Walk) (seq : ℕ → ℕ)
-    (still : nat_le 5 (place_of k.stage) ≡ false) (kind : exchanges k.kind ≡ true)
+    (still : nat_le 5 (stage_number k.stage) ≡ false) (kind : exchanges k.kind ≡ true)
     (here : group_at_of t c k.level ≡ Some g) (level : level_of t g ≡ k.level) where
   self : (n : ℕ) → nat_lt n n ≡ false
   self n = le-ltb n n (omega arith)
@@ -87,7 +87,7 @@ module _ (t : Shape) (g c : ℕ) (k : Walk) (seq : ℕ → ℕ)
 
   -- the walk is past its exchange
   module _ (j : Walk) (same_kind : j.kind ≡ k.kind) (same_level : j.level ≡ k.level)
-      (past : nat_le 5 (place_of j.stage) ≡ true) where
+      (past : nat_le 5 (stage_number j.stage) ≡ true) where
     now : (h : ℕ) → owes t h c (Some j) ≡ owed_with (exchanges k.kind)
         (is_on_path t h c (level_of t h)) (nat_lt (level_of t h) k.level)
         (eqb k.level (level_of t h)) true
@@ -121,14 +121,14 @@ pub up_owes : (t : Shape) (g c : ℕ) (k : Walk) (seq : ℕ → ℕ) → k.stage
     → (top more : Bool) (h : ℕ)
     → raised true g seq h + owes t h c (up_next top more k) ≤ seq h + owes t h c (Some k)
 up_owes t g c k seq is kind here level true more h =
-    end_owes t g c k seq (ap (λ z. nat_le 5 (place_of z)) is) (ap exchanges kind) here level h
+    end_owes t g c k seq (ap (λ z. nat_le 5 (stage_number z)) is) (ap exchanges kind) here level h
 up_owes t g c k seq is kind here level false more h =
-    past_owes t g c k seq (ap (λ z. nat_le 5 (place_of z)) is) (ap exchanges kind) here level
+    past_owes t g c k seq (ap (λ z. nat_le 5 (stage_number z)) is) (ap exchanges kind) here level
     (at_stage k (stages.Mark more)) refl refl refl h
 
 -- a walk that stays at its level, on the same side of its exchange, owes what it owed
 pub owes_kept : (t : Shape) (h c : ℕ) (j k : Walk) → j.kind ≡ k.kind → j.level ≡ k.level
-    → nat_le 5 (place_of j.stage) ≡ nat_le 5 (place_of k.stage)
+    → nat_le 5 (stage_number j.stage) ≡ nat_le 5 (stage_number k.stage)
     → owes t h c (Some j) ≤ owes t h c (Some k)
 owes_kept t h c j k kind level place =
     let e : owes t h c (Some j) ≡ owes t h c (Some k)
@@ -155,7 +155,7 @@ passes n k stage is = elim (cases_lt n (suc k.level)) [
       absurd
       (true≢false
       (sym is
-      ∙ or_from (nat_lt n k.level) (eqb k.level n && nat_le 5 (place_of k.stage))
+      ∙ or_from (nat_lt n k.level) (eqb k.level n && nat_le 5 (stage_number k.stage))
       (le-ltb n k.level (omega (arith, high)))
       (and_left (eqb k.level n) _ (ne_eqb k.level n (λ z. omega (arith, high, z))))))
 ]
@@ -169,7 +169,7 @@ owes_higher t h c k stage =
 
 -- nor does a walk that has given back its last lock of a level, and ends or rises
 pub owes_freed : (t : Shape) (h c : ℕ) (k : Walk) (over : Bool)
-    → nat_le 5 (place_of k.stage) ≡ true
+    → nat_le 5 (stage_number k.stage) ≡ true
     → owes t h c (Some (freed_next over k)) ≤ owes t h c (Some k)
 owes_freed t h c k true past =
     owes_kept t h c (at_stage k stages.Finish) k refl refl (sym past)
@@ -177,7 +177,7 @@ owes_freed t h c k false past = owes_higher t h c k (first_stage k.kind)
 
 -- nor one that has given back the lock of its group, at whatever level
 pub owes_group_freed : (t : Shape) (h c : ℕ) (k : Walk) (level : ℕ)
-    → nat_le 5 (place_of k.stage) ≡ true
+    → nat_le 5 (stage_number k.stage) ≡ true
     → owes t h c (Some (free_group_next level k)) ≤ owes t h c (Some k)
 owes_group_freed t h c k zero past = owes_freed t h c k k.over past
 owes_group_freed t h c k (suc l) past =

@@ -11,7 +11,7 @@ use Rattle.walk_rules.specs.Stages.{child_next, forget, read_next}
 use Rattle.core_world.specs.Enabled.{MayGoOn}
 use Rattle.core_world.specs.Steps.{child_on, walked, walks_on}
 use Rattle.core_world.specs.World.{World, cpu_of, is_reading}
-use Rattle.core_facts.specs.Exchanges.{place_of}
+use Rattle.core_facts.specs.Exchanges.{stage_number}
 use Rattle.shared_words.specs.declared.layout.SharedWord.{SharedWord}
 use Rattle.shared_words.specs.Exchanges.{shows_migrator}
 use Rattle.shared_words.proofs.Back.{seq_of}
@@ -82,7 +82,7 @@ module _ (law : CoreLaws) (o : World) (s : Whole) (c g : ℕ) (k : Walk) (ps : L
       → (cpu_of s.world c).walk ≡ Some k → group_at_of s.world.tree c k.level ≡ Some g
       → MayGoOn s.world c k k.stage
       → walked s.world c k k.stage ≡ walks_on s.world c (read_next k)
-      → nat_le 5 (place_of k.stage) ≡ false → f (group_word s g) ≡ group_word s g
+      → nat_le 5 (stage_number k.stage) ≡ false → f (group_word s g) ≡ group_word s g
       → ((w : Me) → w
       ≡ on_box (λ y. reading (group_word s g) (by_walk read_walk y))
       (seat_of (box_of o s c ∷ []) ps) → then (group_word s g) w)
@@ -105,7 +105,7 @@ reads_group law o slots id g b k ps may =
     (λ s j is same q.
     reads_anew law o s b.cpu g j ps _ _ q.shown q.cpu q.known q.walk q.path
     (subst (MayGoOn s.world b.cpu j) (sym q.stage) tt) (ap (walked s.world b.cpu j) q.stage)
-    (ap (λ z. nat_le 5 (place_of z)) q.stage) refl (λ w e. e))
+    (ap (λ z. nat_le 5 (stage_number z)) q.stage) refl (λ w e. e))
 
 -- a walk's look at its child before its exchange
 module _ (law : CoreLaws) (o : World) (s : Whole) (c g : ℕ) (k : Walk) (ps : List PassView)
@@ -122,7 +122,7 @@ module _ (law : CoreLaws) (o : World) (s : Whole) (c g : ℕ) (k : Walk) (ps : L
       ∙ (λ i. walks_on s.world c (child_next (is_on i) k))) refl
       (still_read law o s q.shown c g k on q.walk q.stage)
       (λ m. owes_kept o.tree m c (child_next on k) k refl refl
-      (sym (ap (λ z. nat_le 5 (place_of z)) q.stage))) refl
+      (sym (ap (λ z. nat_le 5 (stage_number z)) q.stage))) refl
       (λ i. seat_of (record (box_of o s c) {
         own = walk_is o s c k (child_next on k) (next (word_at s p)) q.walk walk i;
       } ∷ []) ps)

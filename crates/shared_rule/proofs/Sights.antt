@@ -16,7 +16,7 @@ use Rattle.walk_rules.specs.Stages.{see_group_next}
 use Rattle.core_world.specs.Enabled.{MayGoOn}
 use Rattle.core_world.specs.Steps.{child_here, child_on, here, walked, walks_on, with_walk}
 use Rattle.core_world.specs.World.{World, cpu_of, group_of, is_reading}
-use Rattle.core_facts.specs.Exchanges.{place_of}
+use Rattle.core_facts.specs.Exchanges.{stage_number}
 use Rattle.shared_words.specs.declared.layout.SharedWord.{SharedWord}
 use Rattle.shared_words.specs.Exchanges.{shows_migrator}
 use Rattle.shared_words.specs.Layout.{index_of}
@@ -57,7 +57,7 @@ module _ (law : CoreLaws) (o : World) (s : Whole) (c g : ℕ) (k j : Walk) (ps :
   sees : (keeps : Bool) → WalksAt o s c ps k at level g → MayGoOn s.world c k k.stage
       → walked s.world c k k.stage ≡ walks_on s.world c j
       → j.kind ≡ k.kind → j.level ≡ k.level → is_reading j.stage ≡ false
-      → nat_le 5 (place_of j.stage) ≡ true → nat_le 5 (place_of k.stage) ≡ true
+      → nat_le 5 (stage_number j.stage) ≡ true → nat_le 5 (stage_number k.stage) ≡ true
       → next found (box_of o s c) (forget k) ≡ Some (forget j)
       → Goes o s (box_of o s c) ps p (λ n. n)
       (λ n v. v ≡ on_box (then_box keeps n) (seat_of (box_of o s c ∷ []) ps))
@@ -96,7 +96,7 @@ child_reads : (on : Bool) (k : Walk) → is_reading (see_child_next on k).stage 
 child_reads true k = refl
 child_reads false k = refl
 
-child_past : (on : Bool) (k : Walk) → nat_le 5 (place_of (see_child_next on k).stage) ≡ true
+child_past : (on : Bool) (k : Walk) → nat_le 5 (stage_number (see_child_next on k).stage) ≡ true
 child_past true k = refl
 child_past false k = refl
 
@@ -117,15 +117,15 @@ sight_reads : (level : ℕ) → is_reading (after_sight level) ≡ false
 sight_reads zero = refl
 sight_reads (suc l) = refl
 
-sight_past : (level : ℕ) → nat_le 5 (place_of (after_sight level)) ≡ true
+sight_past : (level : ℕ) → nat_le 5 (stage_number (after_sight level)) ≡ true
 sight_past zero = refl
 sight_past (suc l) = refl
 
-scan_place : (n : ℕ) → nat_le 5 (place_of (stages.Scan n)) ≡ true
+scan_place : (n : ℕ) → nat_le 5 (stage_number (stages.Scan n)) ≡ true
 scan_place n = le-leb 5 (10 + n) (omega arith)
 
 scan_past : (b : Bool) (n : ℕ)
-    → nat_le 5 (place_of (cond b stages.Store (stages.Scan n))) ≡ true
+    → nat_le 5 (stage_number (cond b stages.Store (stages.Scan n))) ≡ true
 scan_past true n = refl
 scan_past false n = scan_place n
 
@@ -133,11 +133,11 @@ scan_reads : (b : Bool) (n : ℕ) → is_reading (cond b stages.Store (stages.Sc
 scan_reads true n = refl
 scan_reads false n = refl
 
-top_place : (n : ℕ) → nat_le 5 (place_of (stages.First n)) ≡ true
+top_place : (n : ℕ) → nat_le 5 (stage_number (stages.First n)) ≡ true
 top_place n = le-leb 5 (19 + n) (omega arith)
 
 top_past : (b : Bool) (n : ℕ)
-    → nat_le 5 (place_of (cond b stages.FreeGroup (stages.First n))) ≡ true
+    → nat_le 5 (stage_number (cond b stages.FreeGroup (stages.First n))) ≡ true
 top_past true n = refl
 top_past false n = top_place n
 
@@ -186,7 +186,7 @@ sees_child law o slots id g b k ps may =
     child_sight false q (subst (MayGoOn w b.cpu j) (sym q.stage) tt)
     (ap (walked w b.cpu j) q.stage ∙ (λ i. walks_on w b.cpu (see_child_next (is_on i) j)))
     (child_kind on j) (child_level on j) (child_reads on j) (child_past on j)
-    (ap (λ z. nat_le 5 (place_of z)) q.stage) (ap Some (forget_child on j)))
+    (ap (λ z. nat_le 5 (stage_number z)) q.stage) (ap Some (forget_child on j)))
 
 pub sees_group : (law : CoreLaws) (o : World) → SeeGroupStays o
 sees_group law o slots id g b k ps may =
@@ -207,7 +207,7 @@ sees_group law o slots id g b k ps may =
     ∙ (λ i. walks_on w b.cpu
     (see_group_next (is_on i) (at_top (q.shown.same.tree i) b.cpu j.level) j)))
     refl refl (sight_reads j.level) (sight_past j.level)
-    (ap (λ z. nat_le 5 (place_of z)) q.stage) refl)
+    (ap (λ z. nat_le 5 (stage_number z)) q.stage) refl)
 
 pub scans : (law : CoreLaws) (o : World) → ScanStays o
 scans law o slots id g number b k ps low may =
@@ -227,7 +227,7 @@ scans law o slots id g number b k ps low may =
     (ap (walked w b.cpu j) q.stage
     ∙ (λ i. walks_on w b.cpu (scan_next (is_e i) (is_at i) j)))
     refl refl (scan_reads (eqb at 7) (at + 1)) (scan_past (eqb at 7) (at + 1))
-    (ap (λ z. nat_le 5 (place_of z)) q.stage ∙ scan_place number) refl)
+    (ap (λ z. nat_le 5 (stage_number z)) q.stage ∙ scan_place number) refl)
 
 pub scans_top : (law : CoreLaws) (o : World) → ScanTopStays o
 scans_top law o slots id g number b k ps low may =
@@ -249,4 +249,4 @@ scans_top law o slots id g number b k ps low may =
     (ap (walked w b.cpu j) q.stage
     ∙ (λ i. walks_on w b.cpu (first_next (is_e i) (is_at i) j)))
     refl refl (top_reads (eqb at 7) (at + 1)) (top_past (eqb at 7) (at + 1))
-    (ap (λ z. nat_le 5 (place_of z)) q.stage ∙ top_place number) refl)
+    (ap (λ z. nat_le 5 (stage_number z)) q.stage ∙ top_place number) refl)

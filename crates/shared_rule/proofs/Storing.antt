@@ -14,7 +14,7 @@ use Rattle.walk_rules.specs.Stages.{with_event}
 use Rattle.core_world.specs.Enabled.{MayGoOn}
 use Rattle.core_world.specs.Steps.{here, walked, walks_at, with_walk}
 use Rattle.core_world.specs.World.{World, CpuRecord, cpu_of, group_of, is_reading, moved}
-use Rattle.core_facts.specs.Exchanges.{place_of}
+use Rattle.core_facts.specs.Exchanges.{stage_number}
 use Rattle.shared_words.specs.Words.{word_of_slot}
 use Rattle.shared_rule.specs.CoreLaws.{CoreLaws}
 use Rattle.shared_rule.specs.Whole.{Whole, box_of, leaf_of, slot_at}
@@ -33,7 +33,7 @@ store_reads true = refl
 store_reads false = refl
 
 store_past : (b : Bool)
-    → nat_le 5 (place_of (cond b (stages.First 0) stages.FreeGroup)) ≡ true
+    → nat_le 5 (stage_number (cond b (stages.First 0) stages.FreeGroup)) ≡ true
 store_past true = refl
 store_past false = refl
 
@@ -117,7 +117,7 @@ stores law o slots id g new b k ps low may new_is =
       reeval = refl;
       owed = λ m.
           owes_kept o.tree m c to j refl refl
-          (store_past first ∙ sym (ap (λ z. nat_le 5 (place_of z)) q.stage));
+          (store_past first ∙ sym (ap (λ z. nat_le 5 (stage_number z)) q.stage));
       leaf_is = leaf_stored law o s h c g q.group j y j.level q.path low';
       leaves = leaves_stored law o s h c g q.group j y j.level q.path low';
       word = no_stray e ∙ sym word;

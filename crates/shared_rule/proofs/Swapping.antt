@@ -21,7 +21,7 @@ use Rattle.core_world.specs.declared.step.Step.TheVariants as steps
 use Rattle.core_world.specs.Enabled.{MayGoOn}
 use Rattle.core_world.specs.Steps.{here, swapped, walk_made, walked, with_walk}
 use Rattle.core_world.specs.World.{World, CpuRecord, cpu_of, group_of, is_reading, moved}
-use Rattle.core_facts.specs.Exchanges.{place_of}
+use Rattle.core_facts.specs.Exchanges.{stage_number}
 use Rattle.shared_words.specs.Exchanges.{IsSwapOf}
 use Rattle.shared_words.specs.Words.{word_of_slot}
 use Rattle.shared_rule.specs.declared.parts.BoxView.{BoxView}
@@ -59,7 +59,7 @@ lock_reads : (level : ℕ) → is_reading (first_lock level) ≡ false
 lock_reads zero = refl
 lock_reads (suc l) = refl
 
-lock_past : (level : ℕ) → nat_le 5 (place_of (first_lock level)) ≡ true
+lock_past : (level : ℕ) → nat_le 5 (stage_number (first_lock level)) ≡ true
 lock_past zero = refl
 lock_past (suc l) = refl
 
@@ -155,7 +155,7 @@ module _ (law : CoreLaws) (o : World) (s : Whole) (c g : ℕ) (k : Walk) (ps : L
         reads = no_reads w.tree c (swap_next true k) (s.read c) (group_word next)
             (raised true g s.seq) not_reading;
         owed = λ m.
-            let a = past_owes w.tree g c k s.seq (ap (λ z. nat_le 5 (place_of z)) q.stage) leaves
+            let a = past_owes w.tree g c k s.seq (ap (λ z. nat_le 5 (stage_number z)) q.stage) leaves
             q.path (pl.level c k.level g q.path) (swap_next true k) refl refl
             (lock_past k.level) m in
             let b = subst (λ z. raised true g s.seq m + owes z m c (Some (swap_next true k))
@@ -215,7 +215,7 @@ module _ (law : CoreLaws) (o : World) (s : Whole) (c g : ℕ) (k : Walk) (ps : L
       (λ n z. z ≡ on_box (swap_box (eqb n old) n) (seat_of (box_of o s c ∷ []) ps))
       q.shown q.cpu q.known q.walk q.path (subst (MayGoOn w c k) (sym q.stage) tt)
       (ap (walked w c k) q.stage ∙ ap (swapped w c k) stale)
-      (ap (λ z. nat_le 5 (place_of z)) q.stage)
+      (ap (λ z. nat_le 5 (stage_number z)) q.stage)
       (ap (λ b. either b new (group_word s g)) (ne_eqb _ _ ne))
       (λ z e.
       subst (λ b. z ≡ on_box (swap_box b (group_word s g)) (seat_of (box_of o s c ∷ []) ps))

@@ -18,7 +18,7 @@ use Rattle.walk_rules.specs.declared.walk.WalkKind.TheVariants as kinds
 use Rattle.walk_rules.specs.Scene.{Group}
 use Rattle.core_world.specs.World.{CpuRecord, World, cpu_of, is_reading, moved}
 use Rattle.core_world.specs.Frames.{SameSize}
-use Rattle.core_facts.specs.Exchanges.{place_of}
+use Rattle.core_facts.specs.Exchanges.{stage_number}
 use Rattle.core_state.specs.Kept.{WorldFits, is_queued}
 use Rattle.shared_words.specs.declared.spot.Spot.{Spot}
 use Rattle.shared_words.specs.Exchanges.{HasRoom}
@@ -34,7 +34,7 @@ use Rattle.shared_rule.specs.Whole.{Whole, group_word, layout_of, spot_at, timer
 
 -- EXCHANGES STILL TO COME: the walk is past its exchange at a level
 abbrev pub is_past : ℕ → Walk → Bool
-is_past level k = nat_lt level k.level || (k.level == level && nat_le 5 (place_of k.stage))
+is_past level k = nat_lt level k.level || (k.level == level && nat_le 5 (stage_number k.stage))
 
 -- the kinds of walk that exchange the words of groups
 abbrev pub exchanges : WalkKind → Bool

@@ -8,7 +8,7 @@ use Rattle.tm_base.specs.declared.names.Class.{Class}
 use Rattle.wheel_core.specs.declared.item.Item.{Item}
 use Rattle.wheel_core.specs.PlainBase.{next_out}
 use Rattle.cpu_bases.specs.CpuBases.{base_of, found_in, item_queued}
-use Rattle.cpu_bases.specs.Laws.{Keeps}
+use Rattle.cpu_bases.specs.Laws.{CallKeeps}
 use Rattle.core_world.specs.World.{World}
 use Rattle.shared_rule.specs.declared.parts.BoxView.{BoxView}
 use Rattle.shared_rule.specs.declared.parts.PassView.{PassView}
@@ -82,7 +82,7 @@ pub went_off : (table : TableId) (part : HeldPart) (held : HeldPass) (b : HeldPa
     → IfOk result (λ wheel. wheel
     ≡ (item_queued now a.class a.timer.0 a.expires a.job a.arg b.box.own.bases).wheel)
     → OnOk result (mid ≡ armed_part a b)
-    → OnOk result (Keeps now b.box.own.bases mid.box.own.bases)
+    → OnOk result (CallKeeps now b.box.own.bases mid.box.own.bases)
     → IfErr result (FoundQueued o a.timer.0 b mid)
     → new ≡ without_guest mid → after ≡ pass_parted table held.cpu mid
     → MatchResult result (ArmedWith table now a part held new after)
@@ -96,8 +96,8 @@ went_off table part held b there o now a (Ok wheel) mid new after time armed kee
       part_is = off ∙ ap without_guest (armed ∙ ap (armed_part a) there);
       pass_is = gone ∙ ap (pass_parted table held.cpu) (armed ∙ ap (armed_part a) there);
       keeps =
-          subst (λ (z : HeldPart). Keeps now part.box.own.bases z.box.own.bases) (sym off)
-          (subst (λ (z : HeldPart). Keeps now z.box.own.bases mid.box.own.bases) there keeps);
+          subst (λ (z : HeldPart). CallKeeps now part.box.own.bases z.box.own.bases) (sym off)
+          (subst (λ (z : HeldPart). CallKeeps now z.box.own.bases mid.box.own.bases) there keeps);
     }
 went_off table part held b there o now a (Err fault) mid new after time armed keeps queued off gone =
     record {

@@ -6,7 +6,7 @@ use Rattle.tm_base.specs.declared.faults.OpFault.TheVariants as faults
 use Rattle.tm_base.specs.declared.names.Class.{Class}
 use Rattle.tm_base.specs.declared.names.TimerId.{TimerId}
 use Rattle.cpu_bases.specs.CpuBases.{base_of, item_queued}
-use Rattle.cpu_bases.specs.Laws.{Keeps}
+use Rattle.cpu_bases.specs.Laws.{CallKeeps}
 use Rattle.core_world.specs.World.{World}
 use Rattle.shared_words.specs.declared.spot.Spot.{Spot}
 use Rattle.shared_words.specs.Words.{spot_of}
@@ -68,7 +68,7 @@ pub record ArmedWith (table : TableId) (now : ℕ) (a : Arming) (part : HeldPart
       wheel ≡ (item_queued now a.class a.timer.0 a.expires a.job a.arg part.box.own.bases).wheel
   pub part_is : new ≡ without_guest (armed_part a (with_guest part held))
   pub pass_is : after ≡ pass_parted table held.cpu (armed_part a (with_guest part held))
-  pub keeps : Keeps now part.box.own.bases new.box.own.bases
+  pub keeps : CallKeeps now part.box.own.bases new.box.own.bases
 
 -- or it found there where the timer was queued
 pub record FoundWith (table : TableId) (o : World) (timer : ℕ) (part : HeldPart)

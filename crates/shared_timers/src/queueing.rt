@@ -2,7 +2,7 @@
 
 ghost use Rattle.std.specs.Prelude.{◌≡◌, IfErr, IfOk, OnOk};
 ghost use Rattle.cpu_bases.specs.CpuBases.{item_queued};
-ghost use Rattle.cpu_bases.specs.Laws.{Keeps};
+ghost use Rattle.cpu_bases.specs.Laws.{CallKeeps};
 ghost use Rattle.shared_timers.specs.Queueing.{FoundQueued, MayArm, MayCancel, armed_part};
 ghost use Rattle.shared_timers.specs.Queueing.{cancelled_part};
 
@@ -28,7 +28,7 @@ pub fn arm_step<N: RunName, B: TimerBase>(
     ensures wheel { IfOk result (λ wheel. wheel ≡ (item_queued now arming.class arming.timer.0
         arming.expires arming.job arming.arg part.old.box.own.bases).wheel) }
     ensures armed { OnOk result (part.new ≡ armed_part arming part.old) }
-    ensures keeps { OnOk result (Keeps now part.old.box.own.bases part.new.box.own.bases) }
+    ensures keeps { OnOk result (CallKeeps now part.old.box.own.bases part.new.box.own.bases) }
     ensures queued { IfErr result
         (FoundQueued N.opening arming.timer.0 part.old part.new) }
 {
@@ -67,7 +67,7 @@ pub fn cancel_step<N: RunName, B: TimerBase>(
     requires now { now ≡ N.opening.clock }
     requires may { MayCancel N.opening part.old timer }
     ensures part { part.new ≡ cancelled_part timer.0 line part.old }
-    ensures keeps { Keeps now part.old.box.own.bases part.new.box.own.bases }
+    ensures keeps { CallKeeps now part.old.box.own.bases part.new.box.own.bases }
 {
     let place = part.bases.journal().len();
     let Some(class) = part.bases.where_is(timer) else {

@@ -3,7 +3,7 @@
 ghost use Rattle.std.specs.Prelude.{◌≡◌, [], IfNone, MatchResult, OnSome};
 ghost use Rattle.wheel_core.specs.PlainBase.{NoneBehind, OneFewer, OutIsDue, next_out};
 ghost use Rattle.cpu_bases.specs.CpuBases.{base_of};
-ghost use Rattle.cpu_bases.specs.Laws.{HandsOut, Keeps};
+ghost use Rattle.cpu_bases.specs.Laws.{HandsOut, CallKeeps};
 ghost use Rattle.shared_rule.specs.declared.parts.PassView.{PassView};
 ghost use Rattle.shared_rule.specs.Plays.{Agree};
 ghost use Rattle.shared_rule.specs.Parts.{pass_parted, with_guest, without_guest};
@@ -62,7 +62,7 @@ pub fn cancel_with<N: RunName, B: TimerBase>(
     ensures pass { pass.new ≡ pass_parted N.table pass.old.cpu
         (cancelled_part timer.0 line (with_guest part.old pass.old)) }
     ensures agree { (p : PassView) → IsPassIn N.table pass.old p → Agree part.old.box p }
-    ensures keeps { Keeps now part.old.box.own.bases part.new.box.own.bases }
+    ensures keeps { CallKeeps now part.old.box.own.bases part.new.box.own.bases }
 {
     pass.law();
     bring(run, part, pass);

@@ -14,7 +14,7 @@ use Rattle.event_queue.specs.declared.event.Event.{Event}
 use Rattle.event_queue.specs.EventMap as events
 use Rattle.event_queue.specs.Word.{event_of, slot_of, slot_word}
 use Rattle.group_word.specs.declared.state.GroupState.{GroupState}
-use Rattle.group_word.specs.State.{IsLawfulState, IsStateOf, mark_of, state_word}
+use Rattle.group_word.specs.State.{IsLawfulState, IsStateOf, migrator_bits, state_word}
 use Rattle.group_word.proofs.Words.{migrator_child, parts, state_back}
 use Rattle.cpu_word.specs.declared.state.CpuState.{CpuState}
 use Rattle.cpu_word.specs.Word as cpus
@@ -34,11 +34,11 @@ state_injective word s t is it = sym (state_back word s _ refl is) ∙ state_bac
 pub seq_of : (word : ℕ) (s : GroupState) → IsStateOf word s → word / 2 ^ 16 ≡ s.seq
 seq_of word s is = (parts word s is).2
 
-mark_fits : (m : Option ℕ) → ((k : ℕ) → m ≡ Some k → k < 8) → mark_of m < 2 ^ 8
+mark_fits : (m : Option ℕ) → ((k : ℕ) → m ≡ Some k → k < 8) → migrator_bits m < 2 ^ 8
 mark_fits None child = omega arith
 mark_fits (Some k) child = pow_below k 8 (child k refl)
 
-none_mark : (m : Option ℕ) → (mark_of m == 0) ≡ not (is_some m)
+none_mark : (m : Option ℕ) → (migrator_bits m == 0) ≡ not (is_some m)
 none_mark None = refl
 none_mark (Some k) = ne_eqb (2 ^ k) 0 (λ e. omega (arith, pow_pos k))
 
@@ -47,7 +47,7 @@ pub migrator_shown : (word : ℕ) (s : GroupState) → IsStateOf word s
     → shows_migrator word ≡ is_some s.migrator
 migrator_shown word s is = ap (λ m. not (m == 0)) (parts word s is).1 ∙ back s.migrator
   where
-    back : (m : Option ℕ) → not (mark_of m == 0) ≡ is_some m
+    back : (m : Option ℕ) → not (migrator_bits m == 0) ≡ is_some m
     back None = refl
     back (Some k) = ap not (none_mark (Some k))
 

@@ -17,21 +17,21 @@ use Rattle.core_world.specs.World.{World, cpu_of, scene_of}
 use Rattle.core_laws.proofs.Walks.Stands.{stage_fits, stands_in}
 use Rattle.core_state.specs.Kept.{HasLevel, StaysFit, WorldFits}
 use Rattle.core_state.proofs.Fits.{walks_fit}
-use Rattle.step_core.specs.Stands.{StandsAt}
+use Rattle.core_facts.specs.Stepping.{MayStepAt}
 
-pub may_walk : (w : World) (c : ℕ) (k : Walk) (st : Stage) → StandsAt w c k st → MayWalk w c
+pub may_walk : (w : World) (c : ℕ) (k : Walk) (st : Stage) → MayStepAt w c k st → MayWalk w c
 may_walk w c k st stands = record {
   in_range = stands.in_range;
   made = k;
   walk = stands.walk;
-  may_go_on = subst (MayGoOn w c k) (sym stands.stage) stands.may_go_on;
+  may_go_on = subst (MayGoOn w c k) (sym stands.at) stands.may_go_on;
 }
 
-pub walk_is : (w : World) (c : ℕ) (k : Walk) (st : Stage) → StandsAt w c k st
+pub walk_is : (w : World) (c : ℕ) (k : Walk) (st : Stage) → MayStepAt w c k st
     → walk_made w c (cpu_of w c).walk ≡ walked w c k st
-walk_is w c k st stands = ap (walk_made w c) stands.walk ∙ ap (walked w c k) stands.stage
+walk_is w c k st stands = ap (walk_made w c) stands.walk ∙ ap (walked w c k) stands.at
 
-pub walked_fits : (w : World) (c : CpuId) (k : Walk) (st : Stage) → StaysFit w → StandsAt w c.0 k st
+pub walked_fits : (w : World) (c : CpuId) (k : Walk) (st : Stage) → StaysFit w → MayStepAt w c.0 k st
     → WorldFits (walked w c.0 k st)
 walked_fits w c k st stays stands =
     subst WorldFits (walk_is w c.0 k st stands) (stays (steps.Walk c) (may_walk w c.0 k st stands))
@@ -50,12 +50,12 @@ module _ (w : World) (fits : WorldFits w) (c : ℕ) (k : Walk) (st : Stage) (wal
     | inr finish ↦ absurd (other (sym at ∙ finish))
   ]
 
-module _ (w : World) (fits : WorldFits w) (c : ℕ) (k : Walk) (st : Stage) (stands : StandsAt w c k st) where
+module _ (w : World) (fits : WorldFits w) (c : ℕ) (k : Walk) (st : Stage) (stands : MayStepAt w c k st) where
   pub level_here : (st ≡ stages.Finish → ⊥) → HasLevel w.tree c k.level
-  level_here = level_at w fits c k st stands.walk stands.stage
+  level_here = level_at w fits c k st stands.walk stands.at
 
   pub fit : (st ≡ stages.Finish → ⊥) → FitsStage w.tree c k.kind k.level st
-  fit = fit_at w fits c k st stands.walk stands.stage
+  fit = fit_at w fits c k st stands.walk stands.at
 
 -- it is below the group of its level
 pub below_here : (t : Shape) (c l r : ℕ) → HasLevel t c l → r ≡ group_on t c l → IsBelow t c r
@@ -71,6 +71,6 @@ lower_level t c (suc l) tree high has =
 
 -- an exchange that is made, or fails
 pub exchange_fits : (w : World) (c : CpuId) (k : Walk) (fresh : Bool) → StaysFit w
-    → StandsAt w c.0 k stages.Swap → k.fresh ≡ fresh → WorldFits (swapped w c.0 k fresh)
+    → MayStepAt w c.0 k stages.Swap → k.fresh ≡ fresh → WorldFits (swapped w c.0 k fresh)
 exchange_fits w c k fresh stays stands is =
     subst WorldFits (ap (swapped w c.0 k) is) (walked_fits w c k stages.Swap stays stands)

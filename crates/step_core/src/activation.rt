@@ -3,7 +3,7 @@
 ghost use Rattle.std.specs.Prelude.{◌≡◌, ◌<◌, suc};
 ghost use Rattle.walk_rules.specs.declared.walk.Stage.TheVariants as stages;
 ghost use Rattle.core_world.specs.Steps.{walked};
-ghost use Rattle.step_core.specs.Stands.{StandsAt};
+ghost use Rattle.core_facts.specs.Stepping.{MayStepAt};
 ghost use Rattle.walk_rules.specs.Ranges.{WalkRanges};
 
 use core_state::{Core, GroupChange};
@@ -21,7 +21,7 @@ fn above(level: u8) -> u8
 
 /// Marks the CPU's own event as ignored.
 pub(crate) fn pass_own<B: TimerBase>(core: &mut Core<B>, cpu: CpuId, walk: Walk)
-    requires stands { StandsAt core.old cpu.0 walk stages.Own }
+    requires stands { MayStepAt core.old cpu.0 walk stages.Own }
     requires in_range { WalkRanges walk }
     ensures { core.new ≡ walked core.old cpu.0 walk stages.Own }
 {
@@ -34,7 +34,7 @@ pub(crate) fn pass_own<B: TimerBase>(core: &mut Core<B>, cpu: CpuId, walk: Walk)
 
 /// The child joins the group's active set.
 pub(crate) fn go_up<B: TimerBase>(core: &mut Core<B>, cpu: CpuId, walk: Walk)
-    requires stands { StandsAt core.old cpu.0 walk stages.Up }
+    requires stands { MayStepAt core.old cpu.0 walk stages.Up }
     requires in_range { WalkRanges walk }
     ensures { core.new ≡ walked core.old cpu.0 walk stages.Up }
 {
@@ -49,7 +49,7 @@ pub(crate) fn go_up<B: TimerBase>(core: &mut Core<B>, cpu: CpuId, walk: Walk)
 
 /// Marks the group's event in its parent as ignored.
 pub(crate) fn pass_mark<B: TimerBase>(core: &mut Core<B>, cpu: CpuId, walk: Walk, more: bool)
-    requires stands { StandsAt core.old cpu.0 walk (stages.Mark more) }
+    requires stands { MayStepAt core.old cpu.0 walk (stages.Mark more) }
     requires in_range { WalkRanges walk }
     ensures { core.new ≡ walked core.old cpu.0 walk (stages.Mark more) }
 {

@@ -5,7 +5,7 @@ ghost use Rattle.walk_rules.specs.declared.walk.Stage.TheVariants as stages;
 ghost use Rattle.core_world.specs.declared.step.Step.TheVariants as steps;
 ghost use Rattle.core_world.specs.Enabled.{Enabled};
 ghost use Rattle.core_world.specs.Steps.{stepped, walked};
-ghost use Rattle.step_core.specs.Stands.{StandsAt};
+ghost use Rattle.core_facts.specs.Stepping.{MayStepAt};
 ghost use Rattle.core_state.specs.Status.{finished_status};
 ghost use Rattle.walk_rules.specs.Ranges.{IsInRange, WalkRanges};
 ghost use Rattle.core_state.specs.Status.{handing_walk};
@@ -68,7 +68,7 @@ fn finished(status: CpuStatus, walk: Walk) -> CpuStatus
 
 /// Writes what came out into the CPU.
 fn finish<B: TimerBase>(core: &mut Core<B>, cpu: CpuId, walk: Walk)
-    requires stands { StandsAt core.old cpu.0 walk stages.Finish }
+    requires stands { MayStepAt core.old cpu.0 walk stages.Finish }
     requires in_range { WalkRanges walk }
     ensures { core.new ≡ walked core.old cpu.0 walk stages.Finish }
 {
@@ -80,7 +80,7 @@ fn finish<B: TimerBase>(core: &mut Core<B>, cpu: CpuId, walk: Walk)
 
 /// Makes the exchange, or finds the word changed.
 fn swap<B: TimerBase>(core: &mut Core<B>, cpu: CpuId, walk: Walk)
-    requires stands { StandsAt core.old cpu.0 walk stages.Swap }
+    requires stands { MayStepAt core.old cpu.0 walk stages.Swap }
     requires in_range { WalkRanges walk }
     ensures { core.new ≡ walked core.old cpu.0 walk stages.Swap }
 {
@@ -93,7 +93,7 @@ fn swap<B: TimerBase>(core: &mut Core<B>, cpu: CpuId, walk: Walk)
 
 /// What the stage of a walk does.
 fn walk_from<B: TimerBase>(core: &mut Core<B>, cpu: CpuId, walk: Walk)
-    requires stands { StandsAt core.old cpu.0 walk walk.stage }
+    requires stands { MayStepAt core.old cpu.0 walk walk.stage }
     requires in_range { WalkRanges walk }
     ensures { core.new ≡ walked core.old cpu.0 walk walk.stage }
 {

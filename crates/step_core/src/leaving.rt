@@ -3,7 +3,7 @@
 ghost use Rattle.std.specs.Prelude.{◌≡◌, false, true};
 ghost use Rattle.walk_rules.specs.declared.walk.Stage.TheVariants as stages;
 ghost use Rattle.core_world.specs.Steps.{swapped, walked};
-ghost use Rattle.step_core.specs.Stands.{StandsAt};
+ghost use Rattle.core_facts.specs.Stepping.{MayStepAt};
 ghost use Rattle.walk_rules.specs.Ranges.{WalkRanges};
 
 use core_state::{Core, GroupChange};
@@ -13,7 +13,7 @@ use wheel_core::TimerBase;
 
 /// Reads the group's word.
 pub(crate) fn read_group<B: TimerBase>(core: &mut Core<B>, cpu: CpuId, walk: Walk)
-    requires stands { StandsAt core.old cpu.0 walk stages.Read }
+    requires stands { MayStepAt core.old cpu.0 walk stages.Read }
     requires in_range { WalkRanges walk }
     ensures { core.new ≡ walked core.old cpu.0 walk stages.Read }
 {
@@ -24,7 +24,7 @@ pub(crate) fn read_group<B: TimerBase>(core: &mut Core<B>, cpu: CpuId, walk: Wal
 
 /// Reads the child's word.
 pub(crate) fn read_child<B: TimerBase>(core: &mut Core<B>, cpu: CpuId, walk: Walk)
-    requires stands { StandsAt core.old cpu.0 walk stages.Child }
+    requires stands { MayStepAt core.old cpu.0 walk stages.Child }
     requires in_range { WalkRanges walk }
     ensures { core.new ≡ walked core.old cpu.0 walk stages.Child }
 {
@@ -36,7 +36,7 @@ pub(crate) fn read_child<B: TimerBase>(core: &mut Core<B>, cpu: CpuId, walk: Wal
 
 /// The child leaves the group's active set, unless it was found active.
 pub(crate) fn exchange<B: TimerBase>(core: &mut Core<B>, cpu: CpuId, walk: Walk)
-    requires stands { StandsAt core.old cpu.0 walk stages.Swap }
+    requires stands { MayStepAt core.old cpu.0 walk stages.Swap }
     requires in_range { WalkRanges walk }
     requires fresh { walk.fresh ≡ true }
     ensures { core.new ≡ swapped core.old cpu.0 walk true }
@@ -59,7 +59,7 @@ pub(crate) fn exchange<B: TimerBase>(core: &mut Core<B>, cpu: CpuId, walk: Walk)
 
 /// The exchange fails, and reads the word again.
 pub(crate) fn read_again<B: TimerBase>(core: &mut Core<B>, cpu: CpuId, walk: Walk)
-    requires stands { StandsAt core.old cpu.0 walk stages.Swap }
+    requires stands { MayStepAt core.old cpu.0 walk stages.Swap }
     requires in_range { WalkRanges walk }
     requires stale { walk.fresh ≡ false }
     ensures { core.new ≡ swapped core.old cpu.0 walk false }

@@ -3,7 +3,7 @@
 ghost use Rattle.std.specs.Prelude.{◌≡◌};
 ghost use Rattle.walk_rules.specs.declared.walk.Stage.TheVariants as stages;
 ghost use Rattle.core_world.specs.Steps.{walked};
-ghost use Rattle.step_core.specs.Stands.{StandsAt};
+ghost use Rattle.core_facts.specs.Stepping.{MayStepAt};
 ghost use Rattle.walk_rules.specs.Ranges.{WalkRanges};
 
 use core_state::{Core, GroupChange};
@@ -13,7 +13,7 @@ use wheel_core::TimerBase;
 
 /// Takes the child's lock.
 pub(crate) fn lock_child<B: TimerBase>(core: &mut Core<B>, cpu: CpuId, walk: Walk)
-    requires stands { StandsAt core.old cpu.0 walk stages.LockChild }
+    requires stands { MayStepAt core.old cpu.0 walk stages.LockChild }
     requires in_range { WalkRanges walk }
     ensures { core.new ≡ walked core.old cpu.0 walk stages.LockChild }
 {
@@ -31,7 +31,7 @@ pub(crate) fn lock_child<B: TimerBase>(core: &mut Core<B>, cpu: CpuId, walk: Wal
 
 /// Takes the group's lock.
 pub(crate) fn lock_group<B: TimerBase>(core: &mut Core<B>, cpu: CpuId, walk: Walk)
-    requires stands { StandsAt core.old cpu.0 walk stages.LockGroup }
+    requires stands { MayStepAt core.old cpu.0 walk stages.LockGroup }
     requires in_range { WalkRanges walk }
     ensures { core.new ≡ walked core.old cpu.0 walk stages.LockGroup }
 {
@@ -50,7 +50,7 @@ pub(crate) fn lock_group<B: TimerBase>(core: &mut Core<B>, cpu: CpuId, walk: Wal
 
 /// Gives the group's lock back.
 pub(crate) fn free_group<B: TimerBase>(core: &mut Core<B>, cpu: CpuId, walk: Walk)
-    requires stands { StandsAt core.old cpu.0 walk stages.FreeGroup }
+    requires stands { MayStepAt core.old cpu.0 walk stages.FreeGroup }
     requires in_range { WalkRanges walk }
     ensures { core.new ≡ walked core.old cpu.0 walk stages.FreeGroup }
 {
@@ -62,7 +62,7 @@ pub(crate) fn free_group<B: TimerBase>(core: &mut Core<B>, cpu: CpuId, walk: Wal
 
 /// Gives the child's lock back.
 pub(crate) fn free_child<B: TimerBase>(core: &mut Core<B>, cpu: CpuId, walk: Walk)
-    requires stands { StandsAt core.old cpu.0 walk stages.FreeChild }
+    requires stands { MayStepAt core.old cpu.0 walk stages.FreeChild }
     requires in_range { WalkRanges walk }
     ensures { core.new ≡ walked core.old cpu.0 walk stages.FreeChild }
 {

@@ -3,7 +3,7 @@
 ghost use Rattle.std.specs.Prelude.{◌≡◌};
 ghost use Rattle.walk_rules.specs.declared.walk.Stage.TheVariants as stages;
 ghost use Rattle.core_world.specs.Steps.{walked};
-ghost use Rattle.step_core.specs.Stands.{StandsAt};
+ghost use Rattle.core_facts.specs.Stepping.{MayStepAt};
 ghost use Rattle.walk_rules.specs.Ranges.{WalkRanges};
 
 use core_state::{Core, GroupChange};
@@ -15,7 +15,7 @@ use wheel_core::TimerBase;
 
 /// Reads the child's word under its lock.
 pub(crate) fn see_child<B: TimerBase>(core: &mut Core<B>, cpu: CpuId, walk: Walk)
-    requires stands { StandsAt core.old cpu.0 walk stages.SeeChild }
+    requires stands { MayStepAt core.old cpu.0 walk stages.SeeChild }
     requires in_range { WalkRanges walk }
     ensures { core.new ≡ walked core.old cpu.0 walk stages.SeeChild }
 {
@@ -27,7 +27,7 @@ pub(crate) fn see_child<B: TimerBase>(core: &mut Core<B>, cpu: CpuId, walk: Walk
 
 /// Reads the group's word under its lock.
 pub(crate) fn see_group<B: TimerBase>(core: &mut Core<B>, cpu: CpuId, walk: Walk)
-    requires stands { StandsAt core.old cpu.0 walk stages.SeeGroup }
+    requires stands { MayStepAt core.old cpu.0 walk stages.SeeGroup }
     requires in_range { WalkRanges walk }
     ensures { core.new ≡ walked core.old cpu.0 walk stages.SeeGroup }
 {
@@ -41,7 +41,7 @@ pub(crate) fn see_group<B: TimerBase>(core: &mut Core<B>, cpu: CpuId, walk: Walk
 
 /// Reads an event of the child.
 pub(crate) fn scan<B: TimerBase>(core: &mut Core<B>, cpu: CpuId, walk: Walk, k: u8)
-    requires stands { StandsAt core.old cpu.0 walk (stages.Scan k) }
+    requires stands { MayStepAt core.old cpu.0 walk (stages.Scan k) }
     requires in_range { WalkRanges walk }
     ensures { core.new ≡ walked core.old cpu.0 walk (stages.Scan k) }
 {
@@ -54,7 +54,7 @@ pub(crate) fn scan<B: TimerBase>(core: &mut Core<B>, cpu: CpuId, walk: Walk, k: 
 
 /// Writes the child's event into the group.
 pub(crate) fn store<B: TimerBase>(core: &mut Core<B>, cpu: CpuId, walk: Walk)
-    requires stands { StandsAt core.old cpu.0 walk stages.Store }
+    requires stands { MayStepAt core.old cpu.0 walk stages.Store }
     requires in_range { WalkRanges walk }
     ensures { core.new ≡ walked core.old cpu.0 walk stages.Store }
 {
@@ -75,7 +75,7 @@ pub(crate) fn store<B: TimerBase>(core: &mut Core<B>, cpu: CpuId, walk: Walk)
 
 /// Reads an event of the top.
 pub(crate) fn read_first<B: TimerBase>(core: &mut Core<B>, cpu: CpuId, walk: Walk, k: u8)
-    requires stands { StandsAt core.old cpu.0 walk (stages.First k) }
+    requires stands { MayStepAt core.old cpu.0 walk (stages.First k) }
     requires in_range { WalkRanges walk }
     ensures { core.new ≡ walked core.old cpu.0 walk (stages.First k) }
 {

@@ -38,7 +38,7 @@ pub fn law_settled<B: TimerBase>(core: &Core<B>)
         Held (machine_of core.now) c item.wheel ⊎ Woken (machine_of core.now) c item.wheel }
 {
     law_lawful(core);
-    core_facts::law_settled();
+    core_facts::law_each_settled();
 }
 
 /// A timer is queued at most once, and each arming has at most one end.

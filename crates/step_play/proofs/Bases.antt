@@ -14,7 +14,7 @@ use Rattle.tm_base.specs.declared.names.TheConstants.{NEVER, TIME_LIMIT}
 use Rattle.wheel_core.specs.declared.item.Item.{Item}
 use Rattle.wheel_core.specs.PlainBase.{IsDue, IsSound, NoneBehind, NoneDue, OutIsDue, PlainBase}
 use Rattle.wheel_core.specs.PlainBase.{added, after_out, clock_forwarded, forwarded, least}
-use Rattle.wheel_core.specs.PlainBase.{next_out, placed, removed, taken}
+use Rattle.wheel_core.specs.PlainBase.{next_out, item_added, removed, taken}
 use Rattle.wheel_core.specs.WheelExpiry.{cutoff, wheel_expiry_of}
 use Rattle.wheel_core.proofs.Ids.{all_without, item_holds, sound_without}
 use Rattle.wheel_core.proofs.Levels.{wheel_keeps_time}
@@ -24,7 +24,7 @@ use Rattle.cpu_bases.specs.declared.entry.Act.{Act}
 use Rattle.cpu_bases.specs.ByClass.{ByClass, of_class, with_class}
 use Rattle.cpu_bases.specs.CpuBases.{CpuBases, IsConsistent, after_cancel, after_hand_out}
 use Rattle.cpu_bases.specs.CpuBases.{after_move_out, base_of, cancelled, drained}
-use Rattle.cpu_bases.specs.CpuBases.{found_in, handed_out, moved_out, first_of, oldest_in, queued}
+use Rattle.cpu_bases.specs.CpuBases.{found_in, handed_out, moved_out, first_expiry, oldest_in, queued}
 use Rattle.cpu_bases.proofs.Drains.{drain_is_whole}
 use Rattle.cpu_bases.proofs.Keeping.{or_item}
 use Rattle.cpu_bases.proofs.Classes.{class_is}
@@ -216,14 +216,14 @@ queued_late cpu consistent act line now class k timer expires job arg by soon in
     changed_kept (λ b. NoneDue now b.items) k class
     (added timer expires job arg (forwarded now base)) cpu
     (λ none. All-push (λ item. now < item.wheel) base.items
-    (placed (forwarded now base).clock timer expires job arg) none
+    (item_added (forwarded now base).clock timer expires job arg) none
     (expiry_late now expires (forwarded now base).clock on
     (forwarded_on now base.clock (least base.items) (least_late now base none)) in_time
     (omega arith))) late
 
 -- and then the first of a class is still to come
 pub first_late : (now : ℕ) (class : Class) (cpu : CpuBases) → now < NEVER →
-    NoneDue now (base_of class cpu).items → now < first_of class cpu
+    NoneDue now (base_of class cpu).items → now < first_expiry class cpu
 first_late now class cpu low late =
     by_least (least (base_of class cpu).items) (least_late now (base_of class cpu) late)
   where

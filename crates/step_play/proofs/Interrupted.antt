@@ -24,7 +24,7 @@ use Rattle.play_laws.proofs.Answered.Plays.{rules_keep}
 use Rattle.play_laws.proofs.Answered.Settles.{Settles}
 use Rattle.std.proofs.lemmas.Bool.Decides.{nat_tests}
 use Rattle.play_laws.proofs.Shape.Alike.{drained_seen}
-use Rattle.play_laws.proofs.Shape.Shape.{Keeps, MayRunAgain, Stage, begun, between, looked}
+use Rattle.play_laws.proofs.Shape.Shape.{KeptByRules, MayRunAgain, Stage, begun, between, looked}
 use Rattle.play_laws.proofs.Shape.Shape.{nth_class, own}
 use Rattle.core_world.specs.declared.step.Step.TheVariants as steps
 use Rattle.core_world.specs.Enabled.{IsFree, MayTime}
@@ -87,7 +87,7 @@ module _ (law : StepsStayLawful) (now : ℕ) (w : World) (not_back : w.clock ≤
 
 module _ (law : StepsStayLawful) (walks : Walks) (t : Shape) (timers end : ℕ)
     (in_time : end < SCRIPT_TIME_LIMIT) where
-  abbrev plain : Keeps plain_rules (cpu_count_of t) timers (level_count_of t) end
+  abbrev plain : KeptByRules plain_rules (cpu_count_of t) timers (level_count_of t) end
       (λ a. Unit {0}) (Settles t)
   plain = rules_keep t timers end in_time
 

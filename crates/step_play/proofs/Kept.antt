@@ -10,7 +10,7 @@ use Rattle.tree_plan.specs.Shape.{Shape}
 use Rattle.tree_plan.specs.Paths.{cpu_count_of, level_count_of}
 use Rattle.play_laws.proofs.Answered.Plays.{rules_keep}
 use Rattle.play_laws.proofs.Answered.Settles.{Settles}
-use Rattle.play_laws.proofs.Shape.Shape.{Keeps, Stage, begun, between, climbed, looked, looking, moving}
+use Rattle.play_laws.proofs.Shape.Shape.{KeptByRules, Stage, begun, between, climbed, looked, looking, moving}
 use Rattle.play_laws.proofs.Shape.Shape.{nth_class, own, taking}
 use Rattle.core_world.specs.World.{World}
 use Rattle.core_laws.specs.Laws.{StepsStayLawful}
@@ -35,7 +35,7 @@ module _ (law : StepsStayLawful) (walks : Walks) (t : Shape)
   }
 
   -- EACH RULE keeps it
-  pub steps_keep : Keeps step_rules (cpu_count_of t) timers (level_count_of t) end (MayArm timers)
+  pub steps_keep : KeptByRules step_rules (cpu_count_of t) timers (level_count_of t) end (MayArm timers)
       (Stands t timers)
   steps_keep = record {
     clock = λ now w was. was.clock;

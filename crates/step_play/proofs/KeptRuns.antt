@@ -9,7 +9,7 @@ use Rattle.tree_plan.specs.Shape.{Shape}
 use Rattle.tree_plan.specs.Paths.{cpu_count_of, level_count_of}
 use Rattle.play_rules.specs.Interrupts.{Replies, having_interrupt}
 use Rattle.play_rules.specs.Moments.{Turn, moments_after, next_moment, turn, turn_then, turns}
-use Rattle.play_laws.proofs.Shape.Shape.{Keeps, Stage, begun, between}
+use Rattle.play_laws.proofs.Shape.Shape.{KeptByRules, Stage, begun, between}
 use Rattle.play_laws.proofs.Shape.ShapeTurns.{IsMomentIn, Rise, after_in, after_rise, moment_kept}
 use Rattle.play_laws.proofs.Shape.ShapeTurns.{next_is}
 use Rattle.core_world.specs.declared.step.Step.TheVariants as steps
@@ -32,7 +32,7 @@ use Rattle.step_play.proofs.Stages.{MayArm, Stands}
 module _ (law : StepsStayLawful) (sizes : SizesStay) (walks : Walks) (t : Shape)
     (timers end : ℕ) (in_time : end < SCRIPT_TIME_LIMIT) where
   abbrev Rules : ((now : ℕ) → Stage → World → Type 0) → Type 0
-  Rules P = Keeps step_rules (cpu_count_of t) timers (level_count_of t) end (MayArm timers) P
+  Rules P = KeptByRules step_rules (cpu_count_of t) timers (level_count_of t) end (MayArm timers) P
 
   abbrev keeps : Rules (Stands t timers)
   keeps = steps_keep law walks t timers end in_time

@@ -9,7 +9,7 @@ use Rattle.tm_base.specs.declared.names.Class.{Class}
 use Rattle.tm_base.specs.declared.names.Class.TheVariants.{Pinned, Global, Deferrable}
 use Rattle.cpu_bases.specs.declared.entry.Act.TheVariants.{MovedIn}
 use Rattle.wheel_core.specs.declared.item.Item.{Item}
-use Rattle.wheel_core.specs.PlainBase.{IsPlaced}
+use Rattle.wheel_core.specs.PlainBase.{FitsWheel}
 use Rattle.wheel_core.proofs.Ids.{item_holds}
 use Rattle.cpu_bases.specs.CpuBases.{CpuBases, IsConsistent, base_of, found_or, moved_in}
 use Rattle.cpu_bases.specs.CpuBases.{item_queued, moved_out, oldest_in}
@@ -102,10 +102,10 @@ module _ (law : StepsStayLawful) (w : World) (i : InRun resting w) (from to : â„
         cpus = set mid.cpus to (with_bases y (got y.bases));
       }) (sym mid_to)
 
-  placed_item : IsPlaced item
+  placed_item : FitsWheel item
   placed_item =
-      item_holds IsPlaced item.id (base_of class (cpu_of w from).bases).items item
-      ((i.lawful.timers.consistent from).fits class).sound.placed
+      item_holds FitsWheel item.id (base_of class (cpu_of w from).bases).items item
+      ((i.lawful.timers.consistent from).fits class).sound.in_wheel
       (oldest_found (base_of class (cpu_of w from).bases).items item
       (first_is (cpu_of w from).bases (class, item) first))
 

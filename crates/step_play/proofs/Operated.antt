@@ -23,7 +23,7 @@ use Rattle.play_laws.proofs.Answered.Settles.{Settles}
 use Rattle.play_laws.proofs.Answered.States.{written_alike}
 use Rattle.play_laws.proofs.Answered.Timers.{queued_low}
 use Rattle.play_laws.proofs.Shape.Alike.{moved_seen}
-use Rattle.play_laws.proofs.Shape.Shape.{Keeps, between, leaving, moving}
+use Rattle.play_laws.proofs.Shape.Shape.{KeptByRules, between, leaving, moving}
 use Rattle.core_world.specs.World.{World, cpu_of, is_active}
 use Rattle.core_laws.specs.Laws.{StepsStayLawful}
 use Rattle.step_play.specs.Rules.Alike.{GoesAlike, Plays}
@@ -51,7 +51,7 @@ control_online s d low e =
 
 module _ (law : StepsStayLawful) (walks : Walks) (t : Shape)
     (timers end : ℕ) (in_time : end < SCRIPT_TIME_LIMIT) (now : ℕ) (w : World) where
-  abbrev rules : Keeps plain_rules (cpu_count_of t) timers (level_count_of t) end (λ a. Unit {0})
+  abbrev rules : KeptByRules plain_rules (cpu_count_of t) timers (level_count_of t) end (λ a. Unit {0})
       (Settles t)
   rules = rules_keep t timers end in_time
 

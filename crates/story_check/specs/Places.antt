@@ -237,8 +237,8 @@ is_settled t now fit =
     if t.clear then fit.in_order else fit.settles && not (t.touched == now)
 
 -- a timer at another place
-abbrev pub placed : TimerSeen → Option Queued → (now : ℕ) → CpuId → Fit → TimerSeen
-placed t place now cpu fit = record t {
+abbrev pub with_place : TimerSeen → Option Queued → (now : ℕ) → CpuId → Fit → TimerSeen
+with_place t place now cpu fit = record t {
   place = place;
   clear = is_settled t now fit;
   touch = touched_by t now cpu;
@@ -255,7 +255,7 @@ fit_of script s timer cpu whole =
 unfoldable pub requeued : Sight → TimerId → Option Queued → CpuId → Fit → Sight
 requeued s timer place cpu fit =
     record (with_timer (entered (left_behind s (timer_at s timer).place) place)
-    (placed (timer_at s timer) place s.point.time cpu fit)) {
+    (with_place (timer_at s timer) place s.point.time cpu fit)) {
       point = record s.point {
         unclear = unclear_after s.point.unclear (timer_at s timer).clear
             (is_settled (timer_at s timer) s.point.time fit);

@@ -68,8 +68,8 @@ are_written o w pass holder noted = record {
 }
 
 -- the place of an element
-place_of : {X : Type 0} (xs : List X) (x : X) → Contains xs x → (i : ℕ) × (slice_get xs i ≡ Some x)
-place_of xs x c = (
+index_in : {X : Type 0} (xs : List X) (x : X) → Contains xs x → (i : ℕ) × (slice_get xs i ≡ Some x)
+index_in xs x c = (
   c.0,
   slice_get-get_or xs c.0 x c.1 ∙ ap Some c.2,
 )
@@ -92,7 +92,7 @@ take_front (y ∷ ys) rest (suc n) low =
 module _ (o : World) (s : Whole) (shown : IsShown o s) (c : ℕ) where
   right : (x : Did) → Contains (s.pass c).did x → DidRight o s.world (s.pass c).receipts x
   right x has =
-      let at = place_of (s.pass c).did x has in shown.seen c at.0 x at.1
+      let at = index_in (s.pass c).did x has in shown.seen c at.0 x at.1
 
   queues : (timer cpu : ℕ) → SawQueued o (s.pass c).did timer cpu
       → WasQueued o s.world timer cpu

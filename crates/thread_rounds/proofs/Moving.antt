@@ -23,9 +23,9 @@ use Rattle.thread_rounds.proofs.Parting.{begun_at}
 use Rattle.thread_rounds.proofs.Rows.{next_is, one_moved}
 
 -- the first of a list, and the others
-pub first_of : {X : Type 0} (P : X → Type 0) (rest : List X) (x : X) (later : List X)
+pub each_first : {X : Type 0} (P : X → Type 0) (rest : List X) (x : X) (later : List X)
     → rest ≡ x ∷ later → Each P rest → P x
-first_of P rest x later steps each = (subst (Each P) steps each).0
+each_first P rest x later steps each = (subst (Each P) steps each).0
 
 pub others_of : {X : Type 0} (P : X → Type 0) (rest : List X) (x : X) (later : List X)
     → rest ≡ x ∷ later → Each P rest → Each P later

@@ -5,7 +5,7 @@ use Rattle.std.proofs.lemmas.Bool.{cases_eq}
 use Rattle.std.proofs.lemmas.Option.{none-some}
 use Rattle.atomic_table.specs.Seated.{TableId}
 use Rattle.event_queue.specs.declared.event.Event.{Event}
-use Rattle.event_queue.specs.EventMap.{EventMap, IsDue, IsFirst, NoneFits, NoEvents, event_at}
+use Rattle.event_queue.specs.EventMap.{EventMap, IsTakenUp, IsFirst, NoneFits, NoEvents, event_at}
 use Rattle.event_queue.specs.Word.{slot_of}
 use Rattle.std.specs.FinSet.{empty}
 use Rattle.tm_base.specs.CpuSet.{Cpus}
@@ -173,13 +173,13 @@ pub shows_nothing : (table : TableId) (o : World) (now : ℕ) (tried : Cpus)
     (cpu level g word by : ℕ) (held mid after : HeldPass) (events : EventMap)
     → Some g ≡ group_at_of o.tree cpu level → LooksBy word by → by ≡ side o.tree cpu level
     → mid ≡ with_pass (seen_pass (state_look o g word).word word) held
-    → HasSeenSlots table o g 8 mid after events → NoneFits (IsDue now tried) events
+    → HasSeenSlots table o g 8 mid after events → NoneFits (IsTakenUp now tried) events
     → ShowsNothing o now tried cpu level held after
 shows_nothing table o now tried cpu level g word by held mid after events path looks is loaded seen
     none = record {
       seen =
           group_seen table o cpu level g word by held mid after events path looks is loaded seen;
-      none = none_as (IsDue now tried) events (events_in seen.founds) seen.events_are none;
+      none = none_as (IsTakenUp now tried) events (events_in seen.founds) seen.events_are none;
     }
 
 -- and where an event was
@@ -188,11 +188,11 @@ pub shows_due : (table : TableId) (o : World) (now : ℕ) (tried : Cpus)
     (e : Event) → Some g ≡ group_at_of o.tree cpu level → LooksBy word by
     → by ≡ side o.tree cpu level
     → mid ≡ with_pass (seen_pass (state_look o g word).word word) held
-    → HasSeenSlots table o g 8 mid after events → IsFirst (IsDue now tried) events child e
+    → HasSeenSlots table o g 8 mid after events → IsFirst (IsTakenUp now tried) events child e
     → ShowsDue table o now tried cpu level held after e.cpu
 shows_due table o now tried cpu level g word by held mid after events child e path looks is loaded
     seen first =
-    let one = first_as (IsDue now tried) events (events_in seen.founds) child e seen.events_are
+    let one = first_as (IsTakenUp now tried) events (events_in seen.founds) child e seen.events_are
     first in
     record {
       seen =

@@ -6,7 +6,7 @@ use Rattle.atomic_table.specs.Seated.{TableId}
 use Rattle.tm_base.specs.declared.names.Class.{Class}
 use Rattle.tm_base.specs.declared.names.TimerId.{TimerId}
 use Rattle.cpu_bases.specs.CpuBases.{class_in}
-use Rattle.cpu_bases.specs.Laws.{Keeps}
+use Rattle.cpu_bases.specs.Laws.{CallKeeps}
 use Rattle.core_world.specs.World.{World}
 use Rattle.shared_rule.specs.declared.parts.PassView.{PassView}
 use Rattle.shared_rule.specs.Plays.{Agree, PartFits}
@@ -77,7 +77,7 @@ taken_out table timer line part mid held roomy after class queued more room agre
 pub free_after : (now : ℕ) (timer line : ℕ) (part : HeldPart) (held : HeldPass) (p : PassView)
     (new : HeldPart) → passes_of held.seated ≡ p ∷ [] → IsFree part
     → new ≡ without_guest (cancelled_part timer line (with_guest (with_more_room 0 1 part) held))
-    → Keeps now part.box.own.bases new.box.own.bases → IsFree new
+    → CallKeeps now part.box.own.bases new.box.own.bases → IsFree new
 free_after now timer line part held p new one free is keeps =
     let mid : List PassView → HeldPart =
     λ ps. pair_changed (cancelled_box timer line) (cancelled_pass timer line) ps

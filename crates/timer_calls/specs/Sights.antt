@@ -6,7 +6,8 @@ use Rattle.tm_base.specs.declared.names.CpuId.{CpuId}
 use Rattle.tm_base.specs.CpuSet.{Cpus}
 use Rattle.std.specs.FinSet.{empty}
 use Rattle.event_queue.specs.declared.event.Event.{Event}
-use Rattle.event_queue.specs.EventMap.{ChangesOnly, EventMap, IsDue, IsFirst, NoneFits, event_at}
+use Rattle.event_queue.specs.EventMap.{ChangesOnly, EventMap, IsTakenUp, IsFirst, NoneFits}
+use Rattle.event_queue.specs.EventMap.{event_at}
 use Rattle.event_queue.specs.Word.{slot_of}
 use Rattle.group_word.specs.declared.state.GroupState.{GroupState}
 use Rattle.group_word.specs.Group.{LooksAfter}
@@ -97,7 +98,7 @@ pub record IsOthers (o : World) (cpu level : ℕ) (held after : HeldPass) : Type
 pub record ShowsNothing (o : World) (now : ℕ) (tried : Cpus) (cpu level : ℕ)
     (held after : HeldPass) : Type 0 where
   pub seen : HasSeenGroup o cpu level held after
-  pub none : NoneFits (IsDue now tried) (events_in seen.founds)
+  pub none : NoneFits (IsTakenUp now tried) (events_in seen.founds)
 
 -- the first event that they showed due and untried is that of a CPU, which is one of the run and
 -- has a group
@@ -106,7 +107,7 @@ pub record ShowsDue (table : TableId) (o : World) (now : ℕ) (tried : Cpus) (cp
   pub seen : HasSeenGroup o cpu level held after
   pub child : ℕ
   pub event : Event
-  pub first : IsFirst (IsDue now tried) (events_in seen.founds) child event
+  pub first : IsFirst (IsTakenUp now tried) (events_in seen.founds) child event
   pub cpu_is : event.cpu ≡ due
   pub of_run : (p : PassView) → IsPassIn table held p → IsGrouped p.opening due.0
 

@@ -33,7 +33,7 @@ use Rattle.play_laws.proofs.Answered.Plays.{rules_keep}
 use Rattle.play_laws.proofs.Answered.Scripts.{moments_in, moments_rise, planned_for, tree_for}
 use Rattle.play_laws.proofs.Answered.Settles.{Begun, Settles, due_online}
 use Rattle.play_laws.proofs.Answered.Starts.{start_kept}
-use Rattle.play_laws.proofs.Shape.Shape.{Keeps, Stage}
+use Rattle.play_laws.proofs.Shape.Shape.{KeptByRules, Stage}
 use Rattle.play_laws.proofs.Shape.ShapeTurns.{IsMomentIn, Playing, Rise, after_in, after_rise}
 use Rattle.play_laws.proofs.Shape.ShapeTurns.{moment_kept, next_is}
 use Rattle.core_world.specs.Covered.{IsSettled}
@@ -191,7 +191,7 @@ module _ {S : Type 0} (jobs : Replies) (r : Rules S) (end : ℕ) where
 
 module _ {S : Type 0} (jobs : Replies) (r : Rules S) (cpus timers levels end : ℕ)
     (P : (now : ℕ) → Stage → S → Type 0) (Fits : Arming → Type 0)
-    (keeps : Keeps r cpus timers levels end Fits P) (all : List Moment) where
+    (keeps : KeptByRules r cpus timers levels end Fits P) (all : List Moment) where
   follows : (n now : ℕ) (ms : List Moment) (s : S) (k : ℕ) (here there : Turn S) →
       Playing jobs r cpus timers levels end P Fits keeps now ms s →
       ((t : ℕ) → now ≤ t → moments_past t ms ≡ moments_past t all) →

@@ -16,7 +16,7 @@ ghost use Rattle.tm_driver.specs.Plays.{PlaysToEnd, Summarizes, summary_with};
 
 use crate::numbers::Summary;
 use crate::starting::start_core;
-use core_facts::law_settled;
+use core_facts::law_each_settled;
 use core_machine::{Player, RunPlayer};
 use core_state::Core;
 use job_table::Jobs;
@@ -46,7 +46,7 @@ pub(crate) fn law_plays()
     law_covers();
     law_each_runs();
     law_steps_are_play();
-    law_settled();
+    law_each_settled();
 }
 
 /// The core at the start of a script, which is to play it.

@@ -19,7 +19,7 @@ ghost use Rattle.tm_driver.specs.Runs.{EndsRunEarly, IsRunMoment, RunsOut, Tells
 ghost use Rattle.tm_driver.specs.Runs.{TellsThreaded};
 
 use crate::plain_moments::plain_moment;
-use core_facts::law_settled;
+use core_facts::law_each_settled;
 use core_machine::RunPlayer;
 use job_table::Jobs;
 use play_driver::{
@@ -214,7 +214,7 @@ pub(crate) fn run_moments<J: Jobs + Sync, G: Gate + Sync, R: Threads + Wait + Sy
         EndsRunEarly (J.replies jobs.now) script.now fault telling.old.text telling.new.text) }
     ensures gains { Gains telling.old.text telling.new.text }
 {
-    law_settled();
+    law_each_settled();
     let limit = work_limit(script.version);
     let mut player = player;
     let mut left = script.moments.as_slice();

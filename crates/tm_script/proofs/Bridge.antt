@@ -24,7 +24,7 @@ use Rattle.tm_script.specs.Judge.{may_stand, cpu, rise, leaves_some, slots, clas
 use Rattle.tm_script.specs.Faults.{command_of, class_named, said_behind, said_or, heard_behind, heard}
 use Rattle.tm_script.proofs.Rows.{bind_cond, bind_row, cond_and, number_step, within_step}
 use Rattle.tm_script.proofs.IsolatedLaws.{isolated_tests}
-use Rattle.tm_script.specs.Reading.{◌>>=◌, number_in, version_in, class_in, within, arm_parts, count_in, arm_in, cancel_in, field_in, cpus_in, cpu_in, words_in, placed, line_behind, line_in}
+use Rattle.tm_script.specs.Reading.{◌>>=◌, number_in, version_in, class_in, within, arm_parts, count_in, arm_in, cancel_in, field_in, cpus_in, cpu_in, words_in, admitted, line_behind, line_in}
 
 -- ---- tests in a row
 
@@ -87,20 +87,20 @@ field_judged n l h m said =
     ∙ (λ i. cond (n && true) (cond (sym (and_true (l && h)) i && m) said (Err OutOfRange)) (Err BadNumber))
 
 module _ (k : Known) where
-  one_number : (least bound : ℕ) (f : ℕ → Said) (w : List ℕ) (said : Heard) → said ≡ placed k (f (value_of w))
-      → field_in least bound (w ∷ []) >>= (λ n. Ok (f n)) >>= placed k ≡ tested true (is_number w && true) (((leb least (value_of w) && ltb (value_of w) bound) && true) && true) said
+  one_number : (least bound : ℕ) (f : ℕ → Said) (w : List ℕ) (said : Heard) → said ≡ admitted k (f (value_of w))
+      → field_in least bound (w ∷ []) >>= (λ n. Ok (f n)) >>= admitted k ≡ tested true (is_number w && true) (((leb least (value_of w) && ltb (value_of w) bound) && true) && true) said
   one_number least bound f w said is =
-      ap (λ (r : Heard). r >>= placed k) (field_step least bound w (λ n. Ok (f n)))
-      ∙ bind_row (is_number w) _ BadNumber (placed k)
-      ∙ ap (λ (r : Heard). cond (is_number w) r (Err BadNumber)) (bind_cond (leb least (value_of w) && ltb (value_of w) bound) (f (value_of w)) OutOfRange (placed k))
+      ap (λ (r : Heard). r >>= admitted k) (field_step least bound w (λ n. Ok (f n)))
+      ∙ bind_row (is_number w) _ BadNumber (admitted k)
+      ∙ ap (λ (r : Heard). cond (is_number w) r (Err BadNumber)) (bind_cond (leb least (value_of w) && ltb (value_of w) bound) (f (value_of w)) OutOfRange (admitted k))
       ∙ (λ i. cond (is_number w) (cond (leb least (value_of w) && ltb (value_of w) bound) (sym is i) (Err OutOfRange)) (Err BadNumber))
       ∙ field_judged (is_number w) (leb least (value_of w)) (ltb (value_of w) bound) true said
 
   -- ---- several numbers
 
-  one_more : (w : List ℕ) (f : ℕ → Heard) (then_said : Heard) → f (value_of w) >>= placed k ≡ then_said → number_in w >>= f >>= placed k ≡ cond (is_number w) then_said (Err BadNumber)
+  one_more : (w : List ℕ) (f : ℕ → Heard) (then_said : Heard) → f (value_of w) >>= admitted k ≡ then_said → number_in w >>= f >>= admitted k ≡ cond (is_number w) then_said (Err BadNumber)
   one_more w f then_said e =
-      ap (λ (r : Heard). r >>= placed k) (number_step w f) ∙ bind_row (is_number w) (f (value_of w)) BadNumber (placed k)
+      ap (λ (r : Heard). r >>= admitted k) (number_step w f) ∙ bind_row (is_number w) (f (value_of w)) BadNumber (admitted k)
       ∙ ap (λ (r : Heard). cond (is_number w) r (Err BadNumber)) e
 
   -- a number needs no test that it is 0 or more
@@ -114,13 +114,13 @@ module _ (k : Known) where
   two_numbers true true true false said = refl
   two_numbers true true true true said = refl
 
-  cancel_told : (v w : List ℕ) → cancel_in k (v ∷ w ∷ []) >>= placed k ≡ judged k Cancel (v ∷ w ∷ [])
+  cancel_told : (v w : List ℕ) → cancel_in k (v ∷ w ∷ []) >>= admitted k ≡ judged k Cancel (v ∷ w ∷ [])
   unfolding cancel_in said_behind
   cancel_told v w =
       let said : Said = Operation (record { 0 = value_of v }) (what.Cancel (record { 0 = value_of w })) in
-      one_more v _ _ (one_more w _ _ (bind_cond (ltb (value_of v) (count_in k) && ltb (value_of w) k.timers) said OutOfRange (placed k)))
-      ∙ two_numbers (is_number v) (is_number w) (ltb (value_of v) (count_in k)) (ltb (value_of w) k.timers) (placed k said)
-      ∙ (λ i. tested true (is_number v && (is_number w && true)) ((from_zero (value_of v) (count_in k) i && (from_zero (value_of w) k.timers i && true)) && true) (placed k said))
+      one_more v _ _ (one_more w _ _ (bind_cond (ltb (value_of v) (count_in k) && ltb (value_of w) k.timers) said OutOfRange (admitted k)))
+      ∙ two_numbers (is_number v) (is_number w) (ltb (value_of v) (count_in k)) (ltb (value_of w) k.timers) (admitted k said)
+      ∙ (λ i. tested true (is_number v && (is_number w && true)) ((from_zero (value_of v) (count_in k) i && (from_zero (value_of w) k.timers i && true)) && true) (admitted k said))
 
   five_numbers : (a b c d e p q r s t : Bool) (said : Heard)
       → cond a (cond b (cond c (cond d (cond e (cond (p && q && r && s && t) said (Err OutOfRange)) (Err BadNumber)) (Err BadNumber)) (Err BadNumber)) (Err BadNumber)) (Err BadNumber)
@@ -161,27 +161,27 @@ module _ (k : Known) where
       cond (ltb cpu (count_in k) && ltb timer k.timers && ltb delay (2 ^ 32) && ltb job 256 && ltb arg (2 ^ 32))
       (Ok (Operation (record { 0 = cpu }) (what.Arm (record { 0 = timer }) class delay job arg))) (Err OutOfRange)
 
-  arm_told : (c t class d j a : List ℕ) → arm_in k (c ∷ t ∷ class ∷ d ∷ j ∷ a ∷ []) >>= placed k ≡ judged k Arm (c ∷ t ∷ class ∷ d ∷ j ∷ a ∷ [])
+  arm_told : (c t class d j a : List ℕ) → arm_in k (c ∷ t ∷ class ∷ d ∷ j ∷ a ∷ []) >>= admitted k ≡ judged k Arm (c ∷ t ∷ class ∷ d ∷ j ∷ a ∷ [])
   unfolding arm_in arm_parts said_behind arm_numbers
   arm_told c t class d j a =
       let said : Said = Operation (record { 0 = value_of c }) (what.Arm (record { 0 = value_of t }) (class_named class) (value_of d) (value_of j) (value_of a)) in
       let choice = list_any (bytes_eq class) (class_words k.version) in
-      ap (λ (r : Heard). r >>= placed k) (class_step k.version class (λ x. arm_numbers x c t d j a))
-      ∙ bind_row choice (arm_numbers (class_named class) c t d j a) BadLine (placed k)
+      ap (λ (r : Heard). r >>= admitted k) (class_step k.version class (λ x. arm_numbers x c t d j a))
+      ∙ bind_row choice (arm_numbers (class_named class) c t d j a) BadLine (admitted k)
       ∙ ap (λ (r : Heard). cond choice r (Err BadLine))
       (one_more c _ _ (one_more t _ _ (one_more d _ _ (one_more j _ _ (one_more a _ _
-      (bind_cond (ltb (value_of c) (count_in k) && ltb (value_of t) k.timers && ltb (value_of d) (2 ^ 32) && ltb (value_of j) 256 && ltb (value_of a) (2 ^ 32)) said OutOfRange (placed k))))))
-      ∙ five_numbers (is_number c) (is_number t) (is_number d) (is_number j) (is_number a) (ltb (value_of c) (count_in k)) (ltb (value_of t) k.timers) (ltb (value_of d) (2 ^ 32)) (ltb (value_of j) 256) (ltb (value_of a) (2 ^ 32)) (placed k said))
+      (bind_cond (ltb (value_of c) (count_in k) && ltb (value_of t) k.timers && ltb (value_of d) (2 ^ 32) && ltb (value_of j) 256 && ltb (value_of a) (2 ^ 32)) said OutOfRange (admitted k))))))
+      ∙ five_numbers (is_number c) (is_number t) (is_number d) (is_number j) (is_number a) (ltb (value_of c) (count_in k)) (ltb (value_of t) k.timers) (ltb (value_of d) (2 ^ 32)) (ltb (value_of j) 256) (ltb (value_of a) (2 ^ 32)) (admitted k said))
       ∙ (λ i. tested (sym (and_true choice) i) (is_number c && (is_number t && (is_number d && (is_number j && (is_number a && true)))))
-      ((from_zero (value_of c) (count_in k) i && (from_zero (value_of t) k.timers i && (from_zero (value_of d) (2 ^ 32) i && (from_zero (value_of j) 256 i && (from_zero (value_of a) (2 ^ 32) i && true))))) && true) (placed k said))
+      ((from_zero (value_of c) (count_in k) i && (from_zero (value_of t) k.timers i && (from_zero (value_of d) (2 ^ 32) i && (from_zero (value_of j) 256 i && (from_zero (value_of a) (2 ^ 32) i && true))))) && true) (admitted k said))
 
   -- ---- the version
 
   version_row : (word : List ℕ) (one two : Bool) → bytes_eq word (codes "1") ≡ one → bytes_eq word (codes "2") ≡ two
-      → cond one (Ok 1) (cond two (Ok 2) (Err BadLine)) >>= (λ n. Ok (Version n)) >>= placed k ≡ tested ((one || (two || false)) && true) true true (placed k (Version (value_of word)))
+      → cond one (Ok 1) (cond two (Ok 2) (Err BadLine)) >>= (λ n. Ok (Version n)) >>= admitted k ≡ tested ((one || (two || false)) && true) true true (admitted k (Version (value_of word)))
   unfolding value_of
-  version_row word true two e f = ap (λ (w : List ℕ). placed k (Version (value_of w))) (sym ((bytes_eq-Decides word (codes "1")).0 e))
-  version_row word false true e f = ap (λ (w : List ℕ). placed k (Version (value_of w))) (sym ((bytes_eq-Decides word (codes "2")).0 f))
+  version_row word true two e f = ap (λ (w : List ℕ). admitted k (Version (value_of w))) (sym ((bytes_eq-Decides word (codes "1")).0 e))
+  version_row word false true e f = ap (λ (w : List ℕ). admitted k (Version (value_of w))) (sym ((bytes_eq-Decides word (codes "2")).0 f))
   version_row word false false e f = refl
 
   -- ---- the isolated CPUs
@@ -198,20 +198,20 @@ module _ (k : Known) where
   cpus_pass [] = refl
   cpus_pass (w ∷ ws) = (λ i. sym (from_zero (value_of w) (count_in k)) i && cpus_pass ws i)
 
-  isolated_row : (n r o : Bool) (cpus : CpuNumbers) → cond n (cond r (cond o (Ok cpus) (Err OutOfOrder)) (Err OutOfRange)) (Err BadNumber) >>= (λ x. Ok (IsolatedCpus x)) >>= placed k
+  isolated_row : (n r o : Bool) (cpus : CpuNumbers) → cond n (cond r (cond o (Ok cpus) (Err OutOfOrder)) (Err OutOfRange)) (Err BadNumber) >>= (λ x. Ok (IsolatedCpus x)) >>= admitted k
       ≡ tested true n r (settled o (is_in_room k Isolated) (IsolatedCpus cpus))
   isolated_row false r o cpus = refl
   isolated_row true false o cpus = refl
   isolated_row true true false cpus = refl
   isolated_row true true true cpus = refl
 
-  isolated_told : (ws : List (List ℕ)) → words_in k Isolated ws >>= placed k ≡ judged k Isolated ws
+  isolated_told : (ws : List (List ℕ)) → words_in k Isolated ws >>= admitted k ≡ judged k Isolated ws
   unfolding words_in said_behind
   isolated_told ws =
       let numbers = map value_of ws in
       let inside = list_all (λ n. ltb n (count_in k)) numbers && leaves_some (count_in k) numbers in
       let said : Said = IsolatedCpus (from_list numbers) in
-      ap (λ (r : Result CpuNumbers Kind). r >>= (λ cpus. Ok (IsolatedCpus cpus)) >>= placed k) (isolated_tests (count_in k) ws)
+      ap (λ (r : Result CpuNumbers Kind). r >>= (λ cpus. Ok (IsolatedCpus cpus)) >>= admitted k) (isolated_tests (count_in k) ws)
       ∙ isolated_row (list_all is_number ws) inside (rise None numbers) (from_list numbers)
       ∙ (λ i. tested (sym (choices_pass ws) i) (sym (numbers_pass ws) i) (sym (cpus_pass ws) i && leaves_some (count_in k) numbers) (settled (rise None numbers) (is_in_room k Isolated) said))
 
@@ -223,21 +223,21 @@ module _ (k : Known) where
   wrong_count c ws e =
       sym (ap (λ (t : Bool). tested t (all_pass is_spelled (slots k c ws) ws) (all_pass is_within (slots k c ws) ws && is_machine k c (map value_of ws)) (settled (is_in_order k c (map value_of ws)) (is_in_room k c) (said_behind c ws))) e)
 
-  cpus_told : (w : List ℕ) → cpus_in k (w ∷ []) >>= placed k ≡ judged k Cpus (w ∷ [])
+  cpus_told : (w : List ℕ) → cpus_in k (w ∷ []) >>= admitted k ≡ judged k Cpus (w ∷ [])
   unfolding cpus_in said_behind
   cpus_told w =
       let few = leb (k.nodes * value_of w) (most_cpus k.version) in
       let within_limits = leb 1 (value_of w) && ltb (value_of w) (MOST_NODE_CPUS + 1) in
-      ap (λ (r : Heard). r >>= placed k) (field_step 1 (MOST_NODE_CPUS + 1) w (λ n. cond (leb (k.nodes * n) (most_cpus k.version)) (Ok (CpuCount n)) (Err OutOfRange)))
-      ∙ bind_row (is_number w) _ BadNumber (placed k)
+      ap (λ (r : Heard). r >>= admitted k) (field_step 1 (MOST_NODE_CPUS + 1) w (λ n. cond (leb (k.nodes * n) (most_cpus k.version)) (Ok (CpuCount n)) (Err OutOfRange)))
+      ∙ bind_row (is_number w) _ BadNumber (admitted k)
       ∙ ap (λ (r : Heard). cond (is_number w) r (Err BadNumber))
-      (bind_row within_limits (cond few (Ok (CpuCount (value_of w))) (Err OutOfRange)) OutOfRange (placed k)
-      ∙ ap (λ (r : Heard). cond within_limits r (Err OutOfRange)) (bind_cond few (CpuCount (value_of w)) OutOfRange (placed k)))
-      ∙ field_judged (is_number w) (leb 1 (value_of w)) (ltb (value_of w) (MOST_NODE_CPUS + 1)) few (placed k (CpuCount (value_of w)))
+      (bind_row within_limits (cond few (Ok (CpuCount (value_of w))) (Err OutOfRange)) OutOfRange (admitted k)
+      ∙ ap (λ (r : Heard). cond within_limits r (Err OutOfRange)) (bind_cond few (CpuCount (value_of w)) OutOfRange (admitted k)))
+      ∙ field_judged (is_number w) (leb 1 (value_of w)) (ltb (value_of w) (MOST_NODE_CPUS + 1)) few (admitted k (CpuCount (value_of w)))
 
   -- ---- each command
 
-  told : (c : Command) (ws : List (List ℕ)) → words_in k c ws >>= placed k ≡ judged k c ws
+  told : (c : Command) (ws : List (List ℕ)) → words_in k c ws >>= admitted k ≡ judged k c ws
   unfolding words_in version_in said_behind field_in cpus_in cpu_in cancel_in arm_in arm_parts
   told Tmig [] = refl
   told Tmig (w ∷ []) = version_row w (bytes_eq w (codes "1")) (bytes_eq w (codes "2")) refl refl
@@ -288,7 +288,7 @@ unfolding line_in heard
 line_in-heard k [] = refl
 line_in-heard k (first ∷ behind) = by_command k (command_of first) behind
   where
-    by_stand : (k : Known) (c : Command) (ws : List (List ℕ)) (t : Bool) → may_stand k.place (is_some k.last) c ≡ t → cond t (words_in k c ws >>= placed k) (Err BadLine) ≡ heard_behind k (Some c) ws
+    by_stand : (k : Known) (c : Command) (ws : List (List ℕ)) (t : Bool) → may_stand k.place (is_some k.last) c ≡ t → cond t (words_in k c ws >>= admitted k) (Err BadLine) ≡ heard_behind k (Some c) ws
     by_stand k c ws true e = told k c ws ∙ sym (judged-behind k c ws e)
     by_stand k c ws false e = sym (misplaced k c ws e)
 

@@ -30,7 +30,7 @@ use Rattle.tm_script.proofs.Ranges.{range_some}
 use Rattle.tm_script.proofs.Members.{among_below, members_found}
 use Rattle.tm_script.proofs.SaidLines.{said_line, Fits, IsSmall}
 use Rattle.tm_script.proofs.Passes.{Passes, passes_found}
-use Rattle.tm_script.proofs.LineWords.{command_found, place_of, stands_at, stands_inside, IsNumber, number_facts, class_found}
+use Rattle.tm_script.proofs.LineWords.{command_found, line_place, stands_at, stands_inside, IsNumber, number_facts, class_found}
 
 abbrev IsSaid : Known → List (List ℕ) → Said → Type 0
 IsSaid k words said = (spaced words ≡ said_line k said) × (k.line ≤ MOST_LINES) × Fits k said
@@ -45,7 +45,7 @@ module _ (k : Known) (small : IsSmall k) where
   line_room : (c : Command) → is_in_room k c ≡ true → k.line ≤ MOST_LINES
   line_room c e = leb-true _ _ (and_parts _ _ e).0
 
-  found_operation : (c : Command) (first : List ℕ) (ws : List (List ℕ)) (done : What) → Passes k c (first ∷ ws) → is_operation c ≡ true → place_of c ≡ Body
+  found_operation : (c : Command) (first : List ℕ) (ws : List (List ℕ)) (done : What) → Passes k c (first ∷ ws) → is_operation c ≡ true → line_place c ≡ Body
       → is_in_order k c (map value_of (first ∷ ws)) ≡ not k.closed → is_in_room k c ≡ (leb k.line MOST_LINES && not (leb MOST_OPS k.ops))
       → IsNumber 0 (count_in k) first → IsWhat k.version k.timers done → spaced (word_of c ∷ first ∷ ws) ≡ what_line (value_of first) done
       → IsSaid k (word_of c ∷ first ∷ ws) (Operation (record { 0 = value_of first }) done)
@@ -67,7 +67,7 @@ module _ (k : Known) (small : IsSmall k) where
       lt_from_room : {a b : ℕ} → not (leb a b) ≡ true → b < a
       lt_from_room {a} {b} e = leb-false a b (not-true _ e)
 
-  found_cpu : (c : Command) (w : List ℕ) (done : What) → Passes k c (w ∷ []) → is_operation c ≡ true → place_of c ≡ Body
+  found_cpu : (c : Command) (w : List ℕ) (done : What) → Passes k c (w ∷ []) → is_operation c ≡ true → line_place c ≡ Body
       → is_in_order k c (map value_of (w ∷ [])) ≡ not k.closed → is_in_room k c ≡ (leb k.line MOST_LINES && not (leb MOST_OPS k.ops))
       → all_pass is_spelled (slots k c (w ∷ [])) (w ∷ []) ≡ (is_number w && true) → all_pass is_within (slots k c (w ∷ [])) (w ∷ []) ≡ ((leb 0 (value_of w) && ltb (value_of w) (count_in k)) && true)
       → IsWhat k.version k.timers done → ((n : ℕ) → number_line (word_of c) n ≡ what_line n done)

@@ -50,15 +50,15 @@ command_again Wake = refl
 command_again Offline = refl
 command_again Online = refl
 
-abbrev pub place_of : Command → Place
-place_of Tmig = VersionLine
-place_of Nodes = NodesLine
-place_of Cpus = CpusLine
-place_of Timers = TimersLine
-place_of Isolated = IsolatedLine
-place_of _ = Body
+abbrev pub line_place : Command → Place
+line_place Tmig = VersionLine
+line_place Nodes = NodesLine
+line_place Cpus = CpusLine
+line_place Timers = TimersLine
+line_place Isolated = IsolatedLine
+line_place _ = Body
 
-pub stands_at : (p : Place) (i : Bool) (c : Command) → may_stand p i c ≡ true → p ≡ place_of c
+pub stands_at : (p : Place) (i : Bool) (c : Command) → may_stand p i c ≡ true → p ≡ line_place c
 stands_at VersionLine i Tmig e = refl
 stands_at NodesLine i Nodes e = refl
 stands_at CpusLine i Cpus e = refl
@@ -74,7 +74,7 @@ stands_at Body i Offline e = refl
 stands_at Body i Online e = refl
 stands_at p i c e = absurd (false≢true e)
 
-body_of : (c : Command) → is_operation c ≡ true → place_of c ≡ Body
+body_of : (c : Command) → is_operation c ≡ true → line_place c ≡ Body
 body_of Arm t = refl
 body_of Cancel t = refl
 body_of Idle t = refl

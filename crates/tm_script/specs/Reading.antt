@@ -230,8 +230,8 @@ in_room k (Operation cpu done) = nat_le k.line MOST_LINES && not (nat_le MOST_OP
 in_room k _ = nat_le k.line MOST_LINES && true
 
 -- what a line says, where it is in order and there is room
-abbrev pub placed : Known → Said → Result Said Kind
-placed k said =
+abbrev pub admitted : Known → Said → Result Said Kind
+admitted k said =
     if not (in_order k said) then Err OutOfOrder
     else if not (in_room k said) then Err TooManyLines
     else Ok said
@@ -241,7 +241,7 @@ abbrev pub line_behind : Known → Option Command → List (List ℕ) → Result
 line_behind k None ws = Err BadLine
 line_behind k (Some command) ws =
     if may_stand k.place (is_some k.last) command
-    then words_in k command ws >>= placed k else Err BadLine
+    then words_in k command ws >>= admitted k else Err BadLine
 
 -- what a line says, by its words
 unfoldable pub line_in : Known → List (List ℕ) → Result Said Kind

@@ -11,7 +11,7 @@ use Rattle.std.proofs.lemmas.Option.{none-some, same_Some}
 use Rattle.tm_base.specs.declared.names.Child.{Child}
 use Rattle.tm_base.specs.Children.{of_cpu, of_group}
 use Rattle.group_word.specs.Group.{IsActive}
-use Rattle.group_word.specs.State.{mark_of}
+use Rattle.group_word.specs.State.{migrator_bits}
 use Rattle.tree_plan.specs.Paths.{bit_of, parent_of}
 use Rattle.walk_rules.specs.Scene.{is_on}
 use Rattle.core_world.specs.Lawful.{IsLawful}
@@ -77,7 +77,7 @@ no_zero n some = elim (cases_Bool (n == 0)) [
   | inr none ↦ none
 ]
 
-led_is : (m : Option ℕ) → not (mark_of m == 0) ≡ is_some m
+led_is : (m : Option ℕ) → not (migrator_bits m == 0) ≡ is_some m
 led_is None = refl
 led_is (Some k) = ap not (no_zero (2 ^ k) (pow_pos k))
 

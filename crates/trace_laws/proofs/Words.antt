@@ -5,7 +5,7 @@ use Rattle.std.specs.Int.{bit_at}
 use Rattle.std.proofs.lemmas.Bool.{cases_Bool, cases_eq, cases_lt, cond-true, cond-false, eq-eqb, eqb-true, lt-ltb}
 use Rattle.std.proofs.lemmas.Nat.Bits.{bit_at_above, bit_at-lt, same_from_bits}
 use Rattle.group_word.specs.Group.{GroupLaw, IsActive}
-use Rattle.group_word.specs.State.{activated_state, mark_of, migrator_without, swapped_state, without_child}
+use Rattle.group_word.specs.State.{activated_state, migrator_bits, migrator_without, swapped_state, without_child}
 use Rattle.group_word.specs.declared.state.GroupState.{GroupState}
 use Rattle.group_word.proofs.Children.{law_none}
 use Rattle.core_laws.proofs.Edges.Sets.{joined_law, left_gone, left_keeps, left_law, left_small, left_was, set_small}
@@ -53,7 +53,7 @@ below_eight active k eight law = elim (cases_lt k 8) [
 ]
 
 state_by : (active : ℕ) (m : Option ℕ) → active < 2 ^ 8 → GroupLaw active m →
-    state_of (record { active = active; migrator = mark_of m }) ≡ Some (state_in active m)
+    state_of (record { active = active; migrator = migrator_bits m }) ≡ Some (state_in active m)
 state_by active None eight law =
     subst (λ a. state_of (record { active = a; migrator = 0 }) ≡ Some (state_in a None))
     (sym (eqb-true active 0 ((law_none active).1 law))) none_led

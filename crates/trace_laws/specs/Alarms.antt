@@ -3,7 +3,7 @@ use Rattle.std.specs.Prelude.{◌≡◌, ℕ, Bool, true, false, List, [], ◌�
 use Rattle.std.specs.List.{All}
 use Rattle.tm_base.specs.declared.names.CpuId.{CpuId}
 use Rattle.tm_base.specs.Children.{of_cpu, of_group}
-use Rattle.group_word.specs.State.{mark_of}
+use Rattle.group_word.specs.State.{migrator_bits}
 use Rattle.tree_plan.specs.Paths.{bit_of, parent_of}
 use Rattle.walk_rules.specs.declared.walk.Walk.{Walk}
 use Rattle.walk_rules.specs.declared.walk.Stage.TheVariants as stages
@@ -28,7 +28,7 @@ use Rattle.trace_seen.specs.Rests.{known_word, rest_fits}
 
 -- the word of a group of the core, as a trace shows it
 abbrev pub shown : Group → Word
-shown x = record { active = x.active; migrator = mark_of x.migrator }
+shown x = record { active = x.active; migrator = migrator_bits x.migrator }
 
 -- the line of an exchange by which this child joins or leaves, and which leaves the group so;
 -- whatever it says of place and parent
@@ -36,7 +36,7 @@ abbrev pub line_of_exchange : Place → (parent child : ℕ) → (joins : Bool) 
 line_of_exchange place parent child joins x = record {
   place = place;
   active = x.active;
-  migrator = mark_of x.migrator;
+  migrator = migrator_bits x.migrator;
   parent = parent;
   bit = child;
   joins = joins;

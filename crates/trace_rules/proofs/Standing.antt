@@ -41,7 +41,7 @@ use Rattle.trace_rules.specs.Orders.{taken, taken_on}
 use Rattle.trace_rules.specs.Exchanges.{child_after, cpu_after, dated, group_after, learned_child}
 use Rattle.trace_rules.specs.Exchanges.{learned_exchange, learned_walk, source_seen, waiting_after}
 use Rattle.trace_rules.specs.Exchanges.{with_late, with_word, word_seen}
-use Rattle.trace_rules.specs.Cpus.{first_seen, learned_place, learned_update, look_seen, moved, with_first}
+use Rattle.trace_rules.specs.Cpus.{first_seen, learned_place, learned_update, look_seen, moved_on, with_first}
 use Rattle.trace_rules.specs.Cpus.{with_hung, with_leaf, with_link, with_look, with_named}
 use Rattle.trace_rules.specs.Cpus.{with_writer}
 use Rattle.trace_rules.specs.Queues.{with_event, with_group_event, with_hidden}
@@ -302,8 +302,8 @@ walk_alike : (s : Sight) (line : ℕ) (cpu : CpuId) (before : Option Word) (e : 
 unfolding learned_walk
 walk_alike s line cpu before e = alike_cpu s (cpu_after (cpu_at s cpu) line before e)
 
-moved_alike : (s : Sight) (line : ℕ) (cpu : CpuId) → Alike s (moved s line cpu)
-unfolding moved
+moved_alike : (s : Sight) (line : ℕ) (cpu : CpuId) → Alike s (moved_on s line cpu)
+unfolding moved_on
 moved_alike s line cpu = alike_cpu s _
 
 place_alike : (s : Sight) (place : Place) → Alike s (learned_place s place)

@@ -112,8 +112,8 @@ abbrev pub learned_cpu : Sight → ℕ → CpuId → CpuEvent → Sight
 learned_cpu s line own t = with_writer (with_named s t) line own t
 
 -- the CPU did something else than walk
-unfoldable pub moved : Sight → ℕ → CpuId → Sight
-moved s line own =
+unfoldable pub moved_on : Sight → ℕ → CpuId → Sight
+moved_on s line own =
     with_cpu s
     (record (cpu_at s own) { walk = quiet (cpu_at s own).walk; last = line; run = runs.Own })
 
@@ -234,4 +234,4 @@ with_leaf s cpu j =
 
 -- what the hanging of a CPU teaches
 abbrev pub learned_cpu_link : Sight → ℕ → CpuId → CpuId → Joining → Sight
-learned_cpu_link s line own cpu j = moved (with_leaf (learned_place s j.parent) cpu j) line own
+learned_cpu_link s line own cpu j = moved_on (with_leaf (learned_place s j.parent) cpu j) line own

@@ -37,7 +37,7 @@ use Rattle.trace_seen.specs.Walks.{may_rest}
 use Rattle.trace_rules.specs.Exchanges.{exchange_fault, learned_exchange, with_cpu}
 use Rattle.trace_rules.specs.Orders.{first_late, late_on, stuck_rule}
 use Rattle.trace_rules.specs.Cpus.{cpu_fault, learned_cpu, learned_cpu_link, learned_group_link}
-use Rattle.trace_rules.specs.Cpus.{learned_place, learned_update, looked, moved, update_fault}
+use Rattle.trace_rules.specs.Cpus.{learned_place, learned_update, looked, moved_on, update_fault}
 use Rattle.trace_seen.specs.Rests.{at_rest, rest_fits}
 use Rattle.trace_told.specs.Told.{answers_if, missing_whom, no_answers, told_fits}
 
@@ -59,7 +59,7 @@ fault_of s cpu (Handling group) = handling_fault s cpu
 
 -- what is known after an event
 unfoldable pub learned : Sight → ℕ → CpuId → Happening → Sight
-learned s line cpu (GroupMade place) = moved (learned_place s place) line cpu
+learned s line cpu (GroupMade place) = moved_on (learned_place s place) line cpu
 learned s line cpu (GroupJoined child j) = learned_group_link s line cpu child j
 learned s line cpu (CpuJoined joined j) = learned_cpu_link s line cpu joined j
 learned s line cpu (Exchanged e) = learned_exchange s line cpu e

@@ -3,7 +3,7 @@
 ghost use Rattle.std.specs.Prelude.{◌≡◌, OnOk};
 ghost use Rattle.trace_rules.specs.Cpus.{active_after, cpu_fault, learned_cpu};
 ghost use Rattle.trace_rules.specs.Cpus.{learned_cpu_link, learned_group_link, learned_place};
-ghost use Rattle.trace_rules.specs.Cpus.{look_seen, looked, moved, number_at, number_from};
+ghost use Rattle.trace_rules.specs.Cpus.{look_seen, looked, moved_on, number_at, number_from};
 ghost use Rattle.trace_rules.specs.Cpus.{with_look};
 ghost use Rattle.trace_rules.specs.Cpus.{with_hung, with_leaf, with_link, with_named, with_writer};
 ghost use Rattle.trace_rules.specs.Cpus.{hung, is_elsewhere, is_level, must_rise, state_fault};
@@ -142,9 +142,9 @@ pub fn learn_cpu(seen: &mut Seen, line: u64, own: CpuId, event: &CpuEvent) -> Re
 }
 
 /// Keeps that a CPU did something else than walk.
-#[tactic(auto, unfolding(crate::specs::Cpus::moved))]
+#[tactic(auto, unfolding(crate::specs::Cpus::moved_on))]
 pub fn move_on(seen: &mut Seen, line: u64, own: CpuId) -> Result<(), NoMemory>
-    ensures { OnOk result (seen.new ≡ moved seen.old line own) }
+    ensures { OnOk result (seen.new ≡ moved_on seen.old line own) }
 {
     let writer = seen.cpu(own);
     seen.put_cpu(CpuSeen {

@@ -13,7 +13,7 @@ ghost use Rattle.trace_rules.specs.Judge.{EachLineFits, IsFirstFault, IsFitting}
 ghost use Rattle.trace_rules.specs.Judge.{handling_fault, noted, timer_misfit};
 ghost use Rattle.trace_rules.specs.Agrees.{EachRestAnswers};
 ghost use Rattle.trace_rules.specs.Witness.{HasOrders};
-ghost use Rattle.trace_rules.specs.Cpus.{learned_place, moved};
+ghost use Rattle.trace_rules.specs.Cpus.{learned_place, moved_on};
 ghost use Rattle.trace_seen.specs.Rests.{rest_fits};
 ghost use Rattle.trace_told.specs.Told.{told_fits};
 
@@ -131,7 +131,7 @@ fn handling_fault(seen: &Seen, cpu: CpuId) -> Option<Rule>
 
 /// Keeps where a new group stands.
 fn learn_group(seen: &mut Seen, line: u64, cpu: CpuId, place: &Place) -> Result<(), NoMemory>
-    ensures { OnOk result (seen.new ≡ moved (learned_place seen.old place.now) line cpu) }
+    ensures { OnOk result (seen.new ≡ moved_on (learned_place seen.old place.now) line cpu) }
 {
     learn_place(seen, place)?;
     move_on(seen, line, cpu)?;

@@ -32,12 +32,12 @@ Frames f = (b : BoxView)
     → f b ≡ box_with b (f b).own.walk (f b).leaf (f b).read (f b).looked
 
 -- the walk after the change is for what the one before it was for
-abbrev Keeps : (BoxView → BoxView) → Type 0
-Keeps f = (b : BoxView) (k j : Walk) → b.own.walk ≡ Some k → (f b).own.walk ≡ Some j
+abbrev KeepsErrand : (BoxView → BoxView) → Type 0
+KeepsErrand f = (b : BoxView) (k j : Walk) → b.own.walk ≡ Some k → (f b).own.walk ≡ Some j
     → IsSameErrand k j
 
 -- a part whose box is changed so
-framed : (f : BoxView → BoxView) (old new : HeldPart) → Frames f → Keeps f → new ≡ on_part f old
+framed : (f : BoxView → BoxView) (old new : HeldPart) → Frames f → KeepsErrand f → new ≡ on_part f old
     → IsFramed old new
 framed f old new frames keeps is =
     subst (IsFramed old) (sym is) (record {
@@ -47,7 +47,7 @@ framed f old new frames keeps is =
 
 -- the walk of a box goes on so
 walked : (g : BoxView → Walk → Option Walk)
-    → ((b : BoxView) (k j : Walk) → g b k ≡ Some j → IsSameErrand k j) → Keeps (by_walk g)
+    → ((b : BoxView) (k j : Walk) → g b k ≡ Some j → IsSameErrand k j) → KeepsErrand (by_walk g)
 walked g errand b k j is next =
     errand b k j (ap (bound_walk (g b)) (sym is) ∙ next)
 

@@ -85,12 +85,12 @@ NoneAtKnown t s =
     stand t s d ≡ Some (of_cpu c) → ⊥
 
 -- what an activation marks as ignored is active
-abbrev pub MarksFit : Shape → Scene → (c level : ℕ) → Stage → Type 0
-MarksFit t s c level (stages.Mark more) = (g : ℕ) → group_at_of t c level ≡ Some g →
+abbrev pub MarksActive : Shape → Scene → (c level : ℕ) → Stage → Type 0
+MarksActive t s c level (stages.Mark more) = (g : ℕ) → group_at_of t c level ≡ Some g →
     is_on s (of_group g) ≡ true
-MarksFit t s c level stages.Own = is_on s (of_cpu c) ≡ true
-MarksFit t s c level other = Unit {0}
+MarksActive t s c level stages.Own = is_on s (of_cpu c) ≡ true
+MarksActive t s c level other = Unit {0}
 
 -- PART 6
 abbrev pub MarksHold : Shape → Scene → Type 0
-MarksHold t s = (c : ℕ) (k : Walk) → s.walk c ≡ Some k → MarksFit t s c k.level k.stage
+MarksHold t s = (c : ℕ) (k : Walk) → s.walk c ≡ Some k → MarksActive t s c k.level k.stage

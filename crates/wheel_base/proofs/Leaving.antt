@@ -11,9 +11,9 @@ use Rattle.std.proofs.lemmas.List.{get_or-set_same, get_or-set_other}
 use Rattle.std.proofs.lemmas.Nat.Bits.{bit_at_clear_same, bit_at_clear_other}
 use Rattle.std.proofs.lemmas.Nat.{and_le_r}
 use Rattle.slab.specs.Slab.{Slab, Updates, get, slab_len}
-use Rattle.key_lists.specs.Tables.{KeyTable, Lacks, Holds, first_of, last_of, list_of, without}
+use Rattle.key_lists.specs.Tables.{KeyTable, Lacks, Holds, first_key, last_of, list_of, without}
 use Rattle.wheel_core.specs.declared.item.Item.{Item}
-use Rattle.wheel_base.specs.Files.{Entry, Slots, AreClassed, AreStored, HasKey, name_of, IsFiled, IsStored, bucket_of, filed_at, first_entry, in_bucket, item_at, item_under, last_entry, mark_of, no_item, without_key}
+use Rattle.wheel_base.specs.Files.{Entry, Slots, AreClassed, AreStored, HasKey, name_of, IsFiled, IsStored, bucket_of, filed_at, first_entry, in_bucket, item_at, item_under, last_entry, bucket_mark, no_item, without_key}
 use Rattle.wheel_base.proofs.Filing.{is_in, stored_slot, held_key, under, in_bucket_is, last_entry_is, stored_kept, filed_without, stored_without, gone, without_lacking, length_without}
 use Rattle.wheel_base.proofs.Stores.{classed_less, mark_filed}
 
@@ -96,42 +96,42 @@ module _ (items : Slab Item) (armed buckets names : KeyTable) (mask : ℕ) (mark
     chained_was c below = let many = f.many in f.chained c (omega arith)
 
     -- a bucket's mark as its list says
-    mark_now : (c : ℕ) → c < 576 → mark_of (in_bucket c (filed_at new.slots (list_of armed_now 0))) ≡ mark_of (filed_at new.slots (list_of buckets_now c))
-    mark_now c below = ap mark_of (in_bucket_is new.slots c (list_of armed_now 0)) ∙ ap (λ ks. mark_of (filed_at new.slots ks)) (sym (chained_now c below))
+    mark_now : (c : ℕ) → c < 576 → bucket_mark (in_bucket c (filed_at new.slots (list_of armed_now 0))) ≡ bucket_mark (filed_at new.slots (list_of buckets_now c))
+    mark_now c below = ap bucket_mark (in_bucket_is new.slots c (list_of armed_now 0)) ∙ ap (λ ks. bucket_mark (filed_at new.slots ks)) (sym (chained_now c below))
 
-    mark_was : (c : ℕ) → c < 576 → mark_of (in_bucket c (filed_at items.slots (list_of armed 0))) ≡ mark_of (filed_at items.slots (list_of buckets c))
-    mark_was c below = ap mark_of (in_bucket_is items.slots c (list_of armed 0)) ∙ ap (λ ks. mark_of (filed_at items.slots ks)) (sym (chained_was c below))
+    mark_was : (c : ℕ) → c < 576 → bucket_mark (in_bucket c (filed_at items.slots (list_of armed 0))) ≡ bucket_mark (filed_at items.slots (list_of buckets c))
+    mark_was c below = ap bucket_mark (in_bucket_is items.slots c (list_of armed 0)) ∙ ap (λ ks. bucket_mark (filed_at items.slots ks)) (sym (chained_was c below))
 
     mark_same : (c : ℕ) → c < 576 → (bucket_of (item_at items.slots key) ≡ c → ⊥)
-        → mark_of (in_bucket c (filed_at items.slots (list_of armed 0))) ≡ mark_of (in_bucket c (filed_at new.slots (list_of armed_now 0)))
+        → bucket_mark (in_bucket c (filed_at items.slots (list_of armed 0))) ≡ bucket_mark (in_bucket c (filed_at new.slots (list_of armed_now 0)))
     mark_same c below other =
         let many = f.many in
         let lacks : Lacks key (list_of buckets c) = subst (Lacks key) (sym (chained_was c below)) (lacks_other bucket_of items.slots c key (list_of armed 0) other) in
         mark_was c below
         ∙ (sym (mark_filed items.slots new.slots (list_of buckets c))
-        ∙ (ap (λ ks. mark_of (filed_at new.slots ks)) (sym (b_lists c (omega arith) ∙ without_lacking key (list_of buckets c) lacks))
+        ∙ (ap (λ ks. bucket_mark (filed_at new.slots ks)) (sym (b_lists c (omega arith) ∙ without_lacking key (list_of buckets c) lacks))
         ∙ sym (mark_now c below)))
 
     -- what the marks are to be
     abbrev pub AreMarked : List ℕ → Type 0
-    AreMarked words = (l p : ℕ) → l < 9 → p < 64 → bit_at (slice_index_or words l 0) p ≡ mark_of (in_bucket (64 * l + p) (filed_at new.slots (list_of armed_now 0)))
+    AreMarked words = (l p : ℕ) → l < 9 → p < 64 → bit_at (slice_index_or words l 0) p ≡ bucket_mark (in_bucket (64 * l + p) (filed_at new.slots (list_of armed_now 0)))
 
-    mark_some : (slots : Slots) (keys : List ℕ) (k : ℕ) → last_of keys ≡ Some k → mark_of (filed_at slots keys) ≡ 1
+    mark_some : (slots : Slots) (keys : List ℕ) (k : ℕ) → last_of keys ≡ Some k → bucket_mark (filed_at slots keys) ≡ 1
     mark_some slots [] k is = absurd (none-some k is)
     mark_some slots (first ∷ keys) k is = refl
 
-    mark_none : (slots : Slots) (keys : List ℕ) → last_of keys ≡ None → mark_of (filed_at slots keys) ≡ 0
+    mark_none : (slots : Slots) (keys : List ℕ) → last_of keys ≡ None → bucket_mark (filed_at slots keys) ≡ 0
     mark_none slots [] is = refl
     mark_none slots (first ∷ keys) is = absurd (none-some (unwrap_or (last_of keys) first) (sym is))
 
-    mark_held : (slots : Slots) (keys : List ℕ) → Holds key keys → mark_of (filed_at slots keys) ≡ 1
+    mark_held : (slots : Slots) (keys : List ℕ) → Holds key keys → bucket_mark (filed_at slots keys) ≡ 1
     mark_held slots [] holds = absurd holds
     mark_held slots (k ∷ keys) holds = refl
 
     -- the bucket still has an item
     pub marked_still : (level place k : ℕ) → place < 64 → level < 9 → bucket_of (item_at items.slots key) ≡ 64 * level + place
         → last_of (list_of buckets_now (64 * level + place)) ≡ Some k
-        → (l p : ℕ) → l < 9 → p < 64 → bit_at (slice_index_or marks l 0) p ≡ mark_of (in_bucket (64 * l + p) (filed_at new.slots (list_of armed_now 0)))
+        → (l p : ℕ) → l < 9 → p < 64 → bit_at (slice_index_or marks l 0) p ≡ bucket_mark (in_bucket (64 * l + p) (filed_at new.slots (list_of armed_now 0)))
     marked_still level place k place_in level_in is last l p l_in p_in =
         elim (cases_eq (64 * l + p) (64 * level + place)) [
           | inl here ↦
@@ -149,7 +149,7 @@ module _ (items : Slab Item) (armed buckets names : KeyTable) (mask : ℕ) (mark
         → last_of (list_of buckets_now (64 * level + place)) ≡ None
         → (l p : ℕ) → l < 9 → p < 64
         → bit_at (slice_index_or (slice_set marks level (bit_and (slice_index_or marks level 0) (2 ^ 64 - 1 - 1 * 2 ^ place % 2 ^ 64))) l 0) p
-        ≡ mark_of (in_bucket (64 * l + p) (filed_at new.slots (list_of armed_now 0)))
+        ≡ bucket_mark (in_bucket (64 * l + p) (filed_at new.slots (list_of armed_now 0)))
     marked_less level place nine place_in level_in is last l p l_in p_in =
         let word = slice_index_or marks level 0 in
         let cleared = bit_and word (2 ^ 64 - 1 - 1 * 2 ^ place % 2 ^ 64) in
@@ -248,11 +248,11 @@ newest_found items armed buckets names mask marks bucket key f below last =
     record { has = has_held items.slots key (list_of armed 0) held; under = under items.slots key (list_of armed 0) held }
 
 -- THE FIRST ARMED ITEM
-pub first_entry_is : (slots : Slots) (keys : List ℕ) → first_entry (filed_at slots keys) ≡ option_map (λ key. (key, item_at slots key)) (first_of keys)
+pub first_entry_is : (slots : Slots) (keys : List ℕ) → first_entry (filed_at slots keys) ≡ option_map (λ key. (key, item_at slots key)) (first_key keys)
 first_entry_is slots [] = refl
 first_entry_is slots (k ∷ keys) = refl
 
-pub first_held : (key : ℕ) (keys : List ℕ) → first_of keys ≡ Some key → Holds key keys
+pub first_held : (key : ℕ) (keys : List ℕ) → first_key keys ≡ Some key → Holds key keys
 first_held key [] is = absurd (none-some key is)
 first_held key (k ∷ keys) is = inl (same_Some k key is)
 

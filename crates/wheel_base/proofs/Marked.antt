@@ -8,7 +8,7 @@ use Rattle.std.proofs.lemmas.Nat.{shr-shr, shr_le, and_mask}
 use Rattle.std.proofs.lemmas.Nat.Bits.{bit_at-trailing_zeros, bit_at-zero, bit_at_above}
 use Rattle.wheel_core.specs.WheelExpiry.{granularity}
 use Rattle.wheel_core.specs.PlainBase.{least, sooner}
-use Rattle.wheel_base.specs.Files.{Entry, bucket_of, in_bucket, items_of, mark_of, place_at}
+use Rattle.wheel_base.specs.Files.{Entry, bucket_of, in_bucket, items_of, bucket_mark, place_at}
 use Rattle.wheel_base.specs.Marks.{Among, AreNear, IsNextMark, IsLeastBelow, LeastBelow}
 use Rattle.wheel_base.proofs.Granules.{end_at, one_expiry, spans, start_of, steps}
 
@@ -63,13 +63,13 @@ mark_below word from fits within some none =
     }
 
 -- ENTRIES AND MARKS
-pub marked_if : (bucket : ℕ) (e : Entry) (filed : List Entry) → Among e filed → bucket_of e.1 ≡ bucket → mark_of (in_bucket bucket filed) ≡ 1
+pub marked_if : (bucket : ℕ) (e : Entry) (filed : List Entry) → Among e filed → bucket_of e.1 ≡ bucket → bucket_mark (in_bucket bucket filed) ≡ 1
 marked_if bucket e [] among is = absurd among
 marked_if bucket e (first ∷ filed) among is =
     elim (cases_Bool (bucket_of first.1 == bucket)) [
-      | inl here ↦ ap mark_of (cond-true (bucket_of first.1 == bucket) (first ∷ in_bucket bucket filed) (in_bucket bucket filed) here)
+      | inl here ↦ ap bucket_mark (cond-true (bucket_of first.1 == bucket) (first ∷ in_bucket bucket filed) (in_bucket bucket filed) here)
       | inr other ↦
-          ap mark_of (cond-false (bucket_of first.1 == bucket) (first ∷ in_bucket bucket filed) (in_bucket bucket filed) other)
+          ap bucket_mark (cond-false (bucket_of first.1 == bucket) (first ∷ in_bucket bucket filed) (in_bucket bucket filed) other)
           ∙ marked_if bucket e filed (elim among [
             | inl same ↦ let wrong = sym other ∙ eq-eqb (bucket_of first.1) bucket (ap (λ (x : Entry). bucket_of x.1) same ∙ is) in absurd (let bad : ⊥ = cc in bad)
             | inr later ↦ later
@@ -81,19 +81,19 @@ pub record MarkedBy (bucket : ℕ) (filed : List Entry) : Type 0 where
   pub among : Among entry filed
   pub bucket_is : bucket_of entry.1 ≡ bucket
 
-pub marked_by : (bucket : ℕ) (filed : List Entry) → mark_of (in_bucket bucket filed) ≡ 1 → MarkedBy bucket filed
+pub marked_by : (bucket : ℕ) (filed : List Entry) → bucket_mark (in_bucket bucket filed) ≡ 1 → MarkedBy bucket filed
 marked_by bucket [] marked = absurd (omega arith)
 marked_by bucket (first ∷ filed) marked =
     elim (cases_Bool (bucket_of first.1 == bucket)) [
       | inl here ↦ record { entry = first; among = inl refl; bucket_is = eqb-true (bucket_of first.1) bucket here }
       | inr other ↦
-          let rest = marked_by bucket filed (sym (ap mark_of (cond-false (bucket_of first.1 == bucket) (first ∷ in_bucket bucket filed) (in_bucket bucket filed) other)) ∙ marked) in
+          let rest = marked_by bucket filed (sym (ap bucket_mark (cond-false (bucket_of first.1 == bucket) (first ∷ in_bucket bucket filed) (in_bucket bucket filed) other)) ∙ marked) in
           record { entry = rest.entry; among = inr rest.among; bucket_is = rest.bucket_is }
     ]
 
 -- a marked bucket has an entry of its level, and where all lie within 64 granules, of its expiry
 pub bucket_entry : (level time wheel : ℕ) (filed : List Entry) → level < 9 → AreNear time filed → wheel % granularity level ≡ 0 → time ≤ wheel
-    → wheel < time + 64 * granularity level → mark_of (in_bucket (64 * level + place_at level wheel) filed) ≡ 1
+    → wheel < time + 64 * granularity level → bucket_mark (in_bucket (64 * level + place_at level wheel) filed) ≡ 1
     → (e : Entry) × Among e filed × (e.1.level ≡ level) × (e.1.wheel ≡ wheel)
 bucket_entry level time wheel filed level_in near granule_is from upper_is marked =
     let by = marked_by (64 * level + place_at level wheel) filed marked in
@@ -108,7 +108,7 @@ bucket_entry level time wheel filed level_in near granule_is from upper_is marke
 
 -- ONE LEVEL MORE
 module _ (level time : ℕ) (filed : List Entry) (word : ℕ) (level_in : level < 9) (near : AreNear time filed)
-    (marks : (place : ℕ) → place < 64 → bit_at word place ≡ mark_of (in_bucket (64 * level + place) filed)) where
+    (marks : (place : ℕ) → place < 64 → bit_at word place ≡ bucket_mark (in_bucket (64 * level + place) filed)) where
   -- an entry of the level marks its place
   entry_marks : (e : Entry) → Among e filed → e.1.level ≡ level → bit_at word (place_at level e.1.wheel) ≡ 1
   entry_marks e among is =
@@ -229,7 +229,7 @@ is_least (first ∷ filed) wheel (Some other) known levels is =
 
 -- where the bucket of the least expiry that was has one still, that is the least that is left
 pub first_stays : (level wheel : ℕ) (filed : List Entry) → level < 9 → wheel % granularity level ≡ 0 → AreNear wheel filed
-    → mark_of (in_bucket (64 * level + place_at level wheel) filed) ≡ 1 → Some wheel ≡ least (items_of filed)
+    → bucket_mark (in_bucket (64 * level + place_at level wheel) filed) ≡ 1 → Some wheel ≡ least (items_of filed)
 first_stays level wheel filed level_in granule near marked =
     let e = bucket_entry level wheel wheel filed level_in near granule (omega arith) (spans level wheel level_in) marked in
     by_cases (least (items_of filed)) refl e.0 e.1 e.3

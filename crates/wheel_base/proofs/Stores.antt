@@ -11,14 +11,14 @@ use Rattle.std.proofs.lemmas.Nat.Bits.{bit_at-zero, bit_at_set_same, bit_at_set_
 use Rattle.slab.specs.Slab.{Slab, Updates, get, slab_len}
 use Rattle.key_lists.specs.Tables.{KeyTable, Lacks, list_of, without}
 use Rattle.wheel_core.specs.declared.item.Item.{Item}
-use Rattle.wheel_base.specs.Files.{Entry, Slots, AreClassed, AreStored, name_of, IsFiled, bucket_of, filed_at, in_bucket, mark_of}
+use Rattle.wheel_base.specs.Files.{Entry, Slots, AreClassed, AreStored, name_of, IsFiled, bucket_of, filed_at, in_bucket, bucket_mark}
 use Rattle.wheel_base.proofs.Filing.{is_in, vacant_lacks, lacks_filter, filed_push, stored_push, chained_push, gone, filter_kept, chained_without}
 
-mark_push : (filed : List Entry) (e : Entry) → mark_of (filed ++ e ∷ []) ≡ 1
+mark_push : (filed : List Entry) (e : Entry) → bucket_mark (filed ++ e ∷ []) ≡ 1
 mark_push [] e = refl
 mark_push (first ∷ filed) e = refl
 
-pub mark_filed : (old new : Slots) (keys : List ℕ) → mark_of (filed_at new keys) ≡ mark_of (filed_at old keys)
+pub mark_filed : (old new : Slots) (keys : List ℕ) → bucket_mark (filed_at new keys) ≡ bucket_mark (filed_at old keys)
 mark_filed old new [] = refl
 mark_filed old new (k ∷ keys) = refl
 
@@ -28,17 +28,17 @@ in_pushed filed e bucket other =
     filter-append (λ (e : Entry). bucket_of e.1 == bucket) filed (e ∷ [])
     ∙ (ap (λ r. in_bucket bucket filed ++ r) (cond-false (bucket_of e.1 == bucket) (e ∷ []) [] (ne_eqb (bucket_of e.1) bucket other)) ∙ append-nil (in_bucket bucket filed))
 
-in_pushed_here : (filed : List Entry) (e : Entry) (bucket : ℕ) → bucket_of e.1 ≡ bucket → mark_of (in_bucket bucket (filed ++ e ∷ [])) ≡ 1
+in_pushed_here : (filed : List Entry) (e : Entry) (bucket : ℕ) → bucket_of e.1 ≡ bucket → bucket_mark (in_bucket bucket (filed ++ e ∷ [])) ≡ 1
 in_pushed_here filed e bucket here =
-    ap mark_of (filter-append (λ (e : Entry). bucket_of e.1 == bucket) filed (e ∷ [])
+    ap bucket_mark (filter-append (λ (e : Entry). bucket_of e.1 == bucket) filed (e ∷ [])
     ∙ ap (λ r. in_bucket bucket filed ++ r) (cond-true (bucket_of e.1 == bucket) (e ∷ []) [] (eq-eqb (bucket_of e.1) bucket here)))
     ∙ mark_push (in_bucket bucket filed) e
 
 -- the marks with one more set
 marks_push : (marks : List ℕ) (level place : ℕ) (filed : List Entry) (e : Entry) → length marks ≡ 9 → level < 9 → place < 64 → bucket_of e.1 ≡ 64 * level + place
-    → ((l p : ℕ) → l < 9 → p < 64 → bit_at (slice_index_or marks l 0) p ≡ mark_of (in_bucket (64 * l + p) filed))
+    → ((l p : ℕ) → l < 9 → p < 64 → bit_at (slice_index_or marks l 0) p ≡ bucket_mark (in_bucket (64 * l + p) filed))
     → (l p : ℕ) → l < 9 → p < 64
-    → bit_at (slice_index_or (slice_set marks level (bit_or (slice_index_or marks level 0) (1 * 2 ^ place % 2 ^ 64))) l 0) p ≡ mark_of (in_bucket (64 * l + p) (filed ++ e ∷ []))
+    → bit_at (slice_index_or (slice_set marks level (bit_or (slice_index_or marks level 0) (1 * 2 ^ place % 2 ^ 64))) l 0) p ≡ bucket_mark (in_bucket (64 * l + p) (filed ++ e ∷ []))
 marks_push marks level place filed e nine level_in place_in is old l p l_in p_in =
     let word = slice_index_or marks level 0 in
     let set = bit_or word (1 * 2 ^ place % 2 ^ 64) in
@@ -51,11 +51,11 @@ marks_push marks level place filed e nine level_in place_in is old l p l_in p_in
                 ∙ sym (in_pushed_here filed e (64 * l + p) (omega arith))))
             | inr other ↦
                 ap (λ w. bit_at w p) read ∙ (bit_at_set_other w64 word place place_in p other
-                ∙ (ap (λ i. bit_at (slice_index_or marks i 0) p) (sym same_level) ∙ (old l p l_in p_in ∙ ap mark_of (sym (in_pushed filed e (64 * l + p) (λ same. other (omega arith)))))))
+                ∙ (ap (λ i. bit_at (slice_index_or marks i 0) p) (sym same_level) ∙ (old l p l_in p_in ∙ ap bucket_mark (sym (in_pushed filed e (64 * l + p) (λ same. other (omega arith)))))))
           ]
       | inr other ↦
           ap (λ w. bit_at w p) (get_or-set_other marks level l set 0 other)
-          ∙ (old l p l_in p_in ∙ ap mark_of (sym (in_pushed filed e (64 * l + p) (λ same. other (omega arith)))))
+          ∙ (old l p l_in p_in ∙ ap bucket_mark (sym (in_pushed filed e (64 * l + p) (λ same. other (omega arith)))))
     ]
 
 -- A CLASS MORE OR LESS
@@ -143,7 +143,7 @@ module _ (items new : Slab Item) (armed buckets names : KeyTable) (mask : ℕ) (
         named = classed_more (name_of mask) items.slots new.slots key name item keys (list_of armed_now 0) names names_now others lacks updates.changed f.named a_pushed n_number (sym name_is) n_pushed n_others;
         marked = λ l p l_in p_in.
             marks_push marks level place (filed_at items.slots keys) (key, item) nine (omega arith) place_in is f.marked l p l_in p_in
-            ∙ ap (λ r. mark_of (in_bucket (64 * l + p) r)) (sym (filed_is armed_now a_pushed));
+            ∙ ap (λ r. bucket_mark (in_bucket (64 * l + p) r)) (sym (filed_is armed_now a_pushed));
         armed_room = omega arith;
         bucket_room = omega arith;
         name_room = omega arith;
@@ -168,7 +168,7 @@ empty_filed items armed buckets names mask slots one many named empty b_empty n_
   counted = let none = ap (count_by is_some) slots in let no_keys = ap (length {A = ℕ}) empty in omega arith;
   chained = λ c below. b_empty c (omega arith) ∙ ap (filter (is_in bucket_of items.slots c)) (sym empty);
   named = λ c below. n_empty c (omega arith) ∙ ap (filter (is_in (name_of mask) items.slots c)) (sym empty);
-  marked = λ l p l_in p_in. ap (λ w. bit_at w p) (zeros l l_in) ∙ (bit_at-zero p ∙ ap (λ keys. mark_of (in_bucket (64 * l + p) (filed_at items.slots keys))) (sym empty));
+  marked = λ l p l_in p_in. ap (λ w. bit_at w p) (zeros l l_in) ∙ (bit_at-zero p ∙ ap (λ keys. bucket_mark (in_bucket (64 * l + p) (filed_at items.slots keys))) (sym empty));
   armed_room = a_room;
   bucket_room = b_room;
   name_room = n_room;

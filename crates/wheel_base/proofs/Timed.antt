@@ -7,7 +7,7 @@ use Rattle.std.proofs.lemmas.Bool.Decides.{nat_tests}
 use Rattle.std.proofs.lemmas.List.{map-append}
 use Rattle.wheel_core.specs.declared.item.Item.{Item}
 use Rattle.wheel_core.specs.WheelExpiry.{cutoff, granularity, granule_end, greatest_timeout, level_of_delay, wheel_expiry_of, wheel_level_of}
-use Rattle.wheel_core.specs.PlainBase.{HasDistinctIds, IsPlaced, IsSound, item_of, least, sooner, without}
+use Rattle.wheel_core.specs.PlainBase.{HasDistinctIds, FitsWheel, IsSound, item_of, least, sooner, without}
 use Rattle.wheel_core.proofs.Levels.{ends, level_fits, row, row_level}
 use Rattle.wheel_core.proofs.Leasts.{least_push, sooner_swap}
 use Rattle.wheel_core.proofs.Ids.{sound_push, sound_without}
@@ -79,7 +79,7 @@ floor_now clock wheel (Some other) at behind = let h : clock ≤ other = behind 
 
 pub keeps_added : (files new : Files) (key : ℕ) (item : Item) (clock : ℕ) (first : Option ℕ) (sooner_is capacity : ℕ) → KeepsWheel files clock first capacity
     → new.filed ≡ files.filed ++ (key, item) ∷ [] → new.room ≡ files.room → length files.filed < capacity → sooner_is ≡ sooner item.wheel first
-    → item_of item.id (items_of files.filed) ≡ None → IsPlaced item → ForSome (least (items_of files.filed)) (λ wheel. clock ≤ wheel)
+    → item_of item.id (items_of files.filed) ≡ None → FitsWheel item → ForSome (least (items_of files.filed)) (λ wheel. clock ≤ wheel)
     → Placed clock item.wheel item.level → KeepsWheel new clock (Some sooner_is) capacity
 keeps_added files new key item clock first sooner_is capacity keeps filed rooms room first_is none placed behind_least at =
     let items : items_of new.filed ≡ items_of files.filed ++ item ∷ [] = ap items_of filed ∙ map-append (λ (e : Entry). e.1) files.filed ((key, item) ∷ []) in
@@ -210,7 +210,7 @@ all_among P e (first ∷ filed) all (inr later) = all_among P e filed (All-tail 
 pub wheel_in_time : (files : Files) (wheel clock : ℕ) (first : Option ℕ) (capacity : ℕ) → KeepsWheel files clock first capacity → least (items_of files.filed) ≡ Some wheel → wheel ≤ 2 ^ 47
 wheel_in_time files wheel clock first capacity keeps is =
     let e = least_among files.filed wheel is in
-    let placed = all_among IsPlaced e.0 files.filed keeps.sound.placed e.1 in
+    let placed = all_among FitsWheel e.0 files.filed keeps.sound.in_wheel e.1 in
     let at = e.2 in omega (arith, placed.wheel)
 
 pub item_of_stored : (key : ℕ) (item : Item) (filed : List Entry) → HasDistinctIds (items_of filed) → item_under key filed ≡ Some item → item_of item.id (items_of filed) ≡ Some item
@@ -267,13 +267,13 @@ least_taken key item (first ∷ filed) found =
           ∙ (ap Some (sooner_swap first.1.wheel item.wheel (least (items_of (without_key key filed)))) ∙ ap (λ l. Some (sooner item.wheel l)) (sym rest))
     ]
 
-pub placed_stored : (key : ℕ) (item : Item) (filed : List Entry) → All IsPlaced (items_of filed) → item_under key filed ≡ Some item → IsPlaced item
+pub placed_stored : (key : ℕ) (item : Item) (filed : List Entry) → All FitsWheel (items_of filed) → item_under key filed ≡ Some item → FitsWheel item
 placed_stored key item [] all found = absurd (none-some item found)
 placed_stored key item (first ∷ filed) all found =
     elim (cases_Bool (first.0 == key)) [
       | inl here ↦
           let is = same_Some first.1 item (sym (cond-true (first.0 == key) (Some first.1) (item_under key filed) here) ∙ found) in
-          subst IsPlaced is (All-head IsPlaced first.1 (items_of filed) all)
+          subst FitsWheel is (All-head FitsWheel first.1 (items_of filed) all)
       | inr other ↦
-          placed_stored key item filed (All-tail IsPlaced first.1 (items_of filed) all) (sym (cond-false (first.0 == key) (Some first.1) (item_under key filed) other) ∙ found)
+          placed_stored key item filed (All-tail FitsWheel first.1 (items_of filed) all) (sym (cond-false (first.0 == key) (Some first.1) (item_under key filed) other) ∙ found)
     ]

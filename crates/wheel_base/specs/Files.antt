@@ -35,9 +35,9 @@ abbrev pub in_bucket : (bucket : ℕ) → List Entry → List Entry
 in_bucket bucket filed = filter (λ e. bucket_of e.1 == bucket) filed
 
 -- whether there is one, as a bit
-abbrev pub mark_of : List Entry → ℕ
-mark_of [] = 0
-mark_of (e ∷ filed) = 1
+abbrev pub bucket_mark : List Entry → ℕ
+bucket_mark [] = 0
+bucket_mark (e ∷ filed) = 1
 
 -- the first entry, if there is one
 abbrev pub first_entry : List Entry → Option Entry
@@ -129,7 +129,7 @@ pub record IsFiled (items : Slab Item) (armed buckets names : KeyTable) (mask : 
   pub named : AreClassed (name_of mask) items.slots (list_of armed 0) names
   pub marked : (level place : ℕ) → level < 9 → place < 64
       → bit_at (slice_index_or marks level 0) place
-      ≡ mark_of (in_bucket (64 * level + place) (filed_at items.slots (list_of armed 0)))
+      ≡ bucket_mark (in_bucket (64 * level + place) (filed_at items.slots (list_of armed 0)))
   pub armed_room : items.capacity ≤ armed.room
   pub bucket_room : items.capacity ≤ buckets.room
   pub name_room : items.capacity ≤ names.room

@@ -5,7 +5,7 @@ ghost use Rattle.std.specs.Prelude.{IfSome};
 ghost use Rattle.wheel_core.specs.WheelExpiry.{granularity};
 ghost use Rattle.wheel_core.specs.PlainBase.{least, out_at, sooner};
 ghost use Rattle.wheel_base.specs.Files.{IsStored, bucket_of, in_bucket, items_of, last_entry};
-ghost use Rattle.wheel_base.specs.Files.{mark_of};
+ghost use Rattle.wheel_base.specs.Files.{bucket_mark};
 ghost use Rattle.wheel_base.specs.Marks.{AreNear};
 ghost use Rattle.wheel_base.specs.Outs.{IsNextOut, IsOutOf, NoneAt, at_level};
 
@@ -71,7 +71,7 @@ pub(crate) fn next_entry(
 #[inline(always)]
 fn has_more(store: &Store, item: &Item) -> bool
     requires level { item.now.level < 9 }
-    ensures { result ≡ true → mark_of (in_bucket (bucket_of item.now) store.now.filed) ≡ 1 }
+    ensures { result ≡ true → bucket_mark (in_bucket (bucket_of item.now) store.now.filed) ≡ 1 }
 {
     store.marks(item.level) >> wheel_place(item.level, item.wheel) & 1 == 1
 }

@@ -5,7 +5,8 @@ ghost use Rattle.std.specs.Prelude.{Some, None, IfSome, IfOk, MatchOption};
 ghost use Rattle.std.specs.Int.{bit_at};
 ghost use Rattle.wheel_core.specs.PlainBase.{HasDistinctIds, item_of};
 ghost use Rattle.wheel_base.specs.Files.{HasKey, IsKeyOf, IsStored, items_of, item_under};
-ghost use Rattle.wheel_base.specs.Files.{first_entry, last_entry, in_bucket, mark_of, without_key};
+ghost use Rattle.wheel_base.specs.Files.{first_entry, last_entry, in_bucket, bucket_mark};
+ghost use Rattle.wheel_base.specs.Files.{without_key};
 
 use crate::place::wheel_place;
 use key_lists::{KeyLists, MOST_PLACES};
@@ -111,7 +112,7 @@ impl Store {
     pub(crate) fn marks(&self, level: u8) -> u64
         requires { level < 9 }
         ensures { (place : ℕ) → place < 64
-            → bit_at result place ≡ mark_of (in_bucket (64 * level + place) self.now.filed) }
+            → bit_at result place ≡ bucket_mark (in_bucket (64 * level + place) self.now.filed) }
     {
         self.marks[usize::from(level)]
     }

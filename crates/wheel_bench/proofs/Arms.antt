@@ -2,7 +2,7 @@
 use Rattle.std.proofs.Common.{◌≡◌, ℕ, ◌+◌, ◌<◌, ◌≤◌, [], ◌∷◌, ◌++◌, None, length, refl, ap, ◌∙◌, sym, subst, arith, length-append}
 use Rattle.std.proofs.lemmas.Option.{none-some}
 use Rattle.wheel_core.specs.declared.item.Item.{Item}
-use Rattle.wheel_core.specs.PlainBase.{NoneBehind, RoomyBase, added, item_of, least, on_plain, placed}
+use Rattle.wheel_core.specs.PlainBase.{NoneBehind, RoomyBase, added, item_of, least, on_plain, item_added}
 use Rattle.wheel_core.proofs.Ids.{none_push}
 
 pub record Armed (base : RoomyBase) (i capacity : ℕ) : Type 0 where
@@ -24,7 +24,7 @@ armed_none base empty clock = record {
 pub armed_more : (base next : RoomyBase) (i capacity id expires job arg : ℕ) → Armed base i capacity → id ≡ i
     → next ≡ on_plain (added id expires job arg) base → NoneBehind next.plain → Armed next (i + 1) capacity
 armed_more base next i capacity id expires job arg armed id_is is behind =
-    let item = placed base.plain.clock id expires job arg in
+    let item = item_added base.plain.clock id expires job arg in
     let count = armed.count in
     let longer = ap (λ (b : RoomyBase). length b.plain.items) is ∙ length-append base.plain.items (item ∷ []) in
     record {

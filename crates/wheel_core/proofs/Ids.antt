@@ -12,7 +12,7 @@ use Rattle.std.proofs.lemmas.Option.{none-some, same_Some, slice_get_past, slice
 use Rattle.std.proofs.lemmas.Option.{slice_get_read}
 use Rattle.std.proofs.lemmas.List.Elements.{All-cons, All-head, All-tail, All-push}
 use Rattle.wheel_core.specs.declared.item.Item.{Item}
-use Rattle.wheel_core.specs.PlainBase.{item_of, without, HasDistinctIds, IsPlaced, IsSound}
+use Rattle.wheel_core.specs.PlainBase.{item_of, without, HasDistinctIds, FitsWheel, IsSound}
 use Rattle.wheel_core.specs.Scan.{IsPlaceOf}
 
 -- an item to read where there is none
@@ -250,9 +250,9 @@ item_holds P id (first ∷ items) item all is =
 
 pub sound_without : (id : ℕ) (items : List Item) → IsSound items → IsSound (without id items)
 sound_without id items sound =
-    record { distinct = distinct_without id items sound.distinct; placed = all_without IsPlaced id items sound.placed }
+    record { distinct = distinct_without id items sound.distinct; in_wheel = all_without FitsWheel id items sound.in_wheel }
 
 pub sound_push : (items : List Item) (item : Item) → IsSound items → item_of item.id items ≡ None
-    → IsPlaced item → IsSound (items ++ item ∷ [])
+    → FitsWheel item → IsSound (items ++ item ∷ [])
 sound_push items item sound none placed =
-    record { distinct = distinct_push items item sound.distinct none; placed = All-push IsPlaced items item sound.placed placed }
+    record { distinct = distinct_push items item sound.distinct none; in_wheel = All-push FitsWheel items item sound.in_wheel placed }

@@ -4,7 +4,7 @@ use Rattle.std.proofs.Common.{length, get_or, refl, sym, ap, subst, ◌∙◌, a
 use Rattle.std.specs.List.{remove}
 use Rattle.std.proofs.lemmas.List.Edits.{length-remove}
 use Rattle.wheel_core.specs.declared.item.Item.{Item}
-use Rattle.wheel_core.specs.PlainBase.{item_of, least, out_at, sooner, without, IsPlaced, IsSound}
+use Rattle.wheel_core.specs.PlainBase.{item_of, least, out_at, sooner, without, FitsWheel, IsSound}
 use Rattle.wheel_core.specs.ListBase.{KeepsList}
 use Rattle.wheel_core.specs.declared.scan.Scan.{Scan}
 use Rattle.wheel_core.specs.Scan.{IsNext, IsNextAt}
@@ -15,7 +15,7 @@ use Rattle.wheel_core.proofs.Leasts.{least_push, least_remove}
 pub keeps_added : (items more : List Item) (item : Item) (first : Option ℕ)
     (sooner_is promised had larger : ℕ) → KeepsList items first promised had
     → more ≡ items ++ item ∷ [] → length items < promised → had ≤ larger
-    → sooner_is ≡ sooner item.wheel first → item_of item.id items ≡ None → IsPlaced item
+    → sooner_is ≡ sooner item.wheel first → item_of item.id items ≡ None → FitsWheel item
     → KeepsList more (Some sooner_is) promised larger
 keeps_added items more item first sooner_is promised had larger keeps is room grows first_is none placed =
     let known = keeps.known in

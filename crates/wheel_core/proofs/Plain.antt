@@ -8,10 +8,10 @@ use Rattle.std.proofs.lemmas.Bool.Decides.{nat_tests}
 use Rattle.std.proofs.lemmas.List.Elements.{All-head, All-push, All-tail, All-weaker}
 use Rattle.std.proofs.lemmas.Option.{none-some, same_Some}
 use Rattle.wheel_core.specs.declared.item.Item.{Item}
-use Rattle.wheel_core.specs.PlainBase.{IsPlaced, IsSound, NoneBehind, NoneDue, NoneSooner, OneFewer}
+use Rattle.wheel_core.specs.PlainBase.{FitsWheel, IsSound, NoneBehind, NoneDue, NoneSooner, OneFewer}
 use Rattle.wheel_core.specs.PlainBase.{OutIsDue, PlainBase}
 use Rattle.wheel_core.specs.PlainBase.{added, after_out, clock_forwarded, forwarded, item_of, least}
-use Rattle.wheel_core.specs.PlainBase.{next_out, placed, removed, sooner, taken}
+use Rattle.wheel_core.specs.PlainBase.{next_out, item_added, removed, sooner, taken}
 use Rattle.wheel_core.proofs.HandOut.{out_is_due}
 use Rattle.wheel_core.proofs.Ids.{all_without, gone_without, length-without, sound_push}
 use Rattle.wheel_core.proofs.Ids.{item_holds, sound_without}
@@ -73,7 +73,7 @@ clock-forwarded_le now base = clock_near now base.clock (least base.items)
 
 -- ADDING
 pub placed_in_range : (clock id expires job arg : ℕ) → expires < 2 ^ 47 → clock < 2 ^ 47
-    → IsPlaced (placed clock id expires job arg)
+    → FitsWheel (item_added clock id expires job arg)
 placed_in_range clock id expires job arg e k =
     let keeps = wheel_keeps_time expires clock e k in
     record { expires = e; wheel = keeps.in_time; level = keeps.level }
@@ -82,14 +82,14 @@ pub none_behind_added : (id expires job arg : ℕ) (base : PlainBase) → expire
     → base.clock < 2 ^ 47 → NoneBehind base → NoneBehind (added id expires job arg base)
 none_behind_added id expires job arg base e k ahead =
     none_behind (added id expires job arg base)
-    (All-push (λ item. base.clock ≤ item.wheel) base.items (placed base.clock id expires job arg)
+    (All-push (λ item. base.clock ≤ item.wheel) base.items (item_added base.clock id expires job arg)
     (none_sooner base ahead) (wheel_keeps_time expires base.clock e k).not_before_clock)
 
 pub sound_added : (id expires job arg : ℕ) (base : PlainBase) → expires < 2 ^ 47
     → base.clock < 2 ^ 47 → item_of id base.items ≡ None → IsSound base.items
     → IsSound (added id expires job arg base).items
 sound_added id expires job arg base e k none sound =
-    sound_push base.items (placed base.clock id expires job arg) sound none
+    sound_push base.items (item_added base.clock id expires job arg) sound none
     (placed_in_range base.clock id expires job arg e k)
 
 -- REMOVING

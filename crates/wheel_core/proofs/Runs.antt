@@ -5,20 +5,20 @@ use Rattle.std.proofs.lemmas.List.{take_more}
 use Rattle.wheel_core.specs.declared.calls.BaseCall.{BaseCall}
 use Rattle.wheel_core.specs.declared.calls.BaseAnswer.{BaseAnswer}
 use Rattle.wheel_core.specs.PlainBase.{RoomyBase}
-use Rattle.wheel_core.specs.Calls.{MayCallAll, StandsAfterSome, after, after_all, answer_of}
+use Rattle.wheel_core.specs.Calls.{MayCallAll, StandsAfterSome, after, after_calls, answer_of}
 use Rattle.wheel_core.specs.Calls.{answers_to}
 
 -- the answers so far and those to what is left are those to all, and what is left may be called
 pub record RanSoFar (list : List BaseCall) (i : ℕ) (told : List BaseAnswer) (start base : RoomyBase) : Type 0 where
   pub all_told : told ++ answers_to (drop i list) base ≡ answers_to list start
-  pub all_made : after_all (drop i list) base ≡ after_all list start
-  pub made : base ≡ after_all (take i list) start
+  pub all_made : after_calls (drop i list) base ≡ after_calls list start
+  pub made : base ≡ after_calls (take i list) start
   pub may : MayCallAll (drop i list) base
 
-after_all_push : (list : List BaseCall) (call : BaseCall) (base : RoomyBase)
-    → after_all (list ++ call ∷ []) base ≡ after call (after_all list base)
-after_all_push [] call base = refl
-after_all_push (first ∷ list) call base = after_all_push list call (after first base)
+after_calls_push : (list : List BaseCall) (call : BaseCall) (base : RoomyBase)
+    → after_calls (list ++ call ∷ []) base ≡ after call (after_calls list base)
+after_calls_push [] call base = refl
+after_calls_push (first ∷ list) call base = after_calls_push list call (after first base)
 
 next_call : (list : List BaseCall) (i : ℕ) (d : BaseCall) → i < length list
     → drop i list ≡ get_or list i d ∷ drop (i + 1) list
@@ -27,11 +27,11 @@ next_call list i d within = rw add-one (drop-cons list i d within)
 -- the base after one call more
 pub made_more : (list : List BaseCall) (i : ℕ) (d : BaseCall) (start base next : RoomyBase)
     → i < length list
-    → base ≡ after_all (take i list) start → next ≡ after (get_or list i d) base
-    → next ≡ after_all (take (i + 1) list) start
+    → base ≡ after_calls (take i list) start → next ≡ after (get_or list i d) base
+    → next ≡ after_calls (take (i + 1) list) start
 made_more list i d start base next within so_far is =
     is ∙ (ap (after (get_or list i d)) so_far
-    ∙ (sym (after_all_push (take i list) (get_or list i d) start) ∙ ap (λ made. after_all made start) (sym (take_more list i d within))))
+    ∙ (sym (after_calls_push (take i list) (get_or list i d) start) ∙ ap (λ made. after_calls made start) (sym (take_more list i d within))))
 
 pub run_more : (list : List BaseCall) (i : ℕ) (d : BaseCall) (told now_told : List BaseAnswer) (answer : BaseAnswer) (start base next : RoomyBase)
     → i < length list → RanSoFar list i told start base
@@ -45,7 +45,7 @@ run_more list i d told now_told answer start base next within so_far says is pus
           rw (pushed, is, says)
           (append_assoc told (answer_of (get_or list i d) base.plain ∷ []) (answers_to (drop (i + 1) list) (after (get_or list i d) base))
           ∙ (ap (λ rest. told ++ answers_to rest base) (sym split) ∙ so_far.all_told));
-      all_made = rw is (ap (λ rest. after_all rest base) (sym split) ∙ so_far.all_made);
+      all_made = rw is (ap (λ rest. after_calls rest base) (sym split) ∙ so_far.all_made);
       made = made_more list i d start base next within so_far.made is;
       may = subst (MayCallAll (drop (i + 1) list)) (sym is) may.1;
     }

@@ -6,7 +6,7 @@ use Rattle.wheel_core.specs.declared.calls.BaseAnswer.{BaseAnswer}
 use Rattle.wheel_core.specs.declared.calls.BaseAnswer.TheVariants as answers
 use Rattle.wheel_core.specs.PlainBase.{NoneBehind, PlainBase, RoomyBase, on_plain, reserved}
 use Rattle.wheel_core.specs.PlainBase.{added, forwarded, item_of, least, next_out, oldest_of}
-use Rattle.wheel_core.specs.PlainBase.{placed, removed, taken}
+use Rattle.wheel_core.specs.PlainBase.{item_added, removed, taken}
 
 -- the answer of a plain base to a call
 abbrev pub answer_of : BaseCall → PlainBase → BaseAnswer
@@ -15,7 +15,8 @@ answer_of calls.Len base = answers.Len (length base.items)
 answer_of (calls.Get id) base = answers.Found (item_of id base.items)
 answer_of calls.First base = answers.First (least base.items)
 answer_of (calls.Forward now) base = answers.Done
-answer_of (calls.Add id expires job arg) base = answers.Added (placed base.clock id expires job arg)
+answer_of (calls.Add id expires job arg) base =
+    answers.Added (item_added base.clock id expires job arg)
 answer_of (calls.Remove id) base = answers.Found (item_of id base.items)
 answer_of (calls.PeekNext now) base = answers.Found (next_out now base)
 answer_of calls.Oldest base = answers.Oldest (oldest_of base.items)
@@ -55,11 +56,11 @@ answers_to [] base = []
 answers_to (call ∷ rest) base = answer_of call base.plain ∷ answers_to rest (after call base)
 
 -- the base after a list of calls
-abbrev pub after_all : List BaseCall → RoomyBase → RoomyBase
-after_all [] base = base
-after_all (call ∷ rest) base = after_all rest (after call base)
+abbrev pub after_calls : List BaseCall → RoomyBase → RoomyBase
+after_calls [] base = base
+after_calls (call ∷ rest) base = after_calls rest (after call base)
 
 -- a base stands where the first so many of the calls bring it
 abbrev pub StandsAfterSome : List BaseCall → (before now : RoomyBase) → Type 0
 StandsAfterSome list before now =
-    (n : ℕ) × (n ≤ length list) × (now ≡ after_all (take n list) before)
+    (n : ℕ) × (n ≤ length list) × (now ≡ after_calls (take n list) before)

@@ -60,8 +60,8 @@ forwarded now base = record base { clock = clock_forwarded now base.clock (least
 
 -- ADDING (internal_add_timer): the item that a timer becomes in a base of this clock goes to the
 -- end of the list
-abbrev pub placed : (clock id expires job arg : ℕ) → Item
-placed clock id expires job arg = record {
+abbrev pub item_added : (clock id expires job arg : ℕ) → Item
+item_added clock id expires job arg = record {
   id = id;
   expires = expires;
   wheel = wheel_expiry_of expires clock;
@@ -73,7 +73,7 @@ placed clock id expires job arg = record {
 -- ADDING: the base with the item at the end of the list (internal_add_timer)
 abbrev pub added : (id expires job arg : ℕ) → PlainBase → PlainBase
 added id expires job arg base =
-    record base { items = base.items ++ placed base.clock id expires job arg ∷ [] }
+    record base { items = base.items ++ item_added base.clock id expires job arg ∷ [] }
 
 -- the queued item of an id
 abbrev pub item_of : (id : ℕ) → List Item → Option Item
@@ -149,7 +149,7 @@ HasDistinctIds [] = Unit {0}
 HasDistinctIds (item ∷ items) = (item_of item.id items ≡ None) × HasDistinctIds items
 
 -- an item's numbers are in the ranges of the wheel
-pub record IsPlaced (item : Item) : Type 0 where
+pub record FitsWheel (item : Item) : Type 0 where
   pub expires : item.expires < 2 ^ 47
   pub wheel : item.wheel ≤ 2 ^ 47
   pub level : item.level < 9
@@ -157,7 +157,7 @@ pub record IsPlaced (item : Item) : Type 0 where
 -- what every base keeps of its items
 pub record IsSound (items : List Item) : Type 0 where
   pub distinct : HasDistinctIds items
-  pub placed : All IsPlaced items
+  pub in_wheel : All FitsWheel items
 
 -- the item that goes out is due, and none goes out only where none is due
 abbrev pub OutIsDue : (now : ℕ) → List Item → Option Item → Type 0

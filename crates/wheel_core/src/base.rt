@@ -14,7 +14,7 @@ pub trait TimerBase: Drop {
     ghost use Rattle.wheel_core.specs.PlainBase.{RoomyBase, on_plain, reserved};
     ghost use Rattle.wheel_core.specs.PlainBase.{IsSound, NoneBehind, NoneSooner, OutIsDue};
     ghost use Rattle.wheel_core.specs.PlainBase.{OneFewer, added, forwarded, item_of, least};
-    ghost use Rattle.wheel_core.specs.PlainBase.{next_out, oldest_of, placed, removed, taken};
+    ghost use Rattle.wheel_core.specs.PlainBase.{next_out, oldest_of, item_added, removed, taken};
 
     /// The items in arming order, the clock, and how many items there is memory for.
     ghost base: { Self → RoomyBase };
@@ -58,7 +58,7 @@ pub trait TimerBase: Drop {
         requires expires_in_time { expires < 2 ^ 47 }
         requires clock_in_time { (base self.old).plain.clock < 2 ^ 47 }
         requires none_behind { NoneBehind (base self.old).plain }
-        ensures item { result ≡ placed (base self.old).plain.clock id expires job arg }
+        ensures item { result ≡ item_added (base self.old).plain.clock id expires job arg }
         ensures base { base self.new ≡ on_plain (added id expires job arg) (base self.old) }
         ensures none_behind { NoneBehind (base self.new).plain }
         ensures clock { (base self.new).plain.clock ≡ (base self.old).plain.clock }

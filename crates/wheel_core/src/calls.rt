@@ -1,7 +1,7 @@
 //! Any list of calls on a base.
 
 ghost use Rattle.std.specs.Prelude.{◌≡◌, ◌++◌, IfOk, OnOk, OnErr};
-ghost use Rattle.wheel_core.specs.Calls.{MayCall, MayCallAll, StandsAfterSome, after, after_all};
+ghost use Rattle.wheel_core.specs.Calls.{MayCall, MayCallAll, StandsAfterSome, after, after_calls};
 ghost use Rattle.wheel_core.specs.Calls.{answer_of, answers_to};
 
 use crate::{Item, NoRoom, TimerBase};
@@ -97,7 +97,7 @@ pub fn make_calls<B: TimerBase>(
 ) -> Result<Vec<BaseAnswer>, NoRoom>
     requires { MayCallAll calls.now (B.base base.old) }
     ensures answers { IfOk result (λ told. told.items ≡ answers_to calls.now (B.base base.old)) }
-    ensures after { OnOk result (B.base base.new ≡ after_all calls.now (B.base base.old)) }
+    ensures after { OnOk result (B.base base.new ≡ after_calls calls.now (B.base base.old)) }
     ensures err { OnErr result (StandsAfterSome calls.now (B.base base.old) (B.base base.new)) }
 {
     let mut answers = Vec::new(alloc);

@@ -3,7 +3,7 @@
 ghost use Rattle.std.specs.Prelude.{◌≡◌};
 ghost use Rattle.wheel_core.specs.PlainBase.{empty_base};
 
-use crate::scan::{least_left, place_of, scan_at, sooner_of};
+use crate::scan::{least_left, place_by_id, scan_at, sooner_of};
 use crate::{Item, NoRoom, TimerBase, wheel_expiry};
 use std::alloc::Global;
 use std::marker::Model;
@@ -61,7 +61,7 @@ impl TimerBase for ListBase {
     }
 
     fn get(&self, id: u32) -> Option<Item> {
-        let Some(place) = place_of(&self.items, id) else {
+        let Some(place) = place_by_id(&self.items, id) else {
             return None;
         };
         Some(self.items[place])
@@ -93,7 +93,7 @@ impl TimerBase for ListBase {
     }
 
     fn remove(&mut self, id: u32) -> Option<Item> {
-        let Some(place) = place_of(&self.items, id) else {
+        let Some(place) = place_by_id(&self.items, id) else {
             return None;
         };
         let item = self.items.remove(place);

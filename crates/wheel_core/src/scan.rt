@@ -58,7 +58,7 @@ fn position_of(items: &[Item], id: u32) -> Option<usize>
 }
 
 /// The place of the item of an id.
-pub(crate) fn place_of(items: &[Item], id: u32) -> Option<usize>
+pub(crate) fn place_by_id(items: &[Item], id: u32) -> Option<usize>
     ensures { MatchOption result (item_of id items.now ≡ None) (IsPlaceOf id items.now) }
 {
     position_of(items, id)

@@ -20,7 +20,7 @@ use Rattle.work_script.specs.declared.words.WorkSaid.{WorkSaid}
 use Rattle.work_script.specs.declared.words.WorkSaid.TheVariants.{Opening, Operation, Ending}
 use Rattle.work_script.specs.Grammar.{IsWorkOp}
 use Rattle.work_script.specs.Texts.{end_line, numbers_line, op_line}
-use Rattle.work_script.specs.Reading.{command_of, heard, heard_behind, in_order, in_room, may_stand, numbers_of, placed, said_by, said_or, slots_of, word_of}
+use Rattle.work_script.specs.Reading.{command_of, heard, heard_behind, in_order, in_room, may_stand, numbers_of, admitted, said_by, said_or, slots_of, word_of}
 use Rattle.work_script.specs.Steps.{AreWithin}
 use Rattle.work_script.proofs.NumberLaws.{AreShort, numbers_back, numbers_feeds, numbers_found, numbers_spaces}
 
@@ -96,7 +96,7 @@ said_ok k Queue (a ∷ b ∷ c ∷ d ∷ e ∷ ns) stands h = absurd h.2.2.2.2
 
 -- ---- a line that is heard
 
-placed_found : (k : WorkKnown) (said x : WorkSaid) → placed k said ≡ Ok x → (said ≡ x) × (in_order k said ≡ true) × (in_room k said ≡ true)
+placed_found : (k : WorkKnown) (said x : WorkSaid) → admitted k said ≡ Ok x → (said ≡ x) × (in_order k said ≡ true) × (in_room k said ≡ true)
 placed_found k said x e = by (in_order k said) (in_room k said) refl refl e
   where
     by : (a b : Bool) → in_order k said ≡ a → in_room k said ≡ b → cond a (cond b (Ok said) (Err TooManyLines)) (Err OutOfOrder) ≡ Ok x → (said ≡ x) × (in_order k said ≡ true) × (in_room k said ≡ true)
@@ -173,7 +173,7 @@ by_said k (Operation (ops.Cancel line work)) h = record {
   line = refl;
 }
 
-placed_back : (k : WorkKnown) (said : WorkSaid) → in_order k said ≡ true → in_room k said ≡ true → placed k said ≡ Ok said
+placed_back : (k : WorkKnown) (said : WorkSaid) → in_order k said ≡ true → in_room k said ≡ true → admitted k said ≡ Ok said
 placed_back k said order room = cond-true (in_order k said) _ _ order ∙ cond-true (in_room k said) _ _ room
 
 -- what a line may say is read from its line
@@ -187,7 +187,7 @@ heard_back k said few f =
     ∙ ap (λ (o : Option WorkCommand). heard_behind k o (map decimal b.numbers)) (command_again b.command)
     ∙ cond-true (may_stand (is_some k.last) b.command) _ _ b.stands
     ∙ ap (said_or k b.command) (numbers_back (slots_of k.count b.command) b.numbers short b.within)
-    ∙ ap (placed k) b.says
+    ∙ ap (admitted k) b.says
     ∙ placed_back k said f.order f.room
 
 -- ---- no line feed stands in a line

@@ -19,7 +19,7 @@ use Rattle.work_script.specs.declared.words.WorkSaid.TheVariants.{Ending}
 use Rattle.work_script.specs.Grammar.{AreWorkMoments, IsWorkScript, SpellsWorks, first_line}
 use Rattle.work_script.specs.Texts.{end_line, moment_lines, numbers_line, op_line, work_lines}
 use Rattle.work_script.specs.Reading.{WorkBody, body_from, count_slot, fault_at, number_at, numbers_of}
-use Rattle.work_script.specs.Faults.{count_in, counted, fault_told, first_of, go_on_counted, known_first, said_among, said_in, with_count}
+use Rattle.work_script.specs.Faults.{count_in, counted, fault_told, count_told, go_on_counted, known_first, said_among, said_in, with_count}
 use Rattle.work_script.specs.Reader.{IsOnlyWorksOf, IsWorksRefusalOf}
 use Rattle.work_script.specs.Steps.{Gives}
 use Rattle.work_script.proofs.NumberLaws.{numbers_back, numbers_found, one_within}
@@ -36,7 +36,7 @@ record IsCount (line : List ℕ) (n : ℕ) : Type 0 where
   some : 1 ≤ n
   few : n ≤ MOST_TIMERS
 
-first_found : (first : List ℕ) (behind : List (List ℕ)) (r : Result (List ℕ) Kind) (n : ℕ) → numbers_of (count_slot ∷ []) behind ≡ r → first ≡ codes "count" → first_of r ≡ Ok n
+first_found : (first : List ℕ) (behind : List (List ℕ)) (r : Result (List ℕ) Kind) (n : ℕ) → numbers_of (count_slot ∷ []) behind ≡ r → first ≡ codes "count" → count_told r ≡ Ok n
     → (spaced (first ∷ behind) ≡ count_line n) × (1 ≤ n) × (n ≤ MOST_TIMERS)
 first_found first behind (Err kind) n is named e = absurd cc
 first_found first behind (Ok ns) n is named e =
@@ -64,7 +64,7 @@ count_back : (n : ℕ) → 1 ≤ n → n ≤ MOST_TIMERS → count_in (words_of 
 unfolding count_in
 count_back n some few =
     ap count_in (count_spaces (count_slot ∷ []) (n ∷ []) (omega arith, tt) (some, omega (arith, few), tt))
-    ∙ ap first_of (numbers_back (count_slot ∷ []) (n ∷ []) (omega arith, tt) (some, omega (arith, few), tt))
+    ∙ ap count_told (numbers_back (count_slot ∷ []) (n ∷ []) (omega arith, tt) (some, omega (arith, few), tt))
 
 -- ---- the whole text
 

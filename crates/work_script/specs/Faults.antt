@@ -13,15 +13,15 @@ use Rattle.work_script.specs.Reading.{WorkBody, body_from, count_slot, fault_at,
 use Rattle.work_script.specs.Reading.{numbers_of, unended}
 
 -- the number of works, by the numbers of its line
-abbrev pub first_of : Result (List ℕ) Kind → Result ℕ Kind
-first_of (Ok ns) = Ok (number_at ns 0)
-first_of (Err kind) = Err kind
+abbrev pub count_told : Result (List ℕ) Kind → Result ℕ Kind
+count_told (Ok ns) = Ok (number_at ns 0)
+count_told (Err kind) = Err kind
 
 -- the number of works, by the words of its line
 unfoldable pub count_in : List (List ℕ) → Result ℕ Kind
 count_in [] = Err BadLine
 count_in (first ∷ behind) =
-    if bytes_eq first (codes "count") then first_of (numbers_of (count_slot ∷ []) behind)
+    if bytes_eq first (codes "count") then count_told (numbers_of (count_slot ∷ []) behind)
     else Err BadLine
 
 -- what is known before the first moment

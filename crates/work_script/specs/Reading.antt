@@ -118,15 +118,15 @@ in_room k (Operation op) = nat_le k.line MOST_LINES && nat_lt k.ops MOST_OPS
 in_room k _ = nat_le k.line MOST_LINES
 
 -- what a line says, where it is in order and there is room
-abbrev pub placed : WorkKnown → WorkSaid → Result WorkSaid Kind
-placed k said =
+abbrev pub admitted : WorkKnown → WorkSaid → Result WorkSaid Kind
+admitted k said =
     if in_order k said then (if in_room k said then Ok said else Err TooManyLines)
     else Err OutOfOrder
 
 -- what a line says by its numbers, if they have no fault
 abbrev pub said_or : WorkKnown → WorkCommand → Result (List ℕ) Kind → Result WorkSaid Kind
 said_or k command (Err kind) = Err kind
-said_or k command (Ok ns) = placed k (said_by command k.line ns)
+said_or k command (Ok ns) = admitted k (said_by command k.line ns)
 
 -- what the words behind a first word say
 abbrev pub heard_behind : WorkKnown → Option WorkCommand → List (List ℕ) → Result WorkSaid Kind

@@ -5,7 +5,7 @@ ghost use Rattle.std.specs.Option.{option_copied};
 ghost use Rattle.text_words.specs.Words.{words_of};
 ghost use Rattle.work_script.specs.Faults.{count_in};
 ghost use Rattle.work_script.specs.Reading.{command_of, heard, heard_behind, in_order, in_room};
-ghost use Rattle.work_script.specs.Reading.{may_stand, numbers_of, placed, said_by, slots_of};
+ghost use Rattle.work_script.specs.Reading.{may_stand, numbers_of, admitted, said_by, slots_of};
 ghost use Rattle.work_script.specs.Steps.{AreWithin, words_behind};
 
 use crate::numbers::{NumberList, first_word, read_numbers};
@@ -124,7 +124,7 @@ fn in_room(known: &WorkKnown, said: &WorkSaid) -> bool
 
 /// What a line says, where it is in order and there is room.
 fn place(known: &WorkKnown, said: WorkSaid) -> Result<WorkSaid, Kind>
-    ensures { result ≡ placed known.now said }
+    ensures { result ≡ admitted known.now said }
 {
     if !in_order(known, &said) {
         return Err(Kind::OutOfOrder);

@@ -4,7 +4,7 @@ use Rattle.tree_plan.specs.Shape.{Shape}
 use Rattle.walk_rules.specs.declared.walk.Walk.{Walk}
 use Rattle.walk_rules.specs.declared.walk.Stage.{Stage}
 use Rattle.walk_rules.specs.declared.walk.Stage.TheVariants as stages
-use Rattle.walk_rules.specs.Clearing.{MarksFit}
+use Rattle.walk_rules.specs.Clearing.{MarksActive}
 use Rattle.walk_rules.specs.Edges.{passed_levels, passed_of}
 use Rattle.walk_rules.specs.Hierarchy.{IsHierarchy}
 use Rattle.walk_rules.specs.Scene.{Scene}
@@ -16,7 +16,7 @@ use Rattle.core_laws.proofs.Edges.Stages.{is_finish}
 use Rattle.core_laws.proofs.Edges.Claims.{law_on}
 
 -- 6 follows: at Mark the edge into the group was passed, so the group has an active child
-marks_at : (t : Shape) (s : Scene) (h : IsHierarchy t) (walks : WalksFit t s) (f : EdgesFit t s) (c : ℕ) (k : Walk) → s.walk c ≡ Some k → (st : Stage) → k.stage ≡ st → MarksFit t s c k.level st
+marks_at : (t : Shape) (s : Scene) (h : IsHierarchy t) (walks : WalksFit t s) (f : EdgesFit t s) (c : ℕ) (k : Walk) → s.walk c ≡ Some k → (st : Stage) → k.stage ≡ st → MarksActive t s c k.level st
 marks_at t s h walks f c k is stages.Own e = elim (stage_fits t s walks c k is) [
   | inl fits ↦ f.edges.active c k is (subst (FitsStage t c k.kind k.level) e fits).0
   | inr finishing ↦ absurd (true≢false (ap is_finish (sym finishing ∙ e)))

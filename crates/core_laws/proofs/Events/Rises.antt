@@ -11,7 +11,7 @@ use Rattle.tree_plan.specs.Paths.{child_towards, group_at_of}
 use Rattle.walk_rules.specs.declared.walk.Walk.{Walk}
 use Rattle.walk_rules.specs.declared.walk.Stage.{Stage}
 use Rattle.walk_rules.specs.declared.walk.Stage.TheVariants as stages
-use Rattle.walk_rules.specs.Clearing.{MarksFit}
+use Rattle.walk_rules.specs.Clearing.{MarksActive}
 use Rattle.walk_rules.specs.Edges.{edge_level, edge_of, heading}
 use Rattle.walk_rules.specs.Hierarchy.{at_top, group_on, side}
 use Rattle.walk_rules.specs.Queues.{EventsTold}
@@ -72,7 +72,7 @@ module _ (w : World) (c : ℕ) (k : Walk) (hc : c < length w.cpus) (a : BeforeSt
   pub marks_told : (more : Bool) → k.stage ≡ stages.Mark more → EventsTold w.tree (scene_of (walked w c k (stages.Mark more)))
   marks_told more e =
       let at = at_here w c k a is (stages.Mark more) e (λ z. cc) in
-      let on = subst (MarksFit w.tree (scene_of w) c k.level) e (a.marks c (forget k) (walk_is w c k a is)) (here w c k) at in
+      let on = subst (MarksActive w.tree (scene_of w) c k.level) e (a.marks c (forget k) (walk_is w c k a is)) (here w c k) at in
       let above = (fits w c k a is (stages.Mark more) e (λ z. cc)).1 in
       mark_told (stages.Mark more) e (suc k.level) above.0 (of_group (here w c k)) above.1 (through_group w.tree c k.level (here w c k) at)
       (with_walk (cpu_of w c) (mark_next more k)) (λ z off same. true≢false (sym on ∙ subst (λ i. is_on (scene_of w) i ≡ false) same off)) (λ z head. goes more z (stood (stages.Mark more) e z head))

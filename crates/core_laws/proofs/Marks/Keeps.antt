@@ -26,7 +26,7 @@ use Rattle.core_world.specs.World.{CpuRecord, World, cpu_of, group_of, moved, no
 use Rattle.core_world.proofs.Moves.{beside, cpu_else, cpu_same}
 use Rattle.core_world.proofs.Quiet.{own_field}
 use Rattle.core_laws.proofs.Walks.Stands.{free_kind, freed_kind}
-use Rattle.core_laws.specs.Marks.Layer.{MarksFit, MarkersStayFit}
+use Rattle.core_laws.specs.Marks.Layer.{PlacedAndMarked, MarkersStayFit}
 
 -- what is read of a CPU: whether it is online and inside, its mark, and whether its walk is a Reeval one
 abbrev is_reeval : WalkKind → Bool
@@ -101,7 +101,7 @@ module _ (w v : World) (c : ℕ) (y : CpuRecord) (tree : v.tree ≡ w.tree) (own
     goes_on = λ r. true≢false (sym (reevaluating v c r) ∙ (ap (λ (z : CpuRecord). reevaluates z.walk) own_is ∙ goes));
   }
 
-  one_changed : MarksFit w → (SomePlaced w → SomePlaced v) → (IsMarker w c → (y.online ≡ true) × (y.inside ≡ true) × (reevaluates y.walk ≡ false)) → ((b : ℕ) → y.mark ≡ Some b → ((cpu_of w c).mark ≡ Some b) ⊎ IsMarker v b) → MarksFit v
+  one_changed : PlacedAndMarked w → (SomePlaced w → SomePlaced v) → (IsMarker w c → (y.online ≡ true) × (y.inside ≡ true) × (reevaluates y.walk ≡ false)) → ((b : ℕ) → y.mark ≡ Some b → ((cpu_of w c).mark ≡ Some b) ⊎ IsMarker v b) → PlacedAndMarked v
   one_changed f some stays named = record {
     some_placed = some f.some_placed;
     markers = λ d b is. elim (cases_eq d c) [
@@ -134,12 +134,12 @@ module _ (w v : World) (c : ℕ) (y : CpuRecord) (tree : v.tree ≡ w.tree) (own
   placed_else d ne placed on = record { cpu = d; placed = subst (λ t. is_placed_in t d ≡ true) (sym tree) placed; online = online d ne ∙ on }
 
 -- A STEP OF THE GENERAL FORM
-module _ (w : World) (g : ℕ) (x : Group) (c : ℕ) (y : CpuRecord) (r : Bool) (hc : c < length w.cpus) (f : MarksFit w) where
+module _ (w : World) (g : ℕ) (x : Group) (c : ℕ) (y : CpuRecord) (r : Bool) (hc : c < length w.cpus) (f : PlacedAndMarked w) where
   v : World
   v = moved w g x c y r
 
   general : (SomePlaced w → SomePlaced (moved w g x c y r)) → (IsMarker w c → (y.online ≡ true) × (y.inside ≡ true) × (reevaluates y.walk ≡ false))
-      → ((b : ℕ) → y.mark ≡ Some b → ((cpu_of w c).mark ≡ Some b) ⊎ IsMarker (moved w g x c y r) b) → MarksFit (moved w g x c y r)
+      → ((b : ℕ) → y.mark ≡ Some b → ((cpu_of w c).mark ≡ Some b) ⊎ IsMarker (moved w g x c y r) b) → PlacedAndMarked (moved w g x c y r)
   general = one_changed w (moved w g x c y r) c y refl (cpu_same w g x c y r hc)
       (λ d ne. ap (λ (z : CpuRecord). z.online) (cpu_else w g x c y r d ne) ∙ beside_online w.tree r g d (cpu_of w d))
       (λ d ne. ap (λ (z : CpuRecord). z.inside) (cpu_else w g x c y r d ne) ∙ beside_inside w.tree r g d (cpu_of w d))
@@ -157,7 +157,7 @@ module _ (w : World) (g : ℕ) (x : Group) (c : ℕ) (y : CpuRecord) (r : Bool) 
   else_online d ne placed on = record { cpu = d; placed = placed; online = ap (λ (z : CpuRecord). z.online) (cpu_else w g x c y r d ne) ∙ (beside_online w.tree r g d (cpu_of w d) ∙ on) }
 
   -- online, inside and mark stay, and no Reeval walk begins
-  steady : y.online ≡ (cpu_of w c).online → y.inside ≡ (cpu_of w c).inside → y.mark ≡ (cpu_of w c).mark → (reevaluates y.walk ≡ true → reevaluates (cpu_of w c).walk ≡ true) → MarksFit (moved w g x c y r)
+  steady : y.online ≡ (cpu_of w c).online → y.inside ≡ (cpu_of w c).inside → y.mark ≡ (cpu_of w c).mark → (reevaluates y.walk ≡ true → reevaluates (cpu_of w c).walk ≡ true) → PlacedAndMarked (moved w g x c y r)
   steady on in_it mark goes = general (stays_online on) (λ m. (on ∙ m.online, in_it ∙ m.inside, either (reevaluates y.walk) (λ e. m.goes_on (is_reevaluating w c (goes e))))) (λ b e. inl (sym mark ∙ e))
     where
       either : (q : Bool) → (q ≡ true → ⊥) → q ≡ false
@@ -188,18 +188,18 @@ begun_reeval false kinds.Offline stage pin next e = refl
 begun_reeval false kinds.Reeval stage pin next e = absurd (true≢false e)
 begun_reeval false (kinds.Remote by) stage pin next e = refl
 
-module _ (w : World) (c : ℕ) (k : Walk) (hc : c < length w.cpus) (f : MarksFit w) (is : (cpu_of w c).walk ≡ Some k) where
-  on_walk : (g : ℕ) (x : Group) (m : Option Walk) (r : Bool) → (reevaluates m ≡ true → is_reeval k.kind ≡ true) → MarksFit (moved w g x c (with_walk (cpu_of w c) m) r)
+module _ (w : World) (c : ℕ) (k : Walk) (hc : c < length w.cpus) (f : PlacedAndMarked w) (is : (cpu_of w c).walk ≡ Some k) where
+  on_walk : (g : ℕ) (x : Group) (m : Option Walk) (r : Bool) → (reevaluates m ≡ true → is_reeval k.kind ≡ true) → PlacedAndMarked (moved w g x c (with_walk (cpu_of w c) m) r)
   on_walk g x m r goes = steady w g x c (with_walk (cpu_of w c) m) r hc f refl refl refl (λ e. ap reevaluates is ∙ goes e)
 
-  on_some : (g : ℕ) (x : Group) (j : Walk) (r : Bool) → j.kind ≡ k.kind → MarksFit (moved w g x c (with_walk (cpu_of w c) (Some j)) r)
+  on_some : (g : ℕ) (x : Group) (j : Walk) (r : Bool) → j.kind ≡ k.kind → PlacedAndMarked (moved w g x c (with_walk (cpu_of w c) (Some j)) r)
   on_some g x j r same = on_walk g x (Some j) r (λ e. ap is_reeval (sym same) ∙ e)
 
-  swap_marks : (fresh : Bool) → MarksFit (swapped w c k fresh)
+  swap_marks : (fresh : Bool) → PlacedAndMarked (swapped w c k fresh)
   swap_marks true = on_some _ _ (swap_next true k) true refl
   swap_marks false = on_some 0 (group_of w 0) (swap_next false k) false refl
 
-  finish : (kind : WalkKind) → k.kind ≡ kind → MarksFit (own w c (finished (cpu_of w c) k kind))
+  finish : (kind : WalkKind) → k.kind ≡ kind → PlacedAndMarked (own w c (finished (cpu_of w c) k kind))
   finish kinds.Activate same = on_walk 0 (group_of w 0) None false (λ e. absurd (true≢false (sym e)))
   finish kinds.Deactivate same = steady w 0 (group_of w 0) c (finished (cpu_of w c) k kinds.Deactivate) false hc f refl refl refl (λ e. absurd (true≢false (sym e)))
   finish kinds.Offline same = on_walk 0 (group_of w 0) (cond (k.first == NEVER) None (Some (at_stage k stages.Handing))) false (handing_reeval (k.first == NEVER) k)
@@ -208,7 +208,7 @@ module _ (w : World) (c : ℕ) (k : Walk) (hc : c < length w.cpus) (f : MarksFit
   finish (kinds.Remote by) same = general w 0 (group_of w 0) c (finished (cpu_of w c) k (kinds.Remote by)) false hc f (stays_online w 0 (group_of w 0) c (finished (cpu_of w c) k (kinds.Remote by)) false hc f refl)
       (λ m. (m.online, m.inside, refl)) (λ b e. absurd (none-some b e))
 
-  by_stage : (st : Stage) → MayGoOn w c k st → MarksFit (walked w c k st)
+  by_stage : (st : Stage) → MayGoOn w c k st → PlacedAndMarked (walked w c k st)
   by_stage stages.Own may = on_some _ _ _ false refl
   by_stage stages.Up may = on_walk _ _ _ true (up_reeval _ _ k)
   by_stage (stages.Mark more) may = on_walk _ _ _ false (mark_reeval more k)
@@ -239,7 +239,7 @@ two_field w from to m hf ht f ea eb d = elim (cases_eq d to) [
   ]
 ]
 
-move_marks : (w : World) (from to : ℕ) (m : Option (Class × Item)) → from < length w.cpus → to < length w.cpus → MarksFit w → MarksFit (moved_with w from to m)
+move_marks : (w : World) (from to : ℕ) (m : Option (Class × Item)) → from < length w.cpus → to < length w.cpus → PlacedAndMarked w → PlacedAndMarked (moved_with w from to m)
 move_marks w from to None hf ht f = f
 move_marks w from to (Some m) hf ht f = record {
   some_placed = record { cpu = f.some_placed.cpu; placed = f.some_placed.placed; online = two_field w from to m hf ht (λ z. z.online) refl refl f.some_placed.cpu ∙ f.some_placed.online };
@@ -254,7 +254,7 @@ move_marks w from to (Some m) hf ht f = record {
 }
 
 -- no mark names the CPU: whatever becomes of it, marks fit
-leave_marks : (w : World) (c : ℕ) (y : CpuRecord) → c < length w.cpus → MarksFit w → ((d : ℕ) → (cpu_of w d).mark ≡ Some c → ⊥) → y.online ≡ (cpu_of w c).online → y.mark ≡ (cpu_of w c).mark → MarksFit (own w c y)
+leave_marks : (w : World) (c : ℕ) (y : CpuRecord) → c < length w.cpus → PlacedAndMarked w → ((d : ℕ) → (cpu_of w d).mark ≡ Some c → ⊥) → y.online ≡ (cpu_of w c).online → y.mark ≡ (cpu_of w c).mark → PlacedAndMarked (own w c y)
 leave_marks w c y hc f nobody on mark = record {
   some_placed = stays_online w 0 (group_of w 0) c y false hc f on f.some_placed;
   markers = λ d b is.
@@ -276,7 +276,7 @@ leave_marks w c y hc f nobody on mark = record {
     ]
 
 -- the marker of a Take fits
-taker_fits : (w : World) (c b : ℕ) → c < length w.cpus → MarksFit w → is_placed_in w.tree b ≡ true → (cpu_of w b).online ≡ true → (cpu_of w b).inside ≡ true → (IsReevaluating w b → ⊥) → IsMarker (own w c (record (cpu_of w c) { mark = Some b })) b
+taker_fits : (w : World) (c b : ℕ) → c < length w.cpus → PlacedAndMarked w → is_placed_in w.tree b ≡ true → (cpu_of w b).online ≡ true → (cpu_of w b).inside ≡ true → (IsReevaluating w b → ⊥) → IsMarker (own w c (record (cpu_of w c) { mark = Some b })) b
 taker_fits w c b hc f placed on in_it goes = record {
   placed = placed;
   online = field (λ z. z.online) refl ∙ on;
@@ -306,7 +306,7 @@ markers_stay_fit w (steps.Leave cpu) p f e =
     let y : CpuRecord = record (cpu_of w cpu.0) { inside = false } in
     leave_marks w cpu.0 y e.is_free.in_range f e.marks_nobody refl refl
 markers_stay_fit w (steps.Move from to timer) p f e = move_marks w from.0 to.0 (first_moved (cpu_of w from.0).bases) e.from_free.in_range e.to_free.in_range f
-markers_stay_fit w (steps.Walk cpu) p f e = subst (λ m. MarksFit (walk_made w cpu.0 m)) (sym e.walk) (by_stage w cpu.0 e.made e.in_range f e.walk e.made.stage e.may_go_on)
+markers_stay_fit w (steps.Walk cpu) p f e = subst (λ m. PlacedAndMarked (walk_made w cpu.0 m)) (sym e.walk) (by_stage w cpu.0 e.made e.in_range f e.walk e.made.stage e.may_go_on)
 markers_stay_fit w (steps.HandOn cpu to) p f e = on_walk w cpu.0 e.made e.in_range f e.walk 0 (group_of w 0) None false (λ q. absurd (true≢false (sym q)))
 markers_stay_fit w (steps.Arm cpu timer class expires job arg line) p f e = steady w 0 (group_of w 0) cpu.0 _ false e.is_free.in_range f refl refl refl (λ q. q)
 markers_stay_fit w (steps.Cancel cpu timer by line) p f e = steady w 0 (group_of w 0) cpu.0 _ false e.0.is_free.in_range f refl refl refl (λ q. q)

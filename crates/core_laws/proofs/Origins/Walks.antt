@@ -12,7 +12,7 @@ use Rattle.event_queue.specs.declared.event.Event.{Event}
 use Rattle.cpu_bases.specs.declared.entry.Act.{Act}
 use Rattle.cpu_bases.specs.declared.entry.Act.TheVariants.{Armed, Handed, Cancelled, MovedOut}
 use Rattle.cpu_bases.specs.declared.entry.Act.TheVariants.{MovedIn, Ticked}
-use Rattle.cpu_bases.specs.CpuBases.{events_of, first_of}
+use Rattle.cpu_bases.specs.CpuBases.{events_of, first_expiry}
 use Rattle.cpu_bases.specs.Laws.{is_arming}
 use Rattle.cpu_bases.proofs.Queued.{first_was_armed}
 use Rattle.walk_rules.specs.declared.walk.Walk.{Walk}
@@ -40,7 +40,7 @@ arms MovedOut is = absurd (true≢false (sym is))
 arms Ticked is = absurd (true≢false (sym is))
 
 module _ (w : World) (f : TimersFit w) (c : ℕ) where
-  pub first_origin : (class : Class) → HasOrigin w (first_of class (cpu_of w c).bases)
+  pub first_origin : (class : Class) → HasOrigin w (first_expiry class (cpu_of w c).bases)
   first_origin class = elim (first_was_armed (cpu_of w c).bases class (f.timers.consistent c)) [
     | inl never ↦ inl never
     | inr armed ↦ inr (record {
@@ -56,13 +56,13 @@ module _ (w : World) (f : TimersFit w) (c : ℕ) where
   pub pin_origin : HasOrigin w (events_of (cpu_of w c).bases).pin
   pin_origin = first_origin Pinned
 
-  either : (q : Bool) → HasOrigin w (cond q (first_of Global (cpu_of w c).bases) NEVER)
+  either : (q : Bool) → HasOrigin w (cond q (first_expiry Global (cpu_of w c).bases) NEVER)
   either true = first_origin Global
   either false = inl refl
 
   pub next_origin : HasOrigin w (events_of (cpu_of w c).bases).next
-  next_origin = either (nat_lt (first_of Global (cpu_of w c).bases)
-      (first_of Pinned (cpu_of w c).bases))
+  next_origin = either (nat_lt (first_expiry Global (cpu_of w c).bases)
+      (first_expiry Pinned (cpu_of w c).bases))
 
 -- A WALK BEGINS
 start : (w : World) (c : ℕ) (kind : WalkKind) (stage : Stage) (pin next first : ℕ) → HasOrigin w pin

@@ -37,7 +37,7 @@ agrees_empty Deferrable = refl
 fits_empty : BaseFits empty_base
 fits_empty = record {
   clock = omega arith;
-  sound = record { distinct = tt; placed = All-nil _ };
+  sound = record { distinct = tt; in_wheel = All-nil _ };
   timers = All-nil _;
 }
 

@@ -9,7 +9,7 @@ use Rattle.cpu_bases.specs.declared.entry.Act.TheVariants.{Armed, MovedIn}
 use Rattle.cpu_bases.specs.CpuBases.{CpuBases, IsConsistent, after_cancel, after_move_out, base_of}
 use Rattle.cpu_bases.specs.CpuBases.{cancelled, class_in, found_in, handed_out, moved_in, armed}
 use Rattle.cpu_bases.specs.CpuBases.{moved_out, oldest_in}
-use Rattle.cpu_bases.specs.Journals.{MayHand}
+use Rattle.cpu_bases.specs.Journals.{MayHandOut}
 use Rattle.cpu_bases.specs.Laws.{MayQueue}
 use Rattle.cpu_bases.proofs.Keeping.{arming_keeps, cancelled_gone, cancelling_keeps}
 use Rattle.cpu_bases.proofs.Keeping.{handing_out_keeps, moving_in_keeps, moving_out_keeps}
@@ -59,7 +59,7 @@ module _ (w : World) (c : ℕ) (f : TimersFit w) where
             (λ Q. each_cancelled Q w.clock timer line by (cpu_of w c).bases);
       }
 
-  pub handed_out_fits : (class : Class) (by : CpuId) → MayHand c class by.0
+  pub handed_out_fits : (class : Class) (by : CpuId) → MayHandOut c class by.0
       → FitsAt w c (handed_out w.clock class by (cpu_of w c).bases)
   handed_out_fits class by may =
       let in_time = f.times.clock in

@@ -10,11 +10,11 @@ use Rattle.tm_base.specs.declared.names.Class.{Class}
 use Rattle.tm_base.specs.declared.names.Class.TheVariants.{Pinned, Global, Deferrable}
 use Rattle.tm_base.specs.declared.names.CpuId.{CpuId}
 use Rattle.wheel_core.specs.declared.item.Item.{Item}
-use Rattle.wheel_core.specs.PlainBase.{IsPlaced, NoneBehind}
+use Rattle.wheel_core.specs.PlainBase.{FitsWheel, NoneBehind}
 use Rattle.wheel_core.proofs.Ids.{item_holds}
 use Rattle.cpu_bases.specs.CpuBases.{CpuBases, armed, base_of, class_in, found_or, moved_in}
 use Rattle.cpu_bases.specs.CpuBases.{oldest_in}
-use Rattle.cpu_bases.specs.Journals.{MayHand}
+use Rattle.cpu_bases.specs.Journals.{MayHandOut}
 use Rattle.cpu_bases.proofs.Keeping.{oldest_found}
 use Rattle.core_world.specs.declared.step.Step.{Step}
 use Rattle.core_world.specs.declared.step.Step.TheVariants as steps
@@ -46,11 +46,11 @@ own_fit w c y hc f fits = grouped_fit (with_cpu w c y) (own w c y).groups (set_f
 
 -- who may run timers of a class may hand them out
 may_hand : (w : World) (c : ℕ) (class : Class) (runner : ℕ) → MayRun w c class runner
-    → MayHand c class runner
+    → MayHandOut c class runner
 may_hand w c Pinned runner (inl own) = own.0
 may_hand w c Global runner (inl own) = tt
 may_hand w c Deferrable runner (inl own) = own.0
-may_hand w c class runner (inr marked) = subst (λ k. MayHand c k runner) (sym marked.0) tt
+may_hand w c class runner (inr marked) = subst (λ k. MayHandOut c k runner) (sym marked.0) tt
 
 hand : (w : World) (c : ℕ) (class : Class) (by : CpuId) → TimersFit w → MayRun w c class by.0
     → (m : Option Class) → m ≡ Some class → FitsAt w c (handed_of w.clock m by (cpu_of w c).bases)
@@ -126,8 +126,8 @@ module _ (w : World) (from to timer : ℕ) (f : TimersFit w) (e : MayMove w from
       let in_time = f.times.clock in
       let fits = (f.timers.consistent from).fits e.class in
       let found = oldest_found (base_of e.class (cpu_of w from).bases).items e.item oldest in
-      let placed = item_holds IsPlaced e.item.id (base_of e.class (cpu_of w from).bases).items
-      e.item fits.sound.placed found in
+      let placed = item_holds FitsWheel e.item.id (base_of e.class (cpu_of w from).bases).items
+      e.item fits.sound.in_wheel found in
       let small = item_holds (λ i. i.id < 2 ^ 16) e.item.id
       (base_of e.class (cpu_of w from).bases).items e.item fits.timers found in
       let none = gone to in

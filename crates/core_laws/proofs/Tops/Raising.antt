@@ -9,7 +9,7 @@ use Rattle.tree_plan.specs.Paths.{group_at_of}
 use Rattle.walk_rules.specs.declared.walk.Walk.{Walk}
 use Rattle.walk_rules.specs.declared.walk.WalkKind.TheVariants as kinds
 use Rattle.walk_rules.specs.declared.walk.Stage.TheVariants as stages
-use Rattle.walk_rules.specs.Clearing.{MarksFit}
+use Rattle.walk_rules.specs.Clearing.{MarksActive}
 use Rattle.walk_rules.specs.Hierarchy.{HasGroup, at_top, group_on, side}
 use Rattle.walk_rules.specs.Edges.{edge_level}
 use Rattle.walk_rules.specs.Scene.{Group}
@@ -136,7 +136,7 @@ module _ (w : World) (c : ℕ) (k : Walk) (hc : c < length w.cpus) (b : Before w
   mark_own false at h child e top was off event counts leaf by =
       let kind = (fits w c k hc b is (stages.Mark false) at (λ z. cc)).0 in
       let g = (b.walks.placed.in_tree c (forget k) (walk_is w c k hc b is) leaf).there in
-      let on = subst (MarksFit w.tree (scene_of w) c k.level) at
+      let on = subst (MarksActive w.tree (scene_of w) c k.level) at
       (b.marks c (forget k) (walk_is w c k hc b is)) g.0 g.1 in
       let rising =
       group_rises w.tree (scene_of w) b.tree b.walks b.edges c k.level g.0 g.1 on top.cpu

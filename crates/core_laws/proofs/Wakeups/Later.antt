@@ -8,7 +8,7 @@ use Rattle.tm_base.specs.declared.names.Class.{Class}
 use Rattle.tm_base.specs.declared.names.Class.TheVariants.{Pinned, Global, Deferrable}
 use Rattle.tm_base.specs.declared.names.CpuId.{CpuId}
 use Rattle.wheel_core.specs.declared.item.Item.{Item}
-use Rattle.wheel_core.specs.PlainBase.{PlainBase, IsPlaced, after_out, least, next_out, sooner, without}
+use Rattle.wheel_core.specs.PlainBase.{PlainBase, FitsWheel, after_out, least, next_out, sooner, without}
 use Rattle.cpu_bases.specs.declared.entry.Entry.{Entry}
 use Rattle.cpu_bases.specs.CpuBases.{CpuBases, IsConsistent, after_cancel, after_hand_out, base_of, cancelled, changed, events_of, found_in, handed_out}
 use Rattle.core_world.specs.Steps.{handed_of}
@@ -61,7 +61,7 @@ changed_later Global base entry cpu h = record { pin = omega arith; first_global
 changed_later Deferrable base entry cpu h = record { pin = omega arith; first_global = omega arith }
 
 pub in_time : (cpu : CpuBases) → IsConsistent cpu → (class : Class) → InTime (base_of class cpu).items
-in_time cpu consistent class = All-weaker IsPlaced (λ item. item.wheel ≤ NEVER) (λ item placed. omega (arith, placed.wheel)) (base_of class cpu).items (consistent.fits class).sound.placed
+in_time cpu consistent class = All-weaker FitsWheel (λ item. item.wheel ≤ NEVER) (λ item placed. omega (arith, placed.wheel)) (base_of class cpu).items (consistent.fits class).sound.in_wheel
 
 out_later : (base : PlainBase) (out : Option Item) → InTime base.items → first_in base.items ≤ first_in (after_out base out).items
 out_later base None low = omega arith

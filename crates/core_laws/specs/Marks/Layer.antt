@@ -7,11 +7,11 @@ use Rattle.core_world.specs.World.{World}
 use Rattle.core_laws.specs.Cpus.Layer.{CpusFit}
 
 -- SOMEPLACED and 9b of the invariant: a placed CPU is online, and marks name who may have set them
-pub record MarksFit (w : World) : Type 0 where
+pub record PlacedAndMarked (w : World) : Type 0 where
   pub some_placed : SomePlaced w
   pub markers : MarkersFit w
 
 -- THE LAW
 abbrev pub MarkersStayFit : Type 0
-MarkersStayFit = (w : World) (step : Step) → CpusFit w → MarksFit w → Enabled w step →
-    MarksFit (stepped w step)
+MarkersStayFit = (w : World) (step : Step) → CpusFit w → PlacedAndMarked w → Enabled w step →
+    PlacedAndMarked (stepped w step)

@@ -45,12 +45,12 @@ Answers w c (covers.Migrator g m) = IsHeldBy w c g.0 m.0
 Answers w c (covers.Wake d at) = IsWokenBy w c d.0 at
 
 -- what is said of a CPU that keeps a wakeup
-record Keeps (y : CpuRecord) (at : ℕ) : Type 0 where
+record KeepsAt (y : CpuRecord) (at : ℕ) : Type 0 where
   online : y.online ≡ true
   idle : y.idle ≡ true
   wakeup : y.wakeup ≡ at
 
-keeper : (y : CpuRecord) (at : ℕ) → kept_wakeup y ≡ Some at → Keeps y at
+keeper : (y : CpuRecord) (at : ℕ) → kept_wakeup y ≡ Some at → KeepsAt y at
 keeper y at is =
     let rest = not y.inside && is_undisturbed y.walk in
     elim (cases_Bool (y.online && (y.idle && rest))) [

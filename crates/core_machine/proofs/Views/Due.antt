@@ -10,7 +10,7 @@ use Rattle.std.proofs.lemmas.Bool.{false_from_ne_true, le-ltb, leb-true, lt-ltb,
 use Rattle.std.proofs.lemmas.Bool.{le-leb, not-true, not_from_false}
 use Rattle.tm_base.specs.CpuSet.{Cpus}
 use Rattle.event_queue.specs.declared.event.Event.{Event}
-use Rattle.event_queue.specs.EventMap.{EventMap, IsDue, IsFirst, NoneFits, event_at}
+use Rattle.event_queue.specs.EventMap.{EventMap, IsTakenUp, IsFirst, NoneFits, event_at}
 use Rattle.walk_rules.specs.Stages.{sooner_event}
 use Rattle.step_play.specs.Rules.Live.{due_only, first_due_in, is_due}
 
@@ -28,14 +28,14 @@ module _ (time : ℕ) (tried : Cpus) where
   ignored_out (Some b) e out =
       ap (λ v. cond v (Some b) (cond (nat_lt e.expiry b.expiry) (Some e) (Some b))) out
 
-  tested : (e : Event) → IsDue time tried e → is_due time tried e ≡ true
+  tested : (e : Event) → IsTakenUp time tried e → is_due time tried e ≡ true
   tested e due =
       and_from (nat_le e.expiry time) (not (contains tried e.cpu.0)) (le-leb e.expiry time due.come)
       (not_from_false (contains tried e.cpu.0)
       (false_from_ne_true (contains tried e.cpu.0) due.untried))
 
   -- an event that isn't due changes nothing
-  passed_over : (best : Option Event) (e : Event) → (IsDue time tried e → ⊥) →
+  passed_over : (best : Option Event) (e : Event) → (IsTakenUp time tried e → ⊥) →
       more_due best (Some e) ≡ best
   passed_over best e apart = elim (cases_Bool (is_due time tried e)) [
     | inr other ↦ ap (λ b. sooner_event best (cond b (Some e) None)) other ∙ none_more best
@@ -60,7 +60,7 @@ module _ (time : ℕ) (tried : Cpus) where
   IsBefore e None = Unit {0}
   IsBefore e (Some b) = e.expiry < b.expiry
 
-  taken_up : (best : Option Event) (e : Event) → IsDue time tried e → IsBefore e best →
+  taken_up : (best : Option Event) (e : Event) → IsTakenUp time tried e → IsBefore e best →
       more_due best (Some e) ≡ Some e
   taken_up best e due before =
       ap (λ b. sooner_event best (cond b (Some e) None)) (tested e due) ∙ by best before
@@ -71,7 +71,7 @@ module _ (time : ℕ) (tried : Cpus) where
           ap (λ v. cond v (Some b) (cond (nat_lt e.expiry b.expiry) (Some e) (Some b))) due.counts
           ∙ ap (λ v. cond v (Some e) (Some b)) (lt-ltb e.expiry b.expiry less)
 
-  left_as : (b e : Event) → IsDue time tried e → b.expiry ≤ e.expiry →
+  left_as : (b e : Event) → IsTakenUp time tried e → b.expiry ≤ e.expiry →
       more_due (Some b) (Some e) ≡ Some b
   left_as b e due low =
       ap (λ v. sooner_event (Some b) (cond v (Some e) None)) (tested e due)
@@ -80,7 +80,7 @@ module _ (time : ℕ) (tried : Cpus) where
 
   -- of two outcomes
   due_or_not : (e : Event) → (b : Bool) → is_due time tried e ≡ b → (v : Bool) → e.ignored ≡ v →
-      IsDue time tried e ⊎ (IsDue time tried e → ⊥)
+      IsTakenUp time tried e ⊎ (IsTakenUp time tried e → ⊥)
   due_or_not e false is v ignored = inr (λ due. true≢false (sym (tested e due) ∙ is))
   due_or_not e true is true ignored = inr (λ due. true≢false (sym ignored ∙ due.counts))
   due_or_not e true is false ignored =
@@ -95,27 +95,27 @@ module _ (time : ℕ) (tried : Cpus) where
   abbrev searched : Option Event → EventMap → Option Event
   searched best events = fold more_due best events
 
-  none_due : (events : EventMap) (best : Option Event) → NoneFits (IsDue time tried) events →
+  none_due : (events : EventMap) (best : Option Event) → NoneFits (IsTakenUp time tried) events →
       searched best events ≡ best
   none_due [] best none = refl
   none_due (slot ∷ events) best none =
       ap (λ o. searched o events) (here slot (none 0))
       ∙ none_due events best (λ k. none (suc k))
     where
-      here : (o : Option Event) → ((e : Event) → o ≡ Some e → IsDue time tried e → ⊥) →
+      here : (o : Option Event) → ((e : Event) → o ≡ Some e → IsTakenUp time tried e → ⊥) →
           more_due best o ≡ best
       here None each = none_more best
       here (Some e) each = passed_over best e (each e refl)
 
   none_sooner : (events : EventMap) (b : Event) →
-      ((k : ℕ) (e : Event) → event_at events k ≡ Some e → IsDue time tried e →
+      ((k : ℕ) (e : Event) → event_at events k ≡ Some e → IsTakenUp time tried e →
       b.expiry ≤ e.expiry) → searched (Some b) events ≡ Some b
   none_sooner [] b later = refl
   none_sooner (slot ∷ events) b later =
       ap (λ o. searched o events) (here slot (later 0))
       ∙ none_sooner events b (λ k. later (suc k))
     where
-      here : (o : Option Event) → ((e : Event) → o ≡ Some e → IsDue time tried e →
+      here : (o : Option Event) → ((e : Event) → o ≡ Some e → IsTakenUp time tried e →
           b.expiry ≤ e.expiry) → more_due (Some b) o ≡ Some b
       here None each = refl
       here (Some e) each = elim (due_or_not e (is_due time tried e) refl e.ignored refl) [
@@ -125,11 +125,11 @@ module _ (time : ℕ) (tried : Cpus) where
 
   -- each due event of the queue is later, or stands behind child k
   abbrev Follows : ℕ → Event → EventMap → Type 0
-  Follows k e events = (j : ℕ) (f : Event) → event_at events j ≡ Some f → IsDue time tried f →
+  Follows k e events = (j : ℕ) (f : Event) → event_at events j ≡ Some f → IsTakenUp time tried f →
       (e.expiry < f.expiry) ⊎ ((e.expiry ≤ f.expiry) × (k ≤ j))
 
   first_is : (events : EventMap) (k : ℕ) (e : Event) (best : Option Event) → IsBefore e best →
-      event_at events k ≡ Some e → IsDue time tried e → Follows k e events →
+      event_at events k ≡ Some e → IsTakenUp time tried e → Follows k e events →
       searched best events ≡ Some e
   first_is [] k e best before there due follows = cc
   first_is (slot ∷ events) zero e best before there due follows =
@@ -145,7 +145,7 @@ module _ (time : ℕ) (tried : Cpus) where
         | inr low ↦ inr (low.0, (let far = low.1 in omega (arith, far)))
       ])
     where
-      still : (o : Option Event) → ((f : Event) → o ≡ Some f → IsDue time tried f →
+      still : (o : Option Event) → ((f : Event) → o ≡ Some f → IsTakenUp time tried f →
           (e.expiry < f.expiry) ⊎ ((e.expiry ≤ f.expiry) × (suc k ≤ 0))) →
           IsBefore e (more_due best o)
       still None each = subst (IsBefore e) (sym (none_more best)) before
@@ -157,7 +157,7 @@ module _ (time : ℕ) (tried : Cpus) where
         ]
       ]
         where
-          by : (o : Option Event) → IsBefore e o → IsDue time tried f → e.expiry < f.expiry →
+          by : (o : Option Event) → IsBefore e o → IsTakenUp time tried f → e.expiry < f.expiry →
               IsBefore e (more_due o (Some f))
           by None was fits less =
               subst (IsBefore e) (sym (taken_up None f fits tt)) less
@@ -168,7 +168,7 @@ module _ (time : ℕ) (tried : Cpus) where
 
   -- WHAT IS FOUND
   pub found_due : (events : EventMap) (k : ℕ) (e : Event) →
-      IsFirst (IsDue time tried) events k e → first_due_in time tried events ≡ Some e
+      IsFirst (IsTakenUp time tried) events k e → first_due_in time tried events ≡ Some e
   found_due events k e first =
       first_is events k e None tt first.there first.fits follows
     where
@@ -181,6 +181,6 @@ module _ (time : ℕ) (tried : Cpus) where
                 let low = p.expiry in inr (low, p.child (omega (arith, low, high)))
           ]
 
-  pub found_none : (events : EventMap) → NoneFits (IsDue time tried) events →
+  pub found_none : (events : EventMap) → NoneFits (IsTakenUp time tried) events →
       first_due_in time tried events ≡ None
   found_none events none = none_due events None none

@@ -11,7 +11,7 @@ use Rattle.tree_plan.proofs.Below.{below_laws, paths, placed_laws}
 use Rattle.play_rules.specs.Hierarchy.{is_number, looks_after, looks_after_where, looks_at}
 use Rattle.play_rules.specs.Hierarchy.{number_towards}
 use Rattle.event_queue.specs.declared.event.Event.{Event}
-use Rattle.event_queue.specs.EventMap.{EventMap, IsDue, IsFirst, NoneFits, event_at}
+use Rattle.event_queue.specs.EventMap.{EventMap, IsTakenUp, IsFirst, NoneFits, event_at}
 use Rattle.walk_rules.specs.Hierarchy.{side}
 use Rattle.core_world.specs.Lawful.{IsLawful}
 use Rattle.walk_rules.specs.Stages.{forget}
@@ -82,16 +82,16 @@ module _ (w : World) (g time : ℕ) (tried : Cpus) (events : EventMap) (now : ti
       ≡ option_map (λ (e : Event). e.cpu.0) (first_due_in time tried events)
   named_by = λ i. option_map (λ (e : Event). e.cpu.0) (first_due_in (sym now i) tried (sym are i))
 
-  pub named_first : (k : ℕ) (e : Event) → IsFirst (IsDue time tried) events k e →
+  pub named_first : (k : ℕ) (e : Event) → IsFirst (IsTakenUp time tried) events k e →
       named_at w tried g ≡ Some e.cpu.0
   named_first k e first =
       named_by ∙ ap (option_map (λ (x : Event). x.cpu.0)) (found_due time tried events k e first)
 
-  pub named_nobody : NoneFits (IsDue time tried) events → named_at w tried g ≡ None
+  pub named_nobody : NoneFits (IsTakenUp time tried) events → named_at w tried g ≡ None
   named_nobody none =
       named_by ∙ ap (option_map (λ (x : Event). x.cpu.0)) (found_none time tried events none)
 
   pub first_within : IsLawful w → IsPlanned w.tree → (k : ℕ) (e : Event) →
-      IsFirst (IsDue time tried) events k e → e.cpu.0 < length w.cpus
+      IsFirst (IsTakenUp time tried) events k e → e.cpu.0 < length w.cpus
   first_within lawful planned k e first =
       event_within w lawful planned g k e (ap (λ m. event_at m k) (sym are) ∙ first.there)

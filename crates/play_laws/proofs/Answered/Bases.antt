@@ -13,7 +13,7 @@ use Rattle.tm_base.specs.declared.names.CpuId.{CpuId}
 use Rattle.wheel_core.specs.declared.item.Item.{Item}
 use Rattle.wheel_core.specs.WheelExpiry.{cutoff, greatest_timeout, wheel_expiry_of}
 use Rattle.wheel_core.specs.PlainBase.{PlainBase, added, after_out, first_out, forwarded, least}
-use Rattle.wheel_core.specs.PlainBase.{next_out, out_at, placed, removed, taken}
+use Rattle.wheel_core.specs.PlainBase.{next_out, out_at, item_added, removed, taken}
 use Rattle.wheel_core.proofs.HandOut.{goes_out}
 use Rattle.wheel_core.proofs.Ids.{all_without}
 use Rattle.wheel_core.proofs.Levels.{ends, keeps_time}
@@ -168,7 +168,7 @@ module _ (now : ℕ) (in_time : now < SCRIPT_TIME_LIMIT) where
       let low : (forwarded time base).clock ≤ now + 1 = omega (arith, near, forward, soon) in
       let comes = wheel_comes expires (forwarded time base).clock (omega (arith, low, in_time)) in
       record {
-        all = All-push Comes base.items (placed (forwarded time base).clock id expires job arg)
+        all = All-push Comes base.items (item_added (forwarded time base).clock id expires job arg)
             holds.all comes;
         near = low;
       }

@@ -11,7 +11,7 @@ use Rattle.wheel_core.proofs.Leasts.{least_below, least_none}
 use Rattle.wheel_core.proofs.Plain.{none_behind}
 use Rattle.tree_plan.specs.Shape.{Shape, IsPlanned}
 use Rattle.tree_plan.specs.Paths.{has_group_in}
-use Rattle.cpu_bases.specs.CpuBases.{CpuBases, base_of, events_of, first_of}
+use Rattle.cpu_bases.specs.CpuBases.{CpuBases, base_of, events_of, first_expiry}
 use Rattle.play_rules.specs.State.{Cpu}
 use Rattle.play_laws.proofs.Answered.Bases.{Comes, IsBase}
 use Rattle.play_laws.proofs.Answered.Invariant.{Answers, Fits, InTime, Invariant, Later, Led, SomeWakes}
@@ -46,21 +46,21 @@ next_in b = (events_of b).next
 abbrev pub told_in : (grouped : Bool) → CpuBases → ℕ
 told_in grouped b = if grouped then next_in b else NEVER
 
-pinned_first : (b : CpuBases) → All (Later (first_of Pinned b)) (base_of Pinned b).items
+pinned_first : (b : CpuBases) → All (Later (first_expiry Pinned b)) (base_of Pinned b).items
 pinned_first b = first_below (base_of Pinned b).items (least (base_of Pinned b).items) refl
 
-global_first : (b : CpuBases) → All (Later (first_of Global b)) (base_of Global b).items
+global_first : (b : CpuBases) → All (Later (first_expiry Global b)) (base_of Global b).items
 global_first b = first_below (base_of Global b).items (least (base_of Global b).items) refl
 
 -- the next global event is the first one where that comes before the pinned ones, and else none
 record IsNext (b : CpuBases) : Type 0 where
-  first : first_of Global b < first_of Pinned b → next_in b ≡ first_of Global b
-  covered : first_of Pinned b ≤ first_of Global b → next_in b ≡ NEVER
+  first : first_expiry Global b < first_expiry Pinned b → next_in b ≡ first_expiry Global b
+  covered : first_expiry Pinned b ≤ first_expiry Global b → next_in b ≡ NEVER
 
 next_is : (b : CpuBases) → IsNext b
 next_is b = record {
-  first = λ before. rw (lt-ltb (first_of Global b) (first_of Pinned b) before) refl;
-  covered = λ behind. rw (le-ltb (first_of Global b) (first_of Pinned b) behind) refl;
+  first = λ before. rw (lt-ltb (first_expiry Global b) (first_expiry Pinned b) before) refl;
+  covered = λ behind. rw (le-ltb (first_expiry Global b) (first_expiry Pinned b) behind) refl;
 }
 
 module _ (now : ℕ) (b : CpuBases) (pinned : IsBase Comes now (base_of Pinned b))
@@ -70,7 +70,7 @@ module _ (now : ℕ) (b : CpuBases) (pinned : IsBase Comes now (base_of Pinned b
       → All (InTime (min (pin_in b) duty) (told_in grouped b)) (base_of Global b).items
   programmed_global grouped duty own k d low =
       let first = global_first b k d low in
-      elim (cases_lt (first_of Global b) (first_of Pinned b)) [
+      elim (cases_lt (first_expiry Global b) (first_expiry Pinned b)) [
         | inl before ↦
             let next = (next_is b).first before in
             elim (cases_Bool grouped) [
@@ -96,7 +96,7 @@ module _ (now : ℕ) (b : CpuBases) (pinned : IsBase Comes now (base_of Pinned b
       elim (cases_Bool grouped) [
         | inl is ↦
             let same : told_in grouped b ≡ next_in b = ap (λ g. told_in g b) is in
-            elim (cases_lt (first_of Global b) (first_of Pinned b)) [
+            elim (cases_lt (first_expiry Global b) (first_expiry Pinned b)) [
               | inl before ↦ let next = (next_is b).first before in
                   inr (omega (arith, first, same, next))
               | inr behind ↦

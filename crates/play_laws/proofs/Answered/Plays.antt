@@ -35,7 +35,7 @@ use Rattle.play_laws.proofs.Answered.Scripts.{moments_in, moments_rise, planned_
 use Rattle.play_laws.proofs.Answered.Settles.{AreOnline, Begun, Inside, IsAt, Leaving, Looking, Moving}
 use Rattle.play_laws.proofs.Answered.Settles.{Settles, Taking, Whole, due_online, ended_at, ended_online}
 use Rattle.play_laws.proofs.Answered.Settles.{later_kept, looker_grouped, low_in, named_sleeper}
-use Rattle.play_laws.proofs.Shape.Shape.{Keeps, Stage, nth_class}
+use Rattle.play_laws.proofs.Shape.Shape.{KeptByRules, Stage, nth_class}
 use Rattle.play_laws.proofs.Shape.ShapeTurns.{turns_kept}
 use Rattle.play_laws.proofs.Answered.Starts.{start_kept}
 use Rattle.play_laws.proofs.Answered.States.{IsKept, Nobody, Only, told_kept, weaker, written_alike}
@@ -253,7 +253,7 @@ module _ (t : Shape) (timers end : ℕ) (in_time : end < SCRIPT_TIME_LIMIT) wher
       }
 
   -- EACH RULE keeps it
-  pub rules_keep : Keeps plain_rules (cpu_count_of t) timers (level_count_of t) end (λ a. Unit {0}) P
+  pub rules_keep : KeptByRules plain_rules (cpu_count_of t) timers (level_count_of t) end (λ a. Unit {0}) P
   rules_keep = record {
     clock = λ now s was. was.at.clock;
     all_cpus = λ now due s was. was.whole.kept.cpus ∙ ap cpu_count_of was.whole.at.tree;

@@ -12,7 +12,7 @@ use Rattle.tm_base.specs.declared.names.Class.TheVariants.{Pinned, Global, Defer
 use Rattle.tm_base.specs.declared.names.CpuId.{CpuId}
 use Rattle.wheel_core.specs.declared.item.Item.{Item}
 use Rattle.wheel_core.specs.PlainBase.{NoneBehind, OutIsDue, PlainBase, added, forwarded, item_of}
-use Rattle.wheel_core.specs.PlainBase.{next_out, placed}
+use Rattle.wheel_core.specs.PlainBase.{next_out, item_added}
 use Rattle.wheel_core.proofs.Ids.{item_holds, item_of_rest}
 use Rattle.wheel_core.proofs.Plain.{clock-forwarded_le, due_out}
 use Rattle.cpu_bases.specs.declared.entry.Act.{Act}
@@ -21,7 +21,7 @@ use Rattle.cpu_bases.specs.CpuBases.{CpuBases, IsConsistent, NotAhead, after_can
 use Rattle.cpu_bases.specs.CpuBases.{after_move_out, armed, base_of, cancelled, class_in, drained}
 use Rattle.cpu_bases.specs.CpuBases.{entry_of, found_in, handed_out, item_queued, moved_in}
 use Rattle.cpu_bases.specs.CpuBases.{moved_out, oldest_in, queued, ticked_entry}
-use Rattle.cpu_bases.specs.Laws.{Keeps, MayQueue}
+use Rattle.cpu_bases.specs.Laws.{CallKeeps, MayQueue}
 use Rattle.cpu_bases.proofs.Consistent.{base_none}
 use Rattle.cpu_bases.proofs.Keeping.{arming_keeps, cancelling_keeps, handing_out_keeps}
 use Rattle.cpu_bases.proofs.Keeping.{moving_in_keeps, moving_out_keeps}
@@ -97,7 +97,7 @@ module _ (now c : ℕ) (owner : ℕ → ℕ) (early : now < SCRIPT_TIME_LIMIT) w
       let forward = clock-forwarded_le time base in
       record {
         all =
-            All-push Q base.items (placed (forwarded time base).clock timer expires job arg)
+            All-push Q base.items (item_added (forwarded time base).clock timer expires job arg)
             holds.all
             (owned_here timer);
         near = omega (arith, near, forward, soon);
@@ -118,7 +118,7 @@ module _ (now c : ℕ) (owner : ℕ → ℕ) (early : now < SCRIPT_TIME_LIMIT) w
       (b : CpuBases)
       → time ≤ now + 1 → class_in timer b ≡ None → IsCpu now c owner b
       → let new = queued act line now time class timer expires job arg by b in
-      IsConsistent new × Keeps now b new
+      IsConsistent new × CallKeeps now b new
       → HandedOnTime act
       (entry_of act line now class (item_queued time class timer expires job arg b) by)
       → IsCpu now c (owning owner timer c) new

@@ -13,7 +13,7 @@ use Rattle.wheel_core.specs.declared.item.Item.{Item}
 use Rattle.wheel_core.specs.PlainBase.{NoneDue}
 use Rattle.tree_plan.specs.Paths.{group_at_of, level_count_of}
 use Rattle.cpu_bases.specs.CpuBases.{CpuBases, NotAhead, base_of, class_in, drained}
-use Rattle.cpu_bases.specs.Journals.{MayHand}
+use Rattle.cpu_bases.specs.Journals.{MayHandOut}
 use Rattle.play_rules.specs.declared.asks.Arming.{Arming}
 use Rattle.play_rules.specs.State.{Cpu, State, cpu_at, cpu_count, is_active, with_cpu}
 use Rattle.play_rules.specs.Hierarchy.{inactive_child, is_placed, looks_after, towards}
@@ -205,7 +205,7 @@ module _ (cpus levels now : ℕ) (due : set.FinSet nat_cmp) (HadPinned HadGlobal
 
     -- A DRAIN of one of its bases by a CPU that may
     pub drain_inside : (class : Class) (runner : ℕ) (AsPinned AsGlobal : ℕ → Type 0)
-        → MayHand c class runner
+        → MayHandOut c class runner
         → ((d : ℕ) → AsPinned d → HadPinned d ⊎ ((d ≡ c) × (class ≡ Pinned)))
         → ((d : ℕ) → AsGlobal d → HadGlobal d ⊎ ((d ≡ c) × (class ≡ Global)))
         → Inside cpus levels now due AsPinned AsGlobal Seen (drained_on s c class runner).state

@@ -13,7 +13,7 @@ use Rattle.wheel_core.specs.PlainBase.{IsSound, OutIsDue, PlainBase, next_out, t
 use Rattle.wheel_core.proofs.Plain.{all_after_out, due_out, out_holds, sound_after_out}
 use Rattle.tree_plan.specs.Paths.{group_at_of, level_count_of}
 use Rattle.cpu_bases.specs.CpuBases.{base_of, class_in}
-use Rattle.cpu_bases.specs.Journals.{MayHand}
+use Rattle.cpu_bases.specs.Journals.{MayHandOut}
 use Rattle.play_rules.specs.declared.asks.Arming.{Arming}
 use Rattle.play_rules.specs.State.{Cpu, State, cpu_at, cpu_count}
 use Rattle.play_rules.specs.Hierarchy.{due_sleepers, inactive_child, is_due_sleeper, looks_after}
@@ -130,7 +130,7 @@ module _ (cpus levels now : ℕ) (due : set.FinSet nat_cmp) where
   }
 
   -- ITS OWN BASES
-  own_may : (c : ℕ) (class : Class) → MayHand c class c
+  own_may : (c : ℕ) (class : Class) → MayHandOut c class c
   own_may c Pinned = refl
   own_may c Global = tt
   own_may c Deferrable = refl

@@ -12,7 +12,7 @@ use Rattle.tm_base.specs.declared.names.TheConstants.{NEVER}
 use Rattle.tm_base.specs.declared.names.Class.TheVariants.{Pinned, Global}
 use Rattle.wheel_core.specs.declared.item.Item.{Item}
 use Rattle.wheel_core.specs.PlainBase.{least}
-use Rattle.cpu_bases.specs.CpuBases.{CpuBases, base_of, drained, events_of, first_of}
+use Rattle.cpu_bases.specs.CpuBases.{CpuBases, base_of, drained, events_of, first_expiry}
 use Rattle.play_rules.specs.declared.asks.Arming.{Arming}
 use Rattle.play_rules.specs.State.{Cpu, State, cpu_at, cpu_count, has_group, with_cpu}
 use Rattle.play_rules.specs.Hierarchy.{due_sleepers, inactive_child, is_due_sleeper, named, next_of}
@@ -44,8 +44,8 @@ told_from time b false early all = early
 told_from time b true early all =
     let first =
     first_from time (base_of Global b).items (least (base_of Global b).items) early refl all in
-    elim (nat_lt (first_of Global b) (first_of Pinned b)) as
-    (λ before. time ≤ (if before then first_of Global b else NEVER)) [
+    elim (nat_lt (first_expiry Global b) (first_expiry Pinned b)) as
+    (λ before. time ≤ (if before then first_expiry Global b else NEVER)) [
       | true ↦ first
       | false ↦ early
     ]

@@ -15,7 +15,7 @@ use Rattle.cpu_bases.specs.declared.entry.Act.TheVariants as acts
 use Rattle.cpu_bases.specs.CpuBases.{CpuBases, IsConsistent, after_move_out, base_of, cancelled}
 use Rattle.cpu_bases.specs.CpuBases.{class_in, drained, entry_of, found_in, moved_in, moved_out}
 use Rattle.cpu_bases.specs.CpuBases.{oldest_in}
-use Rattle.cpu_bases.specs.Journals.{MayHand, arming_of, queued_by}
+use Rattle.cpu_bases.specs.Journals.{MayHandOut, arming_of, queued_by}
 use Rattle.cpu_bases.proofs.Keeping.{found_at, moving_out_keeps, nowhere}
 use Rattle.cpu_bases.proofs.Keyed.{none_dropped}
 use Rattle.cpu_bases.proofs.Legal.{distinct_from, ended_is, queued_push}
@@ -99,7 +99,7 @@ module _ (cpus : ℕ) (F G : ℕ → Cpu → Type 0) (s : State) (holds : Holds 
       (λ d below other one. record { cpu = one.cpu; is = others d below other one.is })
 
   -- A DRAIN of one of its bases
-  pub drain_holds : (class : Class) (runner : ℕ) → MayHand c class runner
+  pub drain_holds : (class : Class) (runner : ℕ) → MayHandOut c class runner
       → Waking s.clock (bases_at s c)
       → (let b =
       drained (length (base_of class (bases_at s c)).items) s.clock class

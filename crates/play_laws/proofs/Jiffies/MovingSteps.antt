@@ -8,7 +8,7 @@ use Rattle.std.proofs.lemmas.Option.{none-some, same_Some}
 use Rattle.tm_base.specs.declared.names.Class.{Class}
 use Rattle.wheel_core.specs.declared.item.Item.{Item}
 use Rattle.tm_base.specs.declared.names.TheConstants.{NEVER}
-use Rattle.wheel_core.specs.PlainBase.{IsPlaced, item_of}
+use Rattle.wheel_core.specs.PlainBase.{FitsWheel, item_of}
 use Rattle.wheel_core.proofs.Ids.{item_holds}
 use Rattle.cpu_bases.specs.CpuBases.{CpuBases, base_of, class_in}
 use Rattle.cpu_bases.specs.CpuBases.{moved_in, moved_out, oldest_in}
@@ -236,8 +236,8 @@ module _ (cpus levels now : ℕ) where
         let has = out.each to moving.low in
         let fits = one.cpu.told.consistent.fits class in
         let placed =
-        item_holds IsPlaced item.id (base_of class (bases_at s from)).items item
-        fits.sound.placed found in
+        item_holds FitsWheel item.id (base_of class (bases_at s from)).items item
+        fits.sound.in_wheel found in
         record {
           waking = λ on.
               moved_in_waking s.clock quiet.holds.early class item.id item.expires item.job item.arg
@@ -255,7 +255,7 @@ module _ (cpus levels now : ℕ) where
     into =
         let fits = one.cpu.told.consistent.fits class in
         let items = (base_of class (bases_at s from)).items in
-        let placed = item_holds IsPlaced item.id items item fits.sound.placed found in
+        let placed = item_holds FitsWheel item.id items item fits.sound.in_wheel found in
         let own =
         item_holds (IsItemOf quiet.holds.owner from) item.id items item
         (one.cpu.items class).all found in

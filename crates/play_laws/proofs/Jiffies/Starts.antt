@@ -14,7 +14,7 @@ use Rattle.tm_script.specs.Grammar.{IsScript}
 use Rattle.tree_plan.specs.Shape.{Shape}
 use Rattle.tree_plan.specs.Paths.{cpu_count_of, level_count_of}
 use Rattle.wheel_core.specs.declared.item.Item.{Item}
-use Rattle.wheel_core.specs.PlainBase.{IsPlaced, NoneBehind}
+use Rattle.wheel_core.specs.PlainBase.{FitsWheel, NoneBehind}
 use Rattle.cpu_bases.specs.declared.entry.Entry.{Entry}
 use Rattle.cpu_bases.specs.CpuBases.{BaseFits, base_of, empty_bases}
 use Rattle.cpu_bases.specs.Journals.{Agrees, HandedByRight}
@@ -36,19 +36,19 @@ empty_fits : (k : Class) → BaseFits (base_of k empty_bases)
 empty_fits Pinned =
     record {
       clock = omega arith;
-      sound = record { distinct = tt; placed = All-nil IsPlaced };
+      sound = record { distinct = tt; in_wheel = All-nil FitsWheel };
       timers = All-nil (λ (i : Item). i.id < 2 ^ 16);
     }
 empty_fits Global =
     record {
       clock = omega arith;
-      sound = record { distinct = tt; placed = All-nil IsPlaced };
+      sound = record { distinct = tt; in_wheel = All-nil FitsWheel };
       timers = All-nil (λ (i : Item). i.id < 2 ^ 16);
     }
 empty_fits Deferrable =
     record {
       clock = omega arith;
-      sound = record { distinct = tt; placed = All-nil IsPlaced };
+      sound = record { distinct = tt; in_wheel = All-nil FitsWheel };
       timers = All-nil (λ (i : Item). i.id < 2 ^ 16);
     }
 

@@ -13,12 +13,12 @@ use Rattle.tm_base.specs.declared.names.CpuId.{CpuId}
 use Rattle.wheel_core.specs.declared.item.Item.{Item}
 use Rattle.wheel_core.specs.WheelExpiry.{cutoff, wheel_expiry_of}
 use Rattle.wheel_core.specs.PlainBase.{NoneBehind, NoneDue, PlainBase, added, clock_forwarded}
-use Rattle.wheel_core.specs.PlainBase.{forwarded, least, placed}
+use Rattle.wheel_core.specs.PlainBase.{forwarded, least, item_added}
 use Rattle.wheel_core.proofs.Levels.{wheel_keeps_time}
 use Rattle.wheel_core.proofs.Plain.{clock-forwarded_le, none_behind}
 use Rattle.cpu_bases.specs.CpuBases.{CpuBases, NotAhead, armed, base_of, cancelled, drained}
 use Rattle.cpu_bases.specs.CpuBases.{moved_in}
-use Rattle.cpu_bases.specs.Journals.{MayHand}
+use Rattle.cpu_bases.specs.Journals.{MayHandOut}
 use Rattle.cpu_bases.proofs.Classes.{class_is}
 use Rattle.cpu_bases.proofs.Drains.{drain_is_whole}
 use Rattle.play_laws.proofs.Answered.Bases.{IsBase, cancelled_kept, drained_kept}
@@ -78,7 +78,7 @@ module _ (now : ℕ) (early : now < SCRIPT_TIME_LIMIT) where
       → now + 1 ≤ wheel_expiry_of expires (forwarded time base).clock → All (From m) base.items
       → All (From m) (added id expires job arg (forwarded time base)).items
   added_later time id expires job arg m base by near past holds =
-      All-push (From m) base.items (placed (forwarded time base).clock id expires job arg) holds
+      All-push (From m) base.items (item_added (forwarded time base).clock id expires job arg) holds
       (omega (arith, past, by))
 
   -- armed for now or later
@@ -196,7 +196,7 @@ pub record IsDrained (now c : ℕ) (owner : ℕ → ℕ) (class : Class) (b : Cp
 
 pub drained_cpu : (now c : ℕ) (owner : ℕ → ℕ) (class : Class) (by : CpuId) (b : CpuBases)
     → now < SCRIPT_TIME_LIMIT
-    → MayHand c class by.0 → Waking now b → IsCpu now c owner b
+    → MayHandOut c class by.0 → Waking now b → IsCpu now c owner b
     → IsDrained now c owner class (drained (length (base_of class b).items) now class by b)
 drained_cpu now c owner class by b early may late is =
     let most = length (base_of class b).items in

@@ -15,7 +15,7 @@ use Rattle.play_rules.specs.declared.asks.Queued.{Queued}
 use Rattle.play_rules.specs.Parts.{Played, and_then, counting, silent}
 use Rattle.play_rules.specs.Rules.{Rules}
 use Rattle.play_rules.specs.Interrupts.{Replied, Replies, again, answered, armed_again, arming_again, cpu_id, drain, drains, interrupt, interrupt_where, interrupts, job_call, look, look_at, look_where, looks, reply_to, run_drained, run_job, run_jobs, timer_id, try, try_where}
-use Rattle.play_laws.proofs.Shape.Shape.{Keeps, MayRunAgain, Stage, begun, climbed, looked, looking, nth_class, own, running}
+use Rattle.play_laws.proofs.Shape.Shape.{KeptByRules, MayRunAgain, Stage, begun, climbed, looked, looking, nth_class, own, running}
 use Rattle.play_laws.proofs.Shape.ShapeInterrupts.{answer_kept, jobs_kept, turn_kept}
 use Rattle.play_laws.proofs.Shape.Alike.{Alike, drained_seen, placed_seen, seen, then_seen}
 
@@ -79,7 +79,7 @@ module _ {S T : Type 0} (jobs : Replies) (r : Rules S) (q : Rules T) (f : S → 
       ∙ ap (run_drained jobs q home runner) is
 
 module _ {S T : Type 0} (jobs : Replies) (r : Rules S) (q : Rules T) (f : S → T) (cpus timers levels end : ℕ)
-    (P : (now : ℕ) → Stage → S → Type 0) (Fits : Arming → Type 0) (keeps : Keeps r cpus timers levels end Fits P)
+    (P : (now : ℕ) → Stage → S → Type 0) (Fits : Arming → Type 0) (keeps : KeptByRules r cpus timers levels end Fits P)
     (alike : Alike r q f cpus timers levels end Fits P) (now : ℕ) (due : set.FinSet nat_cmp) (c : ℕ) (low : c < cpus) where
   -- its own bases
   own_alike : (k : ℕ) (s : S) → k < 3 → P now (own due c k) s
@@ -244,7 +244,7 @@ module _ {S T : Type 0} (jobs : Replies) (r : Rules S) (q : Rules T) (f : S → 
 
 -- all interrupts of a moment
 module _ {S T : Type 0} (jobs : Replies) (r : Rules S) (q : Rules T) (f : S → T) (cpus timers levels end : ℕ)
-    (P : (now : ℕ) → Stage → S → Type 0) (Fits : Arming → Type 0) (keeps : Keeps r cpus timers levels end Fits P)
+    (P : (now : ℕ) → Stage → S → Type 0) (Fits : Arming → Type 0) (keeps : KeptByRules r cpus timers levels end Fits P)
     (alike : Alike r q f cpus timers levels end Fits P) (now : ℕ) (due : set.FinSet nat_cmp) where
   from_alike : (n c : ℕ) (s : S) → c + n ≡ cpus → P now (begun due c) s
       → seen f (interrupts jobs r n c due s) ≡ interrupts jobs q n c due (f s)

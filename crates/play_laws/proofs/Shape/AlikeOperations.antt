@@ -19,12 +19,12 @@ use Rattle.play_rules.specs.Parts.{lines_told, printing, silent}
 use Rattle.play_rules.specs.Rules.{Moved, Rules}
 use Rattle.play_rules.specs.Interrupts.{cpu_id}
 use Rattle.play_rules.specs.Operations.{arm, arm_printed, cancel_where, clear, clear_after, clear_where, cover_lines, cover_or, covers, done, done_unless, hand_on, hand_on_to, hand_on_where, held_by, idle_where, last_online, move_all, move_printed, moves, moves_to, not_active, not_idle, offline, operation, operations, refusal, refused_line}
-use Rattle.play_laws.proofs.Shape.Shape.{Keeps, Stage, between, leaving as left, moving}
+use Rattle.play_laws.proofs.Shape.Shape.{KeptByRules, Stage, between, leaving as left, moving}
 use Rattle.play_laws.proofs.Shape.ShapeOperations.{IsActive, IsOpIn, IsTimerIn, is_active, is_idle, first_none, held_none, offline_by, operation_kept, then_none}
 use Rattle.play_laws.proofs.Shape.Alike.{Alike, placed_seen, seen, then_seen}
 
 module _ {S T : Type 0} (r : Rules S) (q : Rules T) (f : S → T) (cpus timers levels end : ℕ)
-    (P : (now : ℕ) → Stage → S → Type 0) (Fits : Arming → Type 0) (keeps : Keeps r cpus timers levels end Fits P)
+    (P : (now : ℕ) → Stage → S → Type 0) (Fits : Arming → Type 0) (keeps : KeptByRules r cpus timers levels end Fits P)
     (alike : Alike r q f cpus timers levels end Fits P) (now : ℕ) where
   -- WHAT IS PRINTED at the clock of one is printed at the clock of the other
   printed : (line : ℕ → Line) (s : S) (t : S) (t' : T) → f t ≡ t' → seen f (printing (line (r.clock s)) t) ≡ printing (line (q.clock (f s))) t'

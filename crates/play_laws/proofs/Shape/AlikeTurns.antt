@@ -14,7 +14,7 @@ use Rattle.play_rules.specs.Rules.{Rules}
 use Rattle.play_rules.specs.Interrupts.{Replies, having_interrupt, interrupts}
 use Rattle.play_rules.specs.Operations.{clear_after, covers, leaver, operations}
 use Rattle.play_rules.specs.Moments.{AfterEach, Turn, closing, last_state, left, left_or, moment, moment_at, moment_now, moments_after, next_moment, next_said, scripted, spent_at, turn, turn_lines, turn_then, turns, whole_lines}
-use Rattle.play_laws.proofs.Shape.Shape.{Keeps, Stage, begun, between}
+use Rattle.play_laws.proofs.Shape.Shape.{KeptByRules, Stage, begun, between}
 use Rattle.play_laws.proofs.Shape.ShapeInterrupts.{interrupts_kept}
 use Rattle.play_laws.proofs.Shape.ShapeOperations.{clear_after_kept, leaver_in, operations_kept}
 use Rattle.play_laws.proofs.Shape.ShapeTurns.{IsMomentIn, Rise, after_in, after_rise, moment_in, moment_kept, next_is}
@@ -27,7 +27,7 @@ abbrev pub turn_seen : {S T : Type 0} → (S → T) → Turn S → Turn T
 turn_seen f t = record { at = t.at; played = seen f t.played }
 
 module _ {S T : Type 0} (jobs : Replies) (r : Rules S) (q : Rules T) (f : S → T) (cpus timers levels end : ℕ)
-    (P : (now : ℕ) → Stage → S → Type 0) (Fits : Arming → Type 0) (keeps : Keeps r cpus timers levels end Fits P)
+    (P : (now : ℕ) → Stage → S → Type 0) (Fits : Arming → Type 0) (keeps : KeptByRules r cpus timers levels end Fits P)
     (alike : Alike r q f cpus timers levels end Fits P)
     (counted : (now : ℕ) (s : S) → P now between s → r.cpus s ≡ cpus) where
   abbrev Due : ℕ → S → Type 0

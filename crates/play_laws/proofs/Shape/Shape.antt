@@ -51,7 +51,7 @@ MayRunAgain Fits item = (class : Class) (delay : ℕ) → Fits (arming_again ite
 -- each rule keeps what holds at its stage, where the shape of a play asks it. Play has so many
 -- CPUs, timers and levels,
 -- and goes to `end`
-pub record Keeps {S : Type 0} (r : Rules S) (cpus timers levels end : ℕ)
+pub record KeptByRules {S : Type 0} (r : Rules S) (cpus timers levels end : ℕ)
     (Fits : Arming → Type 0) (P : (now : ℕ) → Stage → S → Type 0)
     : Type 0 where
   -- WHAT IS READ

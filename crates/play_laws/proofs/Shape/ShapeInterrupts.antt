@@ -17,7 +17,7 @@ use Rattle.play_rules.specs.Rules.{Rules}
 use Rattle.play_rules.specs.Interrupts.{Replies, again, answered, arming_again, drain, drains}
 use Rattle.play_rules.specs.Interrupts.{interrupt, interrupt_where, interrupts, look, look_at}
 use Rattle.play_rules.specs.Interrupts.{look_where, looks, run_jobs, try_where}
-use Rattle.play_laws.proofs.Shape.Shape.{Keeps, MayRunAgain, Stage, begun, between, climbed, looked, looking}
+use Rattle.play_laws.proofs.Shape.Shape.{KeptByRules, MayRunAgain, Stage, begun, between, climbed, looked, looking}
 use Rattle.play_laws.proofs.Shape.Shape.{nth_class, own, running}
 
 -- THE JOBS that a drain hands out keep what arming on the runner keeps
@@ -49,7 +49,7 @@ module _ {S : Type 0} (jobs : Replies) (r : Rules S) (runner : ℕ) (P : S → T
 
 module _ {S : Type 0} (jobs : Replies) (r : Rules S) (cpus timers levels end : ℕ)
     (P : (now : ℕ) → Stage → S → Type 0)
-    (Fits : Arming → Type 0) (keeps : Keeps r cpus timers levels end Fits P) (now : ℕ) (due : set.FinSet nat_cmp) (c : ℕ)
+    (Fits : Arming → Type 0) (keeps : KeptByRules r cpus timers levels end Fits P) (now : ℕ) (due : set.FinSet nat_cmp) (c : ℕ)
     (low : c < cpus) where
   -- its own bases
   pub own_kept : (k : ℕ) (s : S) → k < 3 → P now (own due c k) s
@@ -143,7 +143,7 @@ module _ {S : Type 0} (jobs : Replies) (r : Rules S) (cpus timers levels end : �
 -- all interrupts of a moment
 module _ {S : Type 0} (jobs : Replies) (r : Rules S) (cpus timers levels end : ℕ)
     (P : (now : ℕ) → Stage → S → Type 0)
-    (Fits : Arming → Type 0) (keeps : Keeps r cpus timers levels end Fits P) (now : ℕ) (due : set.FinSet nat_cmp) where
+    (Fits : Arming → Type 0) (keeps : KeptByRules r cpus timers levels end Fits P) (now : ℕ) (due : set.FinSet nat_cmp) where
   from_kept : (n c : ℕ) (s : S) → c + n ≡ cpus → P now (begun due c) s
       → P now (begun due cpus) (interrupts jobs r n c due s).state
   unfolding interrupts

@@ -22,7 +22,7 @@ use Rattle.play_rules.specs.Operations.{done_unless, hand_on_to, hand_on_where, 
 use Rattle.play_rules.specs.Operations.{last_online, leaver, leaving, leaving_by, move_printed}
 use Rattle.play_rules.specs.Operations.{moves, moves_to, not_active, not_idle, offline, operation}
 use Rattle.play_rules.specs.Operations.{operations, refusal}
-use Rattle.play_laws.proofs.Shape.Shape.{Keeps, Stage, between, leaving as left, moving}
+use Rattle.play_laws.proofs.Shape.Shape.{KeptByRules, Stage, between, leaving as left, moving}
 
 abbrev pub IsTimerIn : (timers : ℕ) → What → Type 0
 IsTimerIn timers (whats.Arm timer class delay job arg) = (timer.0 < timers) × (delay < 2 ^ 32)
@@ -82,7 +82,7 @@ module _ {S : Type 0} (r : Rules S) (s : S) (c : ℕ) where
 
 module _ {S : Type 0} (r : Rules S) (cpus timers levels end : ℕ)
     (P : (now : ℕ) → Stage → S → Type 0)
-    (Fits : Arming → Type 0) (keeps : Keeps r cpus timers levels end Fits P) (now : ℕ) where
+    (Fits : Arming → Type 0) (keeps : KeptByRules r cpus timers levels end Fits P) (now : ℕ) where
   -- ONE OPERATION
   cancel_kept : (o : Option Queued) (c : ℕ) (a : Cancelling) (s : S) → c < cpus
       → (a.timer.0 < timers) × (a.by.0 < cpus) → IsActive r s c

@@ -13,7 +13,7 @@ use Rattle.play_rules.specs.Interrupts.{Replies, having_interrupt}
 use Rattle.play_rules.specs.Operations.{leaver}
 use Rattle.play_rules.specs.Moments.{AfterEach, Turn, moment_at, moment_now, moments_after}
 use Rattle.play_rules.specs.Moments.{next_moment, next_said, scripted, turn, turn_then, turns}
-use Rattle.play_laws.proofs.Shape.Shape.{Keeps, Stage, begun, between}
+use Rattle.play_laws.proofs.Shape.Shape.{KeptByRules, Stage, begun, between}
 use Rattle.play_laws.proofs.Shape.ShapeInterrupts.{interrupts_kept}
 use Rattle.play_laws.proofs.Shape.ShapeOperations.{IsOpIn, clear_after_kept, leaver_in, operations_kept}
 
@@ -68,7 +68,7 @@ from_said from end (m ∷ ms) (above, rest) low = above
 
 module _ {S : Type 0} (jobs : Replies) (r : Rules S) (cpus timers levels end : ℕ)
     (P : (now : ℕ) → Stage → S → Type 0)
-    (Fits : Arming → Type 0) (keeps : Keeps r cpus timers levels end Fits P) where
+    (Fits : Arming → Type 0) (keeps : KeptByRules r cpus timers levels end Fits P) where
   abbrev pub Due : ℕ → S → Type 0
   Due now s = P now (begun (having_interrupt r s) 0) s
 

@@ -12,13 +12,13 @@ use Rattle.play_rules.specs.Moments.{Turn, last_state, moments_after, next_momen
 use Rattle.play_rules.specs.Moments.{turns}
 use Rattle.play_rules.specs.State.{State}
 use Rattle.play_laws.specs.Work.Course.{GoFrom, GoOn, times_of}
-use Rattle.play_laws.proofs.Shape.Shape.{Keeps, Stage, between}
+use Rattle.play_laws.proofs.Shape.Shape.{KeptByRules, Stage, between}
 use Rattle.play_laws.proofs.Shape.ShapeTurns.{IsMomentIn, Playing, after_in, after_rise}
 use Rattle.play_laws.proofs.Shape.ShapeTurns.{moment_kept, next_is}
 
 module _ {S : Type 0} (jobs : Replies) (r : Rules S) (cpus timers levels end : ℕ)
     (P : (now : ℕ) → Stage → S → Type 0) (Fits : Arming → Type 0)
-    (keeps : Keeps r cpus timers levels end Fits P) where
+    (keeps : KeptByRules r cpus timers levels end Fits P) where
   abbrev pub HoldsAt : Turn S → Type 0
   HoldsAt t = P t.at between t.played.state
 

@@ -26,7 +26,7 @@ use Rattle.play_laws.specs.Told.Kinds.{is_cover}
 use Rattle.play_laws.proofs.Answered.Plays.{kept_after_each}
 use Rattle.play_laws.proofs.Answered.Scripts.{moments_in, moments_rise, tree_for}
 use Rattle.play_laws.proofs.Answered.Settles.{Whole}
-use Rattle.play_laws.proofs.Shape.Shape.{Keeps, Stage}
+use Rattle.play_laws.proofs.Shape.Shape.{KeptByRules, Stage}
 use Rattle.play_laws.proofs.Shape.ShapeTurns.{IsMomentIn, Playing, Rise, after_in, after_rise}
 use Rattle.play_laws.proofs.Shape.ShapeTurns.{moment_kept, next_is}
 use Rattle.play_laws.proofs.Work.Whole.{Fits, Stands, rules_keep, start_homes}
@@ -139,7 +139,7 @@ module _ {S : Type 0} (jobs : Replies) (r : Rules S) where
 
 module _ {S : Type 0} (jobs : Replies) (r : Rules S) (cpus timers levels end : ℕ)
     (P : (now : ℕ) → Stage → S → Type 0) (Fits : Arming → Type 0)
-    (keeps : Keeps r cpus timers levels end Fits P) (said : List Moment) where
+    (keeps : KeptByRules r cpus timers levels end Fits P) (said : List Moment) where
   -- a moment has its `cover` lines where it is one of the script
   abbrev pub HasCovers : Turn S → Type 0
   HasCovers t =

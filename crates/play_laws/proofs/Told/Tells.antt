@@ -18,7 +18,7 @@ use Rattle.play_rules.specs.Interrupts.{Replies, cpu_id, drain, drains, interrup
 use Rattle.play_rules.specs.Interrupts.{interrupt_where, interrupts, look, look_at, look_where}
 use Rattle.play_rules.specs.Interrupts.{looks, try_where}
 use Rattle.play_rules.specs.Operations.{arm}
-use Rattle.play_laws.proofs.Shape.Shape.{Keeps, Stage, begun, between, climbed, looking, moving}
+use Rattle.play_laws.proofs.Shape.Shape.{KeptByRules, Stage, begun, between, climbed, looking, moving}
 use Rattle.play_laws.proofs.Shape.Shape.{nth_class, own, taking}
 use Rattle.play_laws.proofs.Shape.ShapeInterrupts.{drains_kept, look_kept, own_kept}
 use Rattle.play_laws.proofs.Shape.ShapeInterrupts.{try_kept, turn_kept}
@@ -74,7 +74,7 @@ pub record Tells {S : Type 0} (jobs : Replies) (r : Rules S) (cpus timers : ℕ)
 
 module _ {S : Type 0} (jobs : Replies) (r : Rules S) (cpus timers levels end : ℕ)
     (P : (now : ℕ) → Stage → S → Type 0) (Fits : Arming → Type 0)
-    (keeps : Keeps r cpus timers levels end Fits P) (R : S → List Line → S → Type 0)
+    (keeps : KeptByRules r cpus timers levels end Fits P) (R : S → List Line → S → Type 0)
     (tells : Tells jobs r cpus timers P R) where
   -- one part after the other
   pub then_told : (s : S) (p : Played S) (f : S → Played S) → Tell R s p

@@ -24,14 +24,14 @@ use Rattle.play_rules.specs.Operations.{cover_or, done, done_unless, hand_on, ha
 use Rattle.play_rules.specs.Operations.{hand_on_where, held_by, idle_where, move_all, move_printed}
 use Rattle.play_rules.specs.Operations.{moves, moves_to, not_active, operation, operations}
 use Rattle.play_rules.specs.Operations.{refusal, refused_line}
-use Rattle.play_laws.proofs.Shape.Shape.{Keeps, Stage, between, moving}
+use Rattle.play_laws.proofs.Shape.Shape.{KeptByRules, Stage, between, moving}
 use Rattle.play_laws.proofs.Shape.ShapeOperations.{IsOpIn, IsTimerIn, held_none, operation_kept}
 use Rattle.play_laws.proofs.Shape.ShapeOperations.{then_none}
 use Rattle.play_laws.proofs.Told.Tells.{Tell, Tells, is_quiet, then_told}
 
 module _ {S : Type 0} (jobs : Replies) (r : Rules S) (cpus timers levels end : ℕ)
     (P : (now : ℕ) → Stage → S → Type 0) (Fits : Arming → Type 0)
-    (keeps : Keeps r cpus timers levels end Fits P) (R : S → List Line → S → Type 0)
+    (keeps : KeptByRules r cpus timers levels end Fits P) (R : S → List Line → S → Type 0)
     (tells : Tells jobs r cpus timers P R) (now : ℕ) where
   -- a line that tells of no timer, and a change
   quiet_then : (line : Line) (s t : S) → is_quiet line ≡ true → R s [] t → R s (line ∷ []) t

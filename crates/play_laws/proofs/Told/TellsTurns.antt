@@ -14,7 +14,7 @@ use Rattle.play_rules.specs.Interrupts.{Replies, having_interrupt, interrupts}
 use Rattle.play_rules.specs.Operations.{clear_after, covers, leaver, operations}
 use Rattle.play_rules.specs.Moments.{Turn, last_state, moment_at, moment_now, moments_after}
 use Rattle.play_rules.specs.Moments.{next_moment, scripted, turn, turn_lines, turn_then, turns}
-use Rattle.play_laws.proofs.Shape.Shape.{Keeps, Stage, begun, between}
+use Rattle.play_laws.proofs.Shape.Shape.{KeptByRules, Stage, begun, between}
 use Rattle.play_laws.proofs.Shape.ShapeInterrupts.{interrupts_kept}
 use Rattle.play_laws.proofs.Shape.ShapeOperations.{leaver_in, operations_kept}
 use Rattle.play_laws.proofs.Shape.ShapeTurns.{IsMomentIn, Playing, after_in, after_rise}
@@ -24,7 +24,7 @@ use Rattle.play_laws.proofs.Told.TellsOperations.{clear_after_told, covers_told,
 
 module _ {S : Type 0} (jobs : Replies) (r : Rules S) (cpus timers levels end : ℕ)
     (P : (now : ℕ) → Stage → S → Type 0) (Fits : Arming → Type 0)
-    (keeps : Keeps r cpus timers levels end Fits P) (R : S → List Line → S → Type 0)
+    (keeps : KeptByRules r cpus timers levels end Fits P) (R : S → List Line → S → Type 0)
     (tells : Tells jobs r cpus timers P R) where
   scripted_told : (now : ℕ) (o : Option Moment) (s : S) → ForSome o (IsMomentIn cpus timers)
       → P now between s → Tell R s (scripted r o s)

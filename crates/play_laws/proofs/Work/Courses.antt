@@ -12,7 +12,7 @@ use Rattle.play_rules.specs.Moments.{Turn, moments_after, next_moment, turn, tur
 use Rattle.play_rules.specs.State.{State, start}
 use Rattle.play_rules.specs.Play.{at_clock, plain_rules}
 use Rattle.play_laws.proofs.Answered.Scripts.{moments_in, moments_rise, tree_for}
-use Rattle.play_laws.proofs.Shape.Shape.{Keeps}
+use Rattle.play_laws.proofs.Shape.Shape.{KeptByRules}
 use Rattle.play_laws.proofs.Shape.ShapeTurns.{IsMomentIn, Rise, after_in, after_rise, moment_kept}
 use Rattle.play_laws.proofs.Shape.ShapeTurns.{next_is}
 use Rattle.play_laws.specs.Work.Course.{EachComesToItsEnd, GoFrom, GoOn, times_of}
@@ -92,7 +92,7 @@ module _ (jobs : Replies) (timers cpus levels end : ℕ) (in_time : end < SCRIPT
   abbrev At : (now : ℕ) → State → Type 0
   At now s = AtTime timers cpus levels end in_time now s
 
-  keeps : Keeps plain_rules cpus timers levels end (Fits timers)
+  keeps : KeptByRules plain_rules cpus timers levels end (Fits timers)
       (Stands timers cpus levels end in_time)
   keeps = rules_keep timers cpus levels end in_time
 

@@ -15,7 +15,7 @@ use Rattle.tm_base.specs.declared.names.Class.{Class}
 use Rattle.tree_plan.specs.Paths.{level_count_of}
 use Rattle.wheel_core.specs.declared.item.Item.{Item}
 use Rattle.wheel_core.specs.PlainBase.{IsSound, PlainBase, added, forwarded, item_of, next_out}
-use Rattle.wheel_core.specs.PlainBase.{placed, removed, taken}
+use Rattle.wheel_core.specs.PlainBase.{item_added, removed, taken}
 use Rattle.wheel_core.proofs.Ids.{all_without, item_holds, item_of_rest}
 use Rattle.wheel_core.proofs.Plain.{all_after_out, clock-forwarded_le, clock-taken_le, sound_added}
 use Rattle.wheel_core.proofs.Plain.{sound_after_out, sound_removed}
@@ -111,7 +111,7 @@ module _ (timers now : ℕ) (home : ℕ → Home) (may : ℕ → Bool) (here : H
   -- WHAT COMES, where it isn't there
   pub home_added : (time id expires job arg : ℕ) (base : PlainBase) → now < SCRIPT_TIME_LIMIT
       → time ≤ now + 1 → expires < 2 ^ 47 → item_of id base.items ≡ None
-      → IsAt timers now home may here (placed (forwarded time base).clock id expires job arg)
+      → IsAt timers now home may here (item_added (forwarded time base).clock id expires job arg)
       → Base base → Base (added id expires job arg (forwarded time base))
   home_added time id expires job arg base early soon fits none at is =
       let before = is.clock in
@@ -122,7 +122,7 @@ module _ (timers now : ℕ) (home : ℕ → Home) (may : ℕ → Bool) (here : H
         sound = sound_added id expires job arg (forwarded time base) fits clock none is.sound;
         clock = clock;
         all =
-            All-push At base.items (placed (forwarded time base).clock id expires job arg) is.all
+            All-push At base.items (item_added (forwarded time base).clock id expires job arg) is.all
             at;
       }
 

@@ -89,7 +89,7 @@ module _ (timers cpus levels : ℕ) (may : ℕ → Bool) (always : (id : ℕ) �
         comes_home timers cpus levels may gone gone_homes to acts.MovedIn 0 (s.clock + 1) class
         item.id item.expires item.job item.arg (record { 0 = to }) (omega arith)
         (item_holds (λ i. i.expires < 2 ^ 47) item.id base.items item
-        (λ i d below. ((is.each from class low).sound.placed i d below).expires) found) at.known
+        (λ i d below. ((is.each from class low).sound.in_wheel i d below).expires) found) at.known
         nowhere (λ due. always item.id)
 
     by_out : (o : Option Item) → oldest_in base.items ≡ o → o ≡ Some item

@@ -16,7 +16,7 @@ use Rattle.play_rules.specs.Moments.{spent_at, turn, turn_then, turns}
 use Rattle.play_rules.specs.State.{State, cpu_count, start}
 use Rattle.play_rules.specs.Play.{at_clock, plain_rules}
 use Rattle.play_laws.proofs.Answered.Scripts.{moments_in, moments_rise, tree_for}
-use Rattle.play_laws.proofs.Shape.Shape.{Keeps}
+use Rattle.play_laws.proofs.Shape.Shape.{KeptByRules}
 use Rattle.play_laws.proofs.Shape.ShapeTurns.{IsMomentIn, Next as NextTurn, Rise, after_in, after_rise}
 use Rattle.play_laws.proofs.Shape.ShapeTurns.{moment_kept, next_is}
 use Rattle.play_laws.specs.Work.Work.{WorkIsBounded}
@@ -82,7 +82,7 @@ module _ (jobs : Replies) (timers cpus levels end : ℕ) (in_time : end < SCRIPT
       (interrupts jobs plain_rules (cpu_count t) 0 due t).state in
       omega (arith, paid, low, none, count)
 
-  keeps : Keeps plain_rules cpus timers levels end (Fits timers)
+  keeps : KeptByRules plain_rules cpus timers levels end (Fits timers)
       (Stands timers cpus levels end in_time)
   keeps = rules_keep timers cpus levels end in_time
 

@@ -11,7 +11,7 @@ use Rattle.tm_base.specs.declared.names.Class.TheVariants.{Pinned, Global, Defer
 use Rattle.tree_plan.specs.Shape.{Shape}
 use Rattle.tree_plan.specs.Paths.{cpu_count_of, level_count_of}
 use Rattle.wheel_core.specs.declared.item.Item.{Item}
-use Rattle.wheel_core.specs.PlainBase.{IsPlaced}
+use Rattle.wheel_core.specs.PlainBase.{FitsWheel}
 use Rattle.cpu_bases.specs.CpuBases.{base_of, empty_bases}
 use Rattle.play_rules.specs.declared.asks.Arming.{Arming}
 use Rattle.play_rules.specs.Rules.{Moved}
@@ -21,7 +21,7 @@ use Rattle.play_rules.specs.Timers.{controlling, drained_on}
 use Rattle.play_rules.specs.Play.{at_clock, ended as interrupt_ended, plain_rules}
 use Rattle.play_laws.proofs.Answered.Timers.{moves_frame}
 use Rattle.play_laws.proofs.Answered.Hotplug.{controller_is}
-use Rattle.play_laws.proofs.Shape.Shape.{Keeps, MayRunAgain, Stage, moving, nth_class, taking}
+use Rattle.play_laws.proofs.Shape.Shape.{KeptByRules, MayRunAgain, Stage, moving, nth_class, taking}
 use Rattle.play_laws.proofs.Jiffies.Sleepers.{named_is}
 use Rattle.play_laws.proofs.Work.Alikes.{alike_homes, controlling_alike, ended_alike, idled_alike}
 use Rattle.play_laws.proofs.Work.Alikes.{offline_alike, online_alike, timed_homes, told_alike}
@@ -130,7 +130,7 @@ module _ (timers cpus levels end : ℕ) (in_time : end < SCRIPT_TIME_LIMIT) wher
   }
 
   -- EACH RULE keeps it
-  pub rules_keep : Keeps plain_rules cpus timers levels end (Fits timers) Stands
+  pub rules_keep : KeptByRules plain_rules cpus timers levels end (Fits timers) Stands
   rules_keep = record {
     clock = λ now s was. was.at;
     all_cpus = λ now due s was. was.homes.count;
@@ -184,17 +184,17 @@ module _ (timers cpus levels end : ℕ) (in_time : end < SCRIPT_TIME_LIMIT) wher
 empty_home : (timers : ℕ) (home : ℕ → Home) (may : ℕ → Bool) (here : Home) (k : Class)
     → IsHome timers 0 home may here (base_of k empty_bases)
 empty_home timers home may here Pinned = record {
-  sound = record { distinct = tt; placed = All-nil IsPlaced };
+  sound = record { distinct = tt; in_wheel = All-nil FitsWheel };
   clock = omega arith;
   all = All-nil (IsAt timers 0 home may here);
 }
 empty_home timers home may here Global = record {
-  sound = record { distinct = tt; placed = All-nil IsPlaced };
+  sound = record { distinct = tt; in_wheel = All-nil FitsWheel };
   clock = omega arith;
   all = All-nil (IsAt timers 0 home may here);
 }
 empty_home timers home may here Deferrable = record {
-  sound = record { distinct = tt; placed = All-nil IsPlaced };
+  sound = record { distinct = tt; in_wheel = All-nil FitsWheel };
   clock = omega arith;
   all = All-nil (IsAt timers 0 home may here);
 }

@@ -30,8 +30,8 @@ pub loop-queue-preserved : goal.loop-queue-preserved
 loop-queue-preserved c =
     let first_is : first_wakeup c.loop-queue.queue.items ≡ c.in-Some.first.wakeup =
     ap first_wakeup c.in-Some.ensures.items ∙ last_pushed NEVER c.pop.new.self.items c.in-Some.first in
-    let told : c.first_of.result ≡ first_wakeup c.loop-queue.queue.items =
-    c.first_of.ensures ∙ ap first_wakeup c.deref.ensures.value in
+    let told : c.first_wakeup.result ≡ first_wakeup c.loop-queue.queue.items =
+    c.first_wakeup.ensures ∙ ap first_wakeup c.deref.ensures.value in
     let low : c.in-Some.first.wakeup ≤ c.args.now = omega arith in
     let same : vec_capacity c.pop.new.self ≡ vec_capacity c.loop-queue.queue = c.in-Some.ensures.capacity in
     rw (c.from.ensures, c.add.ensures.added)
@@ -53,14 +53,14 @@ returns-in-None-clause-due c =
 
 pub returns-clause-sleepers : goal.returns-clause-sleepers
 returns-clause-sleepers c =
-    let told : c.first_of.result ≡ first_wakeup c.loop-queue.queue.items =
-    c.first_of.ensures ∙ ap first_wakeup c.deref.ensures.value in
+    let told : c.first_wakeup.result ≡ first_wakeup c.loop-queue.queue.items =
+    c.first_wakeup.ensures ∙ ap first_wakeup c.deref.ensures.value in
     let later : c.args.now < first_wakeup c.loop-queue.queue.items = omega arith in
     (all_woken _ _ _ _ _ _ _ c.loop-queue.invariant (first_later c.args.now _ _ c.loop-queue.invariant.queue_of later)).sleepers_are
 
 pub returns-clause-due : goal.returns-clause-due
 returns-clause-due c =
-    let told : c.first_of.result ≡ first_wakeup c.loop-queue.queue.items =
-    c.first_of.ensures ∙ ap first_wakeup c.deref.ensures.value in
+    let told : c.first_wakeup.result ≡ first_wakeup c.loop-queue.queue.items =
+    c.first_wakeup.ensures ∙ ap first_wakeup c.deref.ensures.value in
     let later : c.args.now < first_wakeup c.loop-queue.queue.items = omega arith in
     (all_woken _ _ _ _ _ _ _ c.loop-queue.invariant (first_later c.args.now _ _ c.loop-queue.invariant.queue_of later)).due_are

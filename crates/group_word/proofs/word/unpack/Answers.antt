@@ -1,6 +1,6 @@
 use Rattle.std.proofs.Common.{ap, sym, ◌∙◌, Some}
 use Rattle.std.proofs.lemmas.Bool.{false≢true}
-use Rattle.group_word.specs.State.{mark_of}
+use Rattle.group_word.specs.State.{migrator_bits}
 use Rattle.group_word.proofs.Words.{parts, migrator_back, state_back}
 use Rattle.group_word.proofs.word.unpack.Goals as goal
 use Rattle.group_word.proofs.word.unpack.Goals.{else-mark-bit-via-then-mark-bit+else-meets_law, else-mark-bit-via-else-mark-bit}
@@ -17,7 +17,7 @@ returns-else-mark-bit-clause-none c = λ s is.
       | else-mark-bit-via-then-mark-bit+else-meets_law w ↦
           absurd (false≢true (w.if-meets_law.ensures.1 (rw (read.0, back) is.lawful.group)))
       | else-mark-bit-via-else-mark-bit w ↦
-          absurd (w.if-mark-bit.false (c.mark.ensures ∙ (ap mark_of back ∙ sym read.1)))
+          absurd (w.if-mark-bit.false (c.mark.ensures ∙ (ap migrator_bits back ∙ sym read.1)))
     ]
 
 pub returns-else-mark-bit-clause-back : goal.returns-else-mark-bit-clause-back

@@ -5,7 +5,7 @@ use Rattle.core_world.specs.World.{World}
 use Rattle.tm_base.specs.declared.names.CpuId.{CpuId}
 use Rattle.cpu_bases.specs.declared.entry.Entry.{Entry}
 use Rattle.cpu_bases.specs.CpuBases.{CpuBases, cancelled}
-use Rattle.cpu_bases.specs.Laws.{Keeps}
+use Rattle.cpu_bases.specs.Laws.{CallKeeps}
 use Rattle.shared_rule.specs.declared.parts.BoxView.{BoxView}
 use Rattle.shared_rule.specs.Timers.{cancelled_box, cancelled_pass}
 use Rattle.shared_rule.specs.declared.box_part.Guest.{Guest}
@@ -134,5 +134,5 @@ returns-clause-part g c =
 
 pub returns-clause-keeps : goal.returns-clause-keeps
 returns-clause-keeps g c =
-    subst (λ (z : HeldPart). Keeps c.args.now z.box.own.bases c.cancel.new.self.plain)
+    subst (λ (z : HeldPart). CallKeeps c.args.now z.box.own.bases c.cancel.new.self.plain)
     c.part.view_is c.cancel.ensures.keeps

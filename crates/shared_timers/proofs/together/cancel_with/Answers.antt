@@ -1,5 +1,5 @@
 use Rattle.std.proofs.Common.{sym, ap, ◌∙◌, subst}
-use Rattle.cpu_bases.specs.Laws.{Keeps}
+use Rattle.cpu_bases.specs.Laws.{CallKeeps}
 use Rattle.shared_rule.specs.Rule.{Each}
 use Rattle.shared_rule.specs.Plays.{Agree}
 use Rattle.shared_rule.specs.Parts.{HasGuest, HeldPart, pass_parted, without_guest}
@@ -49,7 +49,7 @@ returns-clause-agree g c p is =
 
 pub returns-clause-keeps : goal.returns-clause-keeps
 returns-clause-keeps g c =
-    subst (λ (z : HeldPart). Keeps c.args.now c.args.part.now.box.own.bases z.box.own.bases)
+    subst (λ (z : HeldPart). CallKeeps c.args.now c.args.part.now.box.own.bases z.box.own.bases)
     (sym c.part_off.ensures.part)
-    (subst (λ (z : HeldPart). Keeps c.args.now z.box.own.bases c.cancel_step.new.part.box.own.bases)
+    (subst (λ (z : HeldPart). CallKeeps c.args.now z.box.own.bases c.cancel_step.new.part.box.own.bases)
     c.bring.ensures.part c.cancel_step.ensures.keeps)

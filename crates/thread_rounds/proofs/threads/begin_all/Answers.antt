@@ -1,10 +1,10 @@
 use Rattle.thread_rounds.specs.Tasks.{MayShare}
-use Rattle.thread_rounds.proofs.Moving.{begun_one, first_of}
+use Rattle.thread_rounds.proofs.Moving.{begun_one, each_first}
 use Rattle.thread_rounds.proofs.threads.begin_all.Goals as goal
 
 pub begin-requires-clause-may : goal.begin-requires-clause-may
 begin-requires-clause-may g c κs within =
-    first_of (MayShare g.N.RunName.table g.N.RunName.opening) c.loop-task.task-iterator.rest.items
+    each_first (MayShare g.N.RunName.table g.N.RunName.opening) c.loop-task.task-iterator.rest.items
     c.in-Some.task c.next.new.self.rest.items c.in-Some.ensures.steps.0 c.loop-task.invariant.may
 
 pub loop-task-preserved : goal.loop-task-preserved

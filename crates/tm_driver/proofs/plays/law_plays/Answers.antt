@@ -5,7 +5,7 @@ pub returns : goal.returns
 returns c = λ jobs script is. record {
   to_end = c.law_moments.ensures jobs script is;
   by_steps =
-      by_steps jobs script (c.law_steps_are_play.ensures jobs script is) c.law_settled.ensures;
+      by_steps jobs script (c.law_steps_are_play.ensures jobs script is) c.law_each_settled.ensures;
   answered = c.law_each_answered.ensures jobs script is;
   in_its_jiffy = c.law_in_its_jiffy.ensures jobs script is;
   ended = c.law_ends.ensures.each_has_ended jobs script is;

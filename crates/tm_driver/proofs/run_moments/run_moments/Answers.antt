@@ -30,7 +30,7 @@ pub returns-then-work-limit-clause-fault : goal.returns-then-work-limit-clause-f
 returns-then-work-limit-clause-fault g c =
     let done = c.in_ok-player.ensures in
     breaks_off (g.J.Jobs.replies c.args.jobs.now) c.args.script.now c.args.telling.now.text c.loop-now.now c.loop-now.left.now c.loop-now.player c.loop-now.telling
-    c.loop-now.invariant.far c.in_ok-player.player c.run_turn.new.telling done.tells c.law_settled.ensures done.fit
+    c.loop-now.invariant.far c.in_ok-player.player c.run_turn.new.telling done.tells c.law_each_settled.ensures done.fit
     c.loop-now-test.true c.work-then-work-limit.result
     (omega (arith, c.if-work-limit.true, c.work.ensures, c.work-then-work-limit.ensures, c.work_limit-limit.ensures))
     c.work-then-work-limit.ensures c.work-then-work-limit.type_inv
@@ -52,7 +52,7 @@ loop-now-preserved g c =
     let from = from_said _ _ _ rises (omega (arith, c.loop-now-test.true)) in
     rw (c.moment_after-now.ensures, c.still_to_come-left.ensures) (record {
       far = one_more (g.J.Jobs.replies c.args.jobs.now) script.end (work_limit script.version) script.moments (core_start script) c.args.telling.now.text
-          c.loop-now.now c.loop-now.left.now c.loop-now.player c.loop-now.telling so_far.far c.in_ok-player.player c.run_turn.new.telling done.tells c.law_settled.ensures done.fit
+          c.loop-now.now c.loop-now.left.now c.loop-now.player c.loop-now.telling so_far.far c.in_ok-player.player c.run_turn.new.telling done.tells c.law_each_settled.ensures done.fit
           c.loop-now-test.true (omega (arith, c.if-work-limit.false, c.work.ensures, c.work_limit-limit.ensures))
           (omega (arith, c.work_limit-limit.type_inv, c.work_limit-limit.ensures));
       not_back = omega (arith, done.clock);
@@ -67,5 +67,5 @@ pub returns-clause-whole : goal.returns-clause-whole
 returns-clause-whole g c =
     let done = c.in_ok-player-2.ensures in
     all_done (g.J.Jobs.replies c.args.jobs.now) c.args.script.now c.args.telling.now.text c.loop-now.now c.loop-now.left.now c.loop-now.player c.loop-now.telling
-    c.loop-now.invariant.far c.in_ok-player-2.player c.run_turn-2.new.telling done.tells c.law_settled.ensures done.fit
+    c.loop-now.invariant.far c.in_ok-player-2.player c.run_turn-2.new.telling done.tells c.law_each_settled.ensures done.fit
     (omega (arith, c.loop-now.invariant.by_end, c.loop-now-test.false))

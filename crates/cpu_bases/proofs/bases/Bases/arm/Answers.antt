@@ -2,7 +2,7 @@ use Rattle.std.proofs.Common.{◌≡◌, subst, sym, arith}
 use Rattle.wheel_core.specs.PlainBase.{added, forwarded}
 use Rattle.cpu_bases.specs.declared.entry.Act.TheVariants.{Armed}
 use Rattle.cpu_bases.specs.CpuBases.{IsConsistent, armed}
-use Rattle.cpu_bases.specs.Laws.{Keeps, MayQueue}
+use Rattle.cpu_bases.specs.Laws.{CallKeeps, MayQueue}
 use Rattle.cpu_bases.specs.Trio.{plain_of}
 use Rattle.cpu_bases.proofs.Keeping.{arming_keeps}
 use Rattle.cpu_bases.proofs.Steps.{kept_so, stored_queued}
@@ -13,7 +13,7 @@ law : (g : _) (c : goal.After-write g)
     → let old = plain_of c.self.inside.trio c.self.inside.journal.entries in
     let new = armed c.args.now c.args.class c.from-id.result c.args.expires c.args.job c.args.arg
     c.args.line c.args.by old in
-    IsConsistent new × Keeps c.args.now old new
+    IsConsistent new × CallKeeps c.args.now old new
 law g c =
     let asked : MayQueue c.args.now c.args.class c.args.timer.0 c.args.expires
     c.args.self.now.plain = record {
@@ -54,7 +54,7 @@ invariant_of-self g c =
 
 pub returns-clause-keeps : goal.returns-clause-keeps
 returns-clause-keeps g c =
-    subst (λ b. Keeps c.args.now b.plain (plain_of c.queue-item.new.self c.write.new.self.entries))
+    subst (λ b. CallKeeps c.args.now b.plain (plain_of c.queue-item.new.self c.write.new.self.entries))
     c.self.view_is
-    (subst (Keeps c.args.now (plain_of c.self.inside.trio c.self.inside.journal.entries))
+    (subst (CallKeeps c.args.now (plain_of c.self.inside.trio c.self.inside.journal.entries))
     (sym (became g c)) (law g c).1)

@@ -1,6 +1,6 @@
 use Rattle.std.proofs.Common.{◌≡◌, Some, None, subst, sym, ◌∙◌}
 use Rattle.cpu_bases.specs.CpuBases.{cancelled, class_in, on_bases}
-use Rattle.cpu_bases.specs.Laws.{Keeps}
+use Rattle.cpu_bases.specs.Laws.{CallKeeps}
 use Rattle.cpu_bases.specs.Trio.{plain_of}
 use Rattle.wheel_core.specs.PlainBase.{item_of, removed}
 use Rattle.cpu_bases.proofs.Keeping.{cancelled_gone, cancelling_keeps, found_at}
@@ -58,8 +58,8 @@ returns-clause-after g c =
 pub returns-clause-keeps : goal.returns-clause-keeps
 returns-clause-keeps g c =
     let cpu = plain_of c.self.inside.trio c.self.inside.journal.entries in
-    subst (λ b. Keeps c.args.now b.plain (plain_of c.take_out.new.self c.write.new.self.entries))
+    subst (λ b. CallKeeps c.args.now b.plain (plain_of c.take_out.new.self c.write.new.self.entries))
     c.self.view_is
-    (subst (Keeps c.args.now cpu) (sym (became g c))
+    (subst (CallKeeps c.args.now cpu) (sym (became g c))
     (cancelling_keeps c.args.now c.from.result c.args.line c.args.by cpu
     c.self.invariant.consistent).1)

@@ -1,7 +1,7 @@
 use Rattle.std.proofs.Common.{◌≡◌, subst, sym}
 use Rattle.cpu_bases.specs.CpuBases.{moved_out}
 use Rattle.cpu_bases.specs.ByClass.{of_class}
-use Rattle.cpu_bases.specs.Laws.{Keeps}
+use Rattle.cpu_bases.specs.Laws.{CallKeeps}
 use Rattle.cpu_bases.specs.Trio.{plain_of}
 use Rattle.wheel_core.specs.PlainBase.{removed}
 use Rattle.cpu_bases.proofs.Keeping.{moving_out_keeps, oldest_found}
@@ -35,7 +35,7 @@ invariant_of-self-2 g c =
 pub returns-clause-keeps : goal.returns-clause-keeps
 returns-clause-keeps g c =
     let cpu = plain_of c.self.inside.trio c.self.inside.journal.entries in
-    subst (λ b. Keeps c.args.now b.plain (plain_of c.take_oldest.new.self c.write.new.self.entries))
+    subst (λ b. CallKeeps c.args.now b.plain (plain_of c.take_oldest.new.self c.write.new.self.entries))
     c.self.view_is
-    (subst (Keeps c.args.now cpu) (sym (became g c))
+    (subst (CallKeeps c.args.now cpu) (sym (became g c))
     (moving_out_keeps c.args.now c.args.class c.args.by cpu c.self.invariant.consistent).1)

@@ -16,15 +16,15 @@ invariant_of-self c =
     (kept_fired c.wake_due-due.new.sleepers.items c.wake_due-due.new.queue.items (vec_capacity c.wake_due-due.new.queue)
     c.wake_due-due.ensures.queue_of (omega arith) (omega arith))
     (λ i. c.wake_due-due.new.sleepers.items) (λ i. c.wake_due-due.new.queue.items)
-    (c.first_of-self-inside.ensures ∙ ap first_wakeup c.deref.ensures.value)
+    (c.first_wakeup-self-inside.ensures ∙ ap first_wakeup c.deref.ensures.value)
 
 pub returns-clause-after : goal.returns-clause-after
 returns-clause-after c =
     let s = c.wake_due-due.ensures.sleepers in
-    let t : c.first_of-self-inside.result ≡ least_wakeup (map (asleep_still c.args.now) c.self.inside.sleepers.items) =
-    c.first_of-self-inside.ensures ∙ ap first_wakeup c.deref.ensures.value
+    let t : c.first_wakeup-self-inside.result ≡ least_wakeup (map (asleep_still c.args.now) c.self.inside.sleepers.items) =
+    c.first_wakeup-self-inside.ensures ∙ ap first_wakeup c.deref.ensures.value
     ∙ least_first _ _ c.wake_due-due.ensures.queue_of ∙ ap least_wakeup s in
-    let now_is : DeviceState = record { sleepers = c.wake_due-due.new.sleepers.items; time = c.first_of-self-inside.result } in
+    let now_is : DeviceState = record { sleepers = c.wake_due-due.new.sleepers.items; time = c.first_wakeup-self-inside.result } in
     subst (λ (d : DeviceState). now_is ≡ fired c.args.now d) c.self.view_is
     (λ i. record { sleepers = s i; time = t i })
 

@@ -19,7 +19,7 @@ pub invariant_of-self : goal.invariant_of-self
 invariant_of-self c =
     let s : Sleeper = record { wakeup = c.args.wakeup; cpu = c.args.cpu } in
     let queue = c.self.inside.queue.items in
-    let place = c.place_of-place.result in
+    let place = c.index_for-place.result in
     let len : vec_len c.self.inside.queue ≡ length c.self.inside.queue.items =
     sym c.deref.ensures.len ∙ ap length c.deref.ensures.value in
     let left = room_left c.self.inside.sleepers.items c.self.inside.queue.items s c.self.invariant.queue_of
@@ -30,8 +30,8 @@ invariant_of-self c =
     kept_as _ _ _ _ _ _ _
     (kept_slept c.self.inside.sleepers.items queue c.self.inside.time
     (vec_capacity c.self.inside.queue) (vec_capacity c.insert.new.self) place s c.self.invariant
-    (rw c.deref.ensures.value at c.place_of-place.ensures.before)
-    (rw c.deref.ensures.value at c.place_of-place.ensures.behind)
+    (rw c.deref.ensures.value at c.index_for-place.ensures.before)
+    (rw c.deref.ensures.value at c.index_for-place.ensures.behind)
     (rw (← c.self.view_is) at c.requires.awake) (rw (← c.self.view_is) at c.requires.cpu)
     c.requires.some_time c.insert.ensures.capacity)
     (ap (λ k. slice_set c.self.inside.sleepers.items k (Some c.args.wakeup)) c.from.ensures)

@@ -25,11 +25,11 @@ first_left-self-inside-requires-clause-near c = λ first.
 
 pub first_left-self-inside-requires-clause-in_time : goal.first_left-self-inside-requires-clause-in_time
 first_left-self-inside-requires-clause-in_time c =
-    (placed_stored c.in_ok-key.key c.take-item.result c.self.inside.store.filed c.self.invariant.sound.placed (sym c.take-item.ensures.item)).wheel
+    (placed_stored c.in_ok-key.key c.take-item.result c.self.inside.store.filed c.self.invariant.sound.in_wheel (sym c.take-item.ensures.item)).wheel
 
 pub first_left-self-inside-requires-clause-level : goal.first_left-self-inside-requires-clause-level
 first_left-self-inside-requires-clause-level c =
-    (placed_stored c.in_ok-key.key c.take-item.result c.self.inside.store.filed c.self.invariant.sound.placed (sym c.take-item.ensures.item)).level
+    (placed_stored c.in_ok-key.key c.take-item.result c.self.inside.store.filed c.self.invariant.sound.in_wheel (sym c.take-item.ensures.item)).level
 
 pub first_left-self-inside-requires-clause-granule : goal.first_left-self-inside-requires-clause-granule
 first_left-self-inside-requires-clause-granule c =

@@ -36,12 +36,12 @@ first_left-self-inside-requires-clause-near c = λ first.
 pub first_left-self-inside-requires-clause-in_time : goal.first_left-self-inside-requires-clause-in_time
 first_left-self-inside-requires-clause-in_time c =
     let out = taken_out c.args.now c.in_ok-key.key c.in_ok-key._next c.take-item.result c.self.inside.store.filed c.in_ok-key.ensures c.take-item.ensures.item in
-    (placed_stored c.in_ok-key.key c.take-item.result c.self.inside.store.filed c.self.invariant.sound.placed out.stored.under).wheel
+    (placed_stored c.in_ok-key.key c.take-item.result c.self.inside.store.filed c.self.invariant.sound.in_wheel out.stored.under).wheel
 
 pub first_left-self-inside-requires-clause-level : goal.first_left-self-inside-requires-clause-level
 first_left-self-inside-requires-clause-level c =
     let out = taken_out c.args.now c.in_ok-key.key c.in_ok-key._next c.take-item.result c.self.inside.store.filed c.in_ok-key.ensures c.take-item.ensures.item in
-    (placed_stored c.in_ok-key.key c.take-item.result c.self.inside.store.filed c.self.invariant.sound.placed out.stored.under).level
+    (placed_stored c.in_ok-key.key c.take-item.result c.self.inside.store.filed c.self.invariant.sound.in_wheel out.stored.under).level
 
 pub first_left-self-inside-requires-clause-granule : goal.first_left-self-inside-requires-clause-granule
 first_left-self-inside-requires-clause-granule c =

@@ -1,13 +1,13 @@
 use Rattle.std.proofs.Common.{◌≡◌, ◌<◌, ◌^◌, ◌∷◌, ◌++◌, ap, [], None, length, subst, sym, ◌∙◌}
 use Rattle.wheel_core.specs.declared.item.Item.{Item}
-use Rattle.wheel_core.specs.PlainBase.{NoneBehind, PlainBase, item_of, placed, sooner}
+use Rattle.wheel_core.specs.PlainBase.{NoneBehind, PlainBase, item_of, item_added, sooner}
 use Rattle.wheel_core.proofs.Kept.{keeps_added}
 use Rattle.wheel_core.proofs.Plain.{none_behind_added, placed_in_range}
 use Rattle.wheel_core.proofs.list_base.ListBaseTimerBase.add.Goals as goal
 
 -- the item that the timer becomes
 item : goal.After-self-1 → Item
-item c = placed c.self.inside.clock c.args.id c.args.expires c.args.job c.args.arg
+item c = item_added c.self.inside.clock c.args.id c.args.expires c.args.job c.args.arg
 
 -- it is what was pushed
 pushed : (c : goal.After-self-1)

@@ -1,7 +1,7 @@
 use Rattle.std.proofs.Common.{◌≡◌, ◌<◌, ◌-◌, suc, length, take, subst, arith}
 use Rattle.deep_idle.specs.Order.{After}
 use Rattle.deep_idle.proofs.Kept.{front_after}
-use Rattle.deep_idle.proofs.order.place_of.Goals as goal
+use Rattle.deep_idle.proofs.order.index_for.Goals as goal
 
 pub returns-then-queue-place-clause-before : goal.returns-then-queue-place-clause-before
 returns-then-queue-place-clause-before c =

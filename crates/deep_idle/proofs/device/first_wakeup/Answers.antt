@@ -1,7 +1,7 @@
 use Rattle.std.proofs.Common.{◌<◌, length, arith}
 use Rattle.tm_base.specs.declared.names.TheConstants.{NEVER}
 use Rattle.deep_idle.proofs.Kept.{last_at}
-use Rattle.deep_idle.proofs.device.first_of.Goals as goal
+use Rattle.deep_idle.proofs.device.first_wakeup.Goals as goal
 
 pub returns : goal.returns
 returns c =
