@@ -245,9 +245,9 @@ module _ (t : Shape) (cpus : List CpuRecord) (n : ℕ) (tally : CpuTally)
   }
 
 -- a CPU that isn't said to have marked another one has a count of none
-pub none_counted : (b : Bool) (n : ℕ) → (b ≡ true) ↔ (0 < n) → b ≡ false → n ≡ 0
-none_counted b n is no = elim (cases_lt 0 n) [
-  | inl some ↦ absurd (true≢false (sym (is.1 some) ∙ no))
+pub count_is_none : (b : Bool) (n : ℕ) → (b ≡ true) ↔ (0 < n) → b ≡ false → n ≡ 0
+count_is_none b n is unsaid = elim (cases_lt 0 n) [
+  | inl some ↦ absurd (true≢false (sym (is.1 some) ∙ unsaid))
   | inr none ↦ omega (arith, none)
 ]
 
