@@ -2,7 +2,7 @@
 
 ghost use Rattle.std.specs.Prelude.{◌≡◌, ◌^◌, ◌<◌, false};
 ghost use Rattle.std.specs.Option.{option_map_or};
-ghost use Rattle.cpu_bases.specs.CpuBases.{IsConsistent, empty_bases, events_of};
+ghost use Rattle.cpu_bases.specs.CpuBases.{empty_bases, events_of};
 ghost use Rattle.walk_rules.specs.declared.walk.Walk.{Walk};
 ghost use Rattle.core_world.specs.Start.{start_cpu};
 ghost use Rattle.core_world.specs.World.{is_reading};

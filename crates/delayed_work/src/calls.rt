@@ -1,6 +1,6 @@
 //! Any list of calls on works.
 
-ghost use Rattle.std.specs.Prelude.{◌≡◌, ◌≤◌, OnOk, OnErr};
+ghost use Rattle.std.specs.Prelude.{◌≡◌, OnOk, OnErr};
 ghost use Rattle.delayed_work.specs.Calls.{MayMake, after};
 ghost use Rattle.delayed_work.specs.Laws.{WorksLaw};
 

@@ -3,9 +3,9 @@
 ghost use Rattle.std.specs.Prelude.{◌≡◌, ◌+◌, ◌-◌, ◌^◌, ◌<◌, ◌≤◌, ◌++◌, length, IfOk, OnOk};
 ghost use Rattle.tm_base.specs.declared.names.TheConstants.{TIME_LIMIT};
 ghost use Rattle.delayed_work.specs.Playable.{AreInRange, StaysPlayable, NamesWork};
-ghost use Rattle.delayed_work.specs.Play.{all_done, before_running, closing_lines, done};
-ghost use Rattle.delayed_work.specs.Play.{left_lines, moment, next_moment, ready_count, run_all};
-ghost use Rattle.delayed_work.specs.Play.{run_one, run_ready, work_of};
+ghost use Rattle.delayed_work.specs.Play.{all_done, closing_lines, done};
+ghost use Rattle.delayed_work.specs.Play.{left_lines, moment, next_moment, run_all};
+ghost use Rattle.delayed_work.specs.Play.{run_one, work_of};
 
 use crate::printing::{tell_cancelled, tell_end, tell_left, tell_queued, tell_ran};
 use crate::works::Works;

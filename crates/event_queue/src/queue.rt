@@ -1,6 +1,6 @@
 //! The queue of a group.
 
-ghost use Rattle.std.specs.Prelude.{◌≡◌, ◌<◌, ◌^◌, Option, Some, None, List, IfSome, IfNone};
+ghost use Rattle.std.specs.Prelude.{◌≡◌, ◌<◌, Option, Some, None, IfSome, IfNone};
 ghost use Rattle.std.specs.Prelude.{slice_set, replicate};
 ghost use Rattle.std.specs.Option.{option_map};
 ghost use Rattle.event_queue.specs.Search.{Picks, earlier_of};

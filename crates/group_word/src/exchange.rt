@@ -2,7 +2,7 @@
 
 ghost use Rattle.std.specs.Prelude.{◌≡◌, ◌-◌, ◌^◌, ◌<◌, ◌↔◌, IsTrue, is_none};
 ghost use Rattle.std.specs.Bool.{OnFalse};
-ghost use Rattle.group_word.specs.Group.{GroupLaw, Joins, Leaves, IsLowest, TakesRole, PassesOn};
+ghost use Rattle.group_word.specs.Group.{Joins, Leaves, IsLowest, TakesRole, PassesOn};
 ghost use Rattle.group_word.specs.Group.{LooksAfter};
 ghost use Rattle.group_word.specs.State.{IsLawfulState, activated_state, swapped_state};
 ghost use Rattle.group_word.specs.State.{lowest_child, migrator_without};

@@ -2,7 +2,6 @@
 
 ghost use Rattle.std.specs.Prelude.{◌≡◌, ◌+◌, ◌<◌, IfOk, OnErr, OnOk, false, is_some, length, true};
 ghost use Rattle.core_world.specs.Covered.{IsSettled};
-ghost use Rattle.core_world.specs.World.{cpu_of};
 ghost use Rattle.play_rules.specs.Machines.{after_move};
 ghost use Rattle.step_play.specs.Rules.StepRules.{step_rules};
 ghost use Rattle.hotplug.specs.Afterwards.{AllMoved, PartMoved, SomeMoved, StillQueued};

@@ -1,8 +1,6 @@
 //! Whether any queued timer is behind the clock of its base.
 
 ghost use Rattle.std.specs.Prelude.{◌↔◌, ◌<◌, length, IsTrue};
-ghost use Rattle.wheel_core.specs.PlainBase.{NoneBehind};
-ghost use Rattle.cpu_bases.specs.CpuBases.{base_of};
 ghost use Rattle.core_world.specs.World.{cpu_of};
 ghost use Rattle.hotplug.specs.Settled.{AllWhole, IsWhole};
 

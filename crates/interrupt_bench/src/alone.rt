@@ -1,6 +1,6 @@
 //! The same as steps of the core.
 
-ghost use Rattle.std.specs.Prelude.{◌<◌, length};
+ghost use Rattle.std.specs.Prelude.{◌<◌};
 
 use crate::cases::Case;
 use crate::machines::{CPUS, EACH, Load};

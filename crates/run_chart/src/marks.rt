@@ -2,7 +2,6 @@
 
 ghost use Rattle.std.specs.Prelude.{◌≡◌, ◌≤◌, ◌∷◌, IfOk};
 ghost use Rattle.run_chart.specs.Marks.{folds_from, is_folded, ticked, ticks_from};
-ghost use Rattle.run_chart.specs.Model.{first_point};
 
 use crate::model::{LONG_REST, Point, Window, next_point};
 use std::alloc::Global;

@@ -2,7 +2,7 @@
 //! note for each answer.
 
 ghost use Rattle.std.specs.Prelude.{◌≡◌, ◌+◌, ◌≤◌, ◌^◌, ◌++◌, IfOk, OnOk};
-ghost use Rattle.std.specs.Prelude.{◌&&◌, nat_le, IsTrue};
+ghost use Rattle.std.specs.Prelude.{◌&&◌};
 ghost use Rattle.run_chart.specs.Model.{all_spans, arrow_by, arrows_from, behind, count_of};
 ghost use Rattle.run_chart.specs.Model.{course_by, ended_by, first_point, has_cpu, has_jiffy};
 ghost use Rattle.run_chart.specs.Model.{last_point, new_state, next_at, next_point, note_by};

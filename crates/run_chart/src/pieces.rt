@@ -1,7 +1,6 @@
 //! Pieces of a picture's text.
 
-ghost use Rattle.std.specs.Prelude.{◌≡◌, ◌++◌, codes, OnOk};
-ghost use Rattle.std.specs.Fmt.{decimal};
+ghost use Rattle.std.specs.Prelude.{◌≡◌, ◌++◌, OnOk};
 ghost use Rattle.tm_report.specs.Words.{time_word};
 ghost use Rattle.run_chart.specs.Pieces.{after, three, two};
 

@@ -1,7 +1,7 @@
 //! The words of the command line.
 
-ghost use Rattle.std.specs.Prelude.{◌≡◌, ◌≤◌, ◌+◌, IfSome};
-ghost use Rattle.script_main.specs.Words.{IsRecipe, command_of, form_of, limited, lone_command};
+ghost use Rattle.std.specs.Prelude.{◌≡◌, ◌≤◌, IfSome};
+ghost use Rattle.script_main.specs.Words.{IsRecipe, command_of, form_of, lone_command};
 ghost use Rattle.script_main.specs.Words.{making_command, number_within, recipe_in, recipe_of};
 
 use crate::inputs::Form;

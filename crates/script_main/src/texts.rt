@@ -1,7 +1,6 @@
 //! The texts that the program writes beside outputs.
 
-ghost use Rattle.std.specs.Prelude.{◌≡◌, ◌++◌, IfOk};
-ghost use Rattle.std.specs.Fmt.{decimal};
+ghost use Rattle.std.specs.Prelude.{◌≡◌, IfOk};
 ghost use Rattle.script_main.specs.Texts.{form_name, job_unknown_text, kind_number};
 ghost use Rattle.script_main.specs.Texts.{read_fault_text, refused_text, too_long_text, usage_text};
 ghost use Rattle.script_main.specs.Texts.{work_spent_text};

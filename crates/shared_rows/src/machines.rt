@@ -1,7 +1,6 @@
 //! Cores at rest, on which some timers are queued and some CPUs are idle.
 
-ghost use Rattle.std.specs.Prelude.{◌≡◌, All, IfOk, false, length};
-ghost use Rattle.std.specs.FinSet.{contains};
+ghost use Rattle.std.specs.Prelude.{◌≡◌, All, IfOk, length};
 ghost use Rattle.tree_plan.specs.Shape.{IsWithinLimits};
 ghost use Rattle.cpu_bases.specs.CpuBases.{empty_bases};
 ghost use Rattle.wheel_base.specs.Wheels.{no_base};

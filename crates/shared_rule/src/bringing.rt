@@ -1,7 +1,6 @@
 //! A pass is brought into a part, and goes from it.
 
-ghost use Rattle.std.specs.Prelude.{◌≡◌, ◌∷◌, [], None};
-ghost use Rattle.shared_rule.specs.declared.parts.PassView.{PassView};
+ghost use Rattle.std.specs.Prelude.{◌≡◌, [], None};
 ghost use Rattle.shared_rule.specs.Rule.{Each};
 ghost use Rattle.shared_rule.specs.Plays.{Agree};
 ghost use Rattle.shared_rule.specs.Passes.{IsOfRun, away};

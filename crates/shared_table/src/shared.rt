@@ -6,7 +6,7 @@ ghost use Rattle.std.specs.Sync.Mutex.{mutex_guard_value};
 ghost use Rattle.core_world.specs.Covered.{IsSettled};
 ghost use Rattle.core_world.specs.World.{cpu_of};
 ghost use Rattle.shared_rule.specs.Rule.{seat_of, tail_of};
-ghost use Rattle.shared_table.specs.Begun.{IsBoxRoom, IsSpareSeat, RoomsFit, begun_pass};
+ghost use Rattle.shared_table.specs.Begun.{IsBoxRoom, IsSpareSeat, RoomsFit};
 ghost use Rattle.shared_table.specs.Begun.{begun_passes, boxes_from, passes_from};
 ghost use Rattle.shared_table.specs.Ended.{AreAllPasses};
 ghost use Rattle.shared_table.specs.Readied.{MayBegin};

@@ -1,7 +1,7 @@
 //! The exchanges of a timer's word, and the load by which a base counts as drained, with a seat
 //! that has a CPU's part and a pass.
 
-ghost use Rattle.std.specs.Prelude.{◌≡◌, ◌∷◌, ◌==◌, [], Some};
+ghost use Rattle.std.specs.Prelude.{◌≡◌, ◌==◌, Some};
 ghost use mathlib.Core.Option.{some};
 ghost use Rattle.shared_rule.specs.declared.parts.Said.TheVariants as saids;
 ghost use Rattle.shared_rule.specs.Plays.{Sound};

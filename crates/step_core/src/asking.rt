@@ -1,8 +1,7 @@
 //! Where steps that change what a CPU is are enabled.
 
 ghost use Rattle.std.specs.Prelude.{◌≡◌, ◌↔◌, ◌<◌, Some, length, IsTrue};
-ghost use Rattle.tree_plan.specs.Paths.{is_placed_in};
-ghost use Rattle.core_world.specs.Enabled.{IsDueAtLeaf, IsFree, IsReevaluating, MayBeMissed};
+ghost use Rattle.core_world.specs.Enabled.{IsDueAtLeaf, IsFree, MayBeMissed};
 ghost use Rattle.core_world.specs.Enabled.{MayCarry, MayComeOnline, MayEnter};
 ghost use Rattle.core_world.specs.Enabled.{MayGoOffline, MayHandOn, MayIdle, MayLeave, MayReeval};
 ghost use Rattle.core_world.specs.Enabled.{MayRelease, MayTake, MayTime, MayWake};

@@ -2,12 +2,11 @@
 
 ghost use Rattle.std.specs.Prelude.{◌≡◌, ◌↔◌, ◌<◌, ℕ, None, Some, length, IsTrue};
 ghost use Rattle.tm_base.specs.declared.names.Class.TheVariants.{Global};
-ghost use Rattle.wheel_core.specs.PlainBase.{NoneBehind};
-ghost use Rattle.cpu_bases.specs.CpuBases.{base_of, class_in};
+ghost use Rattle.cpu_bases.specs.CpuBases.{class_in};
 ghost use Rattle.wheel_core.specs.declared.item.Item.{Item};
 ghost use Rattle.core_world.specs.Enabled.{MayArm, MayCancel, MayGoOn, MayHand, MayMove, MayRun};
 ghost use Rattle.core_world.specs.Enabled.{MayTick, MayWalk};
-ghost use Rattle.core_world.specs.World.{cpu_of, group_of};
+ghost use Rattle.core_world.specs.World.{cpu_of};
 ghost use Rattle.step_core.specs.Asking.{MayGo};
 
 use crate::asking::{is_active, is_free, names};

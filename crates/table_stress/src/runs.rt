@@ -1,6 +1,6 @@
 //! A run in which CPUs take their turns.
 
-ghost use Rattle.std.specs.Prelude.{◌≡◌, ◌-◌, ◌^◌, ◌≤◌, length};
+ghost use Rattle.std.specs.Prelude.{◌≡◌, ◌-◌, ◌^◌, ◌≤◌};
 ghost use Rattle.tm_base.specs.declared.names.TheConstants.{TIME_LIMIT};
 ghost use Rattle.core_world.specs.Covered.{IsSettled};
 ghost use Rattle.shared_table.specs.Begun.{begun_passes};

@@ -1,6 +1,6 @@
 //! Whether the CPU of a part may be marked by that of a pass.
 
-ghost use Rattle.std.specs.Prelude.{◌≡◌, ◌≤◌, Some, [], length, true};
+ghost use Rattle.std.specs.Prelude.{◌≡◌, ◌≤◌, Some, [], true};
 ghost use Rattle.event_queue.specs.declared.event.Event.{Event};
 ghost use Rattle.event_queue.specs.EventMap.{Counts};
 ghost use Rattle.shared_rule.specs.declared.parts.PassView.{PassView};

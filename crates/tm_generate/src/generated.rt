@@ -1,6 +1,6 @@
 //! Generated scripts.
 
-ghost use Rattle.std.specs.Prelude.{◌≡◌, ◌+◌, ◌-◌, ◌*◌, ◌<◌, ◌≤◌, ◌++◌, suc, map, IfOk, OnOk};
+ghost use Rattle.std.specs.Prelude.{◌≡◌, ◌+◌, ◌-◌, ◌*◌, ◌<◌, ◌≤◌, ◌++◌, map, IfOk, OnOk};
 ghost use Rattle.std.specs.List.{range_with_len};
 ghost use Rattle.tm_base.specs.declared.limits.TheConstants.{MOST_CPUS_V1, MOST_TIMERS};
 ghost use Rattle.tm_script.specs.Grammar.{IsScript};

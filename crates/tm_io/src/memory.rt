@@ -1,7 +1,7 @@
 //! A source and a sink in memory that go by pieces, and fail in the calls that they are told.
 
-ghost use Rattle.std.specs.Prelude.{◌≡◌, ◌==◌, ◌<◌, ◌^◌, ◌↔◌, [], ℕ, min, length, take};
-ghost use Rattle.std.specs.Prelude.{IsTrue, IfOk, IfErr, IsErrOf};
+ghost use Rattle.std.specs.Prelude.{◌≡◌, ◌==◌, ◌<◌, ◌^◌, ◌↔◌, [], min, length, take};
+ghost use Rattle.std.specs.Prelude.{IsTrue, IfOk, IsErrOf};
 ghost use Rattle.std.specs.List.{list_any};
 ghost use Rattle.tm_io.specs.Counts.{HasRisen};
 ghost use Rattle.tm_io.specs.Sources.{Takes};

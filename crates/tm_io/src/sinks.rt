@@ -1,7 +1,7 @@
 //! Sinks for bytes, and writing all of a text into one.
 
-ghost use Rattle.std.specs.Prelude.{◌≡◌, ◌≢◌, ◌<◌, ◌≤◌, length, take};
-ghost use Rattle.std.specs.Prelude.{IfOk, OnOk, IfErr, IsErrOf, MatchResult};
+ghost use Rattle.std.specs.Prelude.{◌≡◌, ◌≢◌, ◌<◌, ◌≤◌, length};
+ghost use Rattle.std.specs.Prelude.{IfOk, OnOk, IfErr, IsErrOf};
 ghost use Rattle.std.specs.Io.KnownBytes.{Appends, WriteAppends};
 ghost use Rattle.tm_io.specs.Seen.{SinkSeen, SinkFailed, SinkUnbroken, SinkRefused, SinkTook};
 ghost use Rattle.tm_io.specs.Sinks.{Puts, StopsBy, AppendsFront, refusals_after};

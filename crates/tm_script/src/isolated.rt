@@ -1,6 +1,6 @@
 //! The line of the isolated CPUs.
 
-ghost use Rattle.std.specs.Prelude.{◌≡◌, ◌≤◌, Ok, IfOk};
+ghost use Rattle.std.specs.Prelude.{◌≡◌, ◌≤◌, Ok};
 ghost use Rattle.std.specs.Option.{option_copied};
 ghost use Rattle.tm_script.specs.Reading.{words_behind, with_number, no_numbers, spares};
 ghost use Rattle.tm_script.specs.Reading.{isolated_by, isolated_from};

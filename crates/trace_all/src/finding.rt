@@ -1,6 +1,6 @@
 //! The fold over the lines of a trace that goes on after a misfit.
 
-ghost use Rattle.std.specs.Prelude.{◌≡◌, ◌++◌, ◌∷◌, [], IfOk};
+ghost use Rattle.std.specs.Prelude.{◌≡◌, [], IfOk};
 ghost use Rattle.text_words.specs.Words.{lines_of};
 ghost use Rattle.trace_rules.specs.Judge.{judged, start, text_verdict};
 ghost use Rattle.trace_all.specs.All.{HasTaken, all_of, first_said, forgotten};

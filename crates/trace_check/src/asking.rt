@@ -1,6 +1,6 @@
 //! Who answers for a timer.
 
-ghost use Rattle.std.specs.Prelude.{◌≡◌, ℕ, ◌<◌, IfNone, IfSome, length};
+ghost use Rattle.std.specs.Prelude.{◌<◌, IfNone, IfSome, length};
 ghost use Rattle.coverage.specs.Coverage.{Held, WakesItself, Woken};
 ghost use Rattle.core_world.specs.Covered.{Covered, machine_of};
 ghost use Rattle.trace_check.specs.Reasons.{HasNoReason, IsAsked, IsCarriedIn, IsFirst};

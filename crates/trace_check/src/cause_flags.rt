@@ -3,11 +3,9 @@
 ghost use Rattle.std.specs.Prelude.{◌≡◌, ◌<◌, IfNone, IfSome, Some, length, true};
 ghost use Rattle.core_world.specs.Enabled.{IsFree, MayCarry};
 ghost use Rattle.core_world.specs.Enabled.{MayComeOnline, MayEnter, MayGoOffline, MayIdle};
-ghost use Rattle.core_world.specs.Enabled.{MayLeave, MayReeval, MayRelease, MayTake, MayTime};
+ghost use Rattle.core_world.specs.Enabled.{MayLeave, MayReeval, MayRelease, MayTime};
 ghost use Rattle.core_world.specs.Enabled.{MayWake};
 ghost use Rattle.core_world.specs.World.{cpu_of, is_active};
-ghost use Rattle.step_core.specs.Asking.{MayLook};
-ghost use Rattle.walk_rules.specs.declared.walk.Walk.{Walk};
 ghost use Rattle.walk_rules.specs.declared.walk.WalkKind.TheVariants as kinds;
 ghost use Rattle.trace_check.specs.Causes.{IsCause};
 

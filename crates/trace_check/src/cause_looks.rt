@@ -1,7 +1,6 @@
 //! What forbids that a CPU looks after another one, hands on to it, or makes a step of its walk.
 
-ghost use Rattle.std.specs.Prelude.{◌≡◌, ◌≢◌, ◌<◌, IfNone, IfSome, None, Some, length};
-ghost use Rattle.tree_plan.specs.Paths.{level_of, place_of};
+ghost use Rattle.std.specs.Prelude.{◌≡◌, ◌<◌, IfNone, IfSome, None, Some, length};
 ghost use Rattle.core_world.specs.Enabled.{MayGoOn, MayHandOn, MayTake, MayWalk};
 ghost use Rattle.core_world.specs.World.{cpu_of, group_of};
 ghost use Rattle.step_core.specs.Asking.{MayLook};

@@ -1,10 +1,9 @@
 //! What forbids steps of timers.
 
-ghost use Rattle.std.specs.Prelude.{◌≡◌, ◌<◌, ℕ, IfNone, IfSome, None, Some, length};
+ghost use Rattle.std.specs.Prelude.{◌≡◌, ◌<◌, IfNone, IfSome, None, Some, length};
 ghost use Rattle.wheel_core.specs.declared.item.Item.{Item};
-ghost use Rattle.wheel_core.specs.PlainBase.{NoneBehind};
-ghost use Rattle.cpu_bases.specs.CpuBases.{base_of, class_in};
-ghost use Rattle.core_world.specs.Enabled.{IsFree, MayArm, MayCancel, MayHand, MayMove};
+ghost use Rattle.cpu_bases.specs.CpuBases.{class_in};
+ghost use Rattle.core_world.specs.Enabled.{MayArm, MayCancel, MayHand, MayMove};
 ghost use Rattle.core_world.specs.Enabled.{MayTick};
 ghost use Rattle.core_world.specs.Steps.{first_moved};
 ghost use Rattle.core_world.specs.World.{cpu_of};

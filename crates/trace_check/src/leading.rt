@@ -1,11 +1,11 @@
 //! Where the migrators lead.
 
-ghost use Rattle.std.specs.Prelude.{◌≡◌, ℕ, ◌<◌, ◌&&◌, IfNone, IfSome, Some, length, not};
+ghost use Rattle.std.specs.Prelude.{◌≡◌, ℕ, ◌<◌, ◌&&◌, IfNone, IfSome, Some, length};
 ghost use Rattle.tm_base.specs.declared.names.Child.{Child};
-ghost use Rattle.tree_plan.specs.Paths.{child_at, level_of};
+ghost use Rattle.tree_plan.specs.Paths.{level_of};
 ghost use Rattle.coverage.specs.Coverage.{Leads};
 ghost use Rattle.core_world.specs.Covered.{machine_of};
-ghost use Rattle.core_world.specs.World.{cpu_of, group_of, is_active};
+ghost use Rattle.core_world.specs.World.{cpu_of, is_active};
 ghost use Rattle.trace_check.specs.Leading.{IsInWorld, IsMigrator};
 
 use core_state::Core;

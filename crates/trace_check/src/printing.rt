@@ -6,7 +6,7 @@ ghost use Rattle.std.specs.List.{flat_map};
 ghost use Rattle.text_words.specs.Words.{ended, spaced};
 ghost use Rattle.tm_base.specs.Classes.{class_text};
 ghost use Rattle.trace_check.specs.Lines.{line_text};
-ghost use Rattle.trace_check.specs.Texts.{IsTrace, as_script, machine_lines, trace_text};
+ghost use Rattle.trace_check.specs.Texts.{IsTrace, machine_lines, trace_text};
 
 use crate::traces::{Trace, TraceLine};
 use core_world::Step;

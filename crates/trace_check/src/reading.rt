@@ -5,7 +5,7 @@ ghost use Rattle.std.specs.Prelude.{length};
 ghost use Rattle.text_words.specs.Words.{ended, lines_of};
 ghost use Rattle.trace_check.specs.Texts.{Spells};
 ghost use Rattle.trace_check.specs.Reading.{closing, fault_at, lines_from, unended};
-ghost use Rattle.trace_check.specs.Faults.{machine_front, machine_text};
+ghost use Rattle.trace_check.specs.Faults.{machine_text};
 ghost use Rattle.trace_check.specs.Reader.{IsOnlyTraceOf, IsRefusalOf};
 ghost use Rattle.trace_check.specs.Steps.{FailsAsScript, FailsBehind, Gives, IsReadBehind};
 ghost use Rattle.trace_check.specs.Steps.{IsScriptOf, with_front};

@@ -1,6 +1,6 @@
 //! Traces told line by line.
 
-ghost use Rattle.std.specs.Prelude.{◌≡◌, ℕ, ◌+◌, ◌<◌, ◌≤◌, ◌++◌, All, IfOk, IfSome, OnOk, length};
+ghost use Rattle.std.specs.Prelude.{◌≡◌, ◌+◌, ◌<◌, ◌≤◌, ◌++◌, All, IfOk, IfSome, OnOk, length};
 ghost use Rattle.core_world.specs.Enabled.{Enabled};
 ghost use Rattle.core_world.specs.Frames.{SameSize};
 ghost use Rattle.tm_base.specs.declared.limits.TheConstants.{MOST_LINES};
@@ -8,7 +8,7 @@ ghost use Rattle.trace_check.specs.Answers.{IsVerdict, start_for, steps_of};
 ghost use Rattle.trace_check.specs.Playing.{AsksOf};
 ghost use Rattle.trace_check.specs.Texts.{IsTrace};
 ghost use Rattle.trace_check.specs.declared.traces.TraceLine.TheVariants as lines;
-ghost use Rattle.trace_explain.specs.Explained.{IsExplained, made_text, refused_text, whole_text};
+ghost use Rattle.trace_explain.specs.Explained.{IsExplained, made_text, refused_text};
 ghost use Rattle.trace_explain.specs.Telling.{Tells};
 
 use crate::answers::{push_answers, push_asked};

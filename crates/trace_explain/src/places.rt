@@ -1,7 +1,6 @@
 //! Groups by their names, and where the next step of a walk is.
 
-ghost use Rattle.std.specs.Prelude.{◌≡◌, ◌++◌, ◌<◌, length, IfSome, OnOk, Some};
-ghost use Rattle.core_state.specs.Kept.{HasLevel};
+ghost use Rattle.std.specs.Prelude.{◌≡◌, ◌++◌, ◌<◌, length, OnOk, Some};
 ghost use Rattle.core_world.specs.World.{cpu_of};
 ghost use Rattle.trace_explain.specs.Walks.{group_name, level_named, spot_text};
 

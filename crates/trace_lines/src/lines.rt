@@ -1,6 +1,6 @@
 //! Reading a line.
 
-ghost use Rattle.std.specs.Prelude.{◌≡◌, ◌∷◌, ◌<◌, [], Ok, Err, IfOk, MatchResult};
+ghost use Rattle.std.specs.Prelude.{◌≡◌, ◌<◌, Ok, Err, MatchResult};
 ghost use Rattle.trace_lines.specs.Parts.{parts_of};
 ghost use Rattle.trace_lines.specs.Lines.{cpu_in, event_in, head_in, is_loss, is_stamp, line_of};
 ghost use Rattle.trace_lines.specs.Lines.{are_digits_or_dots, is_remark, named_in, stamped_in};

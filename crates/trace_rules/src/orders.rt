@@ -1,6 +1,6 @@
 //! The order of a group's exchanges between CPUs, by their lines.
 
-ghost use Rattle.std.specs.Prelude.{◌≡◌, ◌<◌, count_by, find, length, position, IfOk};
+ghost use Rattle.std.specs.Prelude.{◌≡◌, ◌<◌, find, length, position, IfOk};
 ghost use Rattle.std.specs.Prelude.{IfSome, None, OnOk};
 ghost use Rattle.std.specs.List.{list_any};
 ghost use Rattle.std.specs.Set.{remove_key};

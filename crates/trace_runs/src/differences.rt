@@ -1,6 +1,6 @@
 //! What Linux is known to do otherwise than the rules, and what is no misfit.
 
-ghost use Rattle.std.specs.Prelude.{◌≡◌, not, ◌||◌};
+ghost use Rattle.std.specs.Prelude.{◌≡◌, ◌||◌};
 ghost use Rattle.std.specs.List.{list_all, list_any};
 ghost use Rattle.trace_runs.specs.Differences.{cpu_later, differences_after, group_later, is_early};
 ghost use Rattle.trace_runs.specs.Differences.{is_later, is_twice, keeps_too, no_differences};

@@ -1,6 +1,6 @@
 //! Rests: what groups and CPUs are while no walk is under way.
 
-ghost use Rattle.std.specs.Prelude.{◌≡◌, not};
+ghost use Rattle.std.specs.Prelude.{◌≡◌};
 ghost use Rattle.std.specs.List.{list_all};
 ghost use Rattle.trace_seen.specs.Rests.{at_rest, bit_says, cpu_edge, group_edge, has_bit};
 ghost use Rattle.trace_seen.specs.Rests.{known_word};

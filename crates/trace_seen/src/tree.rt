@@ -1,7 +1,6 @@
 //! The tree: where groups stand, and the numbers of children.
 
-ghost use Rattle.std.specs.Prelude.{◌≡◌, ◌==◌, not};
-ghost use Rattle.std.specs.List.{list_all};
+ghost use Rattle.std.specs.Prelude.{◌≡◌, ◌==◌};
 ghost use Rattle.trace_seen.specs.Tree.{bit_fits, cpu_stands, cpus_free, cpu_joining_fault};
 ghost use Rattle.trace_seen.specs.Tree.{group_stands, groups_free, is_below, node_fits};
 ghost use Rattle.trace_seen.specs.Tree.{parent_fits};

@@ -1,6 +1,6 @@
 //! The rule of timers over the lines of a trace.
 
-ghost use Rattle.std.specs.Prelude.{◌≡◌, IfOk, OnOk};
+ghost use Rattle.std.specs.Prelude.{◌≡◌, OnOk};
 ghost use Rattle.trace_timers.specs.Rule.{after_expiry, at_expiry, at_softirq, event_fits};
 ghost use Rattle.trace_timers.specs.Rule.{may_run};
 ghost use Rattle.trace_timers.specs.Rule.{place_fits, run_begun};

@@ -3,7 +3,7 @@
 ghost use Rattle.std.specs.Prelude.{◌≡◌, ◌==◌, ◌<◌, length, find, position, IfSome};
 ghost use Rattle.std.specs.Prelude.{OnErr, OnOk};
 ghost use Rattle.trace_seen.specs.Seen.{put_at};
-ghost use Rattle.trace_timers.specs.Seen.{armed_after, is_open, is_out, jumbled};
+ghost use Rattle.trace_timers.specs.Seen.{armed_after, is_open, is_out};
 ghost use Rattle.trace_timers.specs.Seen.{left_from, no_timers, put_runner, put_timer, queued_of};
 ghost use Rattle.trace_timers.specs.Seen.{removed_after, run_after, runner_at, state_behind};
 ghost use Rattle.trace_timers.specs.Seen.{state_left, state_run, state_taken, taken_again};

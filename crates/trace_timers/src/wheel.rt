@@ -3,9 +3,7 @@
 ghost use Rattle.std.specs.Prelude.{◌≡◌, ◌<◌, ◌≤◌, ◌+◌, ◌*◌, ◌/◌, ◌%◌, ◌^◌};
 ghost use Rattle.wheel_core.specs.WheelExpiry.{granularity, level_start};
 ghost use Rattle.trace_timers.specs.Wheel.{FindsClocks, are_near, arming_fits, bucket_fits};
-ghost use Rattle.trace_timers.specs.Wheel.{fits_at};
 ghost use Rattle.trace_timers.specs.Wheel.{gives, gives_past, latest_cut, latest_of};
-ghost use Rattle.trace_timers.specs.Wheel.{wheel_index_of};
 
 use trace_lines::Arming;
 use wheel_core::wheel_expiry;

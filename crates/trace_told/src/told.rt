@@ -1,6 +1,6 @@
 //! Told expiries at rest: who answers for them, by what was seen.
 
-ghost use Rattle.std.specs.Prelude.{◌≡◌, ◌==◌, find, drop, not};
+ghost use Rattle.std.specs.Prelude.{◌≡◌, ◌==◌, find, not};
 ghost use Rattle.std.specs.List.{list_all, list_any};
 ghost use Rattle.trace_told.specs.Told.{answer_at, answer_by, answer_of, answer_told, answers_if};
 ghost use Rattle.trace_told.specs.Told.{answer_here, at_active, at_group, at_sleeping, at_top};

@@ -1,7 +1,6 @@
 //! What tmigview writes.
 
 ghost use Rattle.std.specs.Prelude.{◌≡◌, ◌<◌, ◌++◌, codes, IfOk, OnOk};
-ghost use Rattle.std.specs.Fmt.{decimal};
 ghost use Rattle.trace_view.specs.Texts.{all_status, all_text, answers_text, broken_text};
 ghost use Rattle.trace_view.specs.Texts.{count_text};
 ghost use Rattle.trace_view.specs.Texts.{counts_text, end_text, fault_text, misfits_text};
@@ -11,7 +10,7 @@ ghost use Rattle.trace_view.specs.Texts.{events_text, hex_digit, hex_digits};
 ghost use Rattle.trace_view.specs.Texts.{behind_text, cpu_text, late_runs_text, open_text};
 ghost use Rattle.trace_view.specs.Texts.{orders_text};
 ghost use Rattle.trace_view.specs.Texts.{others_text, runs_text, tick_runs_text};
-ghost use Rattle.trace_view.specs.Texts.{last_text, timers_text, whom_text};
+ghost use Rattle.trace_view.specs.Texts.{last_text, whom_text};
 
 use crate::statuses::{FITS, MISFIT, NO_TRACE};
 use crate::timer_texts::push_timers;

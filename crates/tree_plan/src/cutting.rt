@@ -1,11 +1,10 @@
 //! How a machine is cut into groups, and how every child is linked to its group.
 
-ghost use Rattle.std.specs.Prelude.{◌≡◌, ◌+◌, ◌*◌, ◌^◌, ◌<◌, ◌≤◌, [], ◌∷◌, ◌++◌, length, map, sum};
-ghost use Rattle.std.specs.Prelude.{flat_map, vec_len, slice_get, if◌then◌else◌, None, IfOk, OnOk};
+ghost use Rattle.std.specs.Prelude.{◌≡◌, ◌+◌, ◌*◌, ◌^◌, ◌<◌, ◌≤◌, ◌++◌, length, map, sum};
+ghost use Rattle.std.specs.Prelude.{vec_len, slice_get, if◌then◌else◌, None, IfOk, OnOk};
 ghost use Rattle.std.specs.FinSet.{contains};
 ghost use Rattle.tm_base.specs.declared.limits.TheConstants.{MOST_CPUS_V2};
 ghost use Rattle.tree_plan.specs.Shape.{IsWithinLimits, levels_for, node_cpus, placed_from};
-ghost use Rattle.tree_plan.specs.Shape.{tree_of};
 ghost use Rattle.tree_plan.specs.Store.{groups_for, row_lengths_at, row_groups, level_of_rows};
 ghost use Rattle.tree_plan.specs.Store.{CutsNext, groups_planned, links_to, links_from};
 ghost use Rattle.tree_plan.specs.Store.{seat_links, cpu_ids, firsts_from};

@@ -1,7 +1,6 @@
 //! What is told of an input that can't be read.
 
-ghost use Rattle.std.specs.Prelude.{◌≡◌, ◌++◌, codes, IfOk, OnOk};
-ghost use Rattle.std.specs.Fmt.{decimal};
+ghost use Rattle.std.specs.Prelude.{◌≡◌, IfOk};
 ghost use Rattle.view_main.specs.Refusals.{back_text, cause_text, kind_text, report_text};
 ghost use Rattle.view_main.specs.Refusals.{steps_text};
 

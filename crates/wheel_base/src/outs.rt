@@ -1,6 +1,6 @@
 //! What goes out of the wheel, and the least wheel expiry that is left.
 
-ghost use Rattle.std.specs.Prelude.{◌≡◌, ℕ, ◌%◌, ◌^◌, ◌<◌, ◌≤◌, None, Some, true, MatchOption};
+ghost use Rattle.std.specs.Prelude.{◌≡◌, ◌%◌, ◌^◌, ◌<◌, ◌≤◌, None, Some, true, MatchOption};
 ghost use Rattle.std.specs.Prelude.{IfSome};
 ghost use Rattle.wheel_core.specs.WheelExpiry.{granularity};
 ghost use Rattle.wheel_core.specs.PlainBase.{least, out_at, sooner};

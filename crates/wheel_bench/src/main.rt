@@ -2,7 +2,7 @@
 //! each measurement: `WheelBase SIZE COLUMN NANOSECONDS COUNT`.
 #![tactic(auto)]
 
-ghost use Rattle.std.specs.Prelude.{◌≡◌, ℕ, ◌+◌, ◌^◌, ◌<◌, ◌≤◌, [], length, false};
+ghost use Rattle.std.specs.Prelude.{◌≡◌, ◌+◌, ◌^◌, ◌<◌, ◌≤◌, [], length, false};
 ghost use Rattle.wheel_core.specs.PlainBase.{NoneBehind};
 
 use std::env;

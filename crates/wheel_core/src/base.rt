@@ -8,7 +8,7 @@ use crate::{Item, NoRoom};
 /// Forwarding, adding, removing and hand-out are the plain base's `forwarded`, `added`, `removed`,
 /// `next_out` and `taken`. The clauses beside these say what follows for the callers.
 pub trait TimerBase: Drop {
-    ghost use Rattle.std.specs.Prelude.{◌≡◌, ℕ, ◌+◌, ◌^◌, ◌<◌, ◌≤◌, length, max};
+    ghost use Rattle.std.specs.Prelude.{◌≡◌, ◌+◌, ◌^◌, ◌<◌, ◌≤◌, length, max};
     ghost use Rattle.std.specs.Prelude.{None, IfNone, IfSome, OnSome, IsOk, OnOk, OnErr};
     ghost use Rattle.wheel_core.specs.WheelExpiry.{KeepsTime};
     ghost use Rattle.wheel_core.specs.PlainBase.{RoomyBase, on_plain, reserved};

@@ -1,6 +1,6 @@
 //! Any list of calls on a base.
 
-ghost use Rattle.std.specs.Prelude.{◌≡◌, ◌++◌, IfOk, OnOk, OnErr};
+ghost use Rattle.std.specs.Prelude.{◌≡◌, IfOk, OnOk, OnErr};
 ghost use Rattle.wheel_core.specs.Calls.{MayCall, MayCallAll, StandsAfterSome, after, after_calls};
 ghost use Rattle.wheel_core.specs.Calls.{answer_of, answers_to};
 

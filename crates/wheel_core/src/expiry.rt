@@ -1,6 +1,6 @@
 //! The wheel expiry of a timer.
 
-ghost use Rattle.std.specs.Prelude.{◌≡◌, ℕ, ◌^◌, ◌<◌};
+ghost use Rattle.std.specs.Prelude.{◌≡◌, ◌^◌, ◌<◌};
 ghost use Rattle.wheel_core.specs.WheelExpiry.{KeepsTime, granule_end, level_of_delay};
 ghost use Rattle.wheel_core.specs.WheelExpiry.{wheel_expiry_of, wheel_level_of};
 

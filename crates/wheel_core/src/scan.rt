@@ -1,6 +1,6 @@
 //! One pass over a list of items.
 
-ghost use Rattle.std.specs.Prelude.{◌≡◌, ℕ, ◌+◌, ◌<◌, ◌==◌, Some, None, MatchOption};
+ghost use Rattle.std.specs.Prelude.{◌≡◌, ◌+◌, ◌<◌, ◌==◌, Some, None, MatchOption};
 ghost use Rattle.std.specs.Prelude.{length, position, take};
 ghost use Rattle.wheel_core.specs.PlainBase.{HasDistinctIds, OutIsDue};
 ghost use Rattle.wheel_core.specs.PlainBase.{item_of, least, out_at, sooner};

@@ -2,7 +2,6 @@
 
 ghost use Rattle.std.specs.Prelude.{◌≡◌, ◌+◌, ◌-◌, ◌<◌, ◌^◌, [], IfOk, OnOk};
 ghost use Rattle.work_script.specs.Faults.{known_first};
-ghost use Rattle.work_script.specs.Reading.{known_after};
 ghost use Rattle.work_script.specs.Steps.{closed_with, draft_after};
 ghost use Rattle.work_script.specs.declared.words.WorkSaid.{WorkSaid};
 

@@ -1,6 +1,6 @@
 //! What a line says, and what is wrong with it.
 
-ghost use Rattle.std.specs.Prelude.{◌≡◌, ◌<◌, ◌≤◌, Some, IfOk, length};
+ghost use Rattle.std.specs.Prelude.{◌≡◌, ◌<◌, Some};
 ghost use Rattle.std.specs.Option.{option_copied};
 ghost use Rattle.text_words.specs.Words.{words_of};
 ghost use Rattle.work_script.specs.Faults.{count_in};

@@ -1,6 +1,6 @@
 //! Reading a script of works from its text.
 
-ghost use Rattle.std.specs.Prelude.{◌≡◌, ◌<◌, ◌≤◌, ◌+◌, ◌-◌, ◌^◌, IfOk, IfErr};
+ghost use Rattle.std.specs.Prelude.{◌≡◌, ◌<◌, ◌+◌, ◌-◌, ◌^◌, IfOk, IfErr};
 ghost use Rattle.text_words.specs.Words.{lines_of};
 ghost use Rattle.work_script.specs.Faults.{counted, known_first, said_in, with_count};
 ghost use Rattle.work_script.specs.Grammar.{SpellsWorks};

@@ -1,6 +1,6 @@
 //! What a core says of one CPU.
 
-ghost use Rattle.std.specs.Prelude.{◌≡◌, ◌<◌, ◌&&◌, length, not, true};
+ghost use Rattle.std.specs.Prelude.{◌≡◌, ◌<◌, ◌&&◌, length, true};
 ghost use Rattle.tree_plan.specs.Paths.{is_placed_in};
 ghost use Rattle.play_rules.specs.Hierarchy.{first_event};
 ghost use Rattle.play_rules.specs.Play.{has_interrupt};

@@ -1,6 +1,6 @@
 //! A timer is armed, and cancelled.
 
-ghost use Rattle.std.specs.Prelude.{◌≡◌, ◌<◌, IfOk, None, OnErr, OnOk, Some, length, option_map};
+ghost use Rattle.std.specs.Prelude.{◌≡◌, ◌<◌, IfOk, None, OnErr, OnOk, Some, option_map};
 ghost use Rattle.tm_base.specs.declared.limits.TheConstants.{SCRIPT_TIME_LIMIT};
 ghost use Rattle.play_rules.specs.Machines.{Same, SameOnline};
 ghost use Rattle.play_rules.specs.Phases.{FitsSome, MayArmIn, StaysFit};
