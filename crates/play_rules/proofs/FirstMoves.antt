@@ -1,6 +1,6 @@
 -- for crates above: which timer of a CPU moves first, and that nothing is queued where none does
-use Rattle.std.proofs.Common.{◌≡◌, ℕ, ◌⊎◌, inl, inr, List, [], ◌∷◌, Option, Some, None, length}
-use Rattle.std.proofs.Common.{refl, sym, ap, subst, arith}
+use Rattle.std.proofs.Common.{◌≡◌, ◌⊎◌, inl, inr, List, [], ◌∷◌, Option, Some, None, length}
+use Rattle.std.proofs.Common.{refl, sym, subst, arith}
 use Rattle.std.specs.Prelude.{option_map}
 use Rattle.std.specs.Option.{option_or}
 use Rattle.std.proofs.lemmas.Option.{none-some, same_Some}

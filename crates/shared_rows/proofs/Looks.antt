@@ -1,6 +1,6 @@
 -- a pass that has loaded a word is the same CPU's still
-use Rattle.std.proofs.Common.{◌≡◌, ℕ, ◌+◌, ◌<◌, List, length, set, Some, sym, ap, ◌∙◌, subst}
-use Rattle.std.specs.Prelude.{get_or, option_map, slice_get}
+use Rattle.std.proofs.Common.{◌≡◌, ℕ, ◌+◌, ◌<◌, List, length, set, Some, ap, ◌∙◌}
+use Rattle.std.specs.Prelude.{get_or, option_map}
 use Rattle.std.proofs.lemmas.Option.{slice_get_read}
 use Rattle.atomic_table.specs.Seated.{TableId}
 use Rattle.shared_rule.specs.declared.parts.PassView.{PassView}

@@ -1,6 +1,6 @@
 -- for crates above: a step of a CPU with any pass, that leaves groups and timers
 use Rattle.std.proofs.Common.{◌≡◌, ◌≢◌, ◌↔◌, ℕ, ◌+◌, ◌^◌, ◌<◌, ◌≤◌}
-use Rattle.std.proofs.Common.{false, List, [], ◌∷◌}
+use Rattle.std.proofs.Common.{false, [], ◌∷◌}
 use Rattle.std.proofs.Common.{length}
 use Rattle.std.proofs.Common.{Some, refl, sym, ap, ◌∙◌, subst, inl, inr, arith}
 use Rattle.std.specs.Prelude.{Contains, slice_get}

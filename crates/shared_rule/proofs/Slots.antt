@@ -5,8 +5,6 @@ use Rattle.std.proofs.lemmas.Bool.{cases_eq}
 use Rattle.std.proofs.lemmas.Option.{none-some}
 use mathlib.Core.Option.{none}
 use Rattle.atomic_table.specs.Table.{Allows, step}
-use Rattle.event_queue.specs.declared.event.Event.{Event}
-use Rattle.event_queue.specs.Word.{slot_of}
 use Rattle.tree_plan.specs.Laws.{PathLaws}
 use Rattle.tree_plan.specs.Paths.{group_at_of, level_count_of}
 use Rattle.tree_plan.specs.Shape.{Shape}

@@ -1,9 +1,9 @@
 -- no CPU has two boxes in the view of a seat
-use Rattle.std.proofs.Common.{◌≡◌, ◌≢◌, ℕ, zero, suc, ◌+◌, ◌<◌, ◌≤◌, List, [], ◌∷◌, length}
+use Rattle.std.proofs.Common.{◌≡◌, ◌≢◌, ℕ, zero, suc, ◌<◌, ◌≤◌, List, [], ◌∷◌, length}
 use Rattle.std.proofs.Common.{refl, sym, ap, ◌∙◌, subst, inl, inr, arith, eqb, cond, set, eq-eqb}
 use Rattle.std.specs.Prelude.{slice_index}
 use Rattle.std.proofs.lemmas.Bool.{cases_eq}
-use mathlib.Core.Option.{some, some-injective, none}
+use mathlib.Core.Option.{some-injective, none}
 use lib.ListN.{get_elem?}
 use Rattle.atomic_table.specs.Table.{Allows, keeps, step}
 use Rattle.atomic_table.proofs.Lists.{set_again}
@@ -13,7 +13,7 @@ use Rattle.shared_rule.specs.declared.parts.Said.{Said}
 use Rattle.shared_rule.specs.declared.parts.View.{View}
 use Rattle.shared_rule.specs.Whole.{Whole, box_of}
 use Rattle.shared_rule.specs.Rule.{Apart, Each, Holds, IsBoxOf, IsPart, Me, Shows, box_cpu, times}
-use Rattle.shared_table.specs.Ended.{AreApart, FindsApart}
+use Rattle.shared_table.specs.Ended.{FindsApart}
 
 module _ {X : Type 0} (cpu : X → ℕ) where
   none_there : (c : ℕ) (xs : List X) → times cpu c xs ≤ 0 → Each (λ y. cpu y ≢ c) xs

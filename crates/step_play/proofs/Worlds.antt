@@ -10,7 +10,7 @@ use Rattle.tm_base.specs.declared.names.TheConstants.{NEVER}
 use Rattle.wheel_core.specs.PlainBase.{NoneBehind}
 use Rattle.cpu_bases.specs.CpuBases.{CpuBases, base_of}
 use Rattle.play_rules.specs.State as play
-use Rattle.play_rules.specs.State.{Cpu, State, cpu_at, new_cpu}
+use Rattle.play_rules.specs.State.{Cpu, cpu_at, new_cpu}
 use Rattle.walk_rules.specs.Scene.{no_group}
 use Rattle.walk_rules.specs.declared.walk.Walk.{Walk}
 use Rattle.tree_plan.specs.Shape.{IsPlanned}

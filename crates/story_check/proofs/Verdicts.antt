@@ -1,5 +1,5 @@
 -- what a verdict says of each line
-use Rattle.std.proofs.Common.{◌≡◌, ◌⊎◌, ◌↔◌, ℕ, Bool, true, false, List, [], ◌∷◌, Option, Some, None}
+use Rattle.std.proofs.Common.{◌≡◌, ◌↔◌, ℕ, Bool, true, false, List, [], ◌∷◌, Option, Some, None}
 use Rattle.std.proofs.Common.{refl, sym, subst, inl, inr}
 use Rattle.std.specs.Prelude.{if◌then◌else◌}
 use Rattle.tm_report.specs.declared.lines.Line.{Line}
@@ -10,7 +10,7 @@ use Rattle.story_check.specs.declared.judge.Verdict.{Verdict}
 use Rattle.story_check.specs.declared.judge.Verdict.TheVariants as verdicts
 use Rattle.story_check.specs.Sight.{Sight}
 use Rattle.story_check.specs.Seen.{up}
-use Rattle.story_check.specs.Judge.{EachFits, IsFirstAt, IsFirstFault, IsFitting, ending, is_over}
+use Rattle.story_check.specs.Judge.{EachFits, IsFirstAt, IsFirstFault, IsFitting, is_over}
 use Rattle.story_check.specs.Judge.{judged, line_after, line_fault, verdict_or}
 
 decide : (f : Option Fault) (line : ℕ) (later : Verdict) (P : Type 0) → (IsFitting later → P)

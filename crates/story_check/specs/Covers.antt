@@ -1,6 +1,6 @@
 -- the lines of covers
-use Rattle.std.specs.Prelude.{ℕ, ◌+◌, ◌==◌, ◌&&◌, ◌||◌, not, nat_lt, nat_le, Bool, true, false}
-use Rattle.std.specs.Prelude.{List, Option, Some, None, if◌then◌else◌}
+use Rattle.std.specs.Prelude.{ℕ, ◌+◌, ◌==◌, ◌&&◌, ◌||◌, not, nat_lt, nat_le, Bool, false}
+use Rattle.std.specs.Prelude.{Option, Some, None, if◌then◌else◌}
 use Rattle.std.specs.List.{list_any}
 use Rattle.std.specs.FinSet as set
 use Rattle.tm_base.specs.declared.names.Class.TheVariants as classes
@@ -11,7 +11,6 @@ use Rattle.tm_script.specs.declared.syntax.Script.{Script}
 use Rattle.story_check.specs.declared.faults.Fault.{Fault}
 use Rattle.story_check.specs.declared.faults.Fault.TheVariants as faults
 use Rattle.story_check.specs.declared.seen.CpuSeen.{CpuSeen}
-use Rattle.story_check.specs.declared.seen.Point.{Point}
 use Rattle.story_check.specs.declared.seen.Queued.{Queued}
 use Rattle.story_check.specs.declared.seen.Stage.TheVariants as stages
 use Rattle.story_check.specs.declared.seen.TimerSeen.{TimerSeen}

@@ -1,6 +1,6 @@
 -- going from one moment to the next: what must have been told by then, and which times are moments
 use Rattle.std.specs.Prelude.{ℕ, ◌+◌, ◌==◌, ◌&&◌, ◌||◌, not, nat_lt, nat_le, Bool, true, false}
-use Rattle.std.specs.Prelude.{List, [], ◌∷◌, length, drop, take, position, count_by, slice_get}
+use Rattle.std.specs.Prelude.{List, [], length, drop, take, position, count_by, slice_get}
 use Rattle.std.specs.Prelude.{Option, Some, None, max, if◌then◌else◌}
 use Rattle.std.specs.List.{list_any}
 use Rattle.tm_base.specs.declared.names.Class.TheVariants as classes

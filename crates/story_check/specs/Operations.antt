@@ -1,5 +1,5 @@
 -- the lines that answer operations
-use Rattle.std.specs.Prelude.{ℕ, ◌+◌, ◌==◌, ◌&&◌, ◌||◌, not, nat_lt, nat_le, Bool, true, false}
+use Rattle.std.specs.Prelude.{ℕ, ◌==◌, ◌&&◌, ◌||◌, not, nat_lt, Bool, true, false}
 use Rattle.std.specs.Prelude.{List, find, Option, Some, None, is_some, is_none, if◌then◌else◌}
 use Rattle.std.specs.List.{list_any}
 use Rattle.std.specs.FinSet as set
@@ -26,7 +26,7 @@ use Rattle.story_check.specs.Sight.{Sight}
 use Rattle.story_check.specs.Seen.{cpu_at, opening_of, or_else, timer_at, up, with_cpu}
 use Rattle.story_check.specs.Places.{ahead, is_contested, level_in, ops_at, others_act, requeued}
 use Rattle.story_check.specs.Places.{fit_of, same_class}
-use Rattle.story_check.specs.Runs.{fault_or, is_after}
+use Rattle.story_check.specs.Runs.{is_after}
 use Rattle.story_check.specs.Covers.{is_active}
 
 -- an operation of this CPU that comes behind the one that was answered last

@@ -24,7 +24,7 @@ use Rattle.story_check.specs.declared.seen.TimerSeen.{TimerSeen}
 use Rattle.story_check.specs.declared.seen.Touch.{Touch}
 use Rattle.story_check.specs.declared.seen.Touch.TheVariants as touches
 use Rattle.story_check.specs.Sight.{Sight}
-use Rattle.story_check.specs.Seen.{cpu_at, down, opening_of, or_else, timer_at, up, with_cpu}
+use Rattle.story_check.specs.Seen.{cpu_at, down, opening_of, timer_at, up, with_cpu}
 use Rattle.story_check.specs.Seen.{with_timer}
 
 -- the place of a class in the order of an interrupt

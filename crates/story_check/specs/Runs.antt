@@ -20,7 +20,6 @@ use Rattle.story_check.specs.declared.seen.Out.{Out}
 use Rattle.story_check.specs.declared.seen.Point.{Point}
 use Rattle.story_check.specs.declared.seen.Queued.{Queued}
 use Rattle.story_check.specs.declared.seen.State.{State}
-use Rattle.story_check.specs.declared.seen.TimerSeen.{TimerSeen}
 use Rattle.story_check.specs.Sight.{Sight}
 use Rattle.story_check.specs.Seen.{cpu_at, opening_of, or_else, timer_at, up, with_cpu}
 use Rattle.story_check.specs.Places.{ahead, fit_of, is_met, level_in, ops_at, rank_of, requeued}

@@ -1,5 +1,5 @@
 -- whatever a CPU's thread calls, its pass is that CPU's still, and quiet
-use Rattle.std.proofs.Common.{◌≡◌, ℕ, List, [], ◌∷◌, Option, Some, None, Result, Ok, Err, refl, sym, false}
+use Rattle.std.proofs.Common.{◌≡◌, ℕ, List, [], ◌∷◌, Option, Some, None, Result, Ok, Err, refl, sym}
 use Rattle.std.proofs.Common.{ap, ◌∙◌, subst}
 use Rattle.std.specs.Prelude.{IfOk, MatchResult, OnErr, OnOk, option_map}
 use Rattle.std.proofs.lemmas.Option.{same_Some}

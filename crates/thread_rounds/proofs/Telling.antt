@@ -27,10 +27,10 @@ use Rattle.remote_expiry.specs.declared.runs.Ran.{Ran}
 use Rattle.remote_expiry.specs.declared.runs.RanReply.{RanReply}
 use Rattle.remote_expiry.specs.declared.runs.RanReply.TheVariants as ran
 use Rattle.remote_expiry.specs.Following.{Follows, FollowsArmed, FollowsBy, FollowsOut, FoundOn}
-use Rattle.remote_expiry.specs.Following.{IsAgain, IsTold, call_of}
+use Rattle.remote_expiry.specs.Following.{IsTold, call_of}
 use Rattle.remote_expiry.specs.Following as from
-use Rattle.remote_expiry.specs.Interrupts.{HasGained, HasInterrupted, IsRefusedBy, NotInterrupted}
-use Rattle.remote_expiry.specs.Interrupts.{Tells, interrupt_fault, interrupt_fault_of, most_walks}
+use Rattle.remote_expiry.specs.Interrupts.{HasGained}
+use Rattle.remote_expiry.specs.Interrupts.{Tells, most_walks}
 use Rattle.remote_expiry.proofs.Gaining.{same_pass}
 use Rattle.remote_expiry.specs.Interrupts as interrupts
 use Rattle.play_rules.specs.Interrupts.{Replies, cpu_id}

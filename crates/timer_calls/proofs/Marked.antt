@@ -135,6 +135,16 @@ due_there b now e group is there counts come = record {
   come = subst (λ n. e.expiry ≤ n) is come;
 }
 
+-- the event of a CPU that is due in its leaf
+pub due_event : (b : BoxView) (now : ℕ) (e : Event) → now ≡ b.opening.clock → b.leaf ≡ Some e
+    → IsDueThere b → Counts e × (e.expiry ≤ now)
+due_event b now e is there due =
+    let same : due.event ≡ e = let other = due.there in cc (there, other) in (
+      subst Counts same due.counts,
+      subst (λ n. e.expiry ≤ n) (sym is)
+          (subst (λ (x : Event). x.expiry ≤ b.opening.clock) same due.come),
+    )
+
 -- a CPU that has a group, as its tree answers
 pub has_some_group : (o : World) (b : BoxView) (m : Option GroupId) → is_some m ≡ true
     → b.opening ≡ o → option_map (λ (g : GroupId). g.0) m ≡ group_at_of o.tree b.cpu 0

@@ -1,6 +1,6 @@
 //! Whether the CPU of a part may be marked by that of a pass.
 
-ghost use Rattle.std.specs.Prelude.{◌≡◌, ◌≤◌, Some, [], true};
+ghost use Rattle.std.specs.Prelude.{◌≡◌, ◌↔◌, ◌≤◌, Some, [], true, IsTrue};
 ghost use Rattle.event_queue.specs.declared.event.Event.{Event};
 ghost use Rattle.event_queue.specs.EventMap.{Counts};
 ghost use Rattle.shared_rule.specs.declared.parts.PassView.{PassView};
@@ -43,8 +43,7 @@ fn notice<N: RunName, B: TimerBase>(run: &Run<N, B>, part: &mut BoxPart<N, B>)
 /// Whether the CPU of a part shows that it may be marked at `now`, the time of the run in jiffies.
 fn is_takable<N: RunName, B: TimerBase>(run: &Run<N, B>, part: &BoxPart<N, B>, now: Jiffy) -> bool
     requires now { now ≡ N.opening.clock }
-    ensures yes { result ≡ true → IsTakable part.now.box }
-    ensures no { IsTakable part.now.box → result ≡ true }
+    ensures { IsTrue result ↔ IsTakable part.now.box }
 {
     part.law();
     let state = part.state();
@@ -74,8 +73,7 @@ pub fn may_take<N: RunName, B: TimerBase>(
     requires run { IsOfRun N.table pass.old }
     requires alone { part.old.brought ≡ [] }
     requires now { now ≡ N.opening.clock }
-    ensures yes { result ≡ true → IsTakable part.old.box }
-    ensures no { IsTakable part.old.box → result ≡ true }
+    ensures takable { IsTrue result ↔ IsTakable part.old.box }
     ensures part { part.new ≡ without_guest part.old }
     ensures agree { (p : PassView) → IsPassIn N.table pass.old p → Agree part.old.box p }
     ensures seen { HasNoticed N.table part.old pass.old pass.new }

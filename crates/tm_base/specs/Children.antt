@@ -1,7 +1,5 @@
 -- the children of groups
 use Rattle.std.specs.Prelude.{ℕ, Bool, false, ◌==◌}
-use Rattle.tm_base.specs.declared.names.CpuId.{CpuId}
-use Rattle.tm_base.specs.declared.names.GroupId.{GroupId}
 use Rattle.tm_base.specs.declared.names.Child.{Child}
 use Rattle.tm_base.specs.declared.names.Child.TheVariants.{Cpu, Group}
 

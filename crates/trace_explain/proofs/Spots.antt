@@ -1,6 +1,6 @@
 -- where the next step of a walk is
-use Rattle.std.proofs.Common.{◌≡◌, ℕ, zero, suc, ◌+◌, ◌-◌, ◌<◌, Option, Some, None, sym, ap, ◌∙◌}
-use Rattle.std.proofs.Common.{Bool, refl, subst, arith}
+use Rattle.std.proofs.Common.{◌≡◌, ℕ, zero, suc, ◌+◌, ◌-◌, ◌<◌, Some, sym, ap, ◌∙◌}
+use Rattle.std.proofs.Common.{Bool, subst, arith}
 use Rattle.std.proofs.lemmas.Option.{none-some, same_Some}
 use Rattle.tree_plan.specs.Shape.{Shape}
 use Rattle.walk_rules.specs.declared.walk.Walk.{Walk}

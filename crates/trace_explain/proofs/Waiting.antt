@@ -1,5 +1,5 @@
 -- a timer waits on the CPU on which it is queued, and on no other one
-use Rattle.std.proofs.Common.{◌≡◌, ℕ, zero, suc, ◌+◌, ◌<◌, Bool, true, false, List, [], ◌∷◌, ◌++◌}
+use Rattle.std.proofs.Common.{◌≡◌, ℕ, zero, suc, ◌+◌, true, false, List, [], ◌∷◌, ◌++◌}
 use Rattle.std.proofs.Common.{Option, Some, None, refl, sym, ap, ◌∙◌, subst, arith, inl, inr}
 use Rattle.std.proofs.Common.{append_assoc, true≢false}
 use Rattle.std.specs.Prelude.{◌==◌, codes, is_some, option_map, slice_get}
@@ -16,7 +16,7 @@ use Rattle.core_state.specs.Kept.{is_queued}
 use Rattle.core_world.specs.World.{World, cpu_of}
 use Rattle.trace_check.specs.declared.reason.Reason.{Reason}
 use Rattle.trace_check.specs.Reasons.{HasNoReason, IsAsked, IsReason}
-use Rattle.trace_explain.specs.Answers.{AreAnswers, IsAnswer, IsTold, answered, nobody_waits, told_answer, told_text}
+use Rattle.trace_explain.specs.Answers.{AreAnswers, answered, nobody_waits, told_answer, told_text}
 use Rattle.trace_explain.specs.Telling.{AddsAnswer, AddsAnswers, AddsTold}
 
 -- ---- where a timer is queued

@@ -1,8 +1,6 @@
 -- how a trace is told line by line; no public clause speaks of this
-use Rattle.std.specs.Prelude.{◌≡◌, ℕ, ◌<◌, List, ◌∷◌, ◌++◌, Option, Some, None, length}
+use Rattle.std.specs.Prelude.{◌≡◌, ℕ, List, ◌∷◌, ◌++◌, Option, Some, None}
 use Rattle.core_world.specs.World.{World}
-use Rattle.trace_check.specs.declared.reason.Reason.{Reason}
-use Rattle.trace_check.specs.declared.reason.Reason.TheVariants as reasons
 use Rattle.trace_check.specs.declared.traces.TraceLine.{TraceLine}
 use Rattle.trace_check.specs.declared.verdict.Verdict.{Verdict}
 use Rattle.trace_check.specs.declared.verdict.Verdict.TheVariants as verdicts

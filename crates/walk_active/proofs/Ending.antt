@@ -6,7 +6,6 @@ use Rattle.atomic_table.specs.Seated.{TableId}
 use Rattle.event_queue.specs.declared.event.Event.{Event}
 use Rattle.cpu_bases.specs.CpuBases.{events_of}
 use Rattle.tree_plan.specs.Paths.{group_at_of}
-use Rattle.walk_rules.specs.declared.walk.Walk.{Walk}
 use Rattle.walk_rules.specs.declared.walk.WalkKind.TheVariants as kinds
 use Rattle.walk_rules.specs.declared.walk.Stage.TheVariants as stages
 use Rattle.walk_rules.specs.Stages.{begun_where}
@@ -19,7 +18,7 @@ use Rattle.shared_rule.specs.Parts.{HeldPart, HasGuest, pass_parted, with_guest,
 use Rattle.shared_rule.specs.Passes.{HeldPass, IsPassIn, Seated, passes_of, seated_of}
 use Rattle.shared_rule.specs.Passes.{walks_of, with_pass}
 use Rattle.shared_walks.specs.Steps.{on_part}
-use Rattle.shared_cpus.specs.Conditions.{CanWake, IsTurn}
+use Rattle.shared_cpus.specs.Conditions.{CanWake}
 use Rattle.shared_cpus.specs.Pairs.{box_by, by_pair, of_box}
 use Rattle.walk_active.specs.Activated.{activated_box, activated_part, activated_pass, ignored_where}
 use Rattle.walk_active.specs.Climbing.{Climbs, arrived, arrived_box, leaf_left}

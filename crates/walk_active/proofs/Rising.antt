@@ -24,7 +24,7 @@ use Rattle.shared_rule.specs.Plays.{marks_more, own_marked_walk, up_walk}
 use Rattle.shared_rule.specs.Parts.{HeldPart}
 use Rattle.shared_walks.specs.Steps.{on_part}
 use Rattle.shared_walks.specs.Walks.{GoesOn, HasStepped, StepOf, is_under_way}
-use Rattle.walk_active.specs.Climbing.{Climbs, HasClimbed, begins_at, arrived, left_at, leaf_left}
+use Rattle.walk_active.specs.Climbing.{Climbs, HasClimbed, left_at, leaf_left}
 use Rattle.walk_active.specs.Climbing.{steps_left}
 
 -- the CPU of an activation has a group

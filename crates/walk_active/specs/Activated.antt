@@ -1,5 +1,5 @@
 -- what an activation makes of the part of its CPU and of its pass
-use Rattle.std.specs.Prelude.{◌≡◌, ℕ, Bool, true, false, [], Option, None, is_some, option_map}
+use Rattle.std.specs.Prelude.{◌≡◌, ℕ, Bool, true, false, Option, None, is_some, option_map}
 use Rattle.atomic_table.specs.Seated.{TableId}
 use Rattle.tm_base.specs.declared.names.TheConstants.{NEVER}
 use Rattle.event_queue.specs.declared.event.Event.{Event}

@@ -1,5 +1,5 @@
 -- how an activation climbs (no public clause cites it)
-use Rattle.std.specs.Prelude.{◌≡◌, ℕ, suc, ◌-◌, ◌*◌, ◌<◌, Bool, true, false, [], Option, Some}
+use Rattle.std.specs.Prelude.{◌≡◌, ℕ, suc, ◌-◌, ◌*◌, ◌<◌, Bool, true, false, Option, Some}
 use Rattle.std.specs.Prelude.{None}
 use Rattle.tm_base.specs.declared.gates.Point.{Point}
 use Rattle.tm_base.specs.declared.gates.Point.TheVariants as points

@@ -1,5 +1,5 @@
 -- lists of looks that grow by one at their end
-use Rattle.std.proofs.Common.{◌≡◌, ℕ, zero, suc, ◌+◌, Bool, true, false, List, [], ◌∷◌, ◌++◌, length}
+use Rattle.std.proofs.Common.{◌≡◌, ℕ, suc, ◌+◌, false, List, [], ◌∷◌, ◌++◌, length}
 use Rattle.std.proofs.Common.{refl, sym, ap, ◌∙◌, arith, length-append}
 use Rattle.std.specs.List.{fold, list_any}
 use Rattle.std.specs.Prelude.{◌||◌}
@@ -8,7 +8,6 @@ use Rattle.event_queue.specs.Word.{slot_of}
 use Rattle.walk_rules.specs.Stages.{first_of}
 use Rattle.core_world.specs.World.{World}
 use Rattle.shared_words.specs.Exchanges.{shows_migrator}
-use Rattle.shared_rule.specs.declared.parts.Look.{Look}
 use Rattle.shared_walks.specs.Steps.{slot_place, state_place}
 use Rattle.walk_inactive.specs.Looks.{first_by, group_looks, slot_looks}
 

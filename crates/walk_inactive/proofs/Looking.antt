@@ -1,28 +1,24 @@
 -- what a walk has looked at, step by step
 use Rattle.std.proofs.Common.{◌≡◌, ◌≢◌, ℕ, zero, suc, ◌+◌, ◌<◌, ◌==◌, Bool, true, false, true≢false}
-use Rattle.std.proofs.Common.{List, [], ◌∷◌, ◌++◌, length, Option, Some, None, refl, sym, ap, ◌∙◌}
+use Rattle.std.proofs.Common.{List, [], ◌∷◌, ◌++◌, length, Some, refl, sym, ap, ◌∙◌}
 use Rattle.std.proofs.Common.{subst, arith, append_assoc, append-nil, eqb-true}
-use Rattle.std.proofs.lemmas.Option.{none-some}
 use Rattle.std.specs.Prelude.{◌||◌, ◌&&◌, MatchBool, not, is_none, if◌then◌else◌}
-use Rattle.std.specs.List.{list_any}
 use Rattle.event_queue.specs.Word.{slot_of}
-use Rattle.tree_plan.specs.Shape.{Shape}
 use Rattle.tree_plan.specs.Paths.{group_at_of}
 use Rattle.walk_rules.specs.declared.walk.Walk.{Walk}
 use Rattle.walk_rules.specs.declared.walk.WalkKind.{WalkKind}
 use Rattle.walk_rules.specs.declared.walk.WalkKind.TheVariants as kinds
-use Rattle.walk_rules.specs.declared.walk.Stage.{Stage}
 use Rattle.walk_rules.specs.declared.walk.Stage.TheVariants as stages
 use Rattle.walk_rules.specs.Hierarchy.{at_top}
 use Rattle.walk_rules.specs.Standing.{Tells}
-use Rattle.walk_rules.specs.Stages.{after_sight, at_stage, first_lock, first_of, first_sight}
+use Rattle.walk_rules.specs.Stages.{after_sight, first_lock, first_of, first_sight}
 use Rattle.walk_rules.specs.Stages.{first_stage, freed_next, free_group_next, higher, is_remote}
 use Rattle.walk_rules.specs.Stages.{see_child_next}
 use Rattle.core_world.specs.World.{World}
 use Rattle.shared_words.specs.Exchanges.{shows_migrator}
 use Rattle.shared_rule.specs.declared.parts.Look.{Look}
 use Rattle.shared_walks.specs.Steps.{slot_place, state_place}
-use Rattle.walk_inactive.specs.Looks.{HasLooked, first_by, group_looks, reads_slots, slot_looks}
+use Rattle.walk_inactive.specs.Looks.{HasLooked, group_looks, reads_slots, slot_looks}
 use Rattle.walk_inactive.specs.Ways.{HasClosed, HasPassed, HasReadSlots, HasSeen, LooksAt}
 use Rattle.walk_inactive.proofs.Lists.{first_at_end, group_look_at_end, longer, slot_look_at_end}
 use Rattle.walk_inactive.proofs.Lists.{still_none}

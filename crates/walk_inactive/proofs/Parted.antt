@@ -1,5 +1,5 @@
 -- a pass that is brought for a whole walk, and goes off again
-use Rattle.std.proofs.Common.{◌≡◌, ℕ, suc, ◌+◌, ◌<◌, ◌^◌, true, false, [], ◌∷◌, Option, Some, None}
+use Rattle.std.proofs.Common.{◌≡◌, suc, ◌+◌, ◌<◌, ◌^◌, true, false, [], ◌∷◌, Some}
 use Rattle.std.proofs.Common.{refl, sym, ap, ◌∙◌, subst, cond, eqb, eq-eqb}
 use Rattle.std.specs.Prelude.{option_map}
 use Rattle.atomic_table.specs.Seated.{TableId}
@@ -14,7 +14,7 @@ use Rattle.shared_rule.specs.Passes.{with_pass}
 use Rattle.shared_cpus.specs.Conditions.{CanIdle}
 use Rattle.shared_table.specs.Begun.{IsFree}
 use Rattle.shared_table.specs.Readied.{HasNoneBehind}
-use Rattle.walk_inactive.specs.Ends.{HasTold, HasWalked, at_rest, gone_idle, rested}
+use Rattle.walk_inactive.specs.Ends.{HasWalked, at_rest, gone_idle, rested}
 
 module _ (table : TableId) (part : HeldPart) (pass : HeldPass) (p : PassView)
     (here : IsPassIn table pass p) (own : p.cpu ≡ part.box.cpu) where

@@ -1,35 +1,31 @@
 -- a whole walk: as it begins, and as it ends
-use Rattle.std.proofs.Common.{◌≡◌, ◌≢◌, ℕ, suc, Bool, true, false, List, [], ◌∷◌, Option, Some, None}
+use Rattle.std.proofs.Common.{◌≡◌, ◌≢◌, ℕ, suc, Bool, true, false, [], ◌∷◌, Option, Some, None}
 use Rattle.std.proofs.Common.{refl, sym, ap, ◌∙◌, subst, min, true≢false}
-use Rattle.std.proofs.lemmas.Option.{none-some}
-use Rattle.std.specs.Prelude.{is_some, option_map}
+use Rattle.std.specs.Prelude.{is_some}
 use Rattle.tm_base.specs.declared.names.TheConstants.{NEVER}
 use Rattle.event_queue.specs.declared.event.Event.{Event}
 use Rattle.cpu_bases.specs.CpuBases.{events_of}
-use Rattle.tree_plan.specs.Paths.{group_at_of}
 use Rattle.walk_rules.specs.declared.walk.Walk.{Walk}
 use Rattle.walk_rules.specs.declared.walk.WalkKind.{WalkKind}
 use Rattle.walk_rules.specs.declared.walk.WalkKind.TheVariants as kinds
 use Rattle.walk_rules.specs.declared.walk.Stage.{Stage}
 use Rattle.walk_rules.specs.declared.walk.Stage.TheVariants as stages
-use Rattle.walk_rules.specs.Hierarchy.{HasGroup}
 use Rattle.walk_rules.specs.Stages.{started}
 use Rattle.walk_rules.specs.Standing.{Tells, is_leaving}
-use Rattle.core_world.specs.Steps.{with_walk}
 use Rattle.walk_rules.specs.Stages.{begun_where}
-use Rattle.core_world.specs.World.{CpuRecord, World}
+use Rattle.core_world.specs.World.{CpuRecord}
 use Rattle.shared_rule.specs.declared.parts.BoxView.{BoxView}
 use Rattle.shared_rule.specs.declared.parts.Looked.{Looked}
 use Rattle.shared_rule.specs.Whole.{no_looks}
 use Rattle.shared_rule.specs.declared.parts.PassView.{PassView}
 use Rattle.shared_rule.specs.Plays.{head_pass}
-use Rattle.shared_rule.specs.Turns.{begun, idled, idled_box, idled_pass}
+use Rattle.shared_rule.specs.Turns.{idled, idled_box, idled_pass}
 use Rattle.shared_rule.specs.Parts.{HeldPart}
 use Rattle.shared_cpus.specs.Conditions.{CanFinish, CanIdle, HasPassFor}
 use Rattle.shared_cpus.specs.Pairs.{HasOwn, box_by, by_pair, of_box}
 use Rattle.shared_cpus.specs.Steps.{ended, ended_as}
 use Rattle.shared_walks.specs.Steps.{on_part}
-use Rattle.walk_inactive.specs.Ends.{HasTold, HasWalked, at_rest, gone_idle, leaf_of, next_of}
+use Rattle.walk_inactive.specs.Ends.{HasWalked, at_rest, gone_idle, leaf_of, next_of}
 use Rattle.walk_inactive.specs.Ends.{told_leaf}
 use Rattle.walk_inactive.specs.Frames.{box_with}
 use Rattle.walk_inactive.specs.Looks.{FindsFirst}

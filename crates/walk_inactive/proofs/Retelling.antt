@@ -1,13 +1,12 @@
 -- a whole walk that retells, or carries
-use Rattle.std.proofs.Common.{◌≡◌, ℕ, suc, Bool, true, false, true≢false, List, [], ◌∷◌, ◌++◌, Option}
-use Rattle.std.proofs.Common.{Some, None, length, refl, sym, ap, ◌∙◌, subst, min}
+use Rattle.std.proofs.Common.{◌≡◌, ℕ, suc, Bool, true, false, true≢false, List, [], ◌∷◌, ◌++◌}
+use Rattle.std.proofs.Common.{None, length, refl, sym, ap, ◌∙◌, subst, min}
 use Rattle.std.specs.Prelude.{is_some}
 use Rattle.cpu_bases.specs.CpuBases.{events_of}
 use Rattle.walk_rules.specs.declared.walk.Walk.{Walk}
 use Rattle.walk_rules.specs.declared.walk.WalkKind.{WalkKind}
 use Rattle.walk_rules.specs.declared.walk.WalkKind.TheVariants as kinds
 use Rattle.walk_rules.specs.declared.walk.Stage.TheVariants as stages
-use Rattle.walk_rules.specs.Standing.{Tells}
 use Rattle.core_world.specs.World.{CpuRecord}
 use Rattle.core_state.specs.Shown.{as_cpu}
 use Rattle.shared_rule.specs.declared.parts.BoxView.{BoxView}
@@ -21,7 +20,7 @@ use Rattle.shared_rule.specs.Parts.{HeldPart}
 use Rattle.shared_cpus.specs.Conditions.{CanCarry, CanFinish, CanRetell, HasPassFor}
 use Rattle.shared_cpus.specs.Pairs.{HasOwn, by_pair, of_box}
 use Rattle.shared_cpus.specs.Steps.{ended}
-use Rattle.walk_inactive.specs.Ends.{HasCarried, HasTold, HasWalked, has_carried, leaf_of, next_of}
+use Rattle.walk_inactive.specs.Ends.{HasCarried, HasWalked, has_carried, leaf_of, next_of}
 use Rattle.walk_inactive.specs.Ends.{reevaluated, retold, told_leaf, unmarked}
 use Rattle.walk_inactive.specs.Looks.{FindsFirst}
 use Rattle.walk_inactive.specs.Ways.{HasCome, HasSetOut}

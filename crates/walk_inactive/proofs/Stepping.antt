@@ -1,12 +1,8 @@
 -- each step of a walk that tells keeps what it has looked at by its stage
-use Rattle.std.proofs.Common.{◌≡◌, ◌≢◌, ℕ, zero, suc, ◌<◌, Bool, true, false, true≢false, [], ◌∷◌}
-use Rattle.std.proofs.Common.{◌++◌, Option, Some, None, refl, sym, ap, ◌∙◌, subst, List}
-use Rattle.std.specs.Prelude.{MatchBool, if◌then◌else◌}
+use Rattle.std.proofs.Common.{◌≡◌, ◌≢◌, ℕ, zero, suc, Bool, true, false, true≢false}
+use Rattle.std.proofs.Common.{Option, Some, refl, sym, ap, ◌∙◌, subst, List}
 use Rattle.event_queue.specs.Word.{slot_of}
-use Rattle.tree_plan.specs.Paths.{group_at_of}
 use Rattle.walk_rules.specs.declared.walk.Walk.{Walk}
-use Rattle.walk_rules.specs.declared.walk.WalkKind.{WalkKind}
-use Rattle.walk_rules.specs.declared.walk.WalkKind.TheVariants as kinds
 use Rattle.walk_rules.specs.declared.walk.Stage.{Stage}
 use Rattle.walk_rules.specs.declared.walk.Stage.TheVariants as stages
 use Rattle.walk_rules.specs.Hierarchy.{HasGroup, at_top}
@@ -27,11 +23,11 @@ use Rattle.shared_rule.specs.Plays.{WalkFits, group_sight, slot_number, stored_b
 use Rattle.shared_rule.specs.Plays.{swap_box, top_sight}
 use Rattle.shared_rule.specs.Parts.{HeldPart}
 use Rattle.walk_inactive.specs.Frames.{IsFramed, box_with}
-use Rattle.shared_walks.specs.Steps.{group_seen, on_part, slot_place, state_place, top_seen}
+use Rattle.shared_walks.specs.Steps.{group_seen, on_part, top_seen}
 use Rattle.shared_walks.specs.Walks.{HasReadChild, StepOf, is_under_way}
 use Rattle.walk_inactive.proofs.Framing.{step_framed}
 use Rattle.shared_walks.proofs.Standing.{finishes, has_group, stands}
-use Rattle.walk_inactive.specs.Ways.{HasAdvanced, HasPassed, HasReadSlots, HasSetOut, LooksAt}
+use Rattle.walk_inactive.specs.Ways.{HasAdvanced, HasPassed, HasSetOut, LooksAt}
 use Rattle.walk_inactive.specs.Ways.{WalkSoFar}
 use Rattle.walk_inactive.proofs.Looking.{at_after_sight, at_first_lock, at_first_sight, at_scan}
 use Rattle.walk_inactive.proofs.Looking.{child_seen_at, freed_at, group_freed_at, read_at, seen_at}

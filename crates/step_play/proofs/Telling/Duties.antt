@@ -9,7 +9,7 @@ use Rattle.tm_base.specs.declared.names.TheConstants.{NEVER}
 use Rattle.tm_base.specs.declared.names.Child.{Child}
 use Rattle.tree_plan.specs.Paths.{is_placed_in, is_under}
 use Rattle.tree_plan.proofs.Below.{below_laws}
-use Rattle.play_rules.specs.State.{Cpu, State, all_cpus, cpu_at, cpu_count, new_cpu}
+use Rattle.play_rules.specs.State.{Cpu, State, cpu_at, cpu_count, new_cpu}
 use Rattle.play_rules.specs.State as play
 use Rattle.play_rules.specs.Hierarchy.{child_active, common_duty, some_placed_active}
 use Rattle.walk_rules.specs.declared.walk.Walk.{Walk}

@@ -1,4 +1,4 @@
-use Rattle.std.proofs.Common.{◌≡◌, subst, sym}
+use Rattle.std.proofs.Common.{subst, sym}
 use Rattle.shared_table.specs.Ended.{HasNoBaseBehind}
 use Rattle.refused_calls.proofs.calls.ready_again.Goals as goal
 

@@ -53,7 +53,7 @@ returns-then-not-may_take-clause-done g c =
     (left_there table o part.box held mid seen w same cpu (c.law.ensures table w.pass w.seated)
     (subst PartFits (sym box) c.law-2.ensures.fits) agree
     (subst (λ (b : BoxView). HasGroup o.tree b.cpu) (sym box) c.requires.grouped)
-    (not_takable part.box c.may_take.result c.if-not-may_take.true c.may_take.ensures.no) n)
+    (not_takable part.box c.may_take.result c.if-not-may_take.true c.may_take.ensures.takable.1) n)
 
 pub mark-requires-clause-at_work : goal.mark-requires-clause-at_work
 mark-requires-clause-at_work g c =

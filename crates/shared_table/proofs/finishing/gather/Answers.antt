@@ -1,10 +1,8 @@
 use Rattle.std.proofs.Common.{◌≡◌, ◌++◌, length, sym, ap, ◌∙◌, subst}
-use Rattle.core_world.specs.World.{CpuRecord, World}
-use Rattle.shared_rule.specs.declared.parts.BoxView.{BoxView}
-use Rattle.shared_rule.specs.declared.parts.View.{View}
-use Rattle.shared_rule.specs.Rule.{Me, seat_of, seen}
+use Rattle.core_world.specs.World.{World}
+use Rattle.shared_rule.specs.Rule.{Me}
 use Rattle.shared_table.specs.Ended.{AreApart, AreCpusWhole}
-use Rattle.shared_table.specs.Joined.{boxes_of, owns_of, parts_of, with_boxes, with_passes}
+use Rattle.shared_table.specs.Joined.{boxes_of, owns_of}
 use Rattle.shared_table.proofs.Ending.{all_whole, are_of_run, has_all, taken_in}
 use Rattle.shared_table.proofs.Ordered.{all_boxes_there}
 use Rattle.shared_table.proofs.finishing.gather.Goals as goal

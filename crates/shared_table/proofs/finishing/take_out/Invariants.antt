@@ -1,4 +1,4 @@
-use Rattle.std.proofs.Common.{◌≡◌, ◌+◌, ◌≤◌}
+use Rattle.std.proofs.Common.{◌+◌}
 use Rattle.std.specs.Prelude.{vec_capacity, vec_len}
 use Rattle.std.specs.Vec.Iter.{into_iter_len}
 use Rattle.shared_table.specs.Ended.{TakenSoFar}

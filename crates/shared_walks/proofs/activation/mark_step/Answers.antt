@@ -1,5 +1,5 @@
 use Rattle.std.proofs.Common.{◌≡◌, ◌+◌, ◌^◌, ◌<◌, Some, suc, refl, sym, ap, ◌∙◌, subst}
-use Rattle.std.proofs.Common.{◌∷◌, [], false, true, eq-eqb, ne_eqb, arith}
+use Rattle.std.proofs.Common.{◌∷◌, [], false, ne_eqb, arith}
 use Rattle.std.specs.Prelude.{bit_or}
 use mathlib.Core.Option.{none}
 use Rattle.atomic_table.specs.Table.{step}

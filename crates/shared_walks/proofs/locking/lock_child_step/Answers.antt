@@ -1,5 +1,5 @@
-use Rattle.std.proofs.Common.{◌≡◌, ◌≢◌, ◌==◌, ◌∷◌, ◌-◌, [], ℕ, Some, true, false, refl, sym, ap}
-use Rattle.std.proofs.Common.{◌∙◌, subst, eqb, ne_eqb}
+use Rattle.std.proofs.Common.{◌≡◌, ◌≢◌, ◌==◌, ◌∷◌, ◌-◌, [], Some, refl, sym, ap}
+use Rattle.std.proofs.Common.{◌∙◌, subst, ne_eqb}
 use mathlib.Core.Option.{none}
 use prog.Atomic.{either}
 use Rattle.atomic_table.specs.Table.{step}
@@ -8,7 +8,6 @@ use Rattle.walk_rules.specs.declared.walk.Stage.TheVariants as stages
 use Rattle.walk_rules.specs.Hierarchy.{group_on}
 use Rattle.core_world.specs.World.{World}
 use Rattle.shared_words.specs.Layout.{index_of}
-use Rattle.shared_rule.specs.declared.parts.BoxView.{BoxView}
 use Rattle.shared_rule.specs.Plays as plays
 use Rattle.shared_rule.specs.Laws.{Stays}
 use Rattle.shared_rule.specs.Rule.{Me, seat_of}

@@ -1,4 +1,4 @@
-use Rattle.std.proofs.Common.{subst, true, false}
+use Rattle.std.proofs.Common.{subst}
 use Rattle.core_world.specs.World.{World}
 use Rattle.shared_walks.specs.Walks.{HasStepped}
 use Rattle.shared_walks.proofs.Retrying.{begins, made_in_the_end, still_goes, tried_more}

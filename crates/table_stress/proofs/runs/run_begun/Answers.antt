@@ -1,4 +1,4 @@
-use Rattle.std.proofs.Common.{◌∙◌, ◌≤◌, arith, length}
+use Rattle.std.proofs.Common.{◌∙◌, arith, length}
 use Rattle.table_stress.proofs.Rows.{all_begun, all_passes, count_begun}
 use Rattle.table_stress.proofs.runs.run_begun.Goals as goal
 

@@ -1,4 +1,4 @@
-use Rattle.std.proofs.Common.{◌≡◌, [], ◌∙◌, ap₂}
+use Rattle.std.proofs.Common.{◌∙◌, ap₂}
 use Rattle.text_words.specs.Words.{lines_of}
 use Rattle.trace_rules.specs.Judge.{start}
 use Rattle.trace_all.specs.All.{first_said}

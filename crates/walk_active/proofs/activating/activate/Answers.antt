@@ -1,4 +1,4 @@
-use Rattle.std.proofs.Common.{◌≡◌, ◌∙◌, false, ap, sym, subst, refl}
+use Rattle.std.proofs.Common.{◌∙◌, false, ap, sym, subst, refl}
 use Rattle.std.specs.Prelude.{◌&&◌, not}
 use Rattle.core_world.specs.World.{is_active}
 use Rattle.shared_rule.specs.Plays.{woken_box, woken_pass}

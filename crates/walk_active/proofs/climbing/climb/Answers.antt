@@ -1,4 +1,4 @@
-use Rattle.std.proofs.Common.{◌≡◌, ◌∙◌, Some, None, sym}
+use Rattle.std.proofs.Common.{◌∙◌, sym}
 use Rattle.walk_active.proofs.Ending.{has_arrived}
 use Rattle.walk_active.proofs.climbing.climb.Goals as goal
 

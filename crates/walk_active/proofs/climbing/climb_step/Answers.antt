@@ -1,4 +1,3 @@
-use Rattle.std.proofs.Common.{◌≡◌}
 use Rattle.walk_active.proofs.Rising.{climbs_on, goes_on}
 use Rattle.walk_active.proofs.climbing.climb_step.Goals as goal
 

@@ -1,7 +1,7 @@
-use Rattle.std.proofs.Common.{◌≡◌, ◌+◌, ◌<◌, ap, sym, ◌∙◌, subst}
+use Rattle.std.proofs.Common.{◌+◌, ◌<◌, ap, sym, ◌∙◌, subst}
 use Rattle.walk_rules.specs.declared.walk.WalkKind.TheVariants as kinds
 use Rattle.core_world.specs.Enabled.{first_event}
-use Rattle.shared_rule.specs.Parts.{HasGuest, HeldPart, pass_parted, with_guest, without_guest}
+use Rattle.shared_rule.specs.Parts.{HasGuest, HeldPart, pass_parted, without_guest}
 use Rattle.shared_rule.specs.Passes.{with_pass}
 use Rattle.shared_cpus.specs.Conditions.{CanIdle}
 use Rattle.shared_table.specs.Begun.{IsFree}

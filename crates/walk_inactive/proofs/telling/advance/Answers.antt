@@ -1,5 +1,5 @@
 use Rattle.std.proofs.Common.{◌∙◌, sym}
-use Rattle.walk_inactive.proofs.Coming.{advances, stops}
+use Rattle.walk_inactive.proofs.Coming.{advances}
 use Rattle.walk_inactive.proofs.telling.advance.Goals as goal
 
 pub returns-in-Some : goal.returns-in-Some

@@ -1,4 +1,3 @@
-use Rattle.std.proofs.Common.{◌≡◌}
 use Rattle.walk_rules.specs.declared.walk.Walk.{Walk}
 use Rattle.walk_inactive.specs.Ways.{HasSetOut, WalkSoFar}
 use Rattle.walk_inactive.proofs.telling.tell.Given as goal
