@@ -1,6 +1,6 @@
+pub mod Changes
 pub mod Kept
+pub mod Moves
 pub mod Shown
+pub mod Status
 pub mod Tally
-pub use Rattle.core_parts.specs.Changes
-pub use Rattle.core_parts.specs.Moves
-pub use Rattle.core_parts.specs.Status
