@@ -1,3 +1,3 @@
 pub mod Conditions
 pub mod Outcomes
-pub mod Leaves
+pub mod PartLeaves

@@ -8,7 +8,7 @@ ghost use Rattle.play_rules.specs.Machines.{Same};
 ghost use Rattle.play_rules.specs.Parts.{Prints};
 ghost use Rattle.play_rules.specs.Phases.{inside, resting};
 ghost use Rattle.play_driver.specs.Conditions.{AreOnline};
-ghost use Rattle.play_driver.specs.Leaves.{Leaves, SameInside};
+ghost use Rattle.play_driver.specs.PartLeaves.{PartLeaves, SameInside};
 
 use crate::jobs::drain;
 use crate::listeners::Listener;
@@ -29,7 +29,7 @@ fn try_one<M: PlayMachine, J: Jobs, L: Listener>(
     requires other { other.0 < M.rules.cpus (M.world machine.old) }
     requires placed { M.rules.is_placed (M.world machine.old) cpu.0 ≡ true }
     requires fit { M.Fit (inside cpu.0) (M.world machine.old) }
-    ensures { Leaves
+    ensures { PartLeaves
         (Prints (try (J.replies jobs.now) M.rules cpu.0 other.0 (M.world machine.old)))
         (SameInside M.rules) (M.Fit (inside cpu.0)) result
         (M.world machine.old) (M.world machine.new) telling.old telling.new }
@@ -55,7 +55,7 @@ fn look<M: PlayMachine, J: Jobs, L: Listener>(
     requires cpu { cpu.0 < M.rules.cpus (M.world machine.old) }
     requires placed { M.rules.is_placed (M.world machine.old) cpu.0 ≡ true }
     requires fit { M.Fit (inside cpu.0) (M.world machine.old) }
-    ensures { Leaves
+    ensures { PartLeaves
         (Prints (look (J.replies jobs.now) M.rules (M.rules.cpus (M.world machine.old)) cpu.0 level
         set.empty (M.world machine.old)))
         (SameInside M.rules) (M.Fit (inside cpu.0)) result
@@ -81,7 +81,7 @@ fn looks<M: PlayMachine, J: Jobs, L: Listener>(
 ) -> Result<(), NoMemory>
     requires cpu { cpu.0 < M.rules.cpus (M.world machine.old) }
     requires fit { M.Fit (inside cpu.0) (M.world machine.old) }
-    ensures { Leaves
+    ensures { PartLeaves
         (Prints (looks (J.replies jobs.now) M.rules (M.rules.levels (M.world machine.old)) cpu.0 0
         (M.world machine.old)))
         (SameInside M.rules) (M.Fit (inside cpu.0)) result
@@ -105,7 +105,7 @@ fn drains<M: PlayMachine, J: Jobs, L: Listener>(
 ) -> Result<(), NoMemory>
     requires cpu { cpu.0 < M.rules.cpus (M.world machine.old) }
     requires fit { M.Fit (inside cpu.0) (M.world machine.old) }
-    ensures { Leaves
+    ensures { PartLeaves
         (Prints (drains (J.replies jobs.now) M.rules cpu.0 (M.world machine.old)))
         (SameInside M.rules) (M.Fit (inside cpu.0)) result
         (M.world machine.old) (M.world machine.new) telling.old telling.new }
@@ -125,7 +125,7 @@ fn interrupt<M: PlayMachine, J: Jobs, L: Listener>(
     requires cpu { cpu.0 < M.rules.cpus (M.world machine.old) }
     requires online { M.rules.is_online (M.world machine.old) cpu.0 ≡ true }
     requires fit { M.Fit resting (M.world machine.old) }
-    ensures { Leaves
+    ensures { PartLeaves
         (Prints (interrupt (J.replies jobs.now) M.rules cpu.0 (M.world machine.old)))
         (SameInside M.rules) (M.Fit resting) result
         (M.world machine.old) (M.world machine.new) telling.old telling.new }
@@ -149,7 +149,7 @@ pub fn interrupt_if_due<M: PlayMachine, J: Jobs, L: Listener>(
     requires cpu { cpu.0 < M.rules.cpus (M.world machine.old) }
     requires online { AreOnline M.rules (M.world machine.old) due.now }
     requires fit { M.Fit resting (M.world machine.old) }
-    ensures { Leaves
+    ensures { PartLeaves
         (Prints (interrupt_where (J.replies jobs.now) M.rules (set.contains due.now cpu.0) cpu.0
         (M.world machine.old)))
         (SameInside M.rules) (M.Fit resting) result
@@ -170,7 +170,7 @@ pub(crate) fn interrupts<M: PlayMachine, J: Jobs, L: Listener>(
 ) -> Result<(), NoMemory>
     requires online { AreOnline M.rules (M.world machine.old) due.now }
     requires fit { M.Fit resting (M.world machine.old) }
-    ensures { Leaves
+    ensures { PartLeaves
         (Prints (interrupts (J.replies jobs.now) M.rules (M.rules.cpus (M.world machine.old)) 0
         due.now (M.world machine.old)))
         (Same M.rules) (M.Fit resting) result

@@ -5,7 +5,7 @@ ghost use Rattle.play_rules.specs.Interrupts.{again, drain, reply_to, run_job, r
 ghost use Rattle.play_rules.specs.Machines.{IsTimerOf, Same, SameOnline};
 ghost use Rattle.play_rules.specs.Phases.{FitsSome, MayDrain, MayRunIn, StaysFit};
 ghost use Rattle.play_rules.specs.Parts.{Prints};
-ghost use Rattle.play_driver.specs.Leaves.{Leaves, SameInside};
+ghost use Rattle.play_driver.specs.PartLeaves.{PartLeaves, SameInside};
 
 use crate::listeners::Listener;
 use crate::telling::Telling;
@@ -99,7 +99,7 @@ fn run_job<M: PlayMachine, J: Jobs, L: Listener>(
     requires runner { runner.0 < M.rules.cpus (M.world machine.old) }
     requires timer { IsTimerOf (M.rules.timers (M.world machine.old)) item }
     requires fit { FitsSome M.Fit (λ ph. MayRunIn ph runner.0) (M.world machine.old) }
-    ensures { Leaves
+    ensures { PartLeaves
         (Prints (run_job (J.replies jobs.now) M.rules home.0 runner.0 item (M.world machine.old)))
         (SameInside M.rules)
         (StaysFit M.Fit (λ ph. MayRunIn ph runner.0) (M.world machine.old)) result
@@ -132,7 +132,7 @@ fn run_jobs<M: PlayMachine, J: Jobs, L: Listener>(
     requires runner { runner.0 < M.rules.cpus (M.world machine.old) }
     requires timers { All (IsTimerOf (M.rules.timers (M.world machine.old))) items.now }
     requires fit { FitsSome M.Fit (λ ph. MayRunIn ph runner.0) (M.world machine.old) }
-    ensures { Leaves
+    ensures { PartLeaves
         (Prints (run_jobs (J.replies jobs.now) M.rules home.0 runner.0 items.now
         (M.world machine.old)))
         (SameInside M.rules)
@@ -158,7 +158,7 @@ pub(crate) fn drain<M: PlayMachine, J: Jobs, L: Listener>(
     requires home { home.0 < M.rules.cpus (M.world machine.old) }
     requires runner { runner.0 < M.rules.cpus (M.world machine.old) }
     requires fit { FitsSome M.Fit (λ ph. MayDrain ph home.0 class runner.0) (M.world machine.old) }
-    ensures { Leaves
+    ensures { PartLeaves
         (Prints (drain (J.replies jobs.now) M.rules home.0 class runner.0 (M.world machine.old)))
         (SameInside M.rules)
         (StaysFit M.Fit (λ ph. MayDrain ph home.0 class runner.0) (M.world machine.old)) result

@@ -12,7 +12,7 @@ ghost use Rattle.play_driver.specs.Outcomes.{moment_of};
 ghost use Rattle.play_driver.specs.Outcomes.{EndsEarly, PlaysMoment, PlaysOut, script_turns};
 ghost use Rattle.play_driver.specs.Outcomes.{work_limit};
 ghost use Rattle.play_driver.specs.Conditions.{AreOnline, IsMomentInRange, IsPlayable};
-ghost use Rattle.play_driver.specs.Leaves.{Leaves};
+ghost use Rattle.play_driver.specs.PartLeaves.{PartLeaves};
 
 use crate::interrupts::{having_interrupt, interrupts};
 use crate::listeners::Listener;
@@ -39,7 +39,7 @@ fn scripted<M: PlayMachine, L: Listener>(
         (IsMomentInRange
         (M.rules.cpus (M.world machine.old)) (M.rules.timers (M.world machine.old))) }
     requires fit { M.Fit resting (M.world machine.old) }
-    ensures { Leaves
+    ensures { PartLeaves
         (Prints (scripted M.rules (option_copied due.entry) (M.world machine.old)))
         (Same M.rules) (M.Fit resting) result
         (M.world machine.old) (M.world machine.new) telling.old telling.new }
@@ -66,7 +66,7 @@ pub fn moment<M: PlayMachine, J: Jobs, L: Listener>(
         (M.rules.cpus (M.world machine.old)) (M.rules.timers (M.world machine.old))) }
     requires online { AreOnline M.rules (M.world machine.old) interrupted.now }
     requires fit { M.Fit resting (M.world machine.old) }
-    ensures { Leaves
+    ensures { PartLeaves
         (Prints (moment (J.replies jobs.now) M.rules interrupted.now (option_copied due.entry)
         (M.world machine.old)))
         (Same M.rules) (M.Fit resting) result
@@ -112,7 +112,7 @@ fn turn<M: PlayMachine, J: Jobs, L: Listener>(
         (M.rules.cpus (M.world machine.old)) (M.rules.timers (M.world machine.old))) left.now }
     requires fit { M.Fit resting (M.world machine.old) }
     ensures clock { OnOk result (M.rules.clock (M.world machine.new) ≡ now) }
-    ensures leaves { Leaves
+    ensures leaves { PartLeaves
         (Prints (turn (J.replies jobs.now) M.rules left.now now (M.world machine.old)).played)
         (SameBuild M.rules) (M.Fit resting) result
         (M.world machine.old) (M.world machine.new) telling.old telling.new }

@@ -8,7 +8,7 @@ ghost use Rattle.play_rules.specs.Operations.{move_all};
 ghost use Rattle.play_rules.specs.Parts.{Gains, Prints};
 ghost use Rattle.play_rules.specs.Phases.{IsUp, resting};
 ghost use Rattle.play_driver.specs.Conditions.{IsOpInRange};
-ghost use Rattle.play_driver.specs.Leaves.{Leaves};
+ghost use Rattle.play_driver.specs.PartLeaves.{PartLeaves};
 
 use crate::listeners::Listener;
 use crate::telling::Telling;
@@ -31,7 +31,7 @@ fn moves<M: PlayMachine, L: Listener>(
     requires placed { M.rules.is_placed (M.world machine.old) to.0 ≡ true }
     requires active { IsUp M.rules (M.world machine.old) to.0 false }
     requires fit { M.Fit resting (M.world machine.old) }
-    ensures { Leaves
+    ensures { PartLeaves
         (Prints (move_all M.rules from.0 to.0 (M.world machine.old)))
         (Same M.rules) (M.Fit resting) result
         (M.world machine.old) (M.world machine.new) telling.old telling.new }
@@ -60,7 +60,7 @@ fn clear<M: PlayMachine, L: Listener>(
 ) -> Result<(), NoMemory>
     requires from { from.0 < M.rules.cpus (M.world machine.old) }
     requires fit { M.Fit resting (M.world machine.old) }
-    ensures { Leaves
+    ensures { PartLeaves
         (Prints (clear M.rules from.0 (M.world machine.old)))
         (Same M.rules) (M.Fit resting) result
         (M.world machine.old) (M.world machine.new) telling.old telling.new }
@@ -109,7 +109,7 @@ pub fn clear_after<M: PlayMachine, L: Listener>(
     requires in_range { All (IsOpInRange
         (M.rules.cpus (M.world machine.old)) (M.rules.timers (M.world machine.old))) ops.now }
     requires fit { M.Fit resting (M.world machine.old) }
-    ensures { Leaves
+    ensures { PartLeaves
         (Prints (clear_after M.rules (leaver ops.now) (M.world machine.old)))
         (Same M.rules) (M.Fit resting) result
         (M.world machine.old) (M.world machine.new) telling.old telling.new }

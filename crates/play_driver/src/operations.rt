@@ -8,7 +8,7 @@ ghost use Rattle.play_rules.specs.Operations.{operations, refusal, refused_line,
 ghost use Rattle.play_rules.specs.Parts.{Prints};
 ghost use Rattle.play_rules.specs.Phases.{after_offline, resting};
 ghost use Rattle.play_driver.specs.Conditions.{IsOpInRange};
-ghost use Rattle.play_driver.specs.Leaves.{Leaves};
+ghost use Rattle.play_driver.specs.PartLeaves.{PartLeaves};
 
 use crate::listeners::Listener;
 use crate::telling::Telling;
@@ -122,7 +122,7 @@ fn arm<M: PlayMachine, L: Listener>(
     requires not_queued { M.rules.queued (M.world machine.old) arming.timer.0 ≡ None }
     requires allowed { not_active M.rules (M.world machine.old) cpu.0 ≡ None }
     requires fit { M.Fit resting (M.world machine.old) }
-    ensures { Leaves
+    ensures { PartLeaves
         (Prints (arm M.rules cpu arming (M.world machine.old)))
         (Same M.rules) (M.Fit resting) result
         (M.world machine.old) (M.world machine.new) telling.old telling.new }
@@ -148,7 +148,7 @@ fn cancel<M: PlayMachine, L: Listener>(
     requires cpu { cancelling.by.0 < M.rules.cpus (M.world machine.old) }
     requires timer { cancelling.timer.0 < M.rules.timers (M.world machine.old) }
     requires fit { M.Fit resting (M.world machine.old) }
-    ensures { Leaves
+    ensures { PartLeaves
         (Prints (cancel M.rules cancelling (M.world machine.old)))
         (Same M.rules) (M.Fit resting) result
         (M.world machine.old) (M.world machine.new) telling.old telling.new }
@@ -176,7 +176,7 @@ fn idle<M: PlayMachine, L: Listener>(
     requires cpu { cpu.0 < M.rules.cpus (M.world machine.old) }
     requires allowed { not_active M.rules (M.world machine.old) cpu.0 ≡ None }
     requires fit { M.Fit resting (M.world machine.old) }
-    ensures { Leaves
+    ensures { PartLeaves
         (Prints (idle M.rules cpu (M.world machine.old)))
         (Same M.rules) (M.Fit resting) result
         (M.world machine.old) (M.world machine.new) telling.old telling.new }
@@ -200,7 +200,7 @@ fn wake<M: PlayMachine, L: Listener>(
     requires cpu { cpu.0 < M.rules.cpus (M.world machine.old) }
     requires allowed { not_idle M.rules (M.world machine.old) cpu.0 ≡ None }
     requires fit { M.Fit resting (M.world machine.old) }
-    ensures { Leaves
+    ensures { PartLeaves
         (Prints (wake M.rules cpu (M.world machine.old)))
         (Same M.rules) (M.Fit resting) result
         (M.world machine.old) (M.world machine.new) telling.old telling.new }
@@ -219,7 +219,7 @@ fn online<M: PlayMachine, L: Listener>(
     requires cpu { cpu.0 < M.rules.cpus (M.world machine.old) }
     requires offline { M.rules.is_online (M.world machine.old) cpu.0 ≡ false }
     requires fit { M.Fit resting (M.world machine.old) }
-    ensures { Leaves
+    ensures { PartLeaves
         (Prints (online M.rules cpu (M.world machine.old)))
         (Same M.rules) (M.Fit resting) result
         (M.world machine.old) (M.world machine.new) telling.old telling.new }
@@ -239,7 +239,7 @@ fn hand_on<M: PlayMachine, L: Listener>(
     requires missed { last_online M.rules (M.world machine.old) cpu.0 ≡ None }
     requires fit { M.Fit
         (after_offline (M.rules.hands_on (M.world machine.old) cpu.0) cpu.0) (M.world machine.old) }
-    ensures { Leaves
+    ensures { PartLeaves
         (Prints (hand_on M.rules cpu (M.world machine.old)))
         (Same M.rules) (M.Fit resting) result
         (M.world machine.old) (M.world machine.new) telling.old telling.new }
@@ -265,7 +265,7 @@ fn offline<M: PlayMachine, L: Listener>(
     requires allowed { not_active M.rules (M.world machine.old) cpu.0 ≡ None }
     requires missed { last_online M.rules (M.world machine.old) cpu.0 ≡ None }
     requires fit { M.Fit resting (M.world machine.old) }
-    ensures { Leaves
+    ensures { PartLeaves
         (Prints (offline M.rules cpu (M.world machine.old)))
         (Same M.rules) (M.Fit resting) result
         (M.world machine.old) (M.world machine.new) telling.old telling.new }
@@ -286,7 +286,7 @@ fn done<M: PlayMachine, L: Listener>(
         (M.rules.cpus (M.world machine.old)) (M.rules.timers (M.world machine.old)) op.now }
     requires allowed { refusal M.rules op.now.what op.now.cpu.0 (M.world machine.old) ≡ None }
     requires fit { M.Fit resting (M.world machine.old) }
-    ensures { Leaves
+    ensures { PartLeaves
         (Prints (done M.rules op.now.what op.now.line op.now.cpu (M.world machine.old)))
         (Same M.rules) (M.Fit resting) result
         (M.world machine.old) (M.world machine.new) telling.old telling.new }
@@ -338,7 +338,7 @@ pub fn operation<M: PlayMachine, L: Listener>(
     requires in_range { IsOpInRange
         (M.rules.cpus (M.world machine.old)) (M.rules.timers (M.world machine.old)) op.now }
     requires fit { M.Fit resting (M.world machine.old) }
-    ensures { Leaves
+    ensures { PartLeaves
         (Prints (operation M.rules op.now (M.world machine.old)))
         (Same M.rules) (M.Fit resting) result
         (M.world machine.old) (M.world machine.new) telling.old telling.new }
@@ -358,7 +358,7 @@ pub(crate) fn operations<M: PlayMachine, L: Listener>(
     requires in_range { All (IsOpInRange
         (M.rules.cpus (M.world machine.old)) (M.rules.timers (M.world machine.old))) ops.now }
     requires fit { M.Fit resting (M.world machine.old) }
-    ensures { Leaves
+    ensures { PartLeaves
         (Prints (operations M.rules ops.now (M.world machine.old)))
         (Same M.rules) (M.Fit resting) result
         (M.world machine.old) (M.world machine.new) telling.old telling.new }

@@ -10,11 +10,11 @@ ghost use Rattle.play_rules.specs.Moments.{moment};
 ghost use Rattle.play_rules.specs.Operations.{operation, operations};
 ghost use Rattle.play_rules.specs.Parts.{Gains, Progress, and_then, counted};
 ghost use Rattle.play_rules.specs.Phases.{resting};
-ghost use Rattle.tm_driver.specs.Apart.{LeavesApart, Spreads, ToldApart};
+ghost use Rattle.tm_driver.specs.Apart.{PartLeavesApart, Spreads, ToldApart};
 ghost use Rattle.tm_driver.specs.Plain.{by_cpus};
 ghost use Rattle.tm_driver.specs.Sleepers.{Tells};
 ghost use Rattle.play_driver.specs.Conditions.{AreOnline, IsMomentInRange, IsOpInRange};
-ghost use Rattle.play_driver.specs.Leaves.{Leaves, SameInside};
+ghost use Rattle.play_driver.specs.PartLeaves.{PartLeaves, SameInside};
 
 use job_table::Jobs;
 use play_driver::{Telling, clear_after, covers, interrupt_if_due, operation};
@@ -47,7 +47,7 @@ fn interrupt_apart<M: PlayMachine, J: Jobs>(
     requires cpu { cpu.0 < M.rules.cpus (M.world machine.old) }
     requires online { AreOnline M.rules (M.world machine.old) due.now }
     requires fit { M.Fit resting (M.world machine.old) }
-    ensures { LeavesApart
+    ensures { PartLeavesApart
         (Spreads (M.rules.cpus (M.world machine.old)) (interrupt_where (J.replies jobs.now) M.rules
         (set.contains due.now cpu.0) cpu.0 (M.world machine.old)))
         (SameInside M.rules) (M.Fit resting) result
@@ -66,7 +66,7 @@ fn interrupts_apart<M: PlayMachine, J: Jobs>(
     requires count { length own.old.items ≡ M.rules.cpus (M.world machine.old) }
     requires online { AreOnline M.rules (M.world machine.old) due.now }
     requires fit { M.Fit resting (M.world machine.old) }
-    ensures { LeavesApart
+    ensures { PartLeavesApart
         (Spreads (M.rules.cpus (M.world machine.old)) (interrupts (J.replies jobs.now) M.rules
         (M.rules.cpus (M.world machine.old)) 0 due.now (M.world machine.old)))
         (Same M.rules) (M.Fit resting) result
@@ -88,7 +88,7 @@ fn operation_apart<M: PlayMachine>(
     requires in_range { IsOpInRange
         (M.rules.cpus (M.world machine.old)) (M.rules.timers (M.world machine.old)) op.now }
     requires fit { M.Fit resting (M.world machine.old) }
-    ensures { LeavesApart
+    ensures { PartLeavesApart
         (Spreads (M.rules.cpus (M.world machine.old)) (operation M.rules op.now
         (M.world machine.old)))
         (Same M.rules) (M.Fit resting) result
@@ -107,7 +107,7 @@ fn operations_apart<M: PlayMachine>(
     requires in_range { All (IsOpInRange
         (M.rules.cpus (M.world machine.old)) (M.rules.timers (M.world machine.old))) ops.now }
     requires fit { M.Fit resting (M.world machine.old) }
-    ensures { LeavesApart
+    ensures { PartLeavesApart
         (Spreads (M.rules.cpus (M.world machine.old)) (operations M.rules ops.now
         (M.world machine.old)))
         (Same M.rules) (M.Fit resting) result
@@ -147,7 +147,7 @@ fn done_apart<M: PlayMachine, J: Jobs>(
         (M.rules.cpus (M.world machine.old)) (M.rules.timers (M.world machine.old))) ops.now }
     requires online { AreOnline M.rules (M.world machine.old) due.now }
     requires fit { M.Fit resting (M.world machine.old) }
-    ensures { Leaves
+    ensures { PartLeaves
         (Tells (by_cpus (M.rules.cpus (M.world machine.old)) (and_then (interrupts (J.replies
         jobs.now) M.rules (M.rules.cpus (M.world machine.old)) 0 due.now (M.world machine.old))
         (operations M.rules ops.now))))
@@ -175,7 +175,7 @@ pub(crate) fn plain_moment<M: PlayMachine, J: Jobs>(
         (M.rules.cpus (M.world machine.old)) (M.rules.timers (M.world machine.old))) }
     requires online { AreOnline M.rules (M.world machine.old) due.now }
     requires fit { M.Fit resting (M.world machine.old) }
-    ensures { Leaves
+    ensures { PartLeaves
         (Tells (by_cpus (M.rules.cpus (M.world machine.old)) (moment (J.replies jobs.now) M.rules
         due.now (option_copied m.entry) (M.world machine.old))))
         (Same M.rules) (M.Fit resting) result

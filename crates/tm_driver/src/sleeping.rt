@@ -8,7 +8,7 @@ ghost use Rattle.play_rules.specs.Machines.{SameBuild};
 ghost use Rattle.play_rules.specs.Moments.{turn};
 ghost use Rattle.play_rules.specs.Phases.{resting};
 ghost use Rattle.play_driver.specs.Conditions.{IsMomentInRange, IsPlayable};
-ghost use Rattle.play_driver.specs.Leaves.{Leaves};
+ghost use Rattle.play_driver.specs.PartLeaves.{PartLeaves};
 ghost use Rattle.tm_driver.specs.Deep.{device_after, told_after};
 ghost use Rattle.play_driver.specs.Outcomes.{script_turns, work_limit};
 ghost use Rattle.tm_driver.specs.Sleepers.{ByWakeups, DeepEarly, DeepOut, DeepWhole, IsFor};
@@ -49,7 +49,7 @@ fn deep_turn<M: PlayMachine, J: Jobs>(
         (turn (J.replies jobs.now) M.rules left.now now (M.world machine.old)) device.old) }
     ensures settled { OnOk result (IsFor M.rules (M.world machine.new) device.new) }
     ensures clock { OnOk result (M.rules.clock (M.world machine.new) ≡ now) }
-    ensures leaves { Leaves
+    ensures leaves { PartLeaves
         (Tells (told_after M.rules device.old
         (turn (J.replies jobs.now) M.rules left.now now (M.world machine.old))).played)
         (SameBuild M.rules) (M.Fit resting) result

@@ -4,7 +4,7 @@ use Rattle.play_rules.specs.Interrupts.{look}
 use Rattle.play_rules.specs.Parts.{Gains}
 use Rattle.play_rules.specs.Phases.{inside}
 use Rattle.play_rules.proofs.Plays.{Continues}
-use Rattle.play_driver.specs.Leaves.{SameInside}
+use Rattle.play_driver.specs.PartLeaves.{SameInside}
 use Rattle.play_driver.proofs.interrupts.look.Given as goal
 
 abbrev pub invariant-loop-turn : goal.invariant-loop-turn

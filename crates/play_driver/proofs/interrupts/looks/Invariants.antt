@@ -3,7 +3,7 @@ use Rattle.play_rules.specs.Interrupts.{looks}
 use Rattle.play_rules.specs.Parts.{Gains}
 use Rattle.play_rules.specs.Phases.{inside}
 use Rattle.play_rules.proofs.Plays.{Continues}
-use Rattle.play_driver.specs.Leaves.{SameInside}
+use Rattle.play_driver.specs.PartLeaves.{SameInside}
 use Rattle.play_driver.proofs.interrupts.looks.Given as goal
 
 abbrev pub invariant-loop-level : goal.invariant-loop-level

@@ -3,7 +3,7 @@ use Rattle.play_rules.specs.Interrupts.{run_jobs}
 use Rattle.play_rules.specs.Parts.{Gains}
 use Rattle.play_rules.specs.Phases.{MayRunIn, StaysFit}
 use Rattle.play_rules.proofs.Plays.{Continues}
-use Rattle.play_driver.specs.Leaves.{SameInside}
+use Rattle.play_driver.specs.PartLeaves.{SameInside}
 use Rattle.play_driver.proofs.jobs.run_jobs.Given as goal
 
 abbrev pub invariant-loop-item : goal.invariant-loop-item

@@ -1,7 +1,7 @@
 use Rattle.std.proofs.Common.{◌≡◌, ◌-◌, length}
 use Rattle.play_rules.specs.Interrupts.{interrupts}
 use Rattle.play_rules.specs.Phases.{resting}
-use Rattle.play_driver.specs.Leaves.{SameInside}
+use Rattle.play_driver.specs.PartLeaves.{SameInside}
 use Rattle.tm_driver.specs.Apart.{GoesOnApart}
 use Rattle.tm_driver.proofs.plain_moments.interrupts_apart.Given as goal
 

@@ -13,7 +13,7 @@ pub record SameInside {S : Type 0} (r : Rules S) (old new : S) : Type 0 where
 
 -- where the part came to its end it has told what it says, the machine has stayed what it stays,
 -- and it fits again; after want of memory too the text has only been gone on with
-pub record Leaves {S E : Type 0} (Says : (old new : Progress) → S → Type 0)
+pub record PartLeaves {S E : Type 0} (Says : (old new : Progress) → S → Type 0)
     (Stays : S → S → Type 0) (Fits : S → Type 0) (result : Result (Unit {0}) E)
     (before after : S) (old new : Progress) : Type 0 where
   pub prints : OnOk result (Says old new after)
