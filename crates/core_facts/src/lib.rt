@@ -23,8 +23,8 @@ ghost use Rattle.core_facts.specs.Walkers.{EachWalkerIs};
 use core_laws::law_step;
 use core_world::{law_quiet, law_sizes};
 pub use cover_laws::{
-    law_always_answered, law_answered, law_cover, law_covered, law_next_moment, law_once, law_rest,
-    law_rest_events, law_each_settled,
+    law_always_answered, law_answered, law_cover, law_covered, law_each_settled, law_next_moment,
+    law_once, law_rest, law_rest_events,
 };
 use cpu_bases::{law_bases, law_calls};
 use tree_plan::{law_cuts, law_paths};
