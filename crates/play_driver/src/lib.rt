@@ -3,8 +3,8 @@
 //! All is generic over a `PlayMachine`, and the contracts name the rules of any machine: `jobs`
 //! drains a base, `interrupts` plays the interrupts of a moment, `operations` and `moving` what the
 //! script has for it, `moments` the moments to the end, and `playing` a whole script. What each
-//! part leaves is one record, `specs/PartLeaves`. The parts of a moment are public for crates above,
-//! which play moments in other ways.
+//! part leaves is one record, `specs/PartLeaves`. The parts of a moment are public for crates
+//! above, which play moments in other ways.
 #![tactic(auto)]
 
 mod closing;

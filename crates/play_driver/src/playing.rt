@@ -5,8 +5,8 @@ ghost use Rattle.play_rules.specs.Jobs.{first_unknown_job, unknown_in_ops, unkno
 ghost use Rattle.play_rules.specs.Parts.{Gains, counted};
 ghost use Rattle.play_rules.specs.Phases.{resting};
 ghost use Rattle.play_driver.specs.Conditions.{IsPlayable};
-ghost use Rattle.play_driver.specs.Outcomes.{EndsEarly, ForSomeText, PlaysWhole, SaysFault, TellsAll};
-ghost use Rattle.play_driver.specs.Outcomes.{script_turns, work_limit};
+ghost use Rattle.play_driver.specs.Outcomes.{EndsEarly, ForSomeText, PlaysWhole, SaysFault};
+ghost use Rattle.play_driver.specs.Outcomes.{TellsAll, script_turns, work_limit};
 
 use crate::closing::close;
 use crate::listeners::{Listener, NoReport};

@@ -205,8 +205,8 @@ fn pairs<
     thread::join(
         rt,
         || -> Result<(Vec<Pass>, Tally), NoMemory>
-            requires { IsSync R.row × IsSync G.row × IsSync J.row × IsSend N.row × IsSync N.row × IsSend B.row
-                × IsSync B.row × QuietFrom N.table N.opening first front.items
+            requires { IsSync R.row × IsSync G.row × IsSync J.row × IsSend N.row × IsSync N.row
+                × IsSend B.row × IsSync B.row × QuietFrom N.table N.opening first front.items
                 × (first + length front.items ≤ length N.opening.cpus)
                 × Fits N.opening now timers }
             ensures { IfOk result (λ r. QuietFrom N.table N.opening first r.0.items)
@@ -217,8 +217,8 @@ fn pairs<
             )
         },
         || -> Result<(Vec<Pass>, Tally), NoMemory>
-            requires { IsSync R.row × IsSync G.row × IsSync J.row × IsSend N.row × IsSync N.row × IsSend B.row
-                × IsSync B.row × QuietFrom N.table N.opening middle back.items
+            requires { IsSync R.row × IsSync G.row × IsSync J.row × IsSend N.row × IsSync N.row
+                × IsSend B.row × IsSync B.row × QuietFrom N.table N.opening middle back.items
                 × (middle + length back.items ≤ length N.opening.cpus)
                 × Fits N.opening now timers }
             ensures { IfOk result (λ r. QuietFrom N.table N.opening middle r.0.items)

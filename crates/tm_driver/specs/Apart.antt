@@ -22,8 +22,8 @@ pub record Spreads {S : Type 0} (cpus : ℕ) (p : Played S) (old new : List Prog
       ToldApart cpus new (ls ++ p.lines) (work + p.work)
   pub state : after ≡ p.state
 
--- WHAT A PART THAT IS TOLD APART LEAVES: where it came to its end the CPUs have told it, each in the
--- report that it had; the machine has stayed what it stays, and fits again
+-- WHAT A PART THAT IS TOLD APART LEAVES: where it came to its end the CPUs have told it, each in
+-- the report that it had; the machine has stayed what it stays, and fits again
 pub record PartLeavesApart {S E : Type 0} (Says : (old new : List Progress) → S → Type 0)
     (Stays : S → S → Type 0) (Fits : S → Type 0) (result : Result (Unit {0}) E)
     (before after : S) (old new : List Progress) : Type 0 where
