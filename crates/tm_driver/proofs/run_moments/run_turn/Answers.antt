@@ -35,7 +35,7 @@ returns-then-is_plain-clause-tells g c =
     told_plainly (g.J.Jobs.replies c.args.jobs.now) c.args.left.now c.args.now c.args.player c.args.telling.now _ _ s due (option_copied c.moment_due-m.result)
     c.set_clock.ensures.state c.having_interrupt-due.ensures.set c.moment_due-m.ensures
     (subst (λ (ops : List Op). is_plain (length s.cpus) due ops ≡ true) c.ops_of.ensures by_count)
-    c.in_ok-plain_moment.ensures.tells
+    c.in_ok-plain_moment.ensures.prints
 
 pub returns-clause-tells : goal.returns-clause-tells
 returns-clause-tells g c =
