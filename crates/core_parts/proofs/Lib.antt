@@ -1,5 +1,5 @@
 pub mod Oldest
-pub mod Pairs
-pub mod Ranges
+mod Pairs
+mod Ranges
 pub mod Readings
-pub mod Under
+mod Under

@@ -1,4 +1,4 @@
--- the CPUs of a set are online
+-- for crates above: the CPUs of a set are online
 use Rattle.std.proofs.Common.{◌≡◌, ℕ, true, inl, inr, sym, ap, subst, ◌∙◌}
 use Rattle.std.specs.Prelude.{◌||◌, ◌==◌}
 use Rattle.std.specs.Cmp.{nat_cmp_total, unsigned_tied}

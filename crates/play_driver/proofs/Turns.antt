@@ -1,4 +1,4 @@
--- the moments of a play, one after the other, under any rules
+-- for crates above: the moments of a play, one after the other, under any rules
 use Rattle.std.proofs.Common.{◌≡◌, ◌≢◌, ℕ, suc, ◌+◌, ◌-◌, ◌≤◌, ◌<◌, ◌^◌, List, [], ◌∷◌, ◌++◌, true, false, Some, refl, sym, ap, ◌∙◌, arith, append_assoc, append-nil, ◌==◌, min, length, length-append}
 use Rattle.std.specs.Prelude.{nat_le}
 use Rattle.std.specs.Option.{option_map}
