@@ -11,7 +11,8 @@
 #                                         each of these clauses. `function` alone is of the crate named last in that
 #                                         field, or else by the heading; [`name`] is a definition, and is looked for in
 #                                         the specs of any crate
-# - `crate::Name` ..                      in any page: the crate's src/ has an item of that name
+# - `crate::Name` ..                      in any page: the crate's src/ has an item of that name, or passes it on from a
+#                                         crate below whose src/ has it
 # - `examples/NAME`, `docs/NAME` ..       in any page: the file is there
 # - a picture of an example               in README.md the block before 'This is `examples/NAME.tmig`', in docs/FORMATS.md
 #                                         the block behind '`examples/NAME.tmig`': it has each line of the script and of
@@ -25,7 +26,9 @@ cd "$(dirname "$0")/.." || exit 1
 exec python3 - <<'PYTHON'
 import glob, os, re, sys
 
-crates = [line.split(":")[0].split()[0] for line in open("crates.txt") if line.strip() and not line.startswith("#")]
+lines = [line.split(":") for line in open("crates.txt") if line.strip() and not line.startswith("#")]
+crates = [of.split()[0] for of, _ in lines]
+below = {of.split()[0]: names.split() for of, names in lines}
 faults = []
 
 
@@ -60,6 +63,14 @@ def source_of(crate):
     if crate not in sources:
         sources[crate] = "\n".join(read(it) for it in sorted(glob.glob(f"crates/{crate}/src/**/*.rt", recursive=True)))
     return sources[crate]
+
+
+def home_of(crate, name):
+    """The crate whose item it is: this one, or the one from which it passes the item on."""
+    for it in re.finditer(r"^pub use (\w+)::(?:\{([^}]*)\}|(\w+));", source_of(crate), re.M):
+        if it[1] in below[crate] and it[1] in crates and name in re.findall(r"\w+", it[2] or it[3]):
+            return home_of(it[1], name)
+    return crate
 
 
 def contracts_of(crate, function):
@@ -113,7 +124,7 @@ def check_items(path, text):
                 fault(path, line_of(text, it.start()), f"there is no crate {it[1]}")
             continue
         for name in (it[2], it[3]):
-            if name and not re.search(rf"\b(?:fn|struct|enum|trait|const|type|mod|union) {name}\b|^\s+{name}\b", source_of(it[1]), re.M):
+            if name and not re.search(rf"\b(?:fn|struct|enum|trait|const|type|mod|union) {name}\b|^\s+{name}\b", source_of(home_of(it[1], it[2])), re.M):
                 fault(path, line_of(text, it.start()), f"crate {it[1]} has no {name}")
 
 
@@ -152,7 +163,7 @@ def check_claims(path, text):
                 if words[0].split()[-1] in crates:
                     crate, words = words[0].split()[-1], words[1:]
                 if crate and words:
-                    named.append((crate, words[-1]))
+                    named.append((home_of(crate, words[0]), words[-1]))
                 elif not crate:
                     fault(path, number, f"no crate is named before {word}")
             for of, function in named:

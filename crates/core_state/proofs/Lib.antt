@@ -1,11 +1,10 @@
 pub mod Changes
-pub mod Counting
+mod Counting
 pub mod Fits
-pub mod Holders
+mod Holders
 pub mod Making
-pub mod MoveStep
+mod MoveStep
 pub mod Paths
-pub mod Queues
-pub mod Starts
-pub mod Tallies
-pub mod TimerSteps
+mod Queues
+mod Tallies
+mod TimerSteps

@@ -1,5 +1,5 @@
 //! The core's state as code: a world of CPUs with their timers and walks, groups and a clock; its
-//! start, its readers, its parts, and how it is written.
+//! readers, its parts, and how it is written.
 #![tactic(auto)]
 
 mod due;
@@ -10,14 +10,10 @@ mod places;
 mod queueing;
 mod readers;
 mod shown;
-mod small;
-mod start;
 mod tally;
 mod tree;
 
 pub use core_parts::{CoreCpu, CoreGroup, CpuStatus, GroupChange};
 pub use machine::Core;
 pub use parts::CoreParts;
-pub use small::one_node_core;
-pub use start::new_core;
 pub use tally::Tally;

@@ -171,17 +171,3 @@ pub(crate) fn tally_in<B: TimerBase>(room: Tally, tree: &Tree, cpus: &Vec<CoreCp
     tally.count_all(tree, cpus);
     tally
 }
-
-/// The tally of the CPUs of a tree.
-pub(crate) fn tally_of<B: TimerBase>(
-    alloc: Global,
-    tree: &Tree,
-    cpus: &Vec<CoreCpu<B>>,
-) -> Result<Tally, NoMemory>
-    requires each_cpu { length cpus.now.items ≡ cpu_count_of tree.now }
-    ensures { IfOk result (λ tally. IsTallied tree.now cpus.now.items tally) }
-{
-    let mut tally = Tally::new(alloc, tree.cpu_count())?;
-    tally.count_all(tree, cpus);
-    Ok(tally)
-}

@@ -1,19 +1,16 @@
-//! The core's steps as code: where each is enabled, and each as a call.
+//! The core and its steps as code: its start, where each step is enabled, and each step as a call,
+//! which `core_steps` has.
 #![tactic(auto)]
 
-mod activation;
 mod asking;
 mod asking_timers;
-mod begin;
 mod enabling;
-mod finishing;
-mod flags;
-mod leaving;
-mod locking;
-mod steps;
-mod telling;
+mod small;
+mod start;
 
 pub use asking::{is_due_at_leaf, is_reeval, may_be_missed};
 pub use asking_timers::{is_id, may_run};
+pub use core_steps::apply;
 pub use enabling::enabled;
-pub use steps::apply;
+pub use small::one_node_core;
+pub use start::new_core;

@@ -9,9 +9,10 @@ ghost use Rattle.step_play.specs.SamePlay.{core_start};
 ghost use Rattle.tm_driver.specs.OnCore.{HasMachineOf};
 
 use core_laws::law_start;
-use core_state::{Core, new_core};
+use core_state::Core;
 use cpu_bases::Bases;
 use std::alloc::Global;
+use step_core::new_core;
 use tm_base::NoMemory;
 use tm_script::Script;
 use tree_plan::plan;

@@ -6,9 +6,10 @@ ghost use Rattle.trace_check.specs.Answers.{start_for};
 ghost use Rattle.trace_check.specs.Texts.{IsTrace};
 
 use crate::traces::Trace;
-use core_state::{Core, new_core};
+use core_state::Core;
 use cpu_bases::Bases;
 use std::alloc::Global;
+use step_core::new_core;
 use tm_base::NoMemory;
 use tree_plan::plan;
 use wheel_core::ListBase;

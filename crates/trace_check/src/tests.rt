@@ -1,8 +1,8 @@
 use super::*;
-use core_state::one_node_core;
 use core_world::Step;
 use std::alloc::Global;
 use std::test::Fail;
+use step_core::one_node_core;
 use tm_base::{Class, CpuId, TimerId};
 use tm_report::Report;
 use tm_script::{Kind, ScriptFault};

@@ -5,9 +5,10 @@ ghost use Rattle.cpu_bases.specs.CpuBases.{empty_bases};
 ghost use Rattle.trace_check.specs.Answers.{start_for};
 ghost use Rattle.trace_check.specs.Texts.{IsTrace};
 
-use core_state::{Core, new_core};
+use core_state::Core;
 use cpu_bases::Bases;
 use std::alloc::Global;
+use step_core::new_core;
 use tm_base::NoMemory;
 use trace_check::Trace;
 use tree_plan::plan;

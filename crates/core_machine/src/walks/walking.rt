@@ -6,7 +6,7 @@ ghost use Rattle.core_world.specs.Enabled.{Enabled};
 ghost use Rattle.core_world.specs.Lists.{IsRun};
 ghost use Rattle.core_world.specs.Steps.{stepped};
 ghost use Rattle.core_world.specs.World.{cpu_of};
-ghost use Rattle.step_core.specs.Wants.{WantsMemory};
+ghost use Rattle.core_steps.specs.Wants.{WantsMemory};
 ghost use Rattle.step_play.specs.Rules.Alone.{goes_on, walked_out};
 ghost use Rattle.step_play.specs.Rules.StepRules.{come_by_steps, gone_by_steps, idled_by_steps};
 ghost use Rattle.step_play.specs.Rules.StepRules.{woken_by_steps};
@@ -14,8 +14,8 @@ ghost use Rattle.step_play.specs.Rules.Lone.{IsLone, IsRunOf};
 
 use crate::walks::finishing::finish_walk;
 use core_state::Core;
+use core_steps::apply;
 use core_world::{Step, law_sizes};
-use step_core::apply;
 use tm_base::{CpuId, NoMemory};
 use wheel_core::TimerBase;
 

@@ -1,5 +1,5 @@
 use Rattle.walk_rules.specs.declared.walk.Stage.TheVariants as stages
-use Rattle.step_core.proofs.Standing.{fit_at, level_at, lower_level}
+use Rattle.core_steps.proofs.Standing.{fit_at, level_at, lower_level}
 use Rattle.step_core.proofs.asking_timers.may_go_on.Goals as goal
 
 pub is_unlocked-requires : goal.is_unlocked-requires

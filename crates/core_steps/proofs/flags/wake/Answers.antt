@@ -1,0 +1,15 @@
+use Rattle.std.proofs.Common.{false}
+use Rattle.tm_base.specs.declared.names.TheConstants.{NEVER}
+use Rattle.core_world.specs.declared.step.Step.TheVariants as steps
+use Rattle.core_state.proofs.Changes.{status_fits, status_made}
+use Rattle.core_steps.proofs.flags.wake.Goals as goal
+
+pub set-requires-clause-fits : goal.set-requires-clause-fits
+set-requires-clause-fits g c =
+    status_fits c.args.core.now c.args.cpu.0 _ _ (λ i. record (c.status-status.ensures.status i) { idle = false; wakeup = NEVER; walk = c.begins-walk.ensures.walk i })
+    (c.status-status.ensures.stays (steps.Wake c.args.cpu) c.requires)
+
+pub returns : goal.returns
+returns g c =
+    status_made c.args.core.now c.set.new.self c.args.cpu.0 _ _ (λ i. record (c.status-status.ensures.status i) { idle = false; wakeup = NEVER; walk = c.begins-walk.ensures.walk i })
+    c.set.ensures

@@ -1,0 +1,34 @@
+use Rattle.std.proofs.Common.{sym, subst, ◌∙◌, false, Some, arith}
+use Rattle.walk_rules.specs.declared.walk.Stage.TheVariants as stages
+use Rattle.core_state.specs.Changes as changes
+use Rattle.core_state.specs.Kept.{WorldFits}
+use Rattle.core_state.proofs.Making.{walk_moved}
+use Rattle.core_steps.proofs.Standing.{fit, level_here, lower_level, walked_fits}
+use Rattle.core_steps.proofs.locking.free_child.Goals as goal
+
+pub walk_at-requires-clause-group : goal.walk_at-requires-clause-group
+walk_at-requires-clause-group g c =
+    c.group_below-group.ensures.in_range
+    (lower_level c.args.core.now.tree c.args.cpu.0 c.args.walk.level c.kept.ensures.hierarchy
+    ((fit c.args.core.now c.kept.ensures.fits c.args.cpu.0 c.args.walk stages.FreeChild c.requires.stands (λ e. cc)).1)
+    (level_here c.args.core.now c.kept.ensures.fits c.args.cpu.0 c.args.walk stages.FreeChild c.requires.stands (λ e. cc)))
+
+pub walk_at-requires-clause-fits : goal.walk_at-requires-clause-fits
+walk_at-requires-clause-fits g c =
+    subst WorldFits
+    (sym
+    (walk_moved c.args.core.now c.args.cpu.0 false _ _ _ _ _ _ c.group_below-group.ensures.group
+    (λ i. changes.Free)
+    (λ i. Some (c.freed_next-next.ensures.next i))))
+    (walked_fits c.args.core.now c.args.cpu c.args.walk stages.FreeChild c.kept.ensures.stays c.requires.stands)
+
+pub returns : goal.returns
+returns g c =
+    c.walk_at.ensures
+    ∙ walk_moved c.args.core.now c.args.cpu.0 false _ _ _ _ _ _ c.group_below-group.ensures.group
+    (λ i. changes.Free)
+    (λ i. Some (c.freed_next-next.ensures.next i))
+
+pub freed_next-next-requires : goal.freed_next-next-requires
+freed_next-next-requires g c =
+    let low = c.kept.ensures.levels c.args.cpu.0 c.args.walk.level (level_here c.args.core.now c.kept.ensures.fits c.args.cpu.0 c.args.walk stages.FreeChild c.requires.stands (λ e. cc)) in omega (arith, low)
