@@ -13,9 +13,9 @@ use Rattle.play_rules.specs.Interrupts.{Replies}
 use Rattle.play_rules.specs.Jobs.{first_unknown_job}
 use Rattle.play_rules.specs.Parts.{counted}
 use Rattle.play_rules.specs.Play.{play_text, play_spent}
-use Rattle.tm_driver.specs.Deep.{deep_lines, deep_text, without_device}
+use Rattle.core_plays.specs.Deep.{deep_lines, deep_text, without_device}
 use Rattle.play_driver.specs.Outcomes.{work_limit}
-use Rattle.tm_driver.specs.Plays.{CanPlay, LawsHold, summary_of}
+use Rattle.core_plays.specs.Plays.{CanPlay, LawsHold, summary_of}
 use Rattle.tm_driver.specs.Runs.{BreaksStory, RunsToEnd}
 use Rattle.trace_check.specs.Answers.{IsCheckText}
 use Rattle.work_script.specs.declared.syntax.WorkScript.{WorkScript}

@@ -14,7 +14,7 @@ use Rattle.play_rules.specs.Parts.{Played, Progress, counted}
 use Rattle.story.specs.Stories.{by_cpu, is_told_by, is_told_by_none}
 use Rattle.tm_driver.specs.Apart.{Spreads, ToldApart}
 use Rattle.tm_driver.specs.Plain.{by_cpus}
-use Rattle.tm_driver.specs.Sleepers.{Tells}
+use Rattle.core_plays.specs.Sleepers.{Tells}
 use Rattle.tm_driver.proofs.Tellers.{ToldByNone}
 
 -- the lines of so many CPUs from one on

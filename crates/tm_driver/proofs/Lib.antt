@@ -1,13 +1,5 @@
-mod BySteps
-mod DeepSeen
-mod DeepTold
-mod Due
-mod NextMoments
-mod NoDevice
-mod Playable
 mod StoryTurns
 mod Threaded
-mod Wholes
 mod Tellers
 mod Spreading
 mod Gathered

@@ -15,7 +15,7 @@ use Rattle.play_rules.specs.Parts.{Prints, Progress, and_then, counted}
 use Rattle.play_rules.specs.Rules.{Rules}
 use Rattle.story.specs.Stories.{by_cpu, is_told_by_none}
 use Rattle.tm_driver.specs.Plain.{by_cpus}
-use Rattle.tm_driver.specs.Sleepers.{Tells}
+use Rattle.core_plays.specs.Sleepers.{Tells}
 use Rattle.tm_driver.proofs.Gathered.{sorted_both, sorted_told}
 use Rattle.tm_driver.proofs.Tellers.{ToldByNone, both_none, clear_after_by, covers_by}
 use Rattle.tm_driver.proofs.Tellers.{interrupts_none, none_both, operations_none}

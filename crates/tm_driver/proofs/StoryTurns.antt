@@ -18,10 +18,10 @@ use Rattle.step_play.specs.Rules.Seen.{InRun, resting}
 use Rattle.step_play.specs.Rules.StepRules.{step_rules}
 use Rattle.step_play.specs.SamePlay.{core_start}
 use Rattle.story.specs.Stories.{BrokenFrom, IsTurn, StoryFrom}
-use Rattle.tm_driver.specs.OnCore.{EachIsAnsweredFor}
+use Rattle.core_plays.specs.OnCore.{EachIsAnsweredFor}
 use Rattle.play_driver.specs.Outcomes.{work_limit}
 use Rattle.tm_driver.specs.Runs.{BreaksStory, EachRests, RunsOut, RunsToEnd, RunsWhole, TellsMoment, work_of}
-use Rattle.tm_driver.proofs.BySteps.{at_rest}
+use Rattle.core_plays.proofs.BySteps.{at_rest}
 use Rattle.play_driver.proofs.Turns.{below_test, last_push, spent_more, turn_lines_push, work_more}
 
 module _ (jobs : Replies) (end : ℕ) (ms : List Moment) (now : ℕ) (w : World) (t : Turn World)

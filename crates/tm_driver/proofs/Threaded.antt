@@ -29,7 +29,7 @@ use Rattle.thread_rounds.specs.Doing.{IsRoundOp, IsTimerThere}
 use Rattle.play_driver.specs.Conditions.{IsOpInRange, IsTimerInRange}
 use Rattle.tm_driver.specs.Plain.{by_cpus}
 use Rattle.tm_driver.specs.Runs.{IsRunMoment, TellsMoment, TellsThreaded}
-use Rattle.tm_driver.specs.Sleepers.{Tells}
+use Rattle.core_plays.specs.Sleepers.{Tells}
 use Rattle.play_driver.proofs.Turns.{below_test}
 
 -- a test of two, that fails

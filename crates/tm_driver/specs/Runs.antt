@@ -18,9 +18,9 @@ use Rattle.step_play.specs.Rules.StepRules.{step_rules}
 use Rattle.step_play.specs.SamePlay.{core_start}
 use Rattle.story.specs.Stories.{IsBrokenOff, IsMoment, IsStory, IsThreaded}
 use Rattle.play_driver.specs.Conditions.{IsMomentInRange}
-use Rattle.tm_driver.specs.OnCore.{EachIsAnsweredFor}
+use Rattle.core_plays.specs.OnCore.{EachIsAnsweredFor}
 use Rattle.play_driver.specs.Outcomes.{work_limit}
-use Rattle.tm_driver.specs.Sleepers.{Tells}
+use Rattle.core_plays.specs.Sleepers.{Tells}
 use Rattle.play_driver.specs.declared.outcomes.DriveFault.{DriveFault}
 use Rattle.play_driver.specs.declared.outcomes.DriveFault.TheVariants.{BadJob, NoMemory, WorkSpent}
 

@@ -1,25 +1,15 @@
-//! A script played on the core, into a report or into numbers; and with a thread for each CPU.
+//! A script run with a thread for each CPU of a moment; and all that plays one on the core.
 //!
-//! `plays` has a script played by `play_driver` on the core that `starting` makes; `deep` does so
-//! with a broadcast device for idle CPUs; `runs` plays the moments of `run_moments`, in which the
-//! CPUs work side by side, and the plain ones of `plain_moments`.
+//! `runs` plays the moments of `run_moments`, in which the CPUs work side by side, and the plain
+//! ones of `plain_moments`. Plays without threads are those of `core_plays`.
 #![tactic(auto)]
 
-mod deep_plays;
-mod devices;
-mod following;
-mod numbers;
 mod plain_moments;
-mod plays;
 mod run_moments;
 mod runs;
-mod sleeping;
-mod starting;
 
-pub use deep_plays::deep;
-pub use following::next_moment;
-pub use numbers::Summary;
+pub use core_plays::{
+    Summary, deep, next_moment, play, play_moment, run_moment, start_core, summary,
+};
 pub use play_driver::{Counts, DriveFault, having_interrupt, play_on};
-pub use plays::{play, play_moment, run_moment, summary};
 pub use runs::run;
-pub use starting::start_core;

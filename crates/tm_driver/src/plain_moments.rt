@@ -12,7 +12,7 @@ ghost use Rattle.play_rules.specs.Parts.{Gains, Progress, and_then, counted};
 ghost use Rattle.play_rules.specs.Phases.{resting};
 ghost use Rattle.tm_driver.specs.Apart.{PartLeavesApart, Spreads, ToldApart};
 ghost use Rattle.tm_driver.specs.Plain.{by_cpus};
-ghost use Rattle.tm_driver.specs.Sleepers.{Tells};
+ghost use Rattle.core_plays.specs.Sleepers.{Tells};
 ghost use Rattle.play_driver.specs.Conditions.{AreOnline, IsMomentInRange, IsOpInRange};
 ghost use Rattle.play_driver.specs.PartLeaves.{PartLeaves, SameInside};
 

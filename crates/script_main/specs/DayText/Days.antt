@@ -4,7 +4,7 @@ use Rattle.std.specs.List.{flat_map}
 use Rattle.std.specs.Borrow.{Bor}
 use Rattle.text_words.specs.Words.{ended}
 use Rattle.tm_script.specs.Texts.{number_line}
-use Rattle.tm_driver.specs.declared.numbers.Summary.{Summary}
+use Rattle.core_plays.specs.declared.numbers.Summary.{Summary}
 
 -- the line of a number behind its word (no public clause cites it)
 abbrev pub entry_line : Bor (List ℕ) × ℕ → List ℕ

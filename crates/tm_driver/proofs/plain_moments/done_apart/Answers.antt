@@ -5,7 +5,7 @@ use Rattle.play_rules.specs.Operations.{operations}
 use Rattle.play_rules.specs.Parts.{Progress, and_then, counted}
 use Rattle.tm_driver.specs.Apart.{ToldApart}
 use Rattle.tm_driver.specs.Plain.{by_cpus}
-use Rattle.tm_driver.specs.Sleepers.{Tells}
+use Rattle.core_plays.specs.Sleepers.{Tells}
 use Rattle.tm_driver.proofs.Gathered.{told_all}
 use Rattle.tm_driver.proofs.Spreading.{on_cpus, spread_then, where_both}
 use Rattle.tm_driver.proofs.Tellers.{both_none, interrupts_none, operations_none}

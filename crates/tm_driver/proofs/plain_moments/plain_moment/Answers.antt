@@ -6,7 +6,7 @@ use Rattle.play_rules.specs.Operations.{clear_after, covers, leaver, operations}
 use Rattle.play_rules.specs.Parts.{Gains, Prints, and_then}
 use Rattle.play_rules.proofs.Plays.{gains_then}
 use Rattle.tm_driver.specs.Plain.{by_cpus}
-use Rattle.tm_driver.specs.Sleepers.{Tells}
+use Rattle.core_plays.specs.Sleepers.{Tells}
 use Rattle.tm_driver.proofs.PlainMoments.{none_moment, some_moment}
 use Rattle.tm_driver.proofs.Spreading.{where_ok}
 use Rattle.tm_driver.proofs.plain_moments.plain_moment.Goals as goal

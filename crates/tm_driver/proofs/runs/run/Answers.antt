@@ -1,6 +1,6 @@
 use Rattle.std.proofs.Common.{◌*◌}
 use Rattle.std.proofs.lemmas.List.{length-replicate}
-use Rattle.tm_driver.proofs.Playable.{playable}
+use Rattle.core_plays.proofs.Playable.{playable}
 use Rattle.tm_driver.proofs.runs.run.Goals as goal
 
 pub run_known-ran-requires-clause-playable : goal.run_known-ran-requires-clause-playable

@@ -1,0 +1,5 @@
+pub mod Deep
+pub mod Following
+pub mod OnCore
+pub mod Plays
+pub mod Sleepers

@@ -1,9 +1,0 @@
-use Rattle.std.proofs.Common.{◌≡◌, length}
-use Rattle.tm_driver.specs.Following.{moments_past}
-use Rattle.tm_driver.proofs.following.moments_past.Given as goal
-
-abbrev pub invariant-loop-left : goal.invariant-loop-left
-invariant-loop-left l = moments_past l.fn.now l.left ≡ moments_past l.fn.now l.fn.moments
-
-abbrev pub decreases-loop-left : goal.decreases-loop-left
-decreases-loop-left l = length l.left
