@@ -1,8 +1,8 @@
 -- what each status says, by the reply and by how writing it went
-use Rattle.std.proofs.Common.{◌≡◌, ℕ, List, [], Option, Some, None, refl, sym, ◌∙◌, ap, subst}
-use Rattle.std.proofs.Common.{inl, inr, append-nil, length, lit<, ◌<◌, ◌≤◌, ◌+◌, ◌*◌, arith}
+use Rattle.std.proofs.Common.{◌≡◌, ℕ, List, Option, Some, None, refl, sym, ◌∙◌, ap, subst, inl, inr}
+use Rattle.std.proofs.Common.{length, lit<, ◌<◌, ◌≤◌, ◌+◌, ◌*◌, arith}
 use Rattle.std.proofs.lemmas.Option.{same_Some}
-use Rattle.std.specs.Prelude.{◌⊎◌, take, String, Vec, Result, Ok, Err, IfOk, MatchResult}
+use Rattle.std.specs.Prelude.{◌⊎◌, take, String}
 use Rattle.std.specs.declared.alloc.Global.{Global}
 use Rattle.std.specs.Io.KnownBytes.{Appends}
 use Rattle.tm_base.specs.declared.limits.TheConstants.{MOST_BYTES, WORK_LIMIT_V1}
@@ -11,68 +11,34 @@ use Rattle.tm_io.specs.Sources.{TakesUpTo}
 use Rattle.tm_script.specs.declared.faults.ScriptFault.{ScriptFault}
 use Rattle.tm_generate.specs.Generated.{generated}
 use Rattle.play_rules.specs.Interrupts.{Replies}
-use Rattle.script_main.specs.declared.commands.Recipe.{Recipe}
-use Rattle.script_main.specs.declared.commands.Command.{Command}
-use Rattle.script_main.specs.declared.commands.Command.TheVariants.{Day}
-use Rattle.script_main.specs.declared.inputs.Form.{Form}
-use Rattle.script_main.specs.declared.inputs.Input.{Input}
-use Rattle.script_main.specs.declared.inputs.Input.TheVariants as inputs
-use Rattle.script_main.specs.declared.replies.Reply.{Reply}
-use Rattle.script_main.specs.declared.replies.Reply.TheVariants.{Usage, ReadFault, TooLong, Refused}
-use Rattle.script_main.specs.declared.replies.Reply.TheVariants.{JobUnknown, WorkSpent, Played}
-use Rattle.script_main.specs.declared.replies.Reply.TheVariants.{Made}
-use Rattle.script_main.specs.declared.statuses.TheConstants.{DONE, USAGE, NO_MEMORY, WRITE_FAULT}
-use Rattle.script_main.specs.declared.statuses.TheConstants.{WORK_SPENT, JOB_UNKNOWN}
-use Rattle.script_main.specs.Words.{command_of, form_of, recipe_in, HasJobsRun}
-use Rattle.script_main.specs.Scripts.{BringsBy, EndsLate, IsOutput, LacksJob, MakesScript}
-use Rattle.script_main.specs.Scripts.{script_by, SpendsBy, SpendsWork}
+use Rattle.program_texts.specs.declared.commands.Recipe.{Recipe}
+use Rattle.program_texts.specs.declared.commands.Command.{Command}
+use Rattle.program_texts.specs.declared.commands.Command.TheVariants.{Day}
+use Rattle.program_texts.specs.declared.inputs.Form.{Form}
+use Rattle.program_texts.specs.declared.inputs.Input.{Input}
+use Rattle.program_texts.specs.declared.inputs.Input.TheVariants as inputs
+use Rattle.program_texts.specs.declared.replies.Reply.{Reply}
+use Rattle.program_texts.specs.declared.replies.Reply.TheVariants.{Usage, ReadFault, TooLong}
+use Rattle.program_texts.specs.declared.replies.Reply.TheVariants.{Refused, JobUnknown, WorkSpent}
+use Rattle.program_texts.specs.declared.replies.Reply.TheVariants.{Played, Made}
+use Rattle.program_texts.specs.declared.statuses.TheConstants.{DONE, USAGE, NO_MEMORY, WRITE_FAULT}
+use Rattle.program_texts.specs.declared.statuses.TheConstants.{WORK_SPENT, JOB_UNKNOWN}
+use Rattle.program_texts.specs.Words.{command_of, form_of, recipe_in, HasJobsRun}
+use Rattle.program_texts.specs.Brought.{BringsBy, MakesScript, script_by, ReadsNone}
+use Rattle.program_texts.specs.Replies.{reply_text}
+use Rattle.program_texts.specs.Statuses.{refused_status, status_written, status_broken}
+use Rattle.program_texts.specs.Ends.{EndsAs, WritesAll, WritesFront, Writes, whole, part, wanting}
+use Rattle.program_texts.specs.Ends.{unwritten}
+use Rattle.program_texts.proofs.Told.{brought_up, takes_up}
+use Rattle.program_texts.proofs.Refusals.{is_refusal, no_break, no_want, no_done, no_job, no_work}
+use Rattle.program_texts.proofs.Refusals.{never_write_fault, never_no_memory, broken_output}
+use Rattle.program_texts.proofs.Refusals.{own_of_broken, never_broken_done}
+use Rattle.script_main.specs.Scripts.{EndsLate, IsOutput, LacksJob, SpendsBy, SpendsWork}
 use Rattle.script_main.specs.Replies.{IsReply, IsReplyBy, RepliesToInput}
-use Rattle.script_main.specs.Replies.{reply_text, refused_status, status_written, status_broken}
-use Rattle.script_main.specs.Replies.{ReadsNone}
-use Rattle.script_main.specs.Ends.{EndsAs, EndsUnwritten, EndsWith, WritesAll, WritesFront, Writes}
-use Rattle.script_main.specs.Ends.{whole, part, wanting, unwritten}
-use Rattle.script_main.specs.Statuses.{HasInput, SaysDone, SaysJobUnknown}
-use Rattle.script_main.specs.Statuses.{SaysNoMemory, SaysRefusedAs, SaysWorkSpent}
-use Rattle.script_main.specs.Statuses.{IsShortDay, SaysWriteFault, WritesNothing, WritesReplyFront}
-use Rattle.script_main.proofs.OneText.{brought_up, front_of_none, takes_up}
-use Rattle.script_main.proofs.Refusals.{is_refusal, no_break, no_want, no_done}
-use Rattle.script_main.proofs.Refusals.{no_job, no_work, never_write_fault, never_no_memory}
-use Rattle.script_main.proofs.Refusals.{broken_output, own_of_broken, never_broken_done}
-
--- ---- how a text was written
-
--- nothing was put
-pub appends_none : (held : Option (List ℕ)) → Appends held held []
-appends_none None = tt
-appends_none (Some bytes) = sym (append-nil bytes)
-
-no_change : (k m : SinkSeen) → m ≡ k → Appends k.held m.held []
-no_change k m same =
-    let Kept : SinkSeen → Type 0 = λ x. Appends k.held x.held [] in
-    subst Kept (sym same) (appends_none k.held)
-
-module _ (k m : SinkSeen) (status : ℕ) where
-  -- a text that was made before it was written
-  pub made_ends : {E : Type 0} (text : Result (Vec ℕ Global) E) (wanted : List ℕ) (own : ℕ)
-      → IfOk text (λ made. made.items ≡ wanted)
-      → MatchResult text (λ made. EndsWith made.items own own k m status)
-      (λ _. EndsUnwritten k m status)
-      → EndsWith wanted own own k m status
-  made_ends (Ok made) wanted own is ends =
-      let Ends : List ℕ → Type 0 = λ xs. EndsWith xs own own k m status in
-      subst Ends is ends
-  made_ends (Err e) wanted own is ends = unwritten ends
-
-  -- three ways to a status: all was written, the sink broke, or memory was wanting
-  by_end : {A : Type 0} (text : List ℕ) (all broken x : ℕ)
-      → EndsWith text all broken k m status → status ≡ x
-      → (all ≡ x → WritesAll text k m → A)
-      → (broken ≡ x → WritesFront text k m → A)
-      → (NO_MEMORY ≡ x → A) → A
-  by_end text all broken x (whole w e) at f g h = f (sym e ∙ at) w
-  by_end text all broken x (part w e) at f g h = g (sym e ∙ at) w
-  by_end text all broken x (wanting count front sound e) at f g h = h (sym e ∙ at)
-  by_end text all broken x (unwritten e) at f g h = h (sym e.1 ∙ at)
+use Rattle.script_main.specs.Statuses.{HasInput, SaysDone, SaysJobUnknown, SaysNoMemory}
+use Rattle.script_main.specs.Statuses.{SaysRefusedAs, SaysWorkSpent, IsShortDay, SaysWriteFault}
+use Rattle.script_main.specs.Statuses.{WritesNothing, WritesReplyFront}
+use Rattle.script_main.proofs.OneText.{front_of_none}
 
 -- ---- what a reply with its own status rests on
 

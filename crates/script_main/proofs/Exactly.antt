@@ -1,59 +1,34 @@
 -- which status comes, by its cause
-use Rattle.std.proofs.Common.{◌≡◌, ◌≢◌, ℕ, List, Option, Some, None, refl}
-use Rattle.std.proofs.Common.{sym, ◌∙◌, subst, inl, inr}
+use Rattle.std.proofs.Common.{◌≡◌, ◌≢◌, ℕ, List, Option, Some, None, refl, sym, ◌∙◌, subst, inl}
+use Rattle.std.proofs.Common.{inr}
 use Rattle.std.specs.Prelude.{◌⊎◌, String}
 use Rattle.std.specs.declared.alloc.Global.{Global}
 use Rattle.tm_io.specs.Seen.{SourceSeen, SourceFailed, SinkSeen}
 use Rattle.tm_script.specs.declared.faults.ScriptFault.{ScriptFault}
 use Rattle.play_rules.specs.Interrupts.{Replies}
-use Rattle.script_main.specs.declared.commands.Recipe.{Recipe}
-use Rattle.script_main.specs.declared.commands.Command.{Command}
-use Rattle.script_main.specs.declared.inputs.Form.{Form}
-use Rattle.script_main.specs.declared.inputs.Input.{Input}
-use Rattle.script_main.specs.declared.replies.Reply.{Reply}
-use Rattle.script_main.specs.declared.replies.Reply.TheVariants.{Usage, ReadFault, TooLong, Refused}
-use Rattle.script_main.specs.declared.replies.Reply.TheVariants.{JobUnknown, WorkSpent, Played}
-use Rattle.script_main.specs.declared.replies.Reply.TheVariants.{Made}
-use Rattle.script_main.specs.declared.statuses.TheConstants.{DONE, NO_MEMORY, READ_FAULT}
-use Rattle.script_main.specs.declared.statuses.TheConstants.{WRITE_FAULT, WORK_SPENT}
-use Rattle.script_main.specs.declared.statuses.TheConstants.{JOB_UNKNOWN}
-use Rattle.script_main.specs.Inputs.{SpellsInput}
-use Rattle.script_main.specs.Words.{form_of, recipe_in}
-use Rattle.script_main.specs.Scripts.{BringsBy}
-use Rattle.script_main.specs.Replies.{IsReplyBy, IsReplyTo, RepliesToInput, refused_status}
-use Rattle.script_main.specs.Replies.{ReadsNone, reply_text}
-use Rattle.script_main.specs.Ends.{Breaks, EndsAs, EndsWith, whole, part, wanting, unwritten}
-use Rattle.script_main.specs.Statuses.{IsEither}
-use Rattle.script_main.specs.Causes.{Asks, HasText, IsFine, IsInputBy, IsJobUnknown}
-use Rattle.script_main.specs.Causes.{IsRefusedAs, IsWorkSpent}
+use Rattle.program_texts.specs.declared.commands.Recipe.{Recipe}
+use Rattle.program_texts.specs.declared.commands.Command.{Command}
+use Rattle.program_texts.specs.declared.inputs.Form.{Form}
+use Rattle.program_texts.specs.declared.inputs.Input.{Input}
+use Rattle.program_texts.specs.declared.replies.Reply.{Reply}
+use Rattle.program_texts.specs.declared.replies.Reply.TheVariants.{Usage, ReadFault, TooLong}
+use Rattle.program_texts.specs.declared.replies.Reply.TheVariants.{Refused, JobUnknown, WorkSpent}
+use Rattle.program_texts.specs.declared.replies.Reply.TheVariants.{Played, Made}
+use Rattle.program_texts.specs.declared.statuses.TheConstants.{DONE, NO_MEMORY, READ_FAULT}
+use Rattle.program_texts.specs.declared.statuses.TheConstants.{WRITE_FAULT, WORK_SPENT, JOB_UNKNOWN}
+use Rattle.program_texts.specs.Inputs.{SpellsInput}
+use Rattle.program_texts.specs.Words.{form_of, recipe_in}
+use Rattle.program_texts.specs.Brought.{BringsBy, ReadsNone}
+use Rattle.program_texts.specs.Statuses.{refused_status, IsEither}
+use Rattle.program_texts.specs.Replies.{reply_text}
+use Rattle.program_texts.specs.Ends.{Breaks, EndsAs, EndsWith}
+use Rattle.program_texts.proofs.Told.{all_known, not_many, refuses}
+use Rattle.script_main.specs.Replies.{IsReplyBy, IsReplyTo, RepliesToInput}
+use Rattle.script_main.specs.Causes.{Asks, HasText, IsFine, IsInputBy, IsJobUnknown, IsRefusedAs}
+use Rattle.script_main.specs.Causes.{IsWorkSpent}
 use Rattle.script_main.proofs.Endings.{Ended}
-use Rattle.script_main.proofs.Known.{all_known, ends_know, never_spends, not_both, not_many}
-use Rattle.script_main.proofs.Known.{out_knows, out_plays, refuses, spent_knows}
-
--- ---- the status of a text, by how it was written
-
-module _ (text : List ℕ) (k m : SinkSeen) (status : ℕ) where
-  -- a text with one status of its own
-  either : (own : ℕ) → EndsWith text own own k m status → IsEither status own NO_MEMORY
-  either own (whole w e) = inl e
-  either own (part w e) = inl e
-  either own (wanting count front sound e) = inr e
-  either own (unwritten e) = inr e.1
-
-  -- an output
-  out_ends : EndsWith text DONE WRITE_FAULT k m status
-      → (status ≡ WRITE_FAULT) ⊎ IsEither status DONE NO_MEMORY
-  out_ends (whole w e) = inr (inl e)
-  out_ends (part w e) = inl e
-  out_ends (wanting count front sound e) = inr (inr e)
-  out_ends (unwritten e) = inr (inr e.1)
-
-  out_whole : EndsWith text DONE WRITE_FAULT k m status → (Breaks k m → ⊥)
-      → IsEither status DONE NO_MEMORY
-  out_whole (whole w e) sound = inl e
-  out_whole (part w e) sound = absurd (sound w.broke)
-  out_whole (wanting count front so e) sound = inr e
-  out_whole (unwritten e) sound = inr e.1
+use Rattle.script_main.proofs.Known.{ends_know, never_spends, not_both, out_knows, out_plays}
+use Rattle.script_main.proofs.Known.{spent_knows}
 
 -- ---- the input that is asked for is the one that is replied to
 

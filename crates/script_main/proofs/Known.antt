@@ -1,68 +1,17 @@
--- what is read of a source that tells its bytes, and what is known of an input's replies
-use Rattle.std.proofs.Common.{◌≡◌, ◌≢◌, ◌≤◌, ◌+◌, ℕ, List, ◌++◌, Option, Some, None, length, ◌∙◌, ap, refl, sym}
-use Rattle.std.proofs.Common.{subst, arith, append-nil, length-append}
+-- what is known of an input by its replies
+use Rattle.std.proofs.Common.{◌≢◌, ℕ, List, ◌∙◌, ap, refl, sym}
 use Rattle.std.specs.Prelude.{option_map}
 use Rattle.std.proofs.lemmas.Option.{none-some}
-use Rattle.std.specs.Io.KnownBytes.{Consumes, IsAtEnd}
-use Rattle.tm_base.specs.declared.limits.TheConstants.{MOST_BYTES}
-use Rattle.tm_io.specs.Seen.{SourceSeen}
-use Rattle.tm_io.specs.Sources.{TakesAll, TakesCount}
-use Rattle.tm_script.specs.declared.faults.ScriptFault.{ScriptFault}
 use Rattle.play_rules.specs.Interrupts.{Replies}
 use Rattle.play_rules.specs.Parts.{counted}
-use Rattle.script_main.specs.declared.commands.Command.{Command}
-use Rattle.script_main.specs.declared.commands.Command.TheVariants as commands
-use Rattle.script_main.specs.declared.inputs.Form.{Form}
-use Rattle.script_main.specs.declared.inputs.Form.TheVariants as forms
-use Rattle.script_main.specs.declared.inputs.Input.{Input}
-use Rattle.script_main.specs.declared.inputs.Input.TheVariants as inputs
-use Rattle.script_main.specs.Inputs.{IsInputRefusalOf, SpellsInput}
-use Rattle.script_main.specs.Words.{HasJobsRun, IsPlayer}
+use Rattle.program_texts.specs.declared.commands.Command.{Command}
+use Rattle.program_texts.specs.declared.commands.Command.TheVariants as commands
+use Rattle.program_texts.specs.declared.inputs.Form.TheVariants as forms
+use Rattle.program_texts.specs.declared.inputs.Input.{Input}
+use Rattle.program_texts.specs.declared.inputs.Input.TheVariants as inputs
+use Rattle.program_texts.specs.Words.{HasJobsRun, IsPlayer}
 use Rattle.script_main.specs.Scripts.{CanEnd, EndsBy, IsOutput, KnowsJobs, LacksJob, SpendsBy}
 use Rattle.script_main.specs.Scripts.{SpendsWork}
-
--- ---- bytes that a source tells
-
--- what was read to the end of known bytes is these bytes
-reads_known : (known bytes : List ℕ) (left : Option (List ℕ)) → Consumes (Some known) left bytes
-    → IsAtEnd left → known ≡ bytes
-reads_known known bytes None taken end = absurd taken
-reads_known known bytes (Some rest) taken end =
-    taken ∙ ap (λ (xs : List ℕ). bytes ++ xs) end ∙ append-nil bytes
-
--- known bytes of which some were taken are no fewer
-takes_known : (known taken : List ℕ) (left : Option (List ℕ)) → Consumes (Some known) left taken
-    → length taken ≤ length known
-takes_known known taken None is = absurd is
-takes_known known taken (Some rest) is =
-    omega (arith, ap (λ (xs : List ℕ). length xs) is, length-append taken rest)
-
-module _ (s t : SourceSeen) (known : List ℕ) (left : s.left ≡ Some known) where
-  pub all_known : (bytes : List ℕ) → TakesAll s t MOST_BYTES bytes → known ≡ bytes
-  all_known bytes all =
-      let Gave : Option (List ℕ) → Type 0 = λ o. Consumes o t.left bytes in
-      reads_known known bytes t.left (subst Gave left all.taken) all.end
-
-  pub not_many : length known ≤ MOST_BYTES → TakesCount s t (MOST_BYTES + 1) → ⊥
-  not_many few count =
-      let Gave : Option (List ℕ) → Type 0 = λ o. Consumes o t.left count.0 in
-      let many = takes_known known count.0 t.left (subst Gave left count.2) in
-      absurd (omega (arith, many, count.1, few))
-
--- ---- the replies to an input
-
--- bytes that are refused spell no input of that form
-pub refuses : (form : Form) (bytes : List ℕ) (fault : ScriptFault) → IsInputRefusalOf form bytes fault
-    → (input : Input) → SpellsInput form bytes input → ⊥
-refuses forms.Script bytes fault is (inputs.Script script) spelled = is.1 script spelled
-refuses forms.Script bytes fault is (inputs.Trace trace) spelled = spelled
-refuses forms.Script bytes fault is (inputs.Works works) spelled = spelled
-refuses forms.Trace bytes fault is (inputs.Script script) spelled = spelled
-refuses forms.Trace bytes fault is (inputs.Trace trace) spelled = is.1 trace spelled
-refuses forms.Trace bytes fault is (inputs.Works works) spelled = spelled
-refuses forms.Works bytes fault is (inputs.Script script) spelled = spelled
-refuses forms.Works bytes fault is (inputs.Trace trace) spelled = spelled
-refuses forms.Works bytes fault is (inputs.Works works) spelled = is.1 works spelled
 
 -- a job that the table hasn't isn't known
 pub not_both : (table : ℕ) (input : Input) (line job : ℕ) → LacksJob table input line job
@@ -94,18 +43,6 @@ out_plays jobs table commands.Works (inputs.Script script) text plays out = absu
 out_plays jobs table commands.Works (inputs.Trace trace) text plays out = absurd out
 out_plays jobs table commands.Works (inputs.Works works) text plays out =
     record { known = out.can_play.known; within = out.can_play.unspent }
-
--- a command that has jobs run, but not by threads, plays
-pub plays_alone : (command : Command) → HasJobsRun command → command ≢ commands.Run
-    → IsPlayer command
-plays_alone commands.Play has other = tt
-plays_alone commands.Run has other = absurd (other refl)
-plays_alone commands.Tree has other = absurd has
-plays_alone (commands.Generate recipe) has other = absurd has
-plays_alone (commands.Day recipe) has other = tt
-plays_alone commands.Check has other = absurd has
-plays_alone commands.Deep has other = tt
-plays_alone commands.Works has other = tt
 
 -- a player's work is its input's
 pub spends_alone : (jobs : Replies) (table : ℕ) (command : Command) (input : Input) (count : ℕ)

@@ -1,39 +1,38 @@
 -- where one text is due, any two replies that are called for have it; of `check` neither of their
 -- texts is a front of the other
-use Rattle.std.proofs.Common.{◌≡◌, ◌≢◌, ◌≤◌, ◌<◌, ◌+◌, ℕ, List, [], Option, Some, None, length}
-use Rattle.std.proofs.Common.{refl, sym, ◌∙◌, ap, subst, arith, inl, inr}
+use Rattle.std.proofs.Common.{◌≡◌, ◌≢◌, ◌<◌, ◌+◌, ℕ, List, Option, Some, None, length, refl, sym}
+use Rattle.std.proofs.Common.{◌∙◌, ap, subst}
 use Rattle.std.specs.Prelude.{◌-◌, ◌^◌, take, String, Result, Ok, Err, OnErr}
 use Rattle.std.specs.declared.alloc.Global.{Global}
 use Rattle.std.proofs.lemmas.Option.{none-some, same_Some}
-use Rattle.std.specs.Io.KnownBytes.{Consumes}
 use Rattle.tm_base.specs.declared.limits.TheConstants.{MOST_BYTES}
 use Rattle.tm_io.specs.Seen.{SourceSeen, SourceFailed, SourceUnbroken}
-use Rattle.tm_io.specs.Sources.{TakesAll, TakesCount, TakesUpTo}
+use Rattle.tm_io.specs.Sources.{TakesCount}
 use Rattle.tm_script.specs.declared.faults.ScriptFault.{ScriptFault}
 use Rattle.play_rules.specs.Interrupts.{Replies}
 use Rattle.play_rules.specs.declared.asks.UnknownJob.{UnknownJob}
 use Rattle.delayed_work.specs.declared.faults.UnknownWorkJob.{UnknownWorkJob}
-use Rattle.script_main.specs.declared.commands.Recipe.{Recipe}
-use Rattle.script_main.specs.declared.commands.Command.{Command}
-use Rattle.script_main.specs.declared.commands.Command.TheVariants as commands
-use Rattle.script_main.specs.declared.inputs.Form.{Form}
-use Rattle.script_main.specs.declared.inputs.Form.TheVariants as forms
-use Rattle.script_main.specs.declared.inputs.Input.{Input}
-use Rattle.script_main.specs.declared.inputs.Input.TheVariants as inputs
-use Rattle.script_main.specs.declared.replies.Reply.{Reply}
-use Rattle.script_main.specs.declared.replies.Reply.TheVariants.{Usage, ReadFault, TooLong, Refused}
-use Rattle.script_main.specs.declared.replies.Reply.TheVariants.{JobUnknown, WorkSpent, Played}
-use Rattle.script_main.specs.declared.replies.Reply.TheVariants.{Made}
-use Rattle.script_main.specs.Inputs.{IsInputRefusalOf, SpellsInput}
-use Rattle.script_main.specs.Words.{command_of, form_of, recipe_in, HasJobsRun}
-use Rattle.script_main.specs.Scripts.{BringsBy, IsOutput, LacksJob, SpendsWork}
-use Rattle.script_main.specs.Replies.{IsReader, IsReply, IsReplyBy, IsReplyOf, IsReplyTo, ReadsNone}
-use Rattle.script_main.specs.Replies.{RepliesToInput, reply_text}
+use Rattle.program_texts.specs.declared.commands.Recipe.{Recipe}
+use Rattle.program_texts.specs.declared.commands.Command.{Command}
+use Rattle.program_texts.specs.declared.commands.Command.TheVariants as commands
+use Rattle.program_texts.specs.declared.inputs.Form.{Form}
+use Rattle.program_texts.specs.declared.inputs.Form.TheVariants as forms
+use Rattle.program_texts.specs.declared.inputs.Input.{Input}
+use Rattle.program_texts.specs.declared.inputs.Input.TheVariants as inputs
+use Rattle.program_texts.specs.declared.replies.Reply.{Reply}
+use Rattle.program_texts.specs.declared.replies.Reply.TheVariants.{Usage, ReadFault, TooLong}
+use Rattle.program_texts.specs.declared.replies.Reply.TheVariants.{Refused, JobUnknown, WorkSpent}
+use Rattle.program_texts.specs.declared.replies.Reply.TheVariants.{Played, Made}
+use Rattle.program_texts.specs.Words.{command_of, form_of, recipe_in, HasJobsRun}
+use Rattle.program_texts.specs.Brought.{BringsBy, IsReader, ReadsNone}
+use Rattle.program_texts.specs.Replies.{reply_text}
+use Rattle.program_texts.proofs.Told.{not_many}
+use Rattle.program_texts.proofs.Forms.{plays_alone}
+use Rattle.program_texts.proofs.CheckTexts.{FrontIsWhole, check_whole, front_apart, same_is_whole}
+use Rattle.script_main.specs.Scripts.{IsOutput, LacksJob, SpendsWork}
+use Rattle.script_main.specs.Replies.{IsReply, IsReplyBy, IsReplyOf, IsReplyTo, RepliesToInput}
 use Rattle.script_main.specs.Statuses.{IsAllOfNone, IsOneDue}
-use Rattle.script_main.proofs.Known.{all_known, not_both, not_many, out_knows, out_plays}
-use Rattle.script_main.proofs.Known.{plays_alone, refuses, spends_alone}
-use Rattle.script_main.proofs.CheckTexts.{FrontIsWhole, check_whole, front_apart}
-use Rattle.script_main.proofs.CheckTexts.{same_is_whole}
+use Rattle.script_main.proofs.Known.{not_both, out_knows, out_plays, spends_alone}
 
 -- ---- one text of an input
 
@@ -151,19 +150,6 @@ module _ (jobs : Replies) (table : ℕ) (command : Command) (no_run : command �
 
 -- ---- one text of a source
 
--- a form's bytes have one first fault
-one_fault : (form : Form) (bytes : List ℕ) (f g : ScriptFault) → IsInputRefusalOf form bytes f
-    → IsInputRefusalOf form bytes g → f ≡ g
-one_fault forms.Script bytes f g x y = same_Some f g (sym x.0 ∙ y.0)
-one_fault forms.Trace bytes f g x y = same_Some f g (sym x.0 ∙ y.0)
-one_fault forms.Works bytes f g x y = same_Some f g (sym x.0 ∙ y.0)
-
--- a count that isn't at its end either rose or is as it was
-not_both_ways : (s t : SourceSeen) → s.faults ≢ 2 ^ 64 - 1 → SourceFailed s t
-    → SourceUnbroken s t → ⊥
-not_both_ways s t counts (inl less) same = absurd (omega (arith, less, same))
-not_both_ways s t counts (inr still) same = counts still.0
-
 -- why a reply is called for, by the source
 data Due (jobs : Replies) (table : ℕ) (command : Command) (s t : SourceSeen) (reply : Reply)
     : Type 0 where
@@ -176,23 +162,6 @@ data Due (jobs : Replies) (table : ℕ) (command : Command) (s t : SourceSeen) (
   answered : RepliesToInput jobs table command s t reply → Due jobs table command s t reply
 
 module _ (s t : SourceSeen) (known : List ℕ) (told : s.left ≡ Some known) where
-  few_known : (bytes : List ℕ) → TakesAll s t MOST_BYTES bytes → length known ≤ MOST_BYTES
-  few_known bytes all =
-      let same = all_known s t known told bytes all in
-      omega (arith, all.within, ap (λ (xs : List ℕ). length xs) same)
-
-  same_bytes : (xs ys : List ℕ) → TakesAll s t MOST_BYTES xs → TakesAll s t MOST_BYTES ys
-      → xs ≡ ys
-  same_bytes xs ys x y = sym (all_known s t known told xs x) ∙ all_known s t known told ys y
-
-  -- a command has one input
-  one_input : (r : Option Recipe) (form : Form) (x y : Input) → BringsBy r form s t x
-      → BringsBy r form s t y → x ≡ y
-  one_input None form x y a b =
-      let Spelled : List ℕ → Type 0 = λ bs. SpellsInput form bs x in
-      b.only x (subst Spelled (same_bytes a.bytes b.bytes a.read b.read) a.spelled)
-  one_input (Some recipe) form x y a b = a.made ∙ sym b.made
-
   module _ (jobs : Replies) (table : ℕ) (command : Command) where
     due : (reply : Reply) → IsReplyOf jobs table command s t reply
         → Due jobs table command s t reply
@@ -218,23 +187,12 @@ module _ (s t : SourceSeen) (known : List ℕ) (told : s.left ≡ Some known) wh
         → RepliesToInput jobs table command s t reply → ⊥
     not_long reply reader count r =
         let read = read_by reader reply r in
-        not_many s t known told (few_known read.bytes read.read) count
+        not_many s t known told (few_known s t known told read.bytes read.read) count
 
     not_none : (reply : Reply) (fault : ScriptFault) → IsReader command
         → ReadsNone (form_of command) s t fault → RepliesToInput jobs table command s t reply → ⊥
     not_none reply fault reader none r =
-        let read = read_by reader reply r in
-        let Spelled : List ℕ → Type 0 = λ bs. SpellsInput (form_of command) bs r.input in
-        let same = same_bytes read.bytes none.bytes read.read none.read in
-        refuses (form_of command) none.bytes fault none.refusal r.input
-        (subst Spelled same read.spelled)
-
-    first_fault : (f g : ScriptFault) → ReadsNone (form_of command) s t f
-        → ReadsNone (form_of command) s t g → f ≡ g
-    first_fault f g x y =
-        let Is : List ℕ → Type 0 = λ bs. IsInputRefusalOf (form_of command) bs f in
-        one_fault (form_of command) y.bytes f g
-        (subst Is (same_bytes x.bytes y.bytes x.read y.read) x.refusal) y.refusal
+        none_spelled s t known told (form_of command) fault none r.input (read_by reader reply r)
 
     module _ (counts : s.faults ≢ 2 ^ 64 - 1) (no_run : command ≢ commands.Run) where
       sure : {A : Type 0} → SourceFailed s t → SourceUnbroken s t → A
@@ -246,7 +204,8 @@ module _ (s t : SourceSeen) (known : List ℕ) (told : s.left ≡ Some known) wh
       to_whole x y a b =
           let To : Input → Type 0 = λ input. IsReplyTo jobs table command input x in
           let same =
-          one_input (recipe_in command) (form_of command) a.input b.input a.brought b.brought in
+          one_input s t known told (recipe_in command) (form_of command) a.input b.input a.brought
+          b.brought in
           whole_answer jobs table command no_run b.input x y
           (answer jobs table command no_run b.input x (subst To same a.reply_is))
           (answer jobs table command no_run b.input y b.reply_is)
@@ -266,15 +225,15 @@ module _ (s t : SourceSeen) (known : List ℕ) (told : s.left ≡ Some known) wh
       whole_due x y (long reader sound count is) (long r2 s2 c2 is2) =
           from_same x y (ap reply_text (is ∙ sym is2))
       whole_due x y (long reader sound count is) (refused fault r2 s2 none is2) =
-          absurd (not_many s t known told (few_known none.bytes none.read) count)
+          absurd (not_many s t known told (few_known s t known told none.bytes none.read) count)
       whole_due x y (long reader sound count is) (answered r) = absurd (not_long y reader count r)
       whole_due x y (refused fault reader sound none is) (failed fell is2) = sure fell sound
       whole_due x y (refused fault reader sound none is) (long r2 s2 count is2) =
-          absurd (not_many s t known told (few_known none.bytes none.read) count)
+          absurd (not_many s t known told (few_known s t known told none.bytes none.read) count)
       whole_due x y (refused fault reader sound none is) (refused g r2 s2 none2 is2) =
           let Told : ScriptFault → Reply = λ f. Refused (form_of command) f in
-          from_same x y
-          (ap reply_text (is ∙ ap Told (first_fault fault g none none2) ∙ sym is2))
+          let same = first_fault s t known told (form_of command) fault g none none2 in
+          from_same x y (ap reply_text (is ∙ ap Told same ∙ sym is2))
       whole_due x y (refused fault reader sound none is) (answered r) =
           absurd (not_none y fault reader none r)
       whole_due x y (answered r) (failed fell is2) = sure fell r.unbroken
@@ -307,32 +266,7 @@ front_of_none jobs table words s t reply count is less one other due_too same =
     absurd (front_apart (reply_text other) (reply_text reply) count less
     (whole_by jobs table words s t one (command_of words) refl other reply due_too is) same)
 
--- ---- what was read by then
-
-reads_none : (left : Option (List ℕ)) → Consumes left left []
-reads_none None = tt
-reads_none (Some bytes) = refl
-
-pub takes_up : (s t : SourceSeen) (bytes : List ℕ) → TakesAll s t MOST_BYTES bytes
-    → TakesUpTo s t MOST_BYTES
-takes_up s t bytes all = (length bytes, all.within, (bytes, refl, all.taken))
-
-pub takes_none : (s : SourceSeen) → TakesUpTo s s MOST_BYTES
-takes_none s = (0, omega arith, ([], refl, reads_none s.left))
-
--- a command that has its input has read no more than a script may have
-pub brought_up : (s t : SourceSeen) (r : Option Recipe) (form : Form) (input : Input)
-    → BringsBy r form s t input → TakesUpTo s t MOST_BYTES
-brought_up s t None form input is = takes_up s t is.bytes is.read
-brought_up s t (Some recipe) form input is =
-    let Took : SourceSeen → Type 0 = λ x. TakesUpTo s x MOST_BYTES in
-    subst Took (sym is.untouched) (takes_none s)
-
--- what holds in any case holds after an Err
-pub on_err : {A E P : Type 0} (r : Result A E) → P → OnErr r P
-on_err (Ok a) p = tt
-on_err (Err e) p = p
-
+-- what follows of two things that hold after an Err
 pub err_of_both : {A E P Q R : Type 0} (r : Result A E) → (P → Q → R) → OnErr r P → OnErr r Q
     → OnErr r R
 err_of_both (Ok a) f p q = tt

@@ -4,17 +4,17 @@ use Rattle.tm_base.specs.declared.limits.TheConstants.{MOST_BYTES}
 use Rattle.tm_io.specs.Seen.{SourceSeen, SourceUnbroken}
 use Rattle.tm_io.specs.Sources.{TakesAll}
 use Rattle.play_rules.specs.Interrupts.{Replies}
-use Rattle.script_main.specs.declared.commands.Recipe.{Recipe}
-use Rattle.script_main.specs.declared.commands.Command.{Command}
-use Rattle.script_main.specs.declared.inputs.Input.{Input}
-use Rattle.script_main.specs.declared.inputs.Input.TheVariants as inputs
-use Rattle.script_main.specs.declared.replies.Reply.{Reply}
-use Rattle.script_main.specs.declared.replies.Reply.TheVariants.{Usage, ReadFault, TooLong, Refused}
-use Rattle.script_main.specs.declared.replies.Reply.TheVariants.{JobUnknown, WorkSpent, Played}
-use Rattle.script_main.specs.declared.replies.Reply.TheVariants.{Made}
-use Rattle.script_main.specs.Inputs.{IsOnlyInputOf, SpellsInput}
-use Rattle.script_main.specs.Words.{form_of, recipe_in}
-use Rattle.script_main.specs.Scripts.{BringsBy, script_by}
+use Rattle.program_texts.specs.declared.commands.Recipe.{Recipe}
+use Rattle.program_texts.specs.declared.commands.Command.{Command}
+use Rattle.program_texts.specs.declared.inputs.Input.{Input}
+use Rattle.program_texts.specs.declared.inputs.Input.TheVariants as inputs
+use Rattle.program_texts.specs.declared.replies.Reply.{Reply}
+use Rattle.program_texts.specs.declared.replies.Reply.TheVariants.{Usage, ReadFault, TooLong}
+use Rattle.program_texts.specs.declared.replies.Reply.TheVariants.{Refused, JobUnknown, WorkSpent}
+use Rattle.program_texts.specs.declared.replies.Reply.TheVariants.{Played, Made}
+use Rattle.program_texts.specs.Inputs.{IsOnlyInputOf, SpellsInput}
+use Rattle.program_texts.specs.Words.{form_of, recipe_in}
+use Rattle.program_texts.specs.Brought.{BringsBy, script_by}
 use Rattle.script_main.specs.Replies.{IsReplyOf, IsReplyTo, RepliesToInput}
 use Rattle.script_main.specs.Steps.{IsReplyToBytes, RepliesToSpelled}
 

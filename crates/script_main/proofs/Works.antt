@@ -1,5 +1,6 @@
 -- work that comes to the limit takes a late end
-use Rattle.std.proofs.Common.{◌≡◌, ℕ, ◌+◌, ◌*◌, ◌≤◌, true, false, Some, sym, ap, ◌∙◌, arith, inl, inr}
+use Rattle.std.proofs.Common.{◌≡◌, ℕ, ◌+◌, ◌*◌, ◌≤◌, true, false, Some, sym, ap, ◌∙◌, arith, inl}
+use Rattle.std.proofs.Common.{inr}
 use Rattle.std.specs.Prelude.{if◌then◌else◌, ◌==◌, option_map}
 use Rattle.std.proofs.lemmas.Bool.{cases_lt}
 use Rattle.std.proofs.lemmas.Option.{none-some}
@@ -12,7 +13,7 @@ use Rattle.play_rules.specs.Interrupts.{Replies}
 use Rattle.play_rules.specs.Parts.{counted}
 use Rattle.play_laws.specs.Work.Work.{WorkIsBounded}
 use Rattle.play_driver.specs.Outcomes.{work_limit}
-use Rattle.script_main.specs.declared.inputs.Input.TheVariants as inputs
+use Rattle.program_texts.specs.declared.inputs.Input.TheVariants as inputs
 use Rattle.script_main.specs.Scripts.{spent_by}
 
 limit_low : (version : ℕ) → work_limit version ≤ greatest_timeout

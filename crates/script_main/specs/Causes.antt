@@ -4,16 +4,17 @@ use Rattle.std.specs.Prelude.{◌≡◌, ◌≢◌, ℕ, ◌<◌, ◌≤◌, Lis
 use Rattle.std.specs.declared.alloc.Global.{Global}
 use Rattle.tm_base.specs.declared.limits.TheConstants.{MOST_BYTES}
 use Rattle.play_rules.specs.Interrupts.{Replies}
-use Rattle.script_main.specs.declared.commands.Recipe.{Recipe}
-use Rattle.script_main.specs.declared.commands.Command.{Command}
-use Rattle.script_main.specs.declared.inputs.Form.{Form}
-use Rattle.script_main.specs.declared.inputs.Form.TheVariants as forms
-use Rattle.script_main.specs.declared.inputs.Input.{Input}
-use Rattle.script_main.specs.declared.inputs.Input.TheVariants as inputs
-use Rattle.script_main.specs.Inputs.{SpellsInput}
-use Rattle.script_main.specs.Words.{command_of, form_of, recipe_in, Reads, ReadsAs, HasJobsRun}
-use Rattle.script_main.specs.Words.{IsPlayer}
-use Rattle.script_main.specs.Scripts.{EndsBy, KnowsJobs, script_by, spent_by}
+use Rattle.program_texts.specs.declared.commands.Recipe.{Recipe}
+use Rattle.program_texts.specs.declared.commands.Command.{Command}
+use Rattle.program_texts.specs.declared.inputs.Form.{Form}
+use Rattle.program_texts.specs.declared.inputs.Form.TheVariants as forms
+use Rattle.program_texts.specs.declared.inputs.Input.{Input}
+use Rattle.program_texts.specs.declared.inputs.Input.TheVariants as inputs
+use Rattle.program_texts.specs.Inputs.{SpellsInput}
+use Rattle.program_texts.specs.Words.{command_of, form_of, recipe_in, Reads, ReadsAs, HasJobsRun}
+use Rattle.program_texts.specs.Words.{IsPlayer}
+use Rattle.program_texts.specs.Brought.{script_by}
+use Rattle.script_main.specs.Scripts.{EndsBy, KnowsJobs, spent_by}
 
 -- the source has these bytes left, and they are few enough
 pub record HasFew (left : Option (List ℕ)) (bytes : List ℕ) : Type 0 where

@@ -1,11 +1,8 @@
--- the input of a command, and what the command makes of it
+-- what a command makes of its input
 use Rattle.std.specs.Prelude.{◌≡◌, ℕ, ◌+◌, ◌*◌, ◌≤◌, List, [], Option, Some, None, option_map}
-use Rattle.tm_base.specs.declared.limits.TheConstants.{MOST_BYTES, WORK_LIMIT_V1}
-use Rattle.tm_io.specs.Seen.{SourceSeen}
-use Rattle.tm_io.specs.Sources.{TakesAll}
+use Rattle.tm_base.specs.declared.limits.TheConstants.{WORK_LIMIT_V1}
 use Rattle.tm_script.specs.declared.syntax.Script.{Script}
 use Rattle.tm_script.specs.Texts.{cpu_count, script_text}
-use Rattle.tm_generate.specs.Generated.{generated}
 use Rattle.tree_plan.specs.Shape.{tree_of}
 use Rattle.tm_report.specs.Lines.{report_text}
 use Rattle.core_world.specs.World.{World}
@@ -13,50 +10,21 @@ use Rattle.play_rules.specs.Interrupts.{Replies}
 use Rattle.play_rules.specs.Jobs.{first_unknown_job}
 use Rattle.play_rules.specs.Parts.{counted}
 use Rattle.play_rules.specs.Play.{play_text, play_spent}
-use Rattle.core_plays.specs.Deep.{deep_lines, deep_text, without_device}
 use Rattle.play_driver.specs.Outcomes.{work_limit}
-use Rattle.core_plays.specs.Plays.{CanPlay, LawsHold, summary_of}
+use Rattle.tm_driver.specs.Plays.{CanPlay, LawsHold, deep_lines, deep_text, summary_of}
+use Rattle.tm_driver.specs.Plays.{without_device}
 use Rattle.tm_driver.specs.Runs.{BreaksStory, RunsToEnd}
 use Rattle.trace_check.specs.Answers.{IsCheckText}
 use Rattle.work_script.specs.declared.syntax.WorkScript.{WorkScript}
 use Rattle.delayed_work.specs.Play.{CanPlayWorks, first_unknown_work_job, works_spent, works_text}
-use Rattle.script_main.specs.TreeText.Trees.{tree_text}
+use Rattle.program_texts.specs.declared.commands.Command.{Command}
+use Rattle.program_texts.specs.declared.commands.Command.TheVariants.{Play, Run, Tree, Generate}
+use Rattle.program_texts.specs.declared.commands.Command.TheVariants.{Day, Check, Deep, Works}
+use Rattle.program_texts.specs.declared.inputs.Input.{Input}
+use Rattle.program_texts.specs.declared.inputs.Input.TheVariants as inputs
+use Rattle.program_texts.specs.TreeText.Trees.{tree_text}
+use Rattle.program_texts.specs.Inputs.{OfScript, OfTrace, OfWorks}
 use Rattle.script_main.specs.DayText.Days.{day_text}
-use Rattle.script_main.specs.declared.commands.Recipe.{Recipe}
-use Rattle.script_main.specs.declared.commands.Command.{Command}
-use Rattle.script_main.specs.declared.commands.Command.TheVariants.{Play, Run, Tree, Generate}
-use Rattle.script_main.specs.declared.commands.Command.TheVariants.{Day, Check, Deep, Works}
-use Rattle.script_main.specs.declared.inputs.Form.{Form}
-use Rattle.script_main.specs.declared.inputs.Input.{Input}
-use Rattle.script_main.specs.declared.inputs.Input.TheVariants as inputs
-use Rattle.script_main.specs.Inputs.{IsOnlyInputOf, OfScript, OfTrace, OfWorks, SpellsInput}
-use Rattle.script_main.specs.Words.{form_of, recipe_in}
-
--- the script that a recipe makes
-abbrev pub script_by : Recipe → Script
-script_by r = generated r.number r.cpus r.timers r.moments
-
--- the source was read to its end within the most bytes, and what it gave spells this input of its
--- form alone
-pub record ReadsInput (form : Form) (s t : SourceSeen) (input : Input) : Type 0 where
-  pub bytes : List ℕ
-  pub read : TakesAll s t MOST_BYTES bytes
-  pub spelled : SpellsInput form bytes input
-  pub only : IsOnlyInputOf form bytes input
-
--- the input is the recipe's script, and the source is untouched
-pub record MakesScript (r : Recipe) (s t : SourceSeen) (input : Input) : Type 0 where
-  pub made : input ≡ inputs.Script (script_by r)
-  pub untouched : t ≡ s
-
--- a command has this input: it read it, or made it by its recipe
-abbrev pub BringsBy : Option Recipe → Form → SourceSeen → SourceSeen → Input → Type 0
-BringsBy None form s t input = ReadsInput form s t input
-BringsBy (Some r) form s t input = MakesScript r s t input
-
--- THE INPUT OF A COMMAND, by the source before and after
-abbrev pub Brings : Command → SourceSeen → SourceSeen → Input → Type 0
-Brings command s t input = BringsBy (recipe_in command) (form_of command) s t input
 
 -- every job that the input has run is in the table; a trace has none run
 abbrev pub KnowsJobs : (table : ℕ) → Input → Type 0

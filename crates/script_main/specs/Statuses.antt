@@ -1,6 +1,6 @@
 -- what each status says
-use Rattle.std.specs.Prelude.{◌≡◌, ◌≢◌, ◌⊎◌, ℕ, ◌+◌, ◌-◌, ◌*◌, ◌^◌, ◌<◌, ◌≤◌, List, []}
-use Rattle.std.specs.Prelude.{take, String, Some, None}
+use Rattle.std.specs.Prelude.{◌≡◌, ◌≢◌, ◌⊎◌, ℕ, ◌+◌, ◌-◌, ◌*◌, ◌^◌, ◌<◌, List, [], take, String}
+use Rattle.std.specs.Prelude.{Some, None}
 use Rattle.std.specs.declared.alloc.Global.{Global}
 use Rattle.std.specs.Io.KnownBytes.{Appends}
 use Rattle.tm_base.specs.declared.limits.TheConstants.{MOST_BYTES, WORK_LIMIT_V1}
@@ -9,21 +9,21 @@ use Rattle.tm_io.specs.Sources.{TakesCount, TakesUpTo}
 use Rattle.tm_io.specs.Sinks.{AppendsFront}
 use Rattle.tm_script.specs.declared.faults.ScriptFault.{ScriptFault}
 use Rattle.play_rules.specs.Interrupts.{Replies}
-use Rattle.script_main.specs.declared.commands.Recipe.{Recipe}
-use Rattle.script_main.specs.declared.commands.Command.{Command}
-use Rattle.script_main.specs.declared.commands.Command.TheVariants.{Run}
-use Rattle.script_main.specs.declared.inputs.Form.{Form}
-use Rattle.script_main.specs.declared.inputs.Form.TheVariants as forms
-use Rattle.script_main.specs.declared.inputs.Input.{Input}
-use Rattle.script_main.specs.declared.replies.Reply.{Reply}
-use Rattle.script_main.specs.declared.statuses.TheConstants.{JOB_UNKNOWN, TRACE_REFUSED}
-use Rattle.script_main.specs.declared.statuses.TheConstants.{WORKS_REFUSED}
-use Rattle.script_main.specs.Words.{command_of, Reads, ReadsAs, HasJobsRun}
-use Rattle.script_main.specs.Texts.{usage_text, read_fault_text, too_long_text, refused_text}
-use Rattle.script_main.specs.Texts.{job_unknown_text, work_spent_text}
-use Rattle.script_main.specs.Scripts.{Brings, IsOutput, LacksJob, SpendsBy}
-use Rattle.script_main.specs.Replies.{IsReply, ReadsNone, reply_text}
-use Rattle.script_main.specs.Ends.{SinkSound, Writes, WritesAll, WritesFront}
+use Rattle.program_texts.specs.declared.commands.Recipe.{Recipe}
+use Rattle.program_texts.specs.declared.commands.Command.{Command}
+use Rattle.program_texts.specs.declared.commands.Command.TheVariants.{Run}
+use Rattle.program_texts.specs.declared.inputs.Form.{Form}
+use Rattle.program_texts.specs.declared.inputs.Form.TheVariants as forms
+use Rattle.program_texts.specs.declared.inputs.Input.{Input}
+use Rattle.program_texts.specs.declared.replies.Reply.{Reply}
+use Rattle.program_texts.specs.Words.{command_of, Reads, ReadsAs, HasJobsRun}
+use Rattle.program_texts.specs.Texts.{usage_text, read_fault_text, too_long_text, refused_text}
+use Rattle.program_texts.specs.Texts.{job_unknown_text, work_spent_text}
+use Rattle.program_texts.specs.Brought.{Brings, ReadsNone}
+use Rattle.program_texts.specs.Replies.{reply_text}
+use Rattle.program_texts.specs.Ends.{SinkSound, Writes, WritesAll, WritesFront}
+use Rattle.script_main.specs.Scripts.{IsOutput, LacksJob, SpendsBy}
+use Rattle.script_main.specs.Replies.{IsReply}
 
 -- the words name a command, it has this input, and the source didn't fail
 pub record HasInput (words : List (String Global)) (s t : SourceSeen) (command : Command)
@@ -170,12 +170,3 @@ SaysTraceRefused words s t k m = SaysRefusedAs forms.Trace words s t k m
 abbrev pub SaysWorksRefused : List (String Global) → SourceSeen → SourceSeen → SinkSeen → SinkSeen
     → Type 0
 SaysWorksRefused words s t k m = SaysRefusedAs forms.Works words s t k m
-
--- there is such a status
-abbrev pub IsStatus : (status : ℕ) → Type 0
-IsStatus status =
-    (status ≤ JOB_UNKNOWN) ⊎ ((status ≡ TRACE_REFUSED) ⊎ (status ≡ WORKS_REFUSED))
-
--- one of two statuses
-abbrev pub IsEither : (status this that : ℕ) → Type 0
-IsEither status this that = (status ≡ this) ⊎ (status ≡ that)

@@ -1,12 +1,12 @@
 -- how a reply is come to; no public clause speaks of this
 use Rattle.std.specs.Prelude.{◌≡◌, ℕ, List}
 use Rattle.play_rules.specs.Interrupts.{Replies}
-use Rattle.script_main.specs.declared.commands.Command.{Command}
-use Rattle.script_main.specs.declared.inputs.Input.{Input}
-use Rattle.script_main.specs.declared.replies.Reply.{Reply}
-use Rattle.script_main.specs.declared.replies.Reply.TheVariants.{Refused}
-use Rattle.script_main.specs.Inputs.{IsInputRefusalOf, IsOnlyInputOf, SpellsInput}
-use Rattle.script_main.specs.Words.{form_of}
+use Rattle.program_texts.specs.declared.commands.Command.{Command}
+use Rattle.program_texts.specs.declared.inputs.Input.{Input}
+use Rattle.program_texts.specs.declared.replies.Reply.{Reply}
+use Rattle.program_texts.specs.declared.replies.Reply.TheVariants.{Refused}
+use Rattle.program_texts.specs.Inputs.{IsInputRefusalOf, IsOnlyInputOf, SpellsInput}
+use Rattle.program_texts.specs.Words.{form_of}
 use Rattle.script_main.specs.Replies.{IsReplyTo}
 
 -- the bytes spell an input of the command's form, and the reply is that to the input

@@ -2,20 +2,14 @@
 //! the bytes that it writes.
 #![tactic(auto)]
 
-mod commands;
 pub mod day_text;
-mod inputs;
 mod program;
 mod replies;
-mod statuses;
-mod texts;
-pub mod tree_text;
 
-pub use commands::MOST_NUMBER;
 pub use program::run_program;
-pub use statuses::{
-    DONE, JOB_UNKNOWN, NO_MEMORY, READ_FAULT, SCRIPT_REFUSED, Status, TOO_LONG, TRACE_REFUSED,
-    USAGE, WORK_SPENT, WORKS_REFUSED, WRITE_FAULT,
+pub use program_texts::{
+    DONE, JOB_UNKNOWN, MOST_NUMBER, NO_MEMORY, READ_FAULT, SCRIPT_REFUSED, Status, TOO_LONG,
+    TRACE_REFUSED, USAGE, WORK_SPENT, WORKS_REFUSED, WRITE_FAULT, tree_text,
 };
 
 #[cfg(test)]

@@ -1,84 +1,28 @@
 //! The whole program.
 
-ghost use Rattle.std.specs.Prelude.{◌≢◌, ◌≡◌, ◌⊎◌, None, Some, MatchResult};
+ghost use Rattle.std.specs.Prelude.{◌≢◌, ◌≡◌, ◌⊎◌, None, Some};
 ghost use Rattle.tm_io.specs.Seen.{SourceFailed, SourceUnbroken};
-ghost use Rattle.script_main.specs.Words.{Reads, command_of};
-ghost use Rattle.script_main.specs.Ends.{Breaks, EndsAs, EndsUnwritten, EndsWith};
-ghost use Rattle.script_main.specs.Statuses.{IsEither, IsShortDay, IsStatus, SaysDone};
-ghost use Rattle.script_main.specs.Statuses.{SaysJobUnknown};
-ghost use Rattle.script_main.specs.Statuses.{SaysNoMemory, SaysTraceRefused, SaysWorksRefused};
-ghost use Rattle.script_main.specs.Statuses.{SaysReadFault, SaysRefused, SaysTooLong, SaysUsage};
-ghost use Rattle.script_main.specs.Statuses.{SaysWorkSpent, SaysWriteFault};
+ghost use Rattle.program_texts.specs.Words.{Reads, command_of};
+ghost use Rattle.program_texts.specs.Ends.{Breaks};
+ghost use Rattle.program_texts.specs.Statuses.{IsEither, IsStatus};
+ghost use Rattle.script_main.specs.Statuses.{IsShortDay, SaysDone, SaysJobUnknown, SaysNoMemory};
+ghost use Rattle.script_main.specs.Statuses.{SaysTraceRefused, SaysWorksRefused, SaysReadFault};
+ghost use Rattle.script_main.specs.Statuses.{SaysRefused, SaysTooLong, SaysUsage, SaysWorkSpent};
+ghost use Rattle.script_main.specs.Statuses.{SaysWriteFault};
 ghost use Rattle.script_main.specs.Causes.{IsFine, IsJobUnknown, IsRefused, IsTooLong};
 ghost use Rattle.script_main.specs.Causes.{IsTraceRefused, IsWorkSpent, IsWorksRefused};
 
-use crate::commands::{Command, Recipe};
-use crate::replies::{Reply, refused_status, reply_to};
-use crate::texts::{
-    job_unknown_text, read_fault_text, refused_text, too_long_text, usage_text, work_spent_text,
-};
-use crate::{
-    DONE, JOB_UNKNOWN, NO_MEMORY, READ_FAULT, SCRIPT_REFUSED, Status, TOO_LONG, TRACE_REFUSED,
-    USAGE, WORK_SPENT, WORKS_REFUSED, WRITE_FAULT,
-};
+use crate::replies::reply_to;
 use job_table::Jobs;
+use program_texts::{
+    Command, DONE, JOB_UNKNOWN, NO_MEMORY, READ_FAULT, Recipe, SCRIPT_REFUSED, Status, TOO_LONG,
+    TRACE_REFUSED, USAGE, WORK_SPENT, WORKS_REFUSED, WRITE_FAULT, write_reply,
+};
 use std::alloc::Global;
 use std::sync::Wait;
 use std::thread::Threads;
-use tm_base::{Gate, NoMemory};
-use tm_io::{Sink, Source, WriteCause, write_all};
-
-/// Writes a text, and answers one status where all of it was written, and another where the sink
-/// failed or took nothing before.
-fn write_text<K: Sink>(text: &[u8], all: u8, broken: u8, sink: &mut K) -> u8
-    ensures { EndsWith text.now all broken (K.seen sink.old) (K.seen sink.new) result }
-{
-    match write_all(sink, text) {
-        Ok(()) => all,
-        Err(fault) => match fault.cause {
-            WriteCause::NoMemory => NO_MEMORY,
-            _ => broken,
-        },
-    }
-}
-
-/// Writes a text that says why there is no output, where memory was there to make it.
-fn write_made<K: Sink>(text: Result<Vec<u8>, NoMemory>, status: u8, sink: &mut K) -> u8
-    ensures { MatchResult text
-        (λ made. EndsWith made.items status status (K.seen sink.old) (K.seen sink.new) result)
-        (λ _. EndsUnwritten (K.seen sink.old) (K.seen sink.new) result) }
-{
-    match text {
-        Ok(made) => write_text(&made, status, status, sink),
-        Err(_) => NO_MEMORY,
-    }
-}
-
-/// Writes a reply, and answers the status that says how that went.
-fn write_reply<K: Sink>(alloc: Global, reply: &Reply, sink: &mut K) -> u8
-    ensures { EndsAs reply.now (K.seen sink.old) (K.seen sink.new) result }
-{
-    match reply {
-        Reply::Usage => write_text(usage_text(), USAGE, USAGE, sink),
-        Reply::ReadFault => write_text(read_fault_text(), READ_FAULT, READ_FAULT, sink),
-        Reply::TooLong => write_text(too_long_text(), TOO_LONG, TOO_LONG, sink),
-        Reply::Refused { form, fault } => {
-            write_made(
-                refused_text(alloc, *form, *fault),
-                refused_status(*form),
-                sink,
-            )
-        }
-        Reply::JobUnknown { line, job } => {
-            write_made(job_unknown_text(alloc, *line, *job), JOB_UNKNOWN, sink)
-        }
-        Reply::WorkSpent { count } => {
-            write_made(work_spent_text(alloc, *count), WORK_SPENT, sink)
-        }
-        Reply::Played(report) => write_text(report.text(), DONE, WRITE_FAULT, sink),
-        Reply::Made(text) => write_text(text, DONE, WRITE_FAULT, sink),
-    }
-}
+use tm_base::Gate;
+use tm_io::{Sink, Source};
 
 /// Does all that the program does: what the words say, with the input that it reads from the
 /// source, or the script that it generates. The first cause that comes decides: the words, a fault

@@ -1,4 +1,4 @@
-//! What the program is about to write.
+//! How the program comes to what it is about to write.
 
 ghost use Rattle.std.specs.Prelude.{◌≡◌, ℕ, None, IfOk, OnErr};
 ghost use Rattle.play_rules.specs.Interrupts.{Replies};
@@ -8,21 +8,19 @@ ghost use Rattle.tm_io.specs.Sources.{TakesUpTo};
 ghost use Rattle.tm_script.specs.Grammar.{IsScript};
 ghost use Rattle.trace_check.specs.Texts.{IsTrace};
 ghost use Rattle.work_script.specs.Grammar.{IsWorkScript};
-ghost use Rattle.script_main.specs.Inputs.{IsInput};
-ghost use Rattle.script_main.specs.Words.{IsRecipe, Reads, form_of, recipe_in};
-ghost use Rattle.script_main.specs.Scripts.{script_by};
-ghost use Rattle.script_main.specs.Replies.{IsReply, IsReplyOf, IsReplyTo, refused_status};
+ghost use Rattle.program_texts.specs.Inputs.{IsInput};
+ghost use Rattle.program_texts.specs.Words.{IsRecipe, Reads, form_of, recipe_in};
+ghost use Rattle.program_texts.specs.Brought.{script_by};
+ghost use Rattle.script_main.specs.Replies.{IsReply, IsReplyOf, IsReplyTo};
 ghost use Rattle.script_main.specs.Statuses.{HasRead};
 ghost use Rattle.script_main.specs.Steps.{IsReplyToBytes};
 
-use crate::commands::{Command, Recipe, read_command};
 use crate::day_text::print_day;
-use crate::inputs::{Form, Input, read_input};
-use crate::tree_text::print_tree;
-use crate::{SCRIPT_REFUSED, TRACE_REFUSED, WORKS_REFUSED};
 use delayed_work::{WorksFault, play_works};
 use job_table::Jobs;
 use play_laws::law_work;
+use program_texts::tree_text::print_tree;
+use program_texts::{Command, Form, Input, Recipe, Reply, read_command, read_input};
 use std::alloc::Global;
 use std::sync::Wait;
 use std::thread::Threads;
@@ -31,42 +29,10 @@ use tm_driver::{DriveFault, deep, play, run, summary};
 use tm_generate::generate;
 use tm_io::{ReadFault, Source, read_all};
 use tm_report::Report;
-use tm_script::{ReadScript, Script, ScriptFault, print_script};
+use tm_script::{ReadScript, Script, print_script};
 use trace_check::{Trace, check};
 use tree_plan::plan;
 use work_script::WorkScript;
-
-/// A text that the program writes, and what it says.
-#[derive(Drop)]
-pub(crate) enum Reply {
-    /// The words aren't a command.
-    Usage,
-    /// The source failed.
-    ReadFault,
-    /// The source has too many bytes.
-    TooLong,
-    /// What was read is no input of this form.
-    Refused { form: Form, fault: ScriptFault },
-    /// A line of the input names a job that there isn't.
-    JobUnknown { line: u32, job: u8 },
-    /// The work of the play or run reached its limit.
-    WorkSpent { count: u32 },
-    /// The report of a play, a run or a check.
-    Played(Report),
-    /// Another output: a tree, a script, the numbers of a day, or what comes of works.
-    Made(Vec<u8>),
-}
-
-/// The status of a refusal, by what was to be read.
-pub(crate) fn refused_status(form: Form) -> u8
-    ensures { result ≡ refused_status form }
-{
-    match form {
-        Form::Script => SCRIPT_REFUSED,
-        Form::Trace => TRACE_REFUSED,
-        Form::Works => WORKS_REFUSED,
-    }
-}
 
 /// Plays a script.
 fn play_script<J: Jobs>(alloc: Global, script: &Script, jobs: &J) -> Result<Reply, NoMemory>

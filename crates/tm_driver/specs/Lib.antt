@@ -1,3 +1,4 @@
-pub mod Runs
 pub mod Apart
 pub mod Plain
+pub mod Plays
+pub mod Runs

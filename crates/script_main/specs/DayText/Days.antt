@@ -1,14 +1,9 @@
 -- the text of a day: a line for each number of its summary
 use Rattle.std.specs.Prelude.{ℕ, List, [], ◌∷◌, codes}
 use Rattle.std.specs.List.{flat_map}
-use Rattle.std.specs.Borrow.{Bor}
 use Rattle.text_words.specs.Words.{ended}
 use Rattle.tm_script.specs.Texts.{number_line}
-use Rattle.core_plays.specs.declared.numbers.Summary.{Summary}
-
--- the line of a number behind its word (no public clause cites it)
-abbrev pub entry_line : Bor (List ℕ) × ℕ → List ℕ
-entry_line (word, n) = number_line word.now n
+use Rattle.tm_driver.specs.Plays.{Summary}
 
 -- the lines of a day: each number with its name
 abbrev pub day_lines : Summary → List (List ℕ)

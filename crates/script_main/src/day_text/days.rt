@@ -1,30 +1,13 @@
 //! Writing the text of a day.
 
-ghost use Rattle.std.specs.Prelude.{◌≡◌, ◌++◌, map, IfOk, OnOk};
-ghost use Rattle.std.specs.List.{flat_map};
-ghost use Rattle.text_words.specs.Words.{ended};
-ghost use Rattle.tm_script.specs.Texts.{number_line};
-ghost use Rattle.script_main.specs.DayText.Days.{day_lines, day_text, entry_line};
+ghost use Rattle.std.specs.Prelude.{◌≡◌, map, IfOk};
+ghost use Rattle.program_texts.specs.Entries.{entry_line};
+ghost use Rattle.script_main.specs.DayText.Days.{day_lines, day_text};
 
+use program_texts::{Entry, push_entries};
 use std::alloc::Global;
-use text_words::{push_bytes, push_number};
 use tm_base::NoMemory;
 use tm_driver::Summary;
-
-/// A line of a word and a number.
-#[tactic(auto, using(std::proofs::lemmas::List::append_assoc))]
-fn push_line(text: &mut Vec<u8>, word: &[u8], n: u64) -> Result<(), NoMemory>
-    ensures { OnOk result (text.new.items ≡ text.old.items ++ ended (number_line word.now n)) }
-{
-    push_bytes(text, word)?;
-    push_bytes(text, b" ")?;
-    push_number(text, n)?;
-    push_bytes(text, b"\n")?;
-    Ok(())
-}
-
-/// A word, and the number behind it.
-type Entry = (&'static [u8], u64);
 
 /// The numbers of a summary, in the order of their lines.
 fn entries(summary: &Summary) -> [Entry; 11]
@@ -43,17 +26,6 @@ fn entries(summary: &Summary) -> [Entry; 11]
         (b"left", u64::from(summary.left)),
         (b"end", summary.end),
     ]
-}
-
-/// A line for each of these numbers.
-fn push_entries(text: &mut Vec<u8>, entries: &[Entry]) -> Result<(), NoMemory>
-    ensures { OnOk result
-        (text.new.items ≡ text.old.items ++ flat_map ended (map entry_line entries.now)) }
-{
-    for (word, number) in entries {
-        push_line(text, word, *number)?;
-    }
-    Ok(())
 }
 
 /// The text of a day, a line for each number of its summary. The only error is want of memory.

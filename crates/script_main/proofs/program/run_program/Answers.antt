@@ -1,10 +1,11 @@
 use Rattle.std.proofs.Common.{refl, inl}
-use Rattle.script_main.proofs.Endings.{appends_none, day_ends, says_done, says_no_memory, says_write_fault}
-use Rattle.script_main.specs.declared.inputs.Form.TheVariants as forms
+use Rattle.program_texts.specs.declared.inputs.Form.TheVariants as forms
+use Rattle.program_texts.proofs.Written.{appends_none}
+use Rattle.program_texts.proofs.Refusals.{has_status}
+use Rattle.script_main.proofs.Endings.{day_ends, says_done, says_no_memory, says_write_fault}
 use Rattle.script_main.proofs.Endings.{says_work_spent, says_job_unknown, says_refused}
-use Rattle.script_main.proofs.Refusals.{has_status}
-use Rattle.script_main.proofs.Exactly.{refused_exactly, job_exactly, work_exactly}
-use Rattle.script_main.proofs.Exactly.{fine_ends, fine_done}
+use Rattle.script_main.proofs.Exactly.{refused_exactly, job_exactly, work_exactly, fine_ends}
+use Rattle.script_main.proofs.Exactly.{fine_done}
 use Rattle.script_main.proofs.program.run_program.Goals as goal
 
 pub returns-in-Ok-clause-done : goal.returns-in-Ok-clause-done

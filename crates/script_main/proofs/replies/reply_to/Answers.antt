@@ -1,10 +1,10 @@
 use Rattle.std.proofs.Common.{Option, refl, sym, subst}
 use Rattle.std.proofs.lemmas.Result.{IfOk-weaker}
-use Rattle.script_main.specs.declared.commands.Command.{Command}
-use Rattle.script_main.specs.declared.inputs.Input.TheVariants as inputs
-use Rattle.script_main.specs.Scripts.{script_by}
+use Rattle.program_texts.specs.declared.commands.Command.{Command}
+use Rattle.program_texts.specs.declared.inputs.Input.TheVariants as inputs
+use Rattle.program_texts.specs.Brought.{script_by}
+use Rattle.program_texts.proofs.Told.{on_err, takes_none}
 use Rattle.script_main.specs.Replies.{IsReplyBy, IsReplyTo, IsReply}
-use Rattle.script_main.proofs.OneText.{on_err, takes_none}
 use Rattle.script_main.proofs.Replying.{to_recipe}
 use Rattle.script_main.proofs.replies.reply_to.Goals as goal
 

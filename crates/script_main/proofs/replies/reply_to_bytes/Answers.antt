@@ -1,7 +1,7 @@
 use Rattle.std.proofs.Common.{subst}
 use Rattle.std.proofs.lemmas.Result.{IfOk-weaker}
-use Rattle.script_main.specs.declared.inputs.Form.{Form}
-use Rattle.script_main.specs.Inputs.{IsOnlyInputOf, SpellsInput}
+use Rattle.program_texts.specs.declared.inputs.Form.{Form}
+use Rattle.program_texts.specs.Inputs.{IsOnlyInputOf, SpellsInput}
 use Rattle.script_main.specs.Replies.{IsReplyTo}
 use Rattle.script_main.specs.Steps.{IsReplyToBytes}
 use Rattle.script_main.proofs.Replying.{to_bytes}

@@ -1,13 +1,12 @@
 use Rattle.std.proofs.Common.{sym, subst}
 use Rattle.std.specs.Prelude.{IfOk}
-use Rattle.script_main.specs.declared.commands.Command.{Command}
-use Rattle.script_main.specs.declared.inputs.Input.{Input}
-use Rattle.script_main.specs.declared.inputs.Input.TheVariants as inputs
-use Rattle.script_main.specs.Inputs.{IsInput}
-use Rattle.script_main.specs.Words.{form_of}
+use Rattle.program_texts.specs.declared.commands.Command.{Command}
+use Rattle.program_texts.specs.declared.inputs.Input.{Input}
+use Rattle.program_texts.specs.declared.inputs.Input.TheVariants as inputs
+use Rattle.program_texts.specs.Inputs.{IsInput}
+use Rattle.program_texts.specs.Words.{form_of}
+use Rattle.program_texts.proofs.Forms.{checks, script_input, trace_input, works, works_input}
 use Rattle.script_main.specs.Replies.{IsReplyTo}
-use Rattle.script_main.proofs.Reading.{checks, script_input, trace_input, works}
-use Rattle.script_main.proofs.Reading.{works_input}
 use Rattle.script_main.proofs.replies.reply_to_input.Goals as goal
 
 pub reply_to_script-requires-clause-grammar : goal.reply_to_script-requires-clause-grammar

@@ -1,7 +1,7 @@
 use Rattle.std.proofs.Common.{sym, subst}
 use Rattle.std.specs.Prelude.{IfOk}
-use Rattle.script_main.specs.declared.commands.Command.{Command}
-use Rattle.script_main.specs.declared.inputs.Input.TheVariants as inputs
+use Rattle.program_texts.specs.declared.commands.Command.{Command}
+use Rattle.program_texts.specs.declared.inputs.Input.TheVariants as inputs
 use Rattle.script_main.specs.Replies.{IsReplyTo}
 use Rattle.script_main.proofs.replies.reply_to_script.Goals as goal
 

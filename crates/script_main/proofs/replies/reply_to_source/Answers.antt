@@ -2,9 +2,9 @@ use Rattle.std.proofs.Common.{List, ℕ, sym, subst}
 use Rattle.std.proofs.lemmas.Result.{IfOk-weaker}
 use Rattle.tm_base.specs.declared.limits.TheConstants.{MOST_BYTES}
 use Rattle.tm_io.specs.Sources.{TakesAll}
+use Rattle.program_texts.proofs.Told.{on_err, takes_up}
 use Rattle.script_main.specs.Replies.{IsReplyOf}
 use Rattle.script_main.specs.Steps.{IsReplyToBytes}
-use Rattle.script_main.proofs.OneText.{on_err, takes_up}
 use Rattle.script_main.proofs.Replying.{to_source}
 use Rattle.script_main.proofs.replies.reply_to_source.Goals as goal
 

@@ -1,0 +1,9 @@
+pub mod TreeText
+pub mod Inputs
+pub mod Words
+pub mod Texts
+pub mod Entries
+pub mod Brought
+pub mod Replies
+pub mod Statuses
+pub mod Ends
