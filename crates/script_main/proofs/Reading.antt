@@ -3,9 +3,9 @@ use Rattle.std.proofs.Common.{◌≡◌, ℕ, List, Some, refl, ap}
 use Rattle.tm_script.specs.declared.syntax.Script.{Script}
 use Rattle.tm_script.specs.Grammar.{IsScript}
 use Rattle.tm_script.specs.Reader.{IsOnlyScriptOf}
-use Rattle.trace_check.specs.declared.traces.Trace.{Trace}
-use Rattle.trace_check.specs.Texts.{IsTrace}
-use Rattle.trace_check.specs.Reader.{IsOnlyTraceOf}
+use Rattle.trace_text.specs.declared.traces.Trace.{Trace}
+use Rattle.trace_text.specs.Texts.{IsTrace}
+use Rattle.trace_text.specs.Reader.{IsOnlyTraceOf}
 use Rattle.work_script.specs.declared.syntax.WorkScript.{WorkScript}
 use Rattle.work_script.specs.Grammar.{IsWorkScript}
 use Rattle.work_script.specs.Reader.{IsOnlyWorksOf}

@@ -6,7 +6,7 @@ ghost use Rattle.tm_base.specs.declared.limits.TheConstants.{MOST_BYTES};
 ghost use Rattle.tm_io.specs.Seen.{SourceUnbroken};
 ghost use Rattle.tm_io.specs.Sources.{TakesUpTo};
 ghost use Rattle.tm_script.specs.Grammar.{IsScript};
-ghost use Rattle.trace_check.specs.Texts.{IsTrace};
+ghost use Rattle.trace_text.specs.Texts.{IsTrace};
 ghost use Rattle.work_script.specs.Grammar.{IsWorkScript};
 ghost use Rattle.script_main.specs.Inputs.{IsInput};
 ghost use Rattle.script_main.specs.Words.{IsRecipe, Reads, form_of, recipe_in};
