@@ -2,8 +2,8 @@
 use Rattle.std.proofs.Common.{◌≡◌, ◌≢◌, refl}
 use Rattle.tm_script.specs.declared.syntax.Script.{Script}
 use Rattle.tm_script.specs.Grammar.{IsScript}
-use Rattle.trace_check.specs.declared.traces.Trace.{Trace}
-use Rattle.trace_check.specs.Texts.{IsTrace}
+use Rattle.trace_text.specs.declared.traces.Trace.{Trace}
+use Rattle.trace_text.specs.Texts.{IsTrace}
 use Rattle.work_script.specs.declared.syntax.WorkScript.{WorkScript}
 use Rattle.work_script.specs.Grammar.{IsWorkScript}
 use Rattle.program_texts.specs.declared.commands.Command.{Command}

@@ -4,4 +4,3 @@ pub mod Forms
 pub mod Told
 pub mod Written
 pub mod Refusals
-pub mod CheckTexts

@@ -2,8 +2,8 @@
 use Rattle.std.proofs.Common.{ℕ, List, ap}
 use Rattle.tm_script.specs.declared.syntax.Script.{Script}
 use Rattle.tm_script.specs.Reader.{IsOnlyScriptOf}
-use Rattle.trace_check.specs.declared.traces.Trace.{Trace}
-use Rattle.trace_check.specs.Reader.{IsOnlyTraceOf}
+use Rattle.trace_text.specs.declared.traces.Trace.{Trace}
+use Rattle.trace_text.specs.Reader.{IsOnlyTraceOf}
 use Rattle.work_script.specs.declared.syntax.WorkScript.{WorkScript}
 use Rattle.work_script.specs.Reader.{IsOnlyWorksOf}
 use Rattle.program_texts.specs.declared.inputs.Form.TheVariants as forms

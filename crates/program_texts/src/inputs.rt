@@ -5,7 +5,7 @@ ghost use Rattle.program_texts.specs.Inputs.{IsOnlyInputOf, IsRefusalBy, SpellsI
 
 use std::alloc::Global;
 use tm_script::{ReadScript, Script, read_script};
-use trace_check::{ReadTrace, Trace, read_trace};
+use trace_text::{ReadTrace, Trace, read_trace};
 use work_script::{WorkScript, read_works};
 
 /// What the bytes that a command reads are to spell.

@@ -5,3 +5,4 @@ mod OneText
 mod Endings
 mod Exactly
 mod Works
+mod CheckTexts

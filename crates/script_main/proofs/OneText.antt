@@ -28,7 +28,7 @@ use Rattle.program_texts.specs.Brought.{BringsBy, IsReader, ReadsNone}
 use Rattle.program_texts.specs.Replies.{reply_text}
 use Rattle.program_texts.proofs.Told.{not_many}
 use Rattle.program_texts.proofs.Forms.{plays_alone}
-use Rattle.program_texts.proofs.CheckTexts.{FrontIsWhole, check_whole, front_apart, same_is_whole}
+use Rattle.script_main.proofs.CheckTexts.{FrontIsWhole, check_whole, front_apart, same_is_whole}
 use Rattle.script_main.specs.Scripts.{IsOutput, LacksJob, SpendsWork}
 use Rattle.script_main.specs.Replies.{IsReply, IsReplyBy, IsReplyOf, IsReplyTo, RepliesToInput}
 use Rattle.script_main.specs.Statuses.{IsAllOfNone, IsOneDue}

@@ -1,7 +1,7 @@
 -- what bytes spell, and what a recipe makes, by its form
 use Rattle.std.proofs.Common.{◌≡◌, ℕ, List, Some, refl}
 use Rattle.tm_script.specs.declared.syntax.Script.{Script}
-use Rattle.trace_check.specs.declared.traces.Trace.{Trace}
+use Rattle.trace_text.specs.declared.traces.Trace.{Trace}
 use Rattle.program_texts.specs.declared.commands.Recipe.{Recipe}
 use Rattle.program_texts.specs.declared.commands.Command.{Command}
 use Rattle.program_texts.specs.declared.commands.Command.TheVariants as commands

@@ -6,7 +6,7 @@ ghost use Rattle.tm_base.specs.declared.limits.TheConstants.{MOST_BYTES};
 ghost use Rattle.tm_io.specs.Seen.{SourceUnbroken};
 ghost use Rattle.tm_io.specs.Sources.{TakesUpTo};
 ghost use Rattle.tm_script.specs.Grammar.{IsScript};
-ghost use Rattle.trace_check.specs.Texts.{IsTrace};
+ghost use Rattle.trace_text.specs.Texts.{IsTrace};
 ghost use Rattle.work_script.specs.Grammar.{IsWorkScript};
 ghost use Rattle.program_texts.specs.Inputs.{IsInput};
 ghost use Rattle.program_texts.specs.Words.{IsRecipe, Reads, form_of, recipe_in};
@@ -30,7 +30,8 @@ use tm_generate::generate;
 use tm_io::{ReadFault, Source, read_all};
 use tm_report::Report;
 use tm_script::{ReadScript, Script, print_script};
-use trace_check::{Trace, check};
+use trace_check::check;
+use trace_text::Trace;
 use tree_plan::plan;
 use work_script::WorkScript;
 

@@ -1,15 +1,7 @@
-mod FieldLists
-mod FieldWords
-mod FieldLaws
-mod LineLaws
-mod BodyLaws
-mod HeadLaws
-mod TraceLaws
-mod Prints
-pub mod PlayLaws
-pub mod AskLaws
-pub mod LeadLaws
-pub mod ToldLaws
-pub mod CarryLaws
-pub mod WakeLaws
+mod PlayLaws
+mod AskLaws
+mod LeadLaws
+mod ToldLaws
+mod CarryLaws
+mod WakeLaws
 mod CauseLaws

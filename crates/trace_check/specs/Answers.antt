@@ -14,11 +14,11 @@ use Rattle.core_world.specs.Lists.{IsRun}
 use Rattle.core_world.specs.Steps.{stepped}
 use Rattle.core_world.specs.World.{World}
 use Rattle.core_facts.specs.Cover.Runs.{start_with}
+use Rattle.trace_text.specs.declared.traces.Trace.{Trace}
+use Rattle.trace_text.specs.declared.traces.TraceLine.{TraceLine}
+use Rattle.trace_text.specs.declared.traces.TraceLine.TheVariants as lines
 use Rattle.trace_check.specs.declared.reason.Reason.{Reason}
 use Rattle.trace_check.specs.declared.reason.Reason.TheVariants as reasons
-use Rattle.trace_check.specs.declared.traces.Trace.{Trace}
-use Rattle.trace_check.specs.declared.traces.TraceLine.{TraceLine}
-use Rattle.trace_check.specs.declared.traces.TraceLine.TheVariants as lines
 use Rattle.trace_check.specs.declared.verdict.Verdict.{Verdict}
 use Rattle.trace_check.specs.declared.verdict.Verdict.TheVariants as verdicts
 use Rattle.trace_check.specs.Reasons.{HasNoReason, IsReason}

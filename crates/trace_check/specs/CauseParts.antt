@@ -8,8 +8,8 @@ use Rattle.cpu_bases.specs.CpuBases.{base_of, class_in}
 use Rattle.tree_plan.specs.Paths.{is_placed_in, level_of, place_of}
 use Rattle.core_world.specs.Enabled.{IsFree}
 use Rattle.core_world.specs.World.{World, cpu_of, group_of, is_active}
-use Rattle.trace_check.specs.declared.causes.Cause.{Cause}
-use Rattle.trace_check.specs.declared.causes.Cause.TheVariants as causes
+use Rattle.trace_text.specs.declared.causes.Cause.{Cause}
+use Rattle.trace_text.specs.declared.causes.Cause.TheVariants as causes
 
 -- CPU c may arm timers
 pub record IsReadyToArm (w : World) (c : ℕ) : Type 0 where

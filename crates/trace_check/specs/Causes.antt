@@ -11,10 +11,10 @@ use Rattle.core_world.specs.Enabled.{IsDueAtLeaf, IsReevaluating, MarksNobody, M
 use Rattle.core_world.specs.Enabled.{MayRun, first_event}
 use Rattle.core_world.specs.Steps.{child_here, first_moved, here}
 use Rattle.core_world.specs.World.{World, cpu_of, group_of}
-use Rattle.trace_check.specs.declared.causes.Cause.{Cause}
-use Rattle.trace_check.specs.declared.causes.Cause.TheVariants as causes
-use Rattle.trace_check.specs.declared.causes.CpuFact.{CpuFact}
-use Rattle.trace_check.specs.declared.causes.CpuFact.TheVariants as facts
+use Rattle.trace_text.specs.declared.causes.Cause.{Cause}
+use Rattle.trace_text.specs.declared.causes.Cause.TheVariants as causes
+use Rattle.trace_text.specs.declared.causes.CpuFact.{CpuFact}
+use Rattle.trace_text.specs.declared.causes.CpuFact.TheVariants as facts
 
 -- CPU c's walk waits to hand on
 abbrev pub IsHandingOn : World → (c : ℕ) → Type 0

@@ -1,9 +1,3 @@
-pub mod Lines
-pub mod Texts
-pub mod Reading
-pub mod Faults
-pub mod Reader
-pub mod Steps
 pub mod Reasons
 pub mod Answers
 pub mod Told
@@ -11,4 +5,3 @@ pub mod Leading
 pub mod Playing
 pub mod Causes
 pub mod CauseParts
-pub mod CauseTexts

@@ -6,10 +6,10 @@ use Rattle.tm_report.specs.declared.lines.Line.TheVariants as report
 use Rattle.tm_report.specs.declared.lines.ShownReason.{ShownReason}
 use Rattle.tm_report.specs.Lines.{line_text}
 use Rattle.core_world.specs.World.{World}
+use Rattle.trace_text.specs.declared.traces.TraceLine.{TraceLine}
+use Rattle.trace_text.specs.declared.traces.TraceLine.TheVariants as lines
 use Rattle.trace_check.specs.declared.reason.Reason.{Reason}
 use Rattle.trace_check.specs.declared.reason.Reason.TheVariants as reasons
-use Rattle.trace_check.specs.declared.traces.TraceLine.{TraceLine}
-use Rattle.trace_check.specs.declared.traces.TraceLine.TheVariants as lines
 use Rattle.trace_check.specs.declared.verdict.Verdict.{Verdict}
 use Rattle.trace_check.specs.declared.verdict.Verdict.TheVariants as verdicts
 use Rattle.trace_check.specs.Answers.{IsPlayed, IsShown}

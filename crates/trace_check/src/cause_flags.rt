@@ -9,10 +9,10 @@ ghost use Rattle.core_world.specs.World.{cpu_of, is_active};
 ghost use Rattle.walk_rules.specs.declared.walk.WalkKind.TheVariants as kinds;
 ghost use Rattle.trace_check.specs.Causes.{IsCause};
 
-use crate::causes::{Cause, CpuFact};
 use core_state::{Core, CpuStatus};
 use step_core::may_be_missed;
 use tm_base::{CpuId, Jiffy, TIME_LIMIT};
+use trace_text::{Cause, CpuFact};
 use walk_rules::{Walk, WalkKind};
 use wheel_core::TimerBase;
 

@@ -10,10 +10,10 @@ ghost use Rattle.trace_check.specs.CauseParts.{IsTakenFor};
 ghost use Rattle.trace_check.specs.Causes.{IsCause, IsHandingOn};
 
 use crate::cause_flags::{no_active, no_wake};
-use crate::causes::{Cause, CpuFact};
 use core_state::{Core, CpuStatus};
 use step_core::{is_due_at_leaf, is_reeval};
 use tm_base::{CpuId, GroupId};
+use trace_text::{Cause, CpuFact};
 use walk_rules::{Stage, Walk};
 use wheel_core::TimerBase;
 

@@ -12,10 +12,10 @@ ghost use Rattle.trace_check.specs.CauseParts.{CanBeArmed, IsNext, IsReadyToArm,
 ghost use Rattle.trace_check.specs.Causes.{IsCause, MovesNotFirst};
 
 use crate::cause_flags::{no_active, no_free, no_online};
-use crate::causes::{Cause, CpuFact};
 use core_state::Core;
 use step_core::{is_id, may_run};
 use tm_base::{Class, CpuId, Jiffy, TIME_LIMIT, TimerId};
+use trace_text::{Cause, CpuFact};
 use wheel_core::{Item, TimerBase};
 
 /// What forbids that a CPU arms a timer, whatever that is.

@@ -8,17 +8,16 @@ ghost use Rattle.core_world.specs.World.{World};
 ghost use Rattle.tm_base.specs.declared.limits.TheConstants.{MOST_LINES};
 ghost use Rattle.tm_report.specs.declared.lines.Line.TheVariants as report;
 ghost use Rattle.tm_report.specs.declared.lines.ShownReason.{ShownReason};
+ghost use Rattle.trace_text.specs.Texts.{IsTrace};
+ghost use Rattle.trace_text.specs.declared.traces.TraceLine.TheVariants as lines;
 ghost use Rattle.trace_check.specs.Answers.{IsCheckText, IsShown, IsVerdict};
 ghost use Rattle.trace_check.specs.Answers.{shown_of, start_for, steps_of};
 ghost use Rattle.trace_check.specs.Playing.{Asks, AsksOf, IsThere, Plays, WritesPlayed};
-ghost use Rattle.trace_check.specs.Texts.{IsTrace};
-ghost use Rattle.trace_check.specs.declared.traces.TraceLine.TheVariants as lines;
 ghost use Rattle.trace_check.specs.declared.verdict.Verdict.TheVariants as verdicts;
 
 use crate::asking::why;
 use crate::reason::Reason;
 use crate::starting::start_core;
-use crate::traces::{Trace, TraceLine};
 use crate::verdict::Verdict;
 use core_state::Core;
 use core_world::{Step, law_sizes};
@@ -26,6 +25,7 @@ use std::alloc::Global;
 use step_core::{apply, enabled};
 use tm_base::{CpuId, NoMemory, TimerId};
 use tm_report::{Line, Report, ShownReason};
+use trace_text::{Trace, TraceLine};
 use wheel_core::TimerBase;
 
 /// A reason as a report shows it.

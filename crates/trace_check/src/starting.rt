@@ -2,15 +2,15 @@
 
 ghost use Rattle.std.specs.Prelude.{◌≡◌, All, IfOk, length};
 ghost use Rattle.cpu_bases.specs.CpuBases.{empty_bases};
+ghost use Rattle.trace_text.specs.Texts.{IsTrace};
 ghost use Rattle.trace_check.specs.Answers.{start_for};
-ghost use Rattle.trace_check.specs.Texts.{IsTrace};
 
-use crate::traces::Trace;
 use core_state::Core;
 use cpu_bases::Bases;
 use std::alloc::Global;
 use step_core::new_core;
 use tm_base::NoMemory;
+use trace_text::Trace;
 use tree_plan::plan;
 use wheel_core::ListBase;
 

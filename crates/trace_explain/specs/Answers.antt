@@ -1,9 +1,9 @@
 -- who answers for a timer, in words
 use Rattle.std.specs.Prelude.{◌≡◌, ℕ, zero, suc, ◌==◌, List, [], ◌++◌, codes, if◌then◌else◌}
 use Rattle.core_world.specs.World.{World}
+use Rattle.trace_text.specs.CauseTexts.{around, around_two}
 use Rattle.trace_check.specs.declared.reason.Reason.{Reason}
 use Rattle.trace_check.specs.declared.reason.Reason.TheVariants as reasons
-use Rattle.trace_check.specs.CauseTexts.{around, around_two}
 use Rattle.trace_check.specs.Reasons.{HasNoReason, IsReason}
 use Rattle.trace_explain.specs.Walks.{group_name}
 

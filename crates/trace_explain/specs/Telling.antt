@@ -1,7 +1,7 @@
 -- how a trace is told line by line; no public clause speaks of this
 use Rattle.std.specs.Prelude.{◌≡◌, ℕ, List, ◌∷◌, ◌++◌, Option, Some, None}
 use Rattle.core_world.specs.World.{World}
-use Rattle.trace_check.specs.declared.traces.TraceLine.{TraceLine}
+use Rattle.trace_text.specs.declared.traces.TraceLine.{TraceLine}
 use Rattle.trace_check.specs.declared.verdict.Verdict.{Verdict}
 use Rattle.trace_check.specs.declared.verdict.Verdict.TheVariants as verdicts
 use Rattle.trace_explain.specs.Answers.{AreAnswers, IsAnswer, IsTold}

@@ -4,10 +4,10 @@ ghost use Rattle.std.specs.Prelude.{◌≡◌, ◌+◌, ◌<◌, ◌≤◌, ◌+
 ghost use Rattle.core_world.specs.Enabled.{Enabled};
 ghost use Rattle.core_world.specs.Frames.{SameSize};
 ghost use Rattle.tm_base.specs.declared.limits.TheConstants.{MOST_LINES};
+ghost use Rattle.trace_text.specs.Texts.{IsTrace};
+ghost use Rattle.trace_text.specs.declared.traces.TraceLine.TheVariants as lines;
 ghost use Rattle.trace_check.specs.Answers.{IsVerdict, start_for, steps_of};
 ghost use Rattle.trace_check.specs.Playing.{AsksOf};
-ghost use Rattle.trace_check.specs.Texts.{IsTrace};
-ghost use Rattle.trace_check.specs.declared.traces.TraceLine.TheVariants as lines;
 ghost use Rattle.trace_explain.specs.Explained.{IsExplained, made_text, refused_text};
 ghost use Rattle.trace_explain.specs.Telling.{Tells};
 

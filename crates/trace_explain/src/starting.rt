@@ -2,8 +2,8 @@
 
 ghost use Rattle.std.specs.Prelude.{◌≡◌, All, IfOk, length};
 ghost use Rattle.cpu_bases.specs.CpuBases.{empty_bases};
+ghost use Rattle.trace_text.specs.Texts.{IsTrace};
 ghost use Rattle.trace_check.specs.Answers.{start_for};
-ghost use Rattle.trace_check.specs.Texts.{IsTrace};
 
 use core_state::Core;
 use cpu_bases::Bases;

@@ -5,12 +5,12 @@ use Rattle.report_reader.specs.declared.faults.ReportFault.{ReportFault}
 use Rattle.report_reader.specs.Reader.{IsFirstFault, IsReportOf}
 use Rattle.run_chart.specs.Charts.{back_from, chart_text, window_of}
 use Rattle.tm_script.specs.declared.faults.ScriptFault.{ScriptFault}
-use Rattle.trace_check.specs.declared.traces.Trace.{Trace}
+use Rattle.trace_text.specs.declared.traces.Trace.{Trace}
+use Rattle.trace_text.specs.Faults.{trace_fault}
+use Rattle.trace_text.specs.Texts.{Spells}
 use Rattle.trace_check.specs.declared.verdict.Verdict.{Verdict}
 use Rattle.trace_check.specs.declared.verdict.Verdict.TheVariants as verdicts
 use Rattle.trace_check.specs.Answers.{start_for}
-use Rattle.trace_check.specs.Faults.{trace_fault}
-use Rattle.trace_check.specs.Texts.{Spells}
 use Rattle.trace_explain.specs.Explained.{IsExplained}
 use Rattle.text_words.specs.Words.{lines_of}
 use Rattle.trace_rules.specs.Judge.{start}

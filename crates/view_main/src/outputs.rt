@@ -2,7 +2,7 @@
 
 ghost use Rattle.std.specs.Prelude.{◌≡◌, IfErr, IfOk, None};
 ghost use Rattle.run_chart.specs.Charts.{IsRefusal, back_from};
-ghost use Rattle.trace_check.specs.Texts.{IsTrace};
+ghost use Rattle.trace_text.specs.Texts.{IsTrace};
 ghost use Rattle.view_main.specs.Outputs.{IsAllTold, IsDrawing, IsDrawn, IsTelling, IsTold};
 ghost use Rattle.view_main.specs.Outputs.{drawing_of, status_told};
 
