@@ -1,5 +1,4 @@
 mod TreeText
-mod Reading
 pub mod Forms
 pub mod Told
 pub mod Written

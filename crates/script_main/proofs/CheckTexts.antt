@@ -20,10 +20,10 @@ use Rattle.tm_report.specs.declared.lines.ShownReason.{ShownReason}
 use Rattle.tm_report.specs.declared.lines.ShownReason.TheVariants as shows
 use Rattle.core_world.specs.Steps.{stepped}
 use Rattle.core_world.specs.World.{World}
+use Rattle.trace_check.specs.Answers.{IsCheckText, IsPlayed, start_for}
 use Rattle.trace_text.specs.declared.traces.Trace.{Trace}
 use Rattle.trace_text.specs.declared.traces.TraceLine.{TraceLine}
 use Rattle.trace_text.specs.declared.traces.TraceLine.TheVariants as lines
-use Rattle.trace_check.specs.Answers.{IsCheckText, IsPlayed, start_for}
 use Rattle.trace_check.specs.declared.verdict.Verdict.{Verdict}
 
 -- a text is a front of another only where it is all of it

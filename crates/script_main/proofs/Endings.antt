@@ -33,6 +33,7 @@ use Rattle.program_texts.proofs.Told.{brought_up, takes_up}
 use Rattle.program_texts.proofs.Refusals.{is_refusal, no_break, no_want, no_done, no_job, no_work}
 use Rattle.program_texts.proofs.Refusals.{never_write_fault, never_no_memory, broken_output}
 use Rattle.program_texts.proofs.Refusals.{own_of_broken, never_broken_done}
+use Rattle.program_texts.proofs.Written.{by_end, no_change}
 use Rattle.script_main.specs.Scripts.{EndsLate, IsOutput, LacksJob, SpendsBy, SpendsWork}
 use Rattle.script_main.specs.Replies.{IsReply, IsReplyBy, RepliesToInput}
 use Rattle.script_main.specs.Statuses.{HasInput, SaysDone, SaysJobUnknown, SaysNoMemory}

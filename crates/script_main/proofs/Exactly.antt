@@ -23,6 +23,7 @@ use Rattle.program_texts.specs.Statuses.{refused_status, IsEither}
 use Rattle.program_texts.specs.Replies.{reply_text}
 use Rattle.program_texts.specs.Ends.{Breaks, EndsAs, EndsWith}
 use Rattle.program_texts.proofs.Told.{all_known, not_many, refuses}
+use Rattle.program_texts.proofs.Written.{either, out_ends, out_whole}
 use Rattle.script_main.specs.Replies.{IsReplyBy, IsReplyTo, RepliesToInput}
 use Rattle.script_main.specs.Causes.{Asks, HasText, IsFine, IsInputBy, IsJobUnknown, IsRefusedAs}
 use Rattle.script_main.specs.Causes.{IsWorkSpent}

@@ -6,7 +6,6 @@ use Rattle.play_rules.specs.Interrupts.{Replies}
 use Rattle.play_rules.specs.Parts.{counted}
 use Rattle.program_texts.specs.declared.commands.Command.{Command}
 use Rattle.program_texts.specs.declared.commands.Command.TheVariants as commands
-use Rattle.program_texts.specs.declared.inputs.Form.TheVariants as forms
 use Rattle.program_texts.specs.declared.inputs.Input.{Input}
 use Rattle.program_texts.specs.declared.inputs.Input.TheVariants as inputs
 use Rattle.program_texts.specs.Words.{HasJobsRun, IsPlayer}

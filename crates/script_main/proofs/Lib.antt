@@ -1,8 +1,6 @@
-mod Reading
 mod Replying
 mod Known
 mod OneText
 mod Endings
 mod Exactly
-mod Works
 mod CheckTexts

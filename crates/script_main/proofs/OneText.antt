@@ -2,7 +2,7 @@
 -- texts is a front of the other
 use Rattle.std.proofs.Common.{◌≡◌, ◌≢◌, ◌<◌, ◌+◌, ℕ, List, Option, Some, None, length, refl, sym}
 use Rattle.std.proofs.Common.{◌∙◌, ap, subst}
-use Rattle.std.specs.Prelude.{◌-◌, ◌^◌, take, String, Result, Ok, Err, OnErr}
+use Rattle.std.specs.Prelude.{◌-◌, ◌^◌, take, String}
 use Rattle.std.specs.declared.alloc.Global.{Global}
 use Rattle.std.proofs.lemmas.Option.{none-some, same_Some}
 use Rattle.tm_base.specs.declared.limits.TheConstants.{MOST_BYTES}
@@ -16,7 +16,6 @@ use Rattle.program_texts.specs.declared.commands.Recipe.{Recipe}
 use Rattle.program_texts.specs.declared.commands.Command.{Command}
 use Rattle.program_texts.specs.declared.commands.Command.TheVariants as commands
 use Rattle.program_texts.specs.declared.inputs.Form.{Form}
-use Rattle.program_texts.specs.declared.inputs.Form.TheVariants as forms
 use Rattle.program_texts.specs.declared.inputs.Input.{Input}
 use Rattle.program_texts.specs.declared.inputs.Input.TheVariants as inputs
 use Rattle.program_texts.specs.declared.replies.Reply.{Reply}
@@ -26,7 +25,8 @@ use Rattle.program_texts.specs.declared.replies.Reply.TheVariants.{Played, Made}
 use Rattle.program_texts.specs.Words.{command_of, form_of, recipe_in, HasJobsRun}
 use Rattle.program_texts.specs.Brought.{BringsBy, IsReader, ReadsNone}
 use Rattle.program_texts.specs.Replies.{reply_text}
-use Rattle.program_texts.proofs.Told.{not_many}
+use Rattle.program_texts.proofs.Told.{not_many, few_known, first_fault, none_spelled, not_both_ways}
+use Rattle.program_texts.proofs.Told.{one_input}
 use Rattle.program_texts.proofs.Forms.{plays_alone}
 use Rattle.script_main.proofs.CheckTexts.{FrontIsWhole, check_whole, front_apart, same_is_whole}
 use Rattle.script_main.specs.Scripts.{IsOutput, LacksJob, SpendsWork}
@@ -265,9 +265,3 @@ pub front_of_none : (jobs : Replies) (table : ℕ) (words : List (String Global)
 front_of_none jobs table words s t reply count is less one other due_too same =
     absurd (front_apart (reply_text other) (reply_text reply) count less
     (whole_by jobs table words s t one (command_of words) refl other reply due_too is) same)
-
--- what follows of two things that hold after an Err
-pub err_of_both : {A E P Q R : Type 0} (r : Result A E) → (P → Q → R) → OnErr r P → OnErr r Q
-    → OnErr r R
-err_of_both (Ok a) f p q = tt
-err_of_both (Err e) f p q = f p q

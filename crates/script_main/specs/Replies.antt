@@ -6,14 +6,13 @@ use Rattle.tm_io.specs.Seen.{SourceSeen, SourceFailed, SourceUnbroken}
 use Rattle.tm_io.specs.Sources.{TakesCount, TakesUpTo}
 use Rattle.play_rules.specs.Interrupts.{Replies}
 use Rattle.program_texts.specs.declared.commands.Command.{Command}
-use Rattle.program_texts.specs.declared.inputs.Form.TheVariants as forms
 use Rattle.program_texts.specs.declared.inputs.Input.{Input}
 use Rattle.program_texts.specs.declared.replies.Reply.{Reply}
 use Rattle.program_texts.specs.declared.replies.Reply.TheVariants.{Usage, ReadFault, TooLong}
 use Rattle.program_texts.specs.declared.replies.Reply.TheVariants.{Refused, JobUnknown, WorkSpent}
 use Rattle.program_texts.specs.declared.replies.Reply.TheVariants.{Played, Made}
 use Rattle.program_texts.specs.Words.{command_of, form_of, HasJobsRun}
-use Rattle.program_texts.specs.Brought.{Brings}
+use Rattle.program_texts.specs.Brought.{Brings, IsReader, ReadsNone}
 use Rattle.script_main.specs.Scripts.{IsOutput, LacksJob, SpendsBy}
 
 -- THE REPLY TO AN INPUT, by the command
