@@ -1,4 +1,4 @@
-//! Worked rows of the driver's public calls, apart from the driver since its own proofs take long.
+//! Worked rows of plays on the core, apart from these since their proofs take long.
 #![tactic(auto)]
 
 #[cfg(test)]

@@ -1,13 +1,14 @@
 ghost use Rattle.job_table.specs.Standard.{one_shot_reply};
 
 use core_machine::{Player, RunPlayer};
+use core_plays::{deep, play, play_moment, run_moment, start_core};
 use job_table::{Job, JobCall, JobReply, JobTable, OneShot};
+use play_driver::having_interrupt;
 use std::alloc::{AllocError, Global};
 use std::sync::Arc;
 use std::sync::atomic::{AtomicU64, Ordering};
 use std::test::Fail;
 use tm_base::NoMemory;
-use tm_driver::{deep, having_interrupt, play, play_moment, run_moment, start_core};
 use tm_report::Report;
 use tm_script::read_script;
 
