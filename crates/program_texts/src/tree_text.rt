@@ -12,6 +12,3 @@
 mod trees;
 
 pub use trees::print_tree;
-
-#[cfg(test)]
-mod tests;

@@ -9,6 +9,3 @@ mod words;
 
 pub use faults::{Kind, ReadReport, ReportFault};
 pub use reading::read_report;
-
-#[cfg(test)]
-mod tests;

@@ -24,6 +24,3 @@ pub use model::{
 pub use news::news_of;
 pub use notes::push_answer;
 pub use said::{Answer, Change, Run, State, answer_in, change_in, cpu_in, run_in, time_of};
-
-#[cfg(test)]
-mod tests;

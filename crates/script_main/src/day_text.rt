@@ -17,6 +17,4 @@
 mod days;
 
 pub use days::print_day;
-
-#[cfg(test)]
-mod tests;
+pub use tm_driver::Summary;

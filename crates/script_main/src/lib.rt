@@ -11,8 +11,3 @@ pub use program_texts::{
     DONE, JOB_UNKNOWN, MOST_NUMBER, NO_MEMORY, READ_FAULT, SCRIPT_REFUSED, Status, TOO_LONG,
     TRACE_REFUSED, USAGE, WORK_SPENT, WORKS_REFUSED, WRITE_FAULT, tree_text,
 };
-
-#[cfg(test)]
-mod rows;
-#[cfg(test)]
-mod tests;

@@ -19,6 +19,3 @@ pub use faults::{Clause, Fault};
 pub use judge::{Verdict, judge_lines};
 pub use program::{Output, judge_bytes, run_story};
 pub use statuses::NO_MEMORY;
-
-#[cfg(test)]
-mod tests;

@@ -12,8 +12,6 @@ mod gates;
 mod noted;
 mod runs;
 mod tally;
-#[cfg(test)]
-mod tests;
 mod turns;
 
 pub use checks::{Flaw, first_flaw, is_quiet_at};

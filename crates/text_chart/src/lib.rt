@@ -9,6 +9,3 @@ mod pieces;
 
 pub use charting::text_chart;
 pub use pages::{ASLEEP, AWAKE, LABEL, OFFLINE, SPACE, WIDTH};
-
-#[cfg(test)]
-mod tests;

@@ -27,6 +27,3 @@ pub use trace_text::{
     Trace, TraceLine, TraceLines, print_trace, read_trace, text_of,
 };
 pub use verdict::Verdict;
-
-#[cfg(test)]
-mod tests;

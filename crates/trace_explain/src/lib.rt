@@ -11,6 +11,3 @@ mod starting;
 mod walks;
 
 pub use explaining::{Explanation, explain};
-
-#[cfg(test)]
-mod tests;

@@ -20,6 +20,3 @@ pub use events::{
 };
 pub use faults::LineFault;
 pub use lines::read_line;
-
-#[cfg(test)]
-mod tests;

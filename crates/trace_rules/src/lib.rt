@@ -9,6 +9,3 @@ pub mod orders;
 pub mod queues;
 
 pub use judge::{Course, Misfit, Tally, Verdict, check_trace, late_count, new_course, take_text};
-
-#[cfg(test)]
-mod tests;

@@ -7,6 +7,3 @@ mod runs;
 
 pub use differences::{Differences, differences_after, no_differences};
 pub use runs::{LATE_1_MS, LATE_4_MS, LATE_10_MS, LATE_100_MS, Runs, no_runs, runs_after};
-
-#[cfg(test)]
-mod tests;

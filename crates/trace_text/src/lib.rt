@@ -45,6 +45,3 @@ pub use printing::print_trace;
 pub use reading::read_trace;
 pub use traces::{Trace, TraceLine};
 pub use words::{ARG_LIMIT, Command, Field, JOB_LIMIT, LINE_LIMIT, Limits, Slot};
-
-#[cfg(test)]
-mod tests;

@@ -13,6 +13,3 @@ pub use rule::{TIMER_SOFTIRQ, take_timers, timer_fault};
 pub use seen::{Queued, Runner, State, Taken, TimerSeen, TimersSeen};
 pub use tallies::{TimerTally, no_timer_tally, timer_tally_after};
 pub use wheel::{MOST_JIFFIES, arming_fits, law_clocks};
-
-#[cfg(test)]
-mod tests;

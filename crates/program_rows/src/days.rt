@@ -1,6 +1,5 @@
-use super::*;
+use script_main::day_text::{Summary, print_day};
 use std::test::Fail;
-use tm_driver::Summary;
 
 // The lines are those of the day's table in docs/FORMATS.md.
 #[test]

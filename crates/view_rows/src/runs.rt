@@ -1,7 +1,7 @@
-use super::*;
 use std::test::Fail;
 use tm_base::{CpuId, NoMemory};
 use trace_lines::{CpuEvent, CpuKind, Happening, Line, NO_EXPIRY};
+use trace_runs::*;
 use trace_seen::seen::{CpuSeen, Seen, unknown_cpu};
 
 /// The run of CPU 1's timers by CPU 0 at this time.

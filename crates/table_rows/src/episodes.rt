@@ -1,7 +1,3 @@
-use crate::{
-    Act, Asked, CPUS, Crew, Draws, Hold, LATEST, Plan, Ran, TIMERS, Tally, Turn, agrees,
-    drawn_turns, episode, is_active, is_quiet_at, judged, no_base_behind, run_plan, start,
-};
 use core_state::Core;
 use core_world::Step;
 use job_table::JobTable;
@@ -13,6 +9,10 @@ use std::sync::atomic::{AtomicU64, Ordering};
 use std::test::*;
 use std::thread::Threads;
 use step_laws::{is_settled, run_steps};
+use table_stress::{
+    Act, Asked, CPUS, Crew, Draws, Hold, LATEST, Plan, Ran, TIMERS, Tally, Turn, agrees,
+    drawn_turns, episode, is_active, is_quiet_at, judged, no_base_behind, run_plan, start,
+};
 use tm_base::{Class, CpuId, CpuSet, FreeGate, GroupId, NEVER, NoMemory, Point, TimerId};
 use wheel_base::WheelBase;
 

@@ -1,6 +1,6 @@
-use super::*;
 use crate::rows::{Row, further_rows, rows, rows_of_one_story};
 use job_table::{Job, JobTable, Marker, OneShot, Periodic};
+use script_main::*;
 use std::alloc::{AllocError, Global};
 use std::sync::Wait;
 use std::test::Fail;

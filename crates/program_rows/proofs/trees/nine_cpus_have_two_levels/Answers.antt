@@ -1,7 +1,7 @@
 use Rattle.std.proofs.Common.{ap, ◌∙◌, lit<, lit≤}
 use Rattle.std.specs.FinSet.{contains, contains-empty}
 use Rattle.std.specs.Ordering.{nat_cmp}
-use Rattle.program_texts.proofs.tree_text.tests.nine_cpus_have_two_levels.Goals as goal
+use Rattle.program_rows.proofs.trees.nine_cpus_have_two_levels.Goals as goal
 
 pub plan-requires : goal.plan-requires
 plan-requires g c =

@@ -1,6 +1,6 @@
-use super::*;
 use std::alloc::Global;
 use std::test::Fail;
+use story_check::*;
 use text_words::{cut, push_bytes};
 use tm_base::NoMemory;
 

@@ -1,4 +1,4 @@
-use super::*;
+use run_chart::*;
 use std::test::Fail;
 use tm_base::{Class, CpuId, NEVER, TimerId};
 use tm_report::{Line, ShownCover, ShownReply};

@@ -1,4 +1,4 @@
-use super::*;
+use report_reader::*;
 use std::test::Fail;
 use tm_base::{CpuId, NEVER, TimerId};
 use tm_report::{Line, ShownReply, text_of};

@@ -1,8 +1,8 @@
-use super::*;
 use std::alloc::Global;
 use std::test::Fail;
 use tm_base::{Class, CpuId, TimerId};
 use tm_script::{Kind, ScriptFault};
+use trace_text::*;
 
 // A timer of an idle CPU, at first carried by that CPU's own walk, and then held.
 const HELD: &[u8] = b"trace 1\nnodes 1\ncpus 2\ntimers 1\nisolated\nclock 10\n\

@@ -1,7 +1,9 @@
 //! Worked rows of the whole program: words and input, and the status and text that they come to.
 //! They were worked out from the rules before the program was, and none is its own output.
 
-use crate::{DONE, JOB_UNKNOWN, SCRIPT_REFUSED, TRACE_REFUSED, USAGE, WORK_SPENT, WORKS_REFUSED};
+use program_texts::{
+    DONE, JOB_UNKNOWN, SCRIPT_REFUSED, TRACE_REFUSED, USAGE, WORK_SPENT, WORKS_REFUSED,
+};
 
 /// What one run is given, and what it comes to.
 #[derive(Clone, Copy)]

@@ -1,6 +1,6 @@
-use super::*;
 use run_chart::Choice;
 use std::test::Fail;
+use text_chart::*;
 use tm_base::{Class, CpuId, NEVER, TimerId};
 use tm_report::{Line, ShownCover, ShownReply};
 
