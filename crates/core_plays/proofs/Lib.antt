@@ -5,4 +5,3 @@ mod Due
 mod NextMoments
 mod NoDevice
 pub mod Playable
-mod Wholes

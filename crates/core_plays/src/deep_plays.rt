@@ -35,5 +35,7 @@ pub fn deep<J: Jobs>(
     law_plays();
     law_steps_are_play();
     let mut player = started(alloc, script)?;
-    deep_on(alloc, &mut player, script, jobs, report)
+    let played = deep_on(alloc, &mut player, script, jobs, report);
+    drop(player);
+    played
 }

@@ -103,8 +103,13 @@ pub fn play<J: Jobs>(
         BreaksPlay (J.replies jobs.now) (J.count jobs.now) script.now fault report.old report.new) }
 {
     let mut player = started(alloc, script)?;
-    play_by_steps(alloc, &mut player, script, jobs, report)?;
-    Ok(player.into_core())
+    match play_by_steps(alloc, &mut player, script, jobs, report) {
+        Ok(_) => Ok(player.into_core()),
+        Err(fault) => {
+            drop(player);
+            Err(fault)
+        }
+    }
 }
 
 /// Plays one moment of a script on a core, whose clock comes to it, with the interrupts of these
@@ -221,6 +226,8 @@ pub fn summary<J: Jobs>(alloc: Global, script: &Script, jobs: &J) -> Result<Summ
         (BreaksSummary (J.replies jobs.now) (J.count jobs.now) script.now) }
 {
     let mut player = started(alloc, script)?;
-    let counts = unheard_by_steps(&mut player, script, jobs)?;
+    let played = unheard_by_steps(&mut player, script, jobs);
+    drop(player);
+    let counts = played?;
     Ok(summary_with(script.end, counts))
 }

@@ -33,8 +33,21 @@ fn no_bases(alloc: Global) -> Result<Bases<WheelBase>, NoMemory>
     ensures { IfOk result (λ bases. bases.plain ≡ empty_bases) }
 {
     let pinned = no_timers(alloc)?;
-    let global = no_timers(alloc)?;
-    let deferrable = no_timers(alloc)?;
+    let global = match no_timers(alloc) {
+        Ok(global) => global,
+        Err(fault) => {
+            drop(pinned);
+            return Err(fault);
+        }
+    };
+    let deferrable = match no_timers(alloc) {
+        Ok(deferrable) => deferrable,
+        Err(fault) => {
+            drop(pinned);
+            drop(global);
+            return Err(fault);
+        }
+    };
     Ok(Bases::with(alloc, pinned, global, deferrable))
 }
 

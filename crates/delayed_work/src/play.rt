@@ -1,6 +1,6 @@
 //! Playing a script of works.
 
-ghost use Rattle.std.specs.Prelude.{◌≡◌, ◌≤◌, [], length, IfOk, IfErr};
+ghost use Rattle.std.specs.Prelude.{◌≡◌, ◌≤◌, [], length, IfOk, IfErr, OnOk};
 ghost use Rattle.tm_base.specs.declared.limits.TheConstants.{MOST_TIMERS};
 ghost use Rattle.work_script.specs.Grammar.{IsWorkScript};
 ghost use Rattle.wheel_base.specs.Wheels.{no_base};
@@ -83,15 +83,35 @@ fn start(alloc: Global, count: u16) -> Result<Player<WheelBase>, NoMemory>
       text = [];
     })) }
 {
-    let pinned = wheel(alloc)?;
-    let global = wheel(alloc)?;
-    let deferrable = wheel(alloc)?;
-    let bases = Bases::with(alloc, pinned, global, deferrable);
+    let bases = wheels(alloc)?;
     let works = Works::new(alloc, bases, count)?;
     Ok(Player {
         works,
         text: Vec::new(alloc),
     })
+}
+
+/// Three empty wheels.
+fn wheels(alloc: Global) -> Result<Bases<WheelBase>, NoMemory>
+    ensures { IfOk result (λ bases. bases.plain ≡ empty_bases) }
+{
+    let pinned = wheel(alloc)?;
+    let global = match wheel(alloc) {
+        Ok(global) => global,
+        Err(fault) => {
+            drop(pinned);
+            return Err(fault);
+        }
+    };
+    let deferrable = match wheel(alloc) {
+        Ok(deferrable) => deferrable,
+        Err(fault) => {
+            drop(pinned);
+            drop(global);
+            return Err(fault);
+        }
+    };
+    Ok(Bases::with(alloc, pinned, global, deferrable))
 }
 
 /// An empty wheel.
@@ -102,6 +122,40 @@ fn wheel(alloc: Global) -> Result<WheelBase, NoMemory>
         Ok(base) => Ok(base),
         Err(_) => Err(NoMemory),
     }
+}
+
+/// The moments of a script over works that are all free.
+fn all_moments<J: Jobs>(
+    player: &mut Player<WheelBase>,
+    script: &WorkScript,
+    jobs: &J,
+) -> Result<(), WorksFault>
+    requires script { IsWorkScript script.now }
+    requires start { player.old ≡ (record {
+      works = new_works empty_bases script.now.count;
+      text = [];
+    }) }
+    ensures ok { OnOk result
+        (works_played (J.replies jobs.now) script.now ≡ Finished player.new) }
+    ensures len { OnOk result
+        (length player.new.works.ledger.standings ≡ script.now.count) }
+    ensures err { IfErr result (BreaksOff script.now.end script.now.count
+        (works_played (J.replies jobs.now) script.now)) }
+{
+    let mut moments = script.moments.as_slice();
+    let mut now = 0;
+    let mut count = 0;
+    while count < WORK_LIMIT_V1 {
+        let (ops, behind) = turn(now, moments);
+        let work = player.moment(now, ops, jobs)?;
+        if now >= script.end {
+            return Ok(());
+        }
+        count += work as u32;
+        now = player.next_moment(now, script.end, behind);
+        moments = behind;
+    }
+    Err(WorksFault::WorkSpent { count })
 }
 
 /// The works at the end of a script's play.
@@ -119,20 +173,13 @@ fn play_moments<J: Jobs>(
         (works_played (J.replies jobs.now) script.now)) }
 {
     let mut player = start(alloc, script.count)?;
-    let mut moments = script.moments.as_slice();
-    let mut now = 0;
-    let mut count = 0;
-    while count < WORK_LIMIT_V1 {
-        let (ops, behind) = turn(now, moments);
-        let work = player.moment(now, ops, jobs)?;
-        if now >= script.end {
-            return Ok(player);
+    match all_moments(&mut player, script, jobs) {
+        Ok(()) => Ok(player),
+        Err(fault) => {
+            drop(player);
+            Err(fault)
         }
-        count += work as u32;
-        now = player.next_moment(now, script.end, behind);
-        moments = behind;
     }
-    Err(WorksFault::WorkSpent { count })
 }
 
 /// Plays a script of works with these jobs, and answers the output.

@@ -155,6 +155,16 @@ impl<B: TimerBase> Player<B> {
         Ok(())
     }
 
+    /// The lines at the end of a play.
+    fn tell_closing(&mut self, count: u16, end: Jiffy) -> Result<(), NoMemory>
+        requires { count ≤ length self.old.works.ledger.standings }
+        ensures { OnOk result
+            (self.new.text ≡ self.old.text ++ closing_lines count end self.old.works) }
+    {
+        self.tell_works(count)?;
+        tell_end(&mut self.text, end)
+    }
+
     /// The output of a play that is at its end.
     pub(crate) fn close(self, count: u16, end: Jiffy) -> Result<Vec<u8>, NoMemory>
         requires { count ≤ length self.works.ledger.standings }
@@ -162,8 +172,12 @@ impl<B: TimerBase> Player<B> {
             (λ text. text.items ≡ self.text ++ closing_lines count end self.works) }
     {
         let mut player = self;
-        player.tell_works(count)?;
-        tell_end(&mut player.text, end)?;
-        Ok(player.text)
+        let told = player.tell_closing(count, end);
+        let Player { works, text } = player;
+        drop(works);
+        match told {
+            Ok(()) => Ok(text),
+            Err(fault) => Err(fault),
+        }
     }
 }

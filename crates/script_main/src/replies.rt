@@ -45,7 +45,10 @@ fn play_script<J: Jobs>(alloc: Global, script: &Script, jobs: &J) -> Result<Repl
     law_work();
     let mut report = Report::new(alloc);
     match play(alloc, script, jobs, &mut report) {
-        Ok(_core) => Ok(Reply::Played(report)),
+        Ok(core) => {
+            drop(core);
+            Ok(Reply::Played(report))
+        }
         Err(DriveFault::BadJob { line, job }) => Ok(Reply::JobUnknown { line, job }),
         Err(DriveFault::WorkSpent { count }) => Ok(Reply::WorkSpent { count }),
         Err(DriveFault::NoMemory) => Err(NoMemory),
@@ -92,7 +95,9 @@ fn draw_tree(alloc: Global, script: &Script) -> Result<Reply, NoMemory>
         (IsReplyTo jobs table Command.Tree (Input.Script script.now)) }
 {
     let tree = plan(alloc, script.nodes, script.cpus, &script.isolated)?;
-    Ok(Reply::Made(print_tree(alloc, &tree)?))
+    let text = print_tree(alloc, &tree);
+    drop(tree);
+    Ok(Reply::Made(text?))
 }
 
 /// Runs a script by threads.
@@ -110,7 +115,10 @@ fn run_script<J: Jobs + Sync, G: Gate + Sync, R: Threads + Wait + Sync>(
 {
     let mut report = Report::new(alloc);
     match run(rt, alloc, script, jobs, gate, &mut report) {
-        Ok(_core) => Ok(Reply::Played(report)),
+        Ok(core) => {
+            drop(core);
+            Ok(Reply::Played(report))
+        }
         Err(DriveFault::BadJob { line, job }) => Ok(Reply::JobUnknown { line, job }),
         Err(DriveFault::WorkSpent { count }) => Ok(Reply::WorkSpent { count }),
         Err(DriveFault::NoMemory) => Err(NoMemory),

@@ -200,3 +200,11 @@ pub record GatheredSoFar (all rest : List Share) (passes : List HeldPass) (lines
   pub passes_are : passes ++ map pass_of rest ≡ map pass_of all
   pub lines_are : lines ++ flat_map told_of rest ≡ flat_map told_of all
   pub ended : Each HasEnded rest → Each HasEnded all
+
+-- ALL DONE: what came of the shares of all CPUs, with the passes and the lines that they leave
+pub record AreAllDone (table : TableId) (o : World) (jobs : Replies) (plan : Plan)
+    (passes : List HeldPass) (lines : List Line) : Type 0 where
+  pub shares : List Share
+  pub count : length shares ≡ length o.cpus
+  pub each : EachFrom (IsDoneAt table o jobs plan) 0 shares
+  pub gathered : AreGathered shares passes lines

@@ -9,7 +9,7 @@ ghost use Rattle.step_play.specs.Rules.Seen.{InRun, resting};
 ghost use Rattle.shared_table.specs.Begun.{begun_passes};
 ghost use Rattle.story.specs.Rounds.{IsRound};
 ghost use Rattle.thread_rounds.specs.Doing.{IsRoundOp};
-ghost use Rattle.thread_rounds.specs.Tasks.{AreGathered, AreTasks, MayRound};
+ghost use Rattle.thread_rounds.specs.Tasks.{AreAllDone, AreGathered, AreTasks, MayRound};
 
 use crate::shares::Share;
 use crate::tasks::{Task, first_tasks, give_all};
@@ -65,6 +65,30 @@ fn gather(alloc: Global, shares: Vec<Share>) -> Result<(Vec<Pass>, Vec<Line>), N
     Ok((passes, lines))
 }
 
+/// What all CPUs do in a round, on the words of a run that has begun: the passes and the lines
+/// that they leave.
+fn shares_of<N: RunName + Send + Sync, J: Jobs + Sync, G: Gate + Sync, R: Threads + Wait + Sync>(
+    rt: &R,
+    alloc: Global,
+    shared: &Shared<N, WheelBase>,
+    passes: Vec<Pass>,
+    now: Jiffy,
+    due: &CpuSet,
+    ops: &[Op],
+    jobs: &J,
+    gate: &G,
+) -> Result<(Vec<Pass>, Vec<Line>), NoMemory>
+    requires may { MayRound N.opening now (record { due = due.now; ops = ops.now }) }
+    requires passes { passes.items ≡ begun_passes N.table N.opening 0 }
+    ensures { IfOk result (λ r.
+        AreAllDone N.table N.opening (J.replies jobs.now)
+        (record { due = due.now; ops = ops.now }) r.0.items r.1.items) }
+{
+    let tasks = tasks_of::<N>(alloc, passes, due, ops)?;
+    let shares = do_all(rt, alloc, shared, tasks, now, jobs, gate)?;
+    gather(alloc, shares)
+}
+
 /// The round of a run that has begun, up to its end.
 fn round_begun<N: RunName + Send + Sync, J: Jobs + Sync, G: Gate + Sync, R: Threads + Wait + Sync>(
     rt: &R,
@@ -83,11 +107,13 @@ fn round_begun<N: RunName + Send + Sync, J: Jobs + Sync, G: Gate + Sync, R: Thre
         (λ r. IsRound (J.replies jobs.now) N.opening due.now ops.now r.0 r.1.items) }
 {
     law_rest();
-    let tasks = tasks_of::<N>(alloc, passes, due, ops)?;
-    let shares = do_all(rt, alloc, &shared, tasks, now, jobs, gate)?;
-    let (passes, lines) = gather(alloc, shares)?;
-    let core = shared.finish(passes);
-    Ok((core, lines))
+    match shares_of(rt, alloc, &shared, passes, now, due, ops, jobs, gate) {
+        Ok((passes, lines)) => Ok((shared.finish(passes), lines)),
+        Err(refused) => {
+            drop(shared);
+            Err(refused)
+        }
+    }
 }
 
 /// The round of a core whose table is ready.
@@ -112,7 +138,10 @@ fn round_over<N: RunName + Send + Sync, J: Jobs + Sync, G: Gate + Sync, R: Threa
         Ok((shared, passes)) => {
             round_begun(rt, alloc, shared, passes, now, due, ops, jobs, gate)
         },
-        Err((_ready, refused)) => Err(refused),
+        Err((ready, refused)) => {
+            drop(ready);
+            Err(refused)
+        }
     }
 }
 
@@ -139,6 +168,9 @@ pub fn round<J: Jobs + Sync, G: Gate + Sync, R: Threads + Wait + Sync>(
     let now = core.now();
     match Ready::prepare(alloc, core, 0) {
         Ok(ready) => round_over::<Brand, J, G, R>(rt, alloc, ready, now, due, ops, jobs, gate),
-        Err((_core, refused)) => Err(refused),
+        Err((core, refused)) => {
+            drop(core);
+            Err(refused)
+        }
     }
 }

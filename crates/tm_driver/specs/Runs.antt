@@ -6,6 +6,7 @@ use Rattle.std.specs.Ordering.{nat_cmp}
 use Rattle.tm_base.specs.declared.limits.TheConstants.{MOST_OPS}
 use Rattle.tm_script.specs.declared.syntax.Moment.{Moment}
 use Rattle.tm_script.specs.declared.syntax.Script.{Script}
+use Rattle.tm_report.specs.declared.lines.Line.{Line}
 use Rattle.tm_report.specs.Lines.{report_text}
 use Rattle.play_rules.specs.Interrupts.{Replies}
 use Rattle.play_rules.specs.Jobs.{first_unknown_job}
@@ -16,7 +17,8 @@ use Rattle.core_world.specs.World.{World}
 use Rattle.step_play.specs.Rules.Seen.{InRun, resting}
 use Rattle.step_play.specs.Rules.StepRules.{step_rules}
 use Rattle.step_play.specs.SamePlay.{core_start}
-use Rattle.story.specs.Stories.{IsBrokenOff, IsMoment, IsStory, IsThreaded}
+use Rattle.story.specs.Rounds.{IsRound}
+use Rattle.story.specs.Stories.{IsBrokenOff, IsMoment, IsStory, IsThreaded, count_due, ops_of}
 use Rattle.play_driver.specs.Conditions.{IsMomentInRange}
 use Rattle.core_plays.specs.OnCore.{EachIsAnsweredFor}
 use Rattle.play_driver.specs.Outcomes.{work_limit}
@@ -82,6 +84,16 @@ pub record TellsThreaded (jobs : Replies) (due : FinSet nat_cmp) (m : Option Mom
   pub played : Played World
   pub is_threaded : IsThreaded jobs due m start played
   pub tells : Tells played old new after
+
+-- a round of so many interrupts was told, with who answers in the moment, whatever core it began
+-- with (no public clause cites it)
+abbrev pub TellsRound : (interrupts : ℕ) → Option Moment → (after : World) → List Line
+    → (old new : Progress) → Type 0
+TellsRound interrupts m after lines old new =
+    (jobs : Replies) (due : FinSet nat_cmp) (start : World)
+    → IsRound jobs start due (ops_of m) after lines
+    → interrupts ≡ count_due (length start.cpus) due
+    → TellsThreaded jobs due m start old new after
 
 -- a moment of a run was told: its lines and its work are one's that it may be (no public clause
 -- cites it)

@@ -16,7 +16,7 @@ ghost use Rattle.story.specs.Stories.{count_due, covers_of, is_hotplug, is_plain
 ghost use Rattle.story.specs.Stories.{runs_told};
 ghost use Rattle.play_driver.specs.Conditions.{AreOnline, IsPlayable};
 ghost use Rattle.tm_driver.specs.Runs.{EndsRunEarly, IsRunMoment, RunsOut, TellsMoment};
-ghost use Rattle.tm_driver.specs.Runs.{TellsThreaded};
+ghost use Rattle.tm_driver.specs.Runs.{TellsRound, TellsThreaded};
 
 use crate::plain_moments::plain_moment;
 use core_facts::law_each_settled;
@@ -127,6 +127,27 @@ fn told_covers(
     }
 }
 
+/// Tells of a round with so many interrupts, which left the core as it is: its lines, and who
+/// answers in the moment.
+fn tell_round(
+    player: &RunPlayer<WheelBase>,
+    interrupts: u16,
+    lines: &[Line],
+    m: Option<&Moment>,
+    telling: &mut Telling<Report>,
+) -> Result<(), NoMemory>
+    requires fit { InRun resting player.now }
+    ensures tells { OnOk result
+        (TellsRound interrupts (option_copied m.entry) player.now lines.now
+        telling.old telling.new) }
+    ensures gains { Gains telling.old.text telling.new.text }
+{
+    telling.count_all(1 + u32::from(interrupts));
+    tell_all(lines, telling)?;
+    told_covers(player, m, telling)?;
+    Ok(())
+}
+
 /// A moment with threads, of which the CPUs that have an interrupt are known.
 fn threaded_moment<J: Jobs + Sync, G: Gate + Sync, R: Threads + Wait + Sync>(
     rt: &R,
@@ -154,10 +175,15 @@ fn threaded_moment<J: Jobs + Sync, G: Gate + Sync, R: Threads + Wait + Sync>(
     let count = count_due(player.cpus(), due);
     let (core, lines) = round(rt, alloc, player.into_core(), due, ops_of(m), jobs, gate)?;
     let player = RunPlayer::new(alloc, core);
-    telling.count_all(1 + u32::from(count));
-    tell_all(lines.as_slice(), telling)?;
-    told_covers(&player, m, telling)?;
-    Ok(player)
+    let told = tell_round(&player, count, lines.as_slice(), m, telling);
+    drop(lines);
+    match told {
+        Ok(()) => Ok(player),
+        Err(refused) => {
+            drop(player);
+            Err(refused)
+        }
+    }
 }
 
 /// The moment of a time, which the clock comes to.
@@ -186,8 +212,13 @@ fn run_turn<J: Jobs + Sync, G: Gate + Sync, R: Threads + Wait + Sync>(
     let due = having_interrupt(&player);
     let m = moment_due(left, now);
     if is_plain(player.cpus(), &due, ops_of(m)) {
-        plain_moment(alloc, &mut player, jobs, &due, m, telling)?;
-        return Ok(player);
+        return match plain_moment(alloc, &mut player, jobs, &due, m, telling) {
+            Ok(()) => Ok(player),
+            Err(refused) => {
+                drop(player);
+                Err(refused)
+            }
+        };
     }
     threaded_moment(rt, alloc, player, jobs, gate, &due, m, telling)
 }
@@ -222,6 +253,7 @@ pub(crate) fn run_moments<J: Jobs + Sync, G: Gate + Sync, R: Threads + Wait + Sy
     while now < script.end {
         player = run_turn(rt, alloc, player, jobs, gate, left, now, telling)?;
         if telling.work() >= limit {
+            drop(player);
             return Err(DriveFault::WorkSpent {
                 count: telling.work(),
             });

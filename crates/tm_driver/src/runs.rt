@@ -57,8 +57,13 @@ fn run_known<J: Jobs + Sync, G: Gate + Sync, R: Threads + Wait + Sync>(
     ensures gains { Gains telling.old.text telling.new.text }
 {
     let player = run_moments(rt, alloc, player, jobs, gate, script, telling)?;
-    close(&player, script.end, telling)?;
-    Ok(player)
+    match close(&player, script.end, telling) {
+        Ok(()) => Ok(player),
+        Err(refused) => {
+            drop(player);
+            Err(refused.into())
+        }
+    }
 }
 
 /// Runs a script from its start into a report, with threads: in a moment each CPU that has an

@@ -26,8 +26,8 @@ threaded_moment-requires-clause-stay g c κs within =
     subst (λ (ops : List Op). list_any (λ o. is_hotplug o.what) ops ≡ false) c.ops_of.ensures
     (stays_out c.cpus.result c.having_interrupt-due.result c.ops_of.result.now (sym c.is_plain.ensures ∙ c.if-is_plain.false))
 
-pub returns-then-is_plain-clause-tells : goal.returns-then-is_plain-clause-tells
-returns-then-is_plain-clause-tells g c =
+pub returns-in-Ok-clause-tells : goal.returns-in-Ok-clause-tells
+returns-in-Ok-clause-tells g c =
     let s = c.set_clock.new.self in
     let due = c.having_interrupt-due.result in
     let by_count : is_plain (length s.cpus) due c.ops_of.result.now ≡ true =
@@ -35,7 +35,7 @@ returns-then-is_plain-clause-tells g c =
     told_plainly (g.J.Jobs.replies c.args.jobs.now) c.args.left.now c.args.now c.args.player c.args.telling.now _ _ s due (option_copied c.moment_due-m.result)
     c.set_clock.ensures.state c.having_interrupt-due.ensures.set c.moment_due-m.ensures
     (subst (λ (ops : List Op). is_plain (length s.cpus) due ops ≡ true) c.ops_of.ensures by_count)
-    c.in_ok-plain_moment.ensures.prints
+    c.in-Ok.ensures.prints
 
 pub returns-clause-tells : goal.returns-clause-tells
 returns-clause-tells g c =

@@ -3,19 +3,19 @@ use Rattle.std.proofs.lemmas.Result.{err_from_is_err_and}
 use Rattle.delayed_work.specs.Play.{Stand, works_played}
 use Rattle.delayed_work.specs.Playable.{Stands}
 use Rattle.delayed_work.proofs.Goings.{stands_end, stands_first, stands_next, stands_spent}
-use Rattle.delayed_work.proofs.play.play_moments.Goals as goal
+use Rattle.delayed_work.proofs.play.all_moments.Goals as goal
 
 pub loop-count-init : goal.loop-count-init
 loop-count-init g c =
     let replies = g.J.Jobs.replies c.args.jobs.now in
     let script = c.args.script.now in
-    let player = c.in_ok-player.player in
+    let player = c.args.player.now in
     subst (λ ms. Stands replies script.end script.count (record { now = 0; moments = ms; count = 0; playing = player }) (works_played replies script))
-    (sym c.as_slice-moments.ensures) (stands_first replies script player c.requires c.in_ok-player.ensures)
+    (sym c.as_slice-moments.ensures) (stands_first replies script player c.requires.script c.requires.start)
 
 pub returns-in_err-work-clause-err : goal.returns-in_err-work-clause-err
 returns-in_err-work-clause-err g c =
-    let gives = err_from_is_err_and c.from_residual-in_err-work.result c.from_residual-in_err-work.ensures.1 in
+    let gives = err_from_is_err_and c.from_residual.result c.from_residual.ensures.1 in
     rw (gives.1, gives.2) tt
 
 pub returns-then-now-script-clause-ok : goal.returns-then-now-script-clause-ok

@@ -2,7 +2,7 @@ use Rattle.std.proofs.Common.{◌-◌}
 use Rattle.tm_base.specs.declared.limits.TheConstants.{WORK_LIMIT_V1}
 use Rattle.delayed_work.specs.Play.{works_played}
 use Rattle.delayed_work.specs.Playable.{Stands}
-use Rattle.delayed_work.proofs.play.play_moments.Given as goal
+use Rattle.delayed_work.proofs.play.all_moments.Given as goal
 
 abbrev pub invariant-loop-count : goal.invariant-loop-count
 invariant-loop-count g l =
