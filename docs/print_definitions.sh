@@ -11,7 +11,7 @@ import difflib, glob, re, sys
 PAGE = "docs/DEFINITIONS.md"
 # The beginning of a definition, also of one in a module: `abbrev` and `unfoldable`, records and data, and plain ones.
 HEADS = (
-    re.compile(r"^\s*(?:abbrev|unfoldable)(?: pub)? ([^\s:({]+)"),
+    re.compile(r"^\s*(?:abbrev|unfoldable)(?! pub use\b)(?: pub)? ([^\s:({]+)"),
     re.compile(r"^\s*(?:pub )?(?:record|data) ([A-Z][^\s:({]*)"),
     re.compile(r"^pub (?!(?:mod|use|record|data)\b)([^\s:({]+)"),
 )

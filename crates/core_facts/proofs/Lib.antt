@@ -4,6 +4,7 @@ pub mod ExchangesOnce
 pub mod ExchangesRead
 pub mod HandingRead
 pub mod HoldersRead
+pub mod Leaves
 pub mod LevelsRead
 pub mod MarkedRead
 pub mod PlacesRead

@@ -2,6 +2,7 @@ pub mod Cover
 pub mod Worked
 pub mod Exchanges
 pub mod Handing
+pub mod Invariant
 pub mod Holders
 pub mod Levels
 pub mod Marked

@@ -20,7 +20,7 @@ ghost use Rattle.core_facts.specs.Stepping.{EachStageLawful};
 ghost use Rattle.core_facts.specs.Told.{EachHasToldOwn};
 ghost use Rattle.core_facts.specs.Walkers.{EachWalkerIs};
 
-use core_laws::law_step;
+pub use core_laws::law_step;
 use core_world::{law_quiet, law_sizes};
 pub use cover_laws::{
     law_always_answered, law_answered, law_cover, law_covered, law_each_settled, law_next_moment,

@@ -15,7 +15,8 @@ use Rattle.play_rules.specs.Moments.{Turn, finished, last_state, moments_after, 
 use Rattle.play_rules.specs.Moments.{spent_at, turn, turn_lines, turns}
 use Rattle.core_plays.specs.Deep.{device_after}
 use Rattle.core_plays.specs.Deep.{told_after, with_device}
-use Rattle.core_plays.specs.Sleepers.{DeepEarly, DeepOut, Tells}
+use Rattle.core_plays.specs.Sleepers.{DeepEarly, DeepOut}
+use Rattle.play_driver.specs.PartLeaves.{Tells}
 use Rattle.play_driver.specs.declared.outcomes.DriveFault.TheVariants.{WorkSpent}
 use Rattle.play_driver.proofs.Turns.{below_test, finished_here, finished_more, spent_here, spent_more}
 use Rattle.play_driver.proofs.Turns.{turns_last, turns_more, turns_some, work_more}

@@ -1,5 +1,5 @@
 -- a broadcast device beside a machine that plays (no public clause cites it)
-use Rattle.std.specs.Prelude.{◌≡◌, ℕ, ◌+◌, ◌<◌, ◌&&◌, ◌||◌, not, true, List, ◌++◌}
+use Rattle.std.specs.Prelude.{◌≡◌, ℕ, ◌<◌, ◌&&◌, ◌||◌, not, true, List, ◌++◌}
 use Rattle.std.specs.Prelude.{Some, None, length, nat_le, option_map}
 use Rattle.std.specs.FinSet.{contains}
 use Rattle.tm_base.specs.CpuSet.{Cpus}
@@ -7,7 +7,7 @@ use Rattle.deep_idle.specs.Device.{AreSettled, DeviceState}
 use Rattle.tm_script.specs.declared.syntax.Script.{Script}
 use Rattle.tm_report.specs.Lines.{report_text}
 use Rattle.play_rules.specs.Rules.{Rules}
-use Rattle.play_rules.specs.Parts.{Gains, Played, Progress, counted}
+use Rattle.play_rules.specs.Parts.{Gains, counted}
 use Rattle.play_rules.specs.Interrupts.{Replies}
 use Rattle.play_rules.specs.Jobs.{first_unknown_job}
 use Rattle.play_rules.specs.Moments.{Turn, closing, finished, last_state, spent_at, turn_lines}
@@ -35,13 +35,6 @@ AnswersDue r s cpus = (c : ℕ) → c < r.cpus s → r.is_online s c ≡ true �
 pub record IsFor {S : Type 0} (r : Rules S) (s : S) (device : DeviceState) : Type 0 where
   pub count : length device.sleepers ≡ r.cpus s
   pub settled : AreSettled (sleep_until r s) device
-
--- the report has gained the lines of a part of a play with the device's, the work is counted, and
--- the machine is in the state that the part leaves
-pub record Tells {S : Type 0} (p : Played S) (old new : Progress) (after : S) : Type 0 where
-  pub text : new.text ≡ old.text ++ report_text p.lines
-  pub work : counted new.work ≡ counted (old.work + p.work)
-  pub state : after ≡ p.state
 
 -- all moments were played, with the device's lines, and the work stayed below the limit
 pub record DeepOut {S : Type 0} (limit : ℕ) (ts deep : List (Turn S)) (start : S)

@@ -13,6 +13,7 @@ mod plays;
 mod sleeping;
 mod starting;
 
+pub use core_machine::RunPlayer;
 pub use deep_plays::deep;
 pub use following::next_moment;
 pub use numbers::Summary;

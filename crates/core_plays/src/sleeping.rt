@@ -8,11 +8,11 @@ ghost use Rattle.play_rules.specs.Machines.{SameBuild};
 ghost use Rattle.play_rules.specs.Moments.{turn};
 ghost use Rattle.play_rules.specs.Phases.{resting};
 ghost use Rattle.play_driver.specs.Conditions.{IsMomentInRange, IsPlayable};
-ghost use Rattle.play_driver.specs.PartLeaves.{PartLeaves};
+ghost use Rattle.play_driver.specs.PartLeaves.{PartLeaves, Tells};
 ghost use Rattle.core_plays.specs.Deep.{device_after, told_after};
 ghost use Rattle.play_driver.specs.Outcomes.{script_turns, work_limit};
 ghost use Rattle.core_plays.specs.Sleepers.{ByWakeups, DeepEarly, DeepOut, DeepWhole, IsFor};
-ghost use Rattle.core_plays.specs.Sleepers.{SaysDeep, Tells, script_deep};
+ghost use Rattle.core_plays.specs.Sleepers.{SaysDeep, script_deep};
 
 use crate::devices::{fire_at, interrupted, settle_after};
 use deep_idle::Device;

@@ -1,6 +1,6 @@
 -- for crates above: what follows of a world that fits
 use Rattle.core_world.specs.World.{World, scene_of}
-use Rattle.core_laws.specs.Walks.Fit.{WalksFit}
+use Rattle.core_facts.specs.Invariant.{WalksFit}
 use Rattle.core_state.specs.Kept.{WorldFits}
 
 pub walks_fit : (w : World) → WorldFits w → WalksFit w.tree (scene_of w)

@@ -12,7 +12,7 @@ use Rattle.tree_plan.specs.Paths.{bit_in, bit_of, child_towards, group_at_of, gr
 use Rattle.tree_plan.specs.Paths.{is_placed_in, parent_of}
 use Rattle.walk_rules.specs.Hierarchy.{side}
 use Rattle.core_state.specs.Kept.{HasLevel}
-use Rattle.core_laws.proofs.Walks.Stands.{leaf_or}
+use Rattle.core_facts.proofs.Leaves.{leaf_or}
 
 -- a group that is read where the path has one
 pub on_in_range : (t : Shape) (c l : ℕ) (o : Option GroupId) (r : GroupId) → PathLaws t

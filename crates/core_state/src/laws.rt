@@ -3,8 +3,7 @@
 
 ghost use Rattle.core_state.specs.Kept.{WorldsStayFit};
 
-use core_facts::{law_height, law_replay};
-use core_laws::law_step;
+use core_facts::{law_height, law_replay, law_step};
 use core_world::law_sizes;
 
 /// No step leaves what a core relies on.

@@ -11,5 +11,4 @@ pub mod Queued
 pub mod EntryKinds
 pub mod Ends
 pub mod Opens
-pub mod Runs
 pub mod Counts

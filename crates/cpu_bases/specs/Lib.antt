@@ -4,4 +4,3 @@ pub mod CpuBases
 pub mod Trio
 pub mod Replay
 pub mod Laws
-pub mod Calls

@@ -3,14 +3,12 @@
 #![tactic(auto)]
 
 mod bases;
-mod calls;
 mod entry;
 mod journal;
 mod laws;
 mod trio;
 
 pub use bases::Bases;
-pub use calls::{BasesAnswer, BasesCall, make_calls};
 pub use entry::{Act, Entry, NextEvents};
 pub use journal::Journal;
 pub use laws::{law_bases, law_calls, law_journals};

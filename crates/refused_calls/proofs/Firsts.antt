@@ -13,7 +13,7 @@ use Rattle.shared_rule.specs.Parts.{HeldPart}
 use Rattle.shared_rule.specs.Passes.{HeldPass, IsOfRun, Seated}
 use Rattle.shared_rule.specs.Starts.{first_pass_of}
 use Rattle.shared_table.specs.Begun.{begun_pass}
-use Rattle.remote_expiry.specs.declared.runs.Ran.{Ran}
+use Rattle.remote_expiry.specs.Runs.{Ran}
 use Rattle.remote_expiry.specs.Interrupts.{HasInterrupted, NotInterrupted, interrupt_fault}
 use Rattle.timer_calls.specs.Arms.{NotArmed}
 

@@ -33,11 +33,10 @@ use Rattle.shared_timers.specs.Entries.{pair_changed}
 use Rattle.shared_timers.specs.Exchanging.{timer_word}
 use Rattle.timer_calls.specs.Arms.{HasArmed, IsQueued, MetBy, NotArmed, arming_of, met}
 use Rattle.timer_calls.specs.Arms.{roomy}
-use Rattle.remote_expiry.specs.declared.runs.RanReply.TheVariants as ran
-use Rattle.remote_expiry.specs.Pieces.{Gains, HeldInside, Piece}
+use Rattle.remote_parts.specs.declared.runs.RanReply.TheVariants as ran
+use Rattle.remote_parts.specs.Pieces.{Gains, HeldInside, Piece}
+use Rattle.remote_parts.proofs.Gaining.{begins_then, known_more, no_piece, none_gained, piece_of}
 use Rattle.remote_expiry.specs.Running.{HasAnswered, holder_told}
-use Rattle.remote_expiry.proofs.Gaining.{begins_then, known_more, no_piece, none_gained}
-use Rattle.remote_expiry.proofs.Gaining.{piece_of}
 
 -- a pass inside its interrupt, and the part of its CPU as it met it
 module _ (table : TableId) (o : World) (now : ℕ) (now_is : now ≡ o.clock) (held : HeldPass)

@@ -18,16 +18,17 @@ use Rattle.shared_rule.specs.declared.parts.PassView.{PassView}
 use Rattle.shared_rule.specs.declared.parts.Receipt.{Receipt}
 use Rattle.shared_rule.specs.Passes.{HeldPass}
 use Rattle.shared_table.specs.declared.ready.TheConstants.{MOST_MADE}
-use Rattle.remote_expiry.specs.declared.runs.Ran.{Ran}
-use Rattle.remote_expiry.specs.Following.{Follows}
-use Rattle.remote_expiry.specs.Interrupts.{HasGained, HasTicked, IsAtRest, own_walk}
-use Rattle.remote_expiry.specs.Interrupts.{NotInterrupted, Tells, interrupt_fault, interrupt_fault_of}
-use Rattle.remote_expiry.specs.Looks.{LooksFrom}
-use Rattle.remote_expiry.specs.Pieces.{Gains, Piece, deeds_of}
-use Rattle.remote_expiry.specs.Trying.{AtWork, BreaksOff, HasClosed, HasEntered, HasWorked}
-use Rattle.remote_expiry.specs.Trying.{IsDone, IsEnterable, IsRefusedIn}
-use Rattle.remote_expiry.proofs.Gaining as gaining
-use Rattle.remote_expiry.proofs.Served.{still_at_work}
+use Rattle.remote_parts.specs.declared.runs.Ran.{Ran}
+use Rattle.remote_parts.specs.Following.{Follows}
+use Rattle.remote_parts.specs.Interrupts.{HasTicked, own_walk}
+use Rattle.remote_parts.specs.Looks.{LooksFrom}
+use Rattle.remote_parts.specs.Pieces.{Gains, Piece, deeds_of}
+use Rattle.remote_parts.specs.Tries.{AtWork, BreaksOff, HasClosed}
+use Rattle.remote_expiry.specs.Interrupts.{HasGained, IsAtRest, NotInterrupted, Tells}
+use Rattle.remote_expiry.specs.Interrupts.{interrupt_fault, interrupt_fault_of}
+use Rattle.remote_expiry.specs.Trying.{HasEntered, HasWorked, IsDone, IsEnterable, IsRefusedIn}
+use Rattle.remote_parts.proofs.Gaining as gaining
+use Rattle.remote_parts.proofs.Served.{still_at_work}
 
 -- who isn't refused is online, and has walks left
 pub not_refused : (online : Bool) (walks : ℕ) → interrupt_fault_of online walks ≡ None

@@ -16,14 +16,13 @@ use Rattle.shared_rule.specs.declared.parts.Did.{Did}
 use Rattle.shared_rule.specs.declared.parts.PassView.{PassView}
 use Rattle.shared_rule.specs.declared.parts.Receipt.{Receipt}
 use Rattle.shared_rule.specs.Passes.{HeldPass, IsPassIn}
-use Rattle.remote_expiry.specs.declared.runs.Ran.{Ran}
-use Rattle.remote_expiry.specs.Following.{Follows}
-use Rattle.remote_expiry.specs.Pieces.{Piece, RanAll, RanSome}
-use Rattle.remote_expiry.specs.Running.{Arms, HasAnswered, HasRun, HasToldNone, HasToldRun}
-use Rattle.remote_expiry.specs.Running.{IsOf, IsRan}
-use Rattle.remote_expiry.specs.Running.{call_to}
-use Rattle.remote_expiry.proofs.Follow.{told_wider}
-use Rattle.remote_expiry.proofs.Gaining.{no_piece, piece_then, receipts_then}
+use Rattle.remote_parts.specs.declared.runs.Ran.{Ran}
+use Rattle.remote_parts.specs.Following.{Follows}
+use Rattle.remote_parts.specs.Pieces.{Piece, RanAll, RanSome}
+use Rattle.remote_parts.proofs.Follow.{told_wider}
+use Rattle.remote_parts.proofs.Gaining.{no_piece, piece_then, receipts_then}
+use Rattle.remote_expiry.specs.Running.{Arms, HasAnswered, HasRun, HasToldNone, HasToldRun, IsOf}
+use Rattle.remote_expiry.specs.Running.{IsRan, call_to}
 use Rattle.remote_expiry.proofs.Running.{AllOf, SomeOf, all_more, all_run, all_wider, some_more}
 use Rattle.remote_expiry.proofs.Running.{some_run, some_skip}
 

@@ -20,18 +20,19 @@ use Rattle.shared_rule.specs.declared.parts.Deed.TheVariants as deeds
 use Rattle.shared_rule.specs.declared.parts.Did.{Did}
 use Rattle.shared_rule.specs.declared.parts.Receipt.{Receipt}
 use Rattle.shared_rule.specs.Passes.{HeldPass}
-use Rattle.remote_expiry.specs.declared.runs.Ran.{Ran}
-use Rattle.remote_expiry.specs.Looks.{HasEnded, HasLooked, IsClosed, IsLeft, IsServed, IsTried}
-use Rattle.remote_expiry.specs.Looks.{LooksFrom, saw}
-use Rattle.remote_expiry.specs.Pieces.{Piece, Works, deeds_of}
-use Rattle.remote_expiry.specs.Trying.{AtWork, BreaksOff, BreaksRound, HasClimbed, HasRounds}
-use Rattle.remote_expiry.specs.Trying.{SeesEnd, SeesNothing, TriesOne}
+use Rattle.remote_parts.specs.declared.runs.Ran.{Ran}
+use Rattle.remote_parts.specs.Looks.{HasEnded, HasLooked, IsClosed, IsLeft, IsServed, IsTried}
+use Rattle.remote_parts.specs.Looks.{LooksFrom, saw}
+use Rattle.remote_parts.specs.Pieces.{Piece, Works, deeds_of}
+use Rattle.remote_parts.specs.Tries.{AtWork, BreaksOff}
+use Rattle.remote_expiry.specs.Trying.{BreaksRound, HasClimbed, HasRounds, SeesEnd, SeesNothing}
+use Rattle.remote_expiry.specs.Trying.{TriesOne}
 use Rattle.walk_rules.specs.Hierarchy.{side}
 use Rattle.shared_cpus.specs.Pairs.{cpu_place}
-use Rattle.timer_calls.specs.Sights.{LooksBy, slot_looks, state_look}
+use Rattle.remote_looks.specs.Sights.{LooksBy, slot_looks, state_look}
+use Rattle.remote_parts.proofs.Served.{deeds_behind, idle_work, still_at_work, works_break}
+use Rattle.remote_parts.proofs.Served.{works_then}
 use Rattle.remote_expiry.proofs.Counted.{count_below, few_below, more_below}
-use Rattle.remote_expiry.proofs.Served.{deeds_behind, idle_work, still_at_work, works_break}
-use Rattle.remote_expiry.proofs.Served.{works_then}
 
 -- WITHIN: what one list contains another does
 abbrev pub Within : (rs more : List Receipt) → Type 0

@@ -16,17 +16,17 @@ use Rattle.shared_rule.specs.declared.parts.Look.{Look}
 use Rattle.shared_rule.specs.declared.parts.PassView.{PassView}
 use Rattle.shared_rule.specs.Plays.{seen_pass}
 use Rattle.shared_rule.specs.Passes.{HeldPass, IsPassIn, with_pass}
-use Rattle.timer_calls.specs.Looks.{seen_all}
-use Rattle.timer_calls.specs.Sights.{IsOthers, ShowsDue, ShowsNothing, slot_looks, state_look}
-use Rattle.remote_expiry.specs.declared.runs.Ran.{Ran}
-use Rattle.remote_expiry.specs.Interrupts.{walks_by}
-use Rattle.remote_expiry.specs.Looks.{IsTried, saw}
-use Rattle.remote_expiry.specs.Pieces.{Piece, deeds_of}
-use Rattle.remote_expiry.specs.Trying.{BreaksOff, BreaksRound, HasTried, SeesEnd}
-use Rattle.remote_expiry.specs.Trying.{SeesNothing, TriesOne}
-use Rattle.remote_expiry.proofs.Gaining as gaining
+use Rattle.remote_looks.specs.Looks.{seen_all}
+use Rattle.remote_looks.specs.Sights.{IsOthers, ShowsDue, ShowsNothing, slot_looks, state_look}
+use Rattle.remote_parts.specs.declared.runs.Ran.{Ran}
+use Rattle.remote_parts.specs.Interrupts.{walks_by}
+use Rattle.remote_parts.specs.Looks.{IsTried, saw}
+use Rattle.remote_parts.specs.Pieces.{Piece, deeds_of}
+use Rattle.remote_parts.specs.Tries.{BreaksOff, HasTried}
+use Rattle.remote_expiry.specs.Trying.{BreaksRound, SeesEnd, SeesNothing, TriesOne}
+use Rattle.remote_parts.proofs.Gaining as gaining
+use Rattle.remote_parts.proofs.Served.{idle_work, works_break, works_then}
 use Rattle.remote_expiry.proofs.Levels.{tried_before}
-use Rattle.remote_expiry.proofs.Served.{idle_work, works_break, works_then}
 
 -- loads as deeds, done when the pass had so many receipts
 abbrev pub loads : (held : ℕ) → List Look → List Did

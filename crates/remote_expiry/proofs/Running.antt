@@ -14,15 +14,14 @@ use Rattle.job_table.specs.declared.jobs.JobReply.{JobReply}
 use Rattle.job_table.specs.declared.jobs.JobReply.TheVariants as replies
 use Rattle.shared_rule.specs.declared.parts.Did.{Did}
 use Rattle.shared_rule.specs.declared.parts.Receipt.{Receipt}
-use Rattle.remote_expiry.specs.declared.runs.Ran.{Ran}
-use Rattle.remote_expiry.specs.declared.runs.RanReply.{RanReply}
-use Rattle.remote_expiry.specs.declared.runs.RanReply.TheVariants as ran
-use Rattle.remote_expiry.specs.Following.{Follows, FollowsBy, IsOwed, IsRunOf}
-use Rattle.remote_expiry.specs.Following.{IsTold, Owed, RunsOfSome, call_of, owed_by}
-use Rattle.remote_expiry.specs.Pieces.{HandsOut, IsHandOut}
-use Rattle.remote_expiry.specs.Running.{Arms, IsOf, IsRan}
-use Rattle.remote_expiry.specs.Running.{call_to}
-use Rattle.remote_expiry.proofs.Follow.{Wider, told_wider}
+use Rattle.remote_parts.specs.declared.runs.Ran.{Ran}
+use Rattle.remote_parts.specs.declared.runs.RanReply.{RanReply}
+use Rattle.remote_parts.specs.declared.runs.RanReply.TheVariants as ran
+use Rattle.remote_parts.specs.Following.{Follows, FollowsBy, IsOwed, IsRunOf, IsTold, Owed}
+use Rattle.remote_parts.specs.Following.{RunsOfSome, call_of, owed_by}
+use Rattle.remote_parts.specs.Pieces.{HandsOut, IsHandOut}
+use Rattle.remote_parts.proofs.Follow.{Wider, told_wider}
+use Rattle.remote_expiry.specs.Running.{Arms, IsOf, IsRan, call_to}
 
 -- SOME of these timers are told, in their order
 unfoldable pub SomeOf : (home : ℕ) → List Item → List Ran → Type 0

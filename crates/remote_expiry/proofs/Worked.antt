@@ -11,13 +11,14 @@ use Rattle.job_table.specs.declared.jobs.JobCall.{JobCall}
 use Rattle.job_table.specs.declared.jobs.JobReply.{JobReply}
 use Rattle.shared_rule.specs.declared.parts.Receipt.{Receipt}
 use Rattle.shared_rule.specs.Passes.{HeldPass}
-use Rattle.remote_expiry.specs.declared.runs.Ran.{Ran}
-use Rattle.remote_expiry.specs.Interrupts.{HasTicked}
-use Rattle.remote_expiry.specs.Looks.{LooksFrom}
-use Rattle.remote_expiry.specs.Pieces.{Breaks, HasDrained, deeds_of}
-use Rattle.remote_expiry.specs.Trying.{BreaksOff, HasClimbed, HasDrainedAll, HasWorked}
+use Rattle.remote_parts.specs.declared.runs.Ran.{Ran}
+use Rattle.remote_parts.specs.Interrupts.{HasTicked}
+use Rattle.remote_parts.specs.Looks.{LooksFrom}
+use Rattle.remote_parts.specs.Pieces.{Breaks, HasDrained, deeds_of}
+use Rattle.remote_parts.specs.Tries.{BreaksOff}
+use Rattle.remote_parts.proofs.Served.{deeds_behind, works_break, works_then}
+use Rattle.remote_expiry.specs.Trying.{HasClimbed, HasDrainedAll, HasWorked}
 use Rattle.remote_expiry.proofs.Levels.{Within, looks_behind, within_left, within_right}
-use Rattle.remote_expiry.proofs.Served.{deeds_behind, works_break, works_then}
 
 -- a drain is among more receipts
 ticked_among : (cpu : ℕ) (class : Class) (rs more : List Receipt) → Within rs more

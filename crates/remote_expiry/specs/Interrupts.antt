@@ -1,59 +1,30 @@
 -- THE INTERRUPT of a CPU, as its pass tells it
-use Rattle.std.specs.Prelude.{◌≡◌, ◌+◌, ◌<◌, ◌≤◌, ℕ, Bool, false, not, List, [], ◌++◌}
-use Rattle.std.specs.Prelude.{Contains, MatchResult, Result, length, map, slice_get, suc, ◌∷◌}
-use Rattle.std.specs.Prelude.{Option, Some, None, nat_le, if◌then◌else◌}
+use Rattle.std.specs.Prelude.{◌≡◌, ℕ, ◌+◌, ◌≤◌, Bool, false, not, List, [], ◌++◌, MatchResult}
+use Rattle.std.specs.Prelude.{Result, length, map, Option, Some, None, nat_le, if◌then◌else◌}
 use Rattle.atomic_table.specs.Seated.{TableId}
 use Rattle.tm_base.specs.declared.faults.OpFault.{OpFault}
 use Rattle.tm_base.specs.declared.faults.OpFault.TheVariants as faults
 use Rattle.tm_base.specs.declared.names.Class.{Class}
-use Rattle.cpu_bases.specs.declared.entry.Act.TheVariants.{Ticked}
 use Rattle.cpu_bases.specs.declared.entry.Entry.{Entry}
 use Rattle.tree_plan.specs.Paths.{level_count_of}
 use Rattle.core_world.specs.World.{World, cpu_of}
 use Rattle.job_table.specs.declared.jobs.JobCall.{JobCall}
 use Rattle.job_table.specs.declared.jobs.JobReply.{JobReply}
-use Rattle.shared_rule.specs.declared.parts.Deed.{Deed}
-use Rattle.shared_rule.specs.declared.parts.Deed.TheVariants as deeds
 use Rattle.shared_rule.specs.declared.parts.Did.{Did}
 use Rattle.shared_rule.specs.declared.parts.PassView.{PassView}
 use Rattle.shared_rule.specs.declared.parts.Receipt.{Receipt}
 use Rattle.shared_rule.specs.Passes.{HeldPass, IsPassIn}
 use Rattle.shared_rule.specs.Shows.{BeginsWith}
-use Rattle.remote_expiry.specs.declared.runs.Ran.{Ran}
+use Rattle.remote_parts.specs.declared.runs.Ran.{Ran}
 use Rattle.shared_table.specs.declared.ready.TheConstants.{MOST_MADE}
-use Rattle.remote_expiry.specs.Following.{Follows, RunsOfSome}
-use Rattle.remote_expiry.specs.Looks.{LooksFrom}
+use Rattle.remote_parts.specs.Following.{Follows, RunsOfSome}
+use Rattle.remote_parts.specs.Looks.{LooksFrom}
+pub use Rattle.remote_parts.specs.Interrupts.{HasTicked, KnowsOwn, own_walk, walks_by}
 
 -- the most walks that an interrupt begins: one for each CPU that it tries on three levels, and its
 -- own re-evaluation
 abbrev pub most_walks : ℕ
 most_walks = 1537
-
--- a CPU drained its own base of a class
-pub record HasTicked (cpu : ℕ) (class : Class) (receipts : List Receipt) : Type 0 where
-  pub receipt : Receipt
-  pub has : Contains receipts receipt
-  pub home : receipt.cpu.0 ≡ cpu
-  pub by : receipt.entry.by.0 ≡ cpu
-  pub act : receipt.entry.act ≡ Ticked
-  pub of_class : receipt.entry.class ≡ class
-
--- the entries of its CPU's own journal for which a pass has receipts are among those that it knows
-abbrev pub KnowsOwn : PassView → Type 0
-KnowsOwn p = (i : ℕ) (r : Receipt) → slice_get p.receipts i ≡ Some r → r.cpu.0 ≡ p.cpu
-    → r.place < length p.journal
-
--- THE WALKS that these deeds ended: one for each CPU whose next event was carried upwards
-abbrev pub walks_by : List Deed → ℕ
-walks_by [] = 0
-walks_by (deeds.Saw word found ∷ rest) = walks_by rest
-walks_by (deeds.Took cpu ∷ rest) = walks_by rest
-walks_by (deeds.Carried cpu next ∷ rest) = suc (walks_by rest)
-walks_by (deeds.Released cpu ∷ rest) = walks_by rest
-
--- and that of the CPU itself at its end: an idle one tells its next event anew
-abbrev pub own_walk : (idle : Bool) → ℕ
-own_walk idle = if idle then 1 else 0
 
 -- what a pass has gained in an interrupt, whatever it answers: receipts and deeds at the ends; its
 -- CPU is as idle as before and outside again, no mark is left, and just these walks were begun,

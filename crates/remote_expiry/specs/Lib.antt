@@ -1,8 +1,6 @@
 pub mod Runs
+pub mod Replies
 pub mod Following
-pub mod Looks
 pub mod Interrupts
-pub mod Pieces
-pub mod Handing
 pub mod Running
 pub mod Trying

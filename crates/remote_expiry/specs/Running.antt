@@ -15,11 +15,11 @@ use Rattle.job_table.specs.declared.jobs.JobReply.TheVariants as replies
 use Rattle.shared_rule.specs.declared.parts.Did.{Did}
 use Rattle.shared_rule.specs.declared.parts.Receipt.{Receipt}
 use Rattle.shared_rule.specs.Passes.{HeldPass}
-use Rattle.remote_expiry.specs.declared.runs.Ran.{Ran}
-use Rattle.remote_expiry.specs.declared.runs.RanReply.{RanReply}
-use Rattle.remote_expiry.specs.declared.runs.RanReply.TheVariants as ran
-use Rattle.remote_expiry.specs.Following.{IsTold}
-use Rattle.remote_expiry.specs.Pieces.{Piece}
+use Rattle.remote_parts.specs.declared.runs.Ran.{Ran}
+use Rattle.remote_parts.specs.declared.runs.RanReply.{RanReply}
+use Rattle.remote_parts.specs.declared.runs.RanReply.TheVariants as ran
+use Rattle.remote_parts.specs.Following.{IsTold}
+use Rattle.remote_parts.specs.Pieces.{Piece}
 
 -- the CPU that a refusal to arm names
 abbrev pub holder_told : OpFault → Option CpuId

@@ -1,8 +1,4 @@
--- what an interrupt ran, as its holder sees it
-use Rattle.std.specs.Prelude.{ℕ, List}
-use Rattle.remote_expiry.specs.declared.runs.Ran.{Ran}
-
--- the timers run, and for how many there is memory
-pub record RoomyRuns : Type 0 where
-  pub runs : List Ran
-  pub capacity : ℕ
+-- what an interrupt ran, as remote_parts has it, for crates above
+pub use Rattle.remote_parts.specs.declared.runs.Ran.{Ran}
+pub use Rattle.remote_parts.specs.declared.runs.RanReply.{RanReply}
+pub use Rattle.remote_parts.specs.Runs.{RoomyRuns}

@@ -5,16 +5,17 @@ ghost use Rattle.tm_base.specs.declared.names.TheConstants.{TIME_LIMIT};
 ghost use Rattle.shared_rule.specs.declared.parts.PassView.{PassView};
 ghost use Rattle.shared_rule.specs.Passes.{IsOfRun, IsPassIn};
 ghost use Rattle.shared_table.specs.Begun.{IsFree};
+ghost use Rattle.remote_parts.specs.Tries.{AtWork, BreaksOff, HasClosed};
 ghost use Rattle.remote_expiry.specs.Interrupts.{IsAtRest, Tells, interrupt_fault_of};
-ghost use Rattle.remote_expiry.specs.Trying.{AtWork, BreaksOff, HasClosed, HasDrainedAll};
-ghost use Rattle.remote_expiry.specs.Trying.{HasWorked, IsDone, IsEnterable, IsEntered};
+ghost use Rattle.remote_expiry.specs.Trying.{HasDrainedAll, HasWorked, IsDone, IsEnterable};
+ghost use Rattle.remote_expiry.specs.Trying.{IsEntered};
 
 use crate::draining::drain_own;
 use crate::looking::look_up;
-use crate::runs::Runs;
 use cpu_word::CpuState;
 use job_table::Jobs;
-use shared_cpus::{enter_step, leave_step};
+use remote_parts::{Runs, leave_part};
+use shared_cpus::enter_step;
 use shared_rule::{BoxPart, Pass, Run, RunName, bring, part_off};
 use shared_table::{CpuBox, MOST_MADE, Shared};
 use std::alloc::Global;
@@ -106,22 +107,6 @@ fn retell_part<N: RunName, B: TimerBase, G: Gate, R: Wait>(
     bring(shared.run(), part, pass);
     carry(rt, shared, part, gate);
     part_off(shared.run(), part, pass);
-}
-
-/// An awake CPU leaves its interrupt, with its own pass.
-fn leave_part<N: RunName, B: TimerBase>(run: &Run<N, B>, part: &mut BoxPart<N, B>, pass: &mut Pass)
-    requires at_work { AtWork N.table N.opening [] 1 pass.old }
-    requires own { pass.old.cpu ≡ part.old.box.cpu }
-    requires free { IsFree part.old }
-    requires awake { part.old.box.own.idle ≡ false }
-    ensures free { IsFree part.new }
-    ensures closed { HasClosed N.table pass.old pass.new }
-{
-    pass.law();
-    part.law();
-    bring(run, part, pass);
-    leave_step(run, part);
-    part_off(run, part, pass);
 }
 
 /// The interrupt of a part's CPU ends: where the CPU is idle it tells its next event anew, and else

@@ -2,12 +2,12 @@
 
 ghost use Rattle.std.specs.Prelude.{◌≡◌, ◌+◌, ◌-◌, ◌^◌, ◌<◌, ◌≤◌, [], All, MatchResult, length};
 ghost use Rattle.tm_base.specs.declared.names.TheConstants.{TIME_LIMIT};
-ghost use Rattle.remote_expiry.specs.Pieces.{HeldInside, IsTimerOf, Piece, RanAll, RanSome};
+ghost use Rattle.remote_parts.specs.Pieces.{HeldInside, IsTimerOf, Piece, RanAll, RanSome};
 ghost use Rattle.remote_expiry.specs.Running.{HasAnswered, HasRun, HasToldNone, HasToldRun};
 ghost use Rattle.remote_expiry.specs.Running.{holder_told};
 
-use crate::runs::{Ran, RanReply, Runs};
 use job_table::{JobCall, JobReply, Jobs};
+use remote_parts::{Ran, RanReply, Runs};
 use shared_rule::{Pass, RunName};
 use shared_table::Shared;
 use std::sync::Wait;

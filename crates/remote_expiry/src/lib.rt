@@ -7,8 +7,7 @@ mod interrupting;
 mod jobs;
 mod looking;
 mod marking;
-mod runs;
 mod serving;
 
 pub use interrupting::interrupt;
-pub use runs::{Ran, RanReply, Runs};
+pub use remote_parts::{Ran, RanReply, Runs};

@@ -3,17 +3,17 @@
 ghost use Rattle.std.specs.Prelude.{◌≡◌, ℕ, ◌-◌, ◌^◌, ◌≤◌, [], Some, true, MatchResult, length};
 ghost use Rattle.tm_base.specs.declared.names.TheConstants.{TIME_LIMIT};
 ghost use Rattle.tree_plan.specs.Paths.{group_at_of, is_placed_in, level_count_of};
-ghost use Rattle.remote_expiry.specs.Trying.{AtWork, BreaksOff, BreaksRound, HasClimbed};
-ghost use Rattle.remote_expiry.specs.Trying.{HasRounds, IsRound};
+ghost use Rattle.remote_parts.specs.Tries.{AtWork, BreaksOff};
+ghost use Rattle.remote_expiry.specs.Trying.{BreaksRound, HasClimbed, HasRounds, IsRound};
 
-use crate::runs::Runs;
 use crate::serving::serve;
 use job_table::Jobs;
+use remote_looks::{Look, look};
+use remote_parts::Runs;
 use shared_rule::{Pass, Run, RunName};
 use shared_table::Shared;
 use std::alloc::Global;
 use std::sync::Wait;
-use timer_calls::{Look, look};
 use tm_base::{CPU_SET_SIZE, CpuSet, Gate, Jiffy, NoMemory};
 use tree_plan::{law_cuts, law_paths};
 use wheel_core::TimerBase;

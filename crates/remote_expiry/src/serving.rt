@@ -6,61 +6,24 @@ ghost use Rattle.tree_plan.specs.Paths.{is_placed_in};
 ghost use Rattle.walk_rules.specs.Hierarchy.{HasGroup};
 ghost use Rattle.shared_rule.specs.Slots.{IsGrouped};
 ghost use Rattle.shared_table.specs.Begun.{IsFree};
-ghost use Rattle.remote_expiry.specs.Pieces.{Piece};
-ghost use Rattle.remote_expiry.specs.Trying.{AtWork, BreaksOff, HasLetGo, HasTried, IsRunnable};
-ghost use Rattle.remote_expiry.specs.Trying.{TakesOrLeaves};
+ghost use Rattle.remote_parts.specs.Pieces.{Piece};
+ghost use Rattle.remote_parts.specs.Tries.{AtWork, BreaksOff, HasLetGo, HasTried, IsRunnable};
+ghost use Rattle.remote_parts.specs.Tries.{TakesOrLeaves};
 
-use crate::draining::{hand_all, room_for};
 use crate::jobs::run_all;
-use crate::marking::{carry_for, mark, take_back};
-use crate::runs::Runs;
+use crate::marking::carry_for;
 use job_table::Jobs;
+use remote_looks::may_take;
+use remote_parts::{Runs, take_back, take_part};
 use shared_rule::{BoxPart, Pass, Run, RunName};
 use shared_table::{CpuBox, Shared};
 use std::alloc::Global;
 use std::sync::Wait;
-use timer_calls::may_take;
-use tm_base::{Class, CpuId, Gate, Jiffy, NoMemory, Point};
+use tm_base::{CpuId, Gate, Jiffy, NoMemory};
 use wheel_core::{Item, TimerBase};
 
-/// The CPU of the pass marks that of the part, where that may be, and takes all that is due out of
+/// The CPU of the pass marks that of the box, where that may be, and takes all that is due out of
 /// its global base. It answers whether it did.
-fn take_part<N: RunName, B: TimerBase, G: Gate>(
-    run: &Run<N, B>,
-    part: &mut BoxPart<N, B>,
-    pass: &mut Pass,
-    now: Jiffy,
-    gate: &G,
-    items: &mut Vec<Item>,
-    runs: &mut Runs,
-) -> Result<bool, NoMemory>
-    requires at_work { AtWork N.table N.opening [] 1 pass.old }
-    requires placed { is_placed_in N.opening.tree pass.old.cpu ≡ true }
-    requires grouped { HasGroup N.opening.tree part.old.box.cpu }
-    requires free { IsFree part.old }
-    requires now { now ≡ N.opening.clock }
-    requires none { items.old.items ≡ [] }
-    ensures free { IsFree part.new }
-    ensures done { MatchResult result
-        (TakesOrLeaves N.table N.opening part.old.box.cpu items.new.items pass.old pass.new)
-        (λ e. Piece N.table pass.old pass.new [] [] 0) }
-    ensures runs { runs.new.runs ≡ runs.old.runs }
-    ensures runnable { IfOk result (λ taken. taken ≡ true
-        → IsRunnable N.opening items.new.items (length runs.new.runs) runs.new.capacity) }
-{
-    pass.law();
-    part.law();
-    room_for(part, pass, Class::Global, items, runs)?;
-    if !may_take(run, part, pass, now) {
-        return Ok(false);
-    }
-    mark(run, part, pass);
-    gate.at(pass.cpu(), 0, Point::BeforeRemoteRun);
-    hand_all(run, part, pass, now, Class::Global, items);
-    Ok(true)
-}
-
-/// The same in the box of a CPU.
 fn take_box<N: RunName, B: TimerBase, G: Gate>(
     run: &Run<N, B>,
     cpu_box: &mut CpuBox<N, B>,

@@ -7,13 +7,13 @@ use Rattle.core_facts.specs.Exchanges.{EachGoesOn}
 use Rattle.core_facts.specs.Holders.{EachLockIsHeld}
 use Rattle.core_facts.specs.Levels.{EachLevelIsLow, LevelsStayFit}
 use Rattle.core_facts.specs.Marked.{EachMarkFits}
+use Rattle.core_facts.specs.Invariant.{StepsStayLawful}
 use Rattle.core_facts.specs.Places.{EachPlaceFits}
 use Rattle.core_facts.specs.Played.{EachAddsReplay, StaysPlayed}
 use Rattle.core_facts.specs.Ranges.{EachInRange}
 use Rattle.core_facts.specs.Reach.{EachKeeps}
 use Rattle.core_facts.specs.Told.{EachHasToldOwn}
 use Rattle.core_facts.specs.Walkers.{EachWalkerIs}
-use Rattle.core_laws.specs.Laws.{StepsStayLawful}
 
 -- what is true of every lawful core and of every step: each law as the crate that has it says it
 pub record CoreLaws : Type 0 where

@@ -14,3 +14,4 @@ pub mod Receipts
 pub mod Parts
 pub mod Passes
 pub mod Slots
+pub mod Free

@@ -18,9 +18,8 @@ ghost use Rattle.shared_rule.specs.TimerLaws.{ArmStays, CancelStays, HandStays};
 
 use core_facts::{
     law_bounds, law_frame, law_height, law_lock, law_mark, law_once_a_level, law_own_event,
-    law_place, law_replay, law_rest, law_walker,
+    law_place, law_replay, law_rest, law_step, law_walker,
 };
-use core_laws::law_step;
 use core_world::law_sizes;
 use tree_plan::{law_cuts, law_paths};
 

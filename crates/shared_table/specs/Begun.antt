@@ -8,15 +8,9 @@ use Rattle.shared_rule.specs.declared.parts.PassView.{PassView}
 use Rattle.shared_rule.specs.Rule.{Me, seat_of}
 use Rattle.shared_rule.specs.Starts.{first_pass_of, first_whole}
 use Rattle.shared_rule.specs.Whole.{box_of}
-use Rattle.shared_rule.specs.Parts.{HeldPart}
+pub use Rattle.shared_rule.specs.Free.{IsFree}
 use Rattle.shared_rule.specs.Passes.{HeldPass}
-use Rattle.shared_table.specs.Readied.{HasNoneBehind, IsRoomFor}
-
--- FREE: a part that lies behind its CPU's lock has no walk and no pass, and no base is behind
-pub record IsFree (p : HeldPart) : Type 0 where
-  pub walkless : p.box.own.walk ≡ None
-  pub alone : p.brought ≡ []
-  pub whole : HasNoneBehind p.box.own.bases
+use Rattle.shared_table.specs.Readied.{IsRoomFor}
 
 -- the box part of a CPU as a run begins (no public clause cites it)
 abbrev pub first_box_of : World → ℕ → BoxView

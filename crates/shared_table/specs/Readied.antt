@@ -1,15 +1,13 @@
 -- a table that no thread has yet, as its holder sees it
 use Rattle.std.specs.Prelude.{◌≡◌, ℕ, ◌≤◌, List, [], length}
-use Rattle.tm_base.specs.declared.names.Class.{Class}
-use Rattle.wheel_core.specs.PlainBase.{NoneBehind}
 use Rattle.atomic_table.specs.Seated.{TableId}
-use Rattle.cpu_bases.specs.CpuBases.{CpuBases, base_of}
 use Rattle.core_world.specs.Covered.{IsSettled}
 use Rattle.core_world.specs.World.{CpuRecord, World, cpu_of}
 use Rattle.shared_words.specs.Layout.{count_of}
 use Rattle.shared_rule.specs.Rule.{Me}
 use Rattle.shared_rule.specs.Starts.{first_view}
 use Rattle.shared_rule.specs.Whole.{layout_of}
+pub use Rattle.shared_rule.specs.Free.{HasNoneBehind}
 use Rattle.shared_table.specs.declared.ready.TheConstants.{MOST_MADE}
 
 -- the core, how many walks count as begun with each pass, and the identity of the table
@@ -17,10 +15,6 @@ pub record HeldReady : Type 0 where
   pub core : World
   pub made : ℕ
   pub table : TableId
-
--- in no base of a CPU is a queued wheel expiry below the base's clock
-abbrev pub HasNoneBehind : CpuBases → Type 0
-HasNoneBehind bases = (class : Class) → NoneBehind (base_of class bases)
 
 -- a core with which a run may begin: at rest, with no base behind, and walks left for each pass
 pub record MayBegin (o : World) (made : ℕ) : Type 0 where

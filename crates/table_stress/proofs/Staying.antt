@@ -36,7 +36,7 @@ use Rattle.idle_wakeup.specs.declared.idling.IdleAnswer.{IdleAnswer}
 use Rattle.idle_wakeup.specs.declared.idling.IdleAnswer.TheVariants as answers
 use Rattle.idle_wakeup.specs.Calls.{Renews, awake}
 use Rattle.idle_wakeup.specs.Resting.{IsAnswer, resting}
-use Rattle.remote_expiry.specs.declared.runs.Ran.{Ran}
+use Rattle.remote_expiry.specs.Runs.{Ran}
 use Rattle.remote_expiry.specs.Interrupts.{HasGained, IsAtRest, IsRefusedBy, NotInterrupted, Tells}
 use Rattle.table_stress.specs.Quiet.{IsQuietAt, StaysQuiet}
 

@@ -23,9 +23,8 @@ use Rattle.shared_rule.specs.declared.parts.Did.{Did}
 use Rattle.shared_rule.specs.declared.parts.PassView.{PassView}
 use Rattle.shared_rule.specs.declared.parts.Receipt.{Receipt}
 use Rattle.shared_rule.specs.Passes.{HeldPass, IsPassIn}
-use Rattle.remote_expiry.specs.declared.runs.Ran.{Ran}
-use Rattle.remote_expiry.specs.declared.runs.RanReply.{RanReply}
-use Rattle.remote_expiry.specs.declared.runs.RanReply.TheVariants as ran
+use Rattle.remote_expiry.specs.Runs.{Ran, RanReply}
+use Rattle.remote_expiry.specs.Replies as ran
 use Rattle.remote_expiry.specs.Following.{Follows, FollowsArmed, FollowsBy, FollowsOut, FoundOn}
 use Rattle.remote_expiry.specs.Following.{IsTold, call_of}
 use Rattle.remote_expiry.specs.Following as from

@@ -8,9 +8,8 @@ use Rattle.tm_report.specs.declared.lines.ShownReply.{ShownReply}
 use Rattle.tm_report.specs.declared.lines.ShownReply.TheVariants as shown
 use Rattle.idle_wakeup.specs.declared.idling.IdleAnswer.{IdleAnswer}
 use Rattle.idle_wakeup.specs.declared.idling.IdleAnswer.TheVariants as answers
-use Rattle.remote_expiry.specs.declared.runs.Ran.{Ran}
-use Rattle.remote_expiry.specs.declared.runs.RanReply.{RanReply}
-use Rattle.remote_expiry.specs.declared.runs.RanReply.TheVariants as ran
+use Rattle.remote_expiry.specs.Runs.{Ran, RanReply}
+use Rattle.remote_expiry.specs.Replies as ran
 
 -- what a line shows of what became of a timer
 abbrev pub shown_of : RanReply → ShownReply

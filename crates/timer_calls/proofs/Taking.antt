@@ -17,8 +17,8 @@ use Rattle.shared_rule.specs.Passes.{with_receipts_room}
 use Rattle.shared_table.specs.Begun.{IsFree}
 use Rattle.shared_timers.specs.Entries.{pair_changed}
 use Rattle.shared_timers.specs.Queueing.{MayCancel, cancelled_part}
+use Rattle.remote_looks.specs.Rooms.{with_more_room}
 use Rattle.timer_calls.specs.Cancels.{IsTakenOut}
-use Rattle.timer_calls.specs.Rooms.{with_more_room}
 use Rattle.timer_calls.proofs.Free.{within}
 
 -- where a class was found, it is that of the timer

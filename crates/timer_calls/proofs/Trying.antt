@@ -9,10 +9,10 @@ use Rattle.shared_rule.specs.Plays.{seen_pass}
 use Rattle.shared_rule.specs.Parts.{HeldPart}
 use Rattle.shared_rule.specs.Passes.{HeldPass, with_pass}
 use Rattle.shared_timers.specs.Exchanging.{timer_word}
+use Rattle.remote_looks.proofs.Looks.{each_more, more_loads}
 use Rattle.timer_calls.specs.Cancels.{FellShort, HasTried, IsElsewhere, IsPartOf, IsTakenOut}
 use Rattle.timer_calls.specs.Cancels.{TookOut, tried_of}
 use Rattle.timer_calls.specs.Looks.{NamesHome}
-use Rattle.timer_calls.proofs.Looks.{each_more, more_loads}
 
 -- a load that named a CPU, after which no more was done
 pub elsewhere : (o : World) (timer found : ℕ) (spot : Spot) (held mid after : HeldPass)

@@ -16,7 +16,7 @@ use Rattle.shared_rule.specs.Parts.{HeldPart, pass_parted, with_guest}
 use Rattle.shared_rule.specs.Passes.{HeldPass, IsPassIn, knowing, with_pass, with_receipts_room}
 use Rattle.shared_timers.specs.declared.arming.Arming.{Arming}
 use Rattle.shared_timers.specs.Queueing.{FoundQueued, armed_part}
-use Rattle.timer_calls.specs.Rooms.{with_more_room}
+use Rattle.remote_looks.specs.Rooms.{with_more_room}
 
 -- ARM: why a CPU can't: it is offline, or idle and outside its interrupt
 abbrev pub arm_fault_of : (online idle inside : Bool) → Option OpFault

@@ -18,11 +18,12 @@ use Rattle.shared_rule.specs.Parts.{HeldPart, pass_parted, with_guest}
 use Rattle.shared_rule.specs.Passes.{HeldPass, IsPassIn, with_pass, with_receipts_room}
 use Rattle.shared_timers.specs.Exchanging.{timer_word}
 use Rattle.shared_timers.specs.Queueing.{cancelled_part}
+use Rattle.remote_looks.specs.Looks.{IsPassOf, seen_all}
+use Rattle.remote_looks.specs.Rooms.{with_more_room}
 use Rattle.timer_calls.specs.declared.cancelling.Tried.{Tried}
 use Rattle.timer_calls.specs.declared.cancelling.Tried.TheVariants as tries
 use Rattle.timer_calls.specs.Arms.{IsRefused, MetBy, met}
-use Rattle.timer_calls.specs.Looks.{IsPassOf, NamesHome, seen_all}
-use Rattle.timer_calls.specs.Rooms.{with_more_room}
+use Rattle.timer_calls.specs.Looks.{NamesHome}
 
 -- CANCEL: why a CPU can't: it is offline, or idle
 abbrev pub cancel_fault_of : (online idle : Bool) → Option OpFault

@@ -1,25 +1,11 @@
--- what a pass has seen, load by load
-use Rattle.std.specs.Prelude.{◌≡◌, ℕ, ◌<◌, List, [], ◌∷◌, Some, length}
-use Rattle.atomic_table.specs.Seated.{TableId}
+-- what a load of a timer's word named; and loads as remote_looks has them, for crates above
+use Rattle.std.specs.Prelude.{◌≡◌, ℕ, ◌<◌, Some, length}
 use Rattle.core_world.specs.World.{World}
 use Rattle.shared_words.specs.declared.spot.Spot.{Spot}
 use Rattle.shared_words.specs.Words.{spot_of}
 use Rattle.shared_rule.specs.declared.parts.Look.{Look}
-use Rattle.shared_rule.specs.declared.parts.PassView.{PassView}
-use Rattle.shared_rule.specs.Plays.{seen_pass}
-use Rattle.shared_rule.specs.Passes.{HeldPass, IsPassIn}
 use Rattle.shared_timers.specs.Exchanging.{timer_word}
-
--- a pass of the run, which began with this core
-pub record IsPassOf (table : TableId) (o : World) (held : HeldPass) : Type 0 where
-  pub pass : PassView
-  pub seated : IsPassIn table held pass
-  pub opening : pass.opening ≡ o
-
--- a pass after these loads, in order
-abbrev pub seen_all : List Look → PassView → PassView
-seen_all [] p = p
-seen_all (x ∷ xs) p = seen_all xs (seen_pass x.word x.found p)
+pub use Rattle.remote_looks.specs.Looks.{IsPassOf, seen_all}
 
 -- a load of a timer's word that named a CPU of the run
 pub record NamesHome (o : World) (timer : ℕ) (x : Look) : Type 0 where

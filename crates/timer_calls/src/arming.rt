@@ -8,8 +8,8 @@ ghost use Rattle.shared_table.specs.Begun.{IsFree};
 ghost use Rattle.timer_calls.specs.Arms.{HasArmed, HasFailed, IsArmable, IsArmed, MayArmIn, MetBy};
 ghost use Rattle.timer_calls.specs.Arms.{NotArmed, arm_fault_of, arming_of};
 
-use crate::room::take_room;
 use cpu_word::CpuState;
+use remote_looks::take_room;
 use shared_rule::{BoxPart, Pass, Run, RunName, visit};
 use shared_table::{CpuBox, Shared};
 use shared_timers::{Arming, arm_with};

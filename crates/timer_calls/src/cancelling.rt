@@ -4,15 +4,15 @@ ghost use Rattle.std.specs.Prelude.{◌≡◌, ◌<◌, MatchResult, length};
 ghost use Rattle.shared_rule.specs.Parts.{HeldPart, without_guest};
 ghost use Rattle.shared_rule.specs.Passes.{IsOfRun};
 ghost use Rattle.shared_table.specs.Begun.{IsFree};
+ghost use Rattle.remote_looks.specs.Looks.{IsPassOf};
 ghost use Rattle.timer_calls.specs.Arms.{MetBy};
 ghost use Rattle.timer_calls.specs.Cancels.{CameTo, HasCancelled, HasFallenShort, HasTried};
 ghost use Rattle.timer_calls.specs.Cancels.{IsAsked};
 ghost use Rattle.timer_calls.specs.Cancels.{IsElsewhere, IsPartOf, NotCancelled, TookOut};
 ghost use Rattle.timer_calls.specs.Cancels.{cancel_fault_of, tried_of};
-ghost use Rattle.timer_calls.specs.Looks.{IsPassOf};
 
-use crate::room::take_room;
 use cpu_word::CpuState;
+use remote_looks::take_room;
 use shared_rule::{BoxPart, Pass, Run, RunName, visit};
 use shared_table::{CpuBox, Shared};
 use shared_timers::cancel_with;

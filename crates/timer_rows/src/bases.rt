@@ -1,3 +1,4 @@
+use base_calls::bases::{BasesAnswer, BasesCall, make_calls};
 use cpu_bases::*;
 use std::process::Abort;
 use std::test::Fail;

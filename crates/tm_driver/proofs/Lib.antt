@@ -1,6 +1,2 @@
 mod StoryTurns
 mod Threaded
-mod Tellers
-mod Spreading
-mod Gathered
-mod PlainMoments

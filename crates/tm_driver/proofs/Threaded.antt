@@ -27,9 +27,9 @@ use Rattle.step_play.specs.Rules.StepRules.{step_rules}
 use Rattle.story.specs.Stories.{count_due, covers_of, is_hotplug, is_plain, is_run, ops_of, runs_told}
 use Rattle.thread_rounds.specs.Doing.{IsRoundOp, IsTimerThere}
 use Rattle.play_driver.specs.Conditions.{IsOpInRange, IsTimerInRange}
-use Rattle.tm_driver.specs.Plain.{by_cpus}
+use Rattle.plain_moments.specs.Plain.{by_cpus}
 use Rattle.tm_driver.specs.Runs.{IsRunMoment, TellsMoment, TellsThreaded}
-use Rattle.core_plays.specs.Sleepers.{Tells}
+use Rattle.play_driver.specs.PartLeaves.{Tells}
 use Rattle.play_driver.proofs.Turns.{below_test}
 
 -- a test of two, that fails

@@ -1,4 +1,2 @@
-pub mod Apart
-pub mod Plain
 pub mod Plays
 pub mod Runs

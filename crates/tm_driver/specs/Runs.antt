@@ -22,7 +22,7 @@ use Rattle.story.specs.Stories.{IsBrokenOff, IsMoment, IsStory, IsThreaded, coun
 use Rattle.play_driver.specs.Conditions.{IsMomentInRange}
 use Rattle.core_plays.specs.OnCore.{EachIsAnsweredFor}
 use Rattle.play_driver.specs.Outcomes.{work_limit}
-use Rattle.core_plays.specs.Sleepers.{Tells}
+use Rattle.play_driver.specs.PartLeaves.{Tells}
 use Rattle.play_driver.specs.declared.outcomes.DriveFault.{DriveFault}
 use Rattle.play_driver.specs.declared.outcomes.DriveFault.TheVariants.{BadJob, NoMemory, WorkSpent}
 

@@ -1,10 +1,9 @@
 //! A script run with a thread for each CPU of a moment; and all that plays one on the core.
 //!
 //! `runs` plays the moments of `run_moments`, in which the CPUs work side by side, and the plain
-//! ones of `plain_moments`. Plays without threads are those of `core_plays`.
+//! ones of the crate `plain_moments`. Plays without threads are those of `core_plays`.
 #![tactic(auto)]
 
-mod plain_moments;
 mod run_moments;
 mod runs;
 

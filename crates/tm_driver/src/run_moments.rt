@@ -18,10 +18,10 @@ ghost use Rattle.play_driver.specs.Conditions.{AreOnline, IsPlayable};
 ghost use Rattle.tm_driver.specs.Runs.{EndsRunEarly, IsRunMoment, RunsOut, TellsMoment};
 ghost use Rattle.tm_driver.specs.Runs.{TellsRound, TellsThreaded};
 
-use crate::plain_moments::plain_moment;
 use core_facts::law_each_settled;
-use core_machine::RunPlayer;
+use core_plays::RunPlayer;
 use job_table::Jobs;
+use plain_moments::plain_moment;
 use play_driver::{
     DriveFault, Telling, covers, having_interrupt, moment_after, moment_due, still_to_come,
     work_limit,

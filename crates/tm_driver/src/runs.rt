@@ -10,8 +10,7 @@ ghost use Rattle.play_driver.specs.Conditions.{IsPlayable};
 ghost use Rattle.tm_driver.specs.Runs.{BreaksRun, EndsRunEarly, RunsToEnd, RunsWhole};
 
 use crate::run_moments::run_moments;
-use core_machine::RunPlayer;
-use core_plays::start_core;
+use core_plays::{RunPlayer, start_core};
 use core_state::Core;
 use job_table::Jobs;
 use play_driver::{DriveFault, Telling, close, first_unknown_job};

@@ -4,4 +4,3 @@ mod LeadLaws
 mod ToldLaws
 mod CarryLaws
 mod WakeLaws
-mod CauseLaws

@@ -3,5 +3,3 @@ pub mod Answers
 pub mod Told
 pub mod Leading
 pub mod Playing
-pub mod Causes
-pub mod CauseParts

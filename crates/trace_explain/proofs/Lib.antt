@@ -2,3 +2,4 @@ mod Joined
 mod Spots
 mod Waiting
 mod TellLaws
+mod Prints

@@ -15,7 +15,7 @@ use Rattle.core_world.specs.Lists.{EachEnabled, after_all}
 use Rattle.core_world.specs.Start.{start_cpu}
 use Rattle.core_world.specs.Steps.{stepped}
 use Rattle.core_world.specs.World.{World}
-use Rattle.trace_text.specs.declared.causes.Cause.{Cause}
+use Rattle.step_causes.specs.declared.causes.Cause.{Cause}
 use Rattle.trace_text.specs.declared.traces.Trace.{Trace}
 use Rattle.trace_text.specs.declared.traces.TraceLine.{TraceLine}
 use Rattle.trace_text.specs.declared.traces.TraceLine.TheVariants as lines
@@ -25,7 +25,7 @@ use Rattle.trace_text.specs.Texts.{IsTrace, cpu_count, limits_of, machine_lines}
 use Rattle.trace_check.specs.declared.verdict.Verdict.{Verdict}
 use Rattle.trace_check.specs.declared.verdict.Verdict.TheVariants as verdicts
 use Rattle.trace_check.specs.Answers.{IsVerdict, start_for, steps_of}
-use Rattle.trace_check.specs.Causes.{IsCause}
+use Rattle.step_causes.specs.Causes.{IsCause}
 use Rattle.trace_check.specs.Playing.{AsksOf}
 use Rattle.trace_explain.specs.Answers.{AreAnswers}
 use Rattle.trace_explain.specs.Explained.{IsExplained, made_text, refused_text, whole_text}

@@ -1,7 +1,7 @@
 -- who answers for a timer, in words
 use Rattle.std.specs.Prelude.{◌≡◌, ℕ, zero, suc, ◌==◌, List, [], ◌++◌, codes, if◌then◌else◌}
 use Rattle.core_world.specs.World.{World}
-use Rattle.trace_text.specs.CauseTexts.{around, around_two}
+use Rattle.step_causes.specs.CauseTexts.{around, around_two}
 use Rattle.trace_check.specs.declared.reason.Reason.{Reason}
 use Rattle.trace_check.specs.declared.reason.Reason.TheVariants as reasons
 use Rattle.trace_check.specs.Reasons.{HasNoReason, IsReason}

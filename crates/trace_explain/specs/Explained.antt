@@ -4,13 +4,13 @@ use Rattle.core_world.specs.declared.step.Step.{Step}
 use Rattle.core_world.specs.Enabled.{Enabled}
 use Rattle.core_world.specs.Steps.{stepped}
 use Rattle.core_world.specs.World.{World}
-use Rattle.trace_text.specs.declared.causes.Cause.{Cause}
+use Rattle.step_causes.specs.declared.causes.Cause.{Cause}
 use Rattle.trace_text.specs.declared.traces.TraceLine.{TraceLine}
 use Rattle.trace_text.specs.declared.traces.TraceLine.TheVariants as lines
-use Rattle.trace_text.specs.CauseTexts.{around, cause_text}
+use Rattle.step_causes.specs.CauseTexts.{around, cause_text}
 use Rattle.trace_check.specs.declared.verdict.Verdict.{Verdict}
 use Rattle.trace_check.specs.declared.verdict.Verdict.TheVariants as verdicts
-use Rattle.trace_check.specs.Causes.{IsCause}
+use Rattle.step_causes.specs.Causes.{IsCause}
 use Rattle.trace_explain.specs.Answers.{AreAnswers, IsTold}
 use Rattle.trace_explain.specs.Sentences.{step_text}
 

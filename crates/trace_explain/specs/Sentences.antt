@@ -4,7 +4,7 @@ use Rattle.tm_base.specs.Classes.{class_text}
 use Rattle.core_world.specs.declared.step.Step.{Step}
 use Rattle.core_world.specs.declared.step.Step.TheVariants as steps
 use Rattle.core_world.specs.World.{World, cpu_of}
-use Rattle.trace_text.specs.CauseTexts.{around, around_two}
+use Rattle.step_causes.specs.CauseTexts.{around, around_two}
 use Rattle.trace_explain.specs.Walks.{walk_text}
 
 -- WHAT A STEP CHANGES, where it is made in a world

@@ -18,9 +18,10 @@ use crate::starting::start_core;
 use core_state::Core;
 use core_world::{Step, law_sizes};
 use std::alloc::Global;
+use step_causes::{Cause, cause, text_of};
 use step_core::apply;
 use tm_base::NoMemory;
-use trace_check::{Cause, Trace, TraceLine, Verdict, cause, text_of};
+use trace_check::{Trace, TraceLine, Verdict};
 use wheel_core::TimerBase;
 
 /// What is told of a trace, and its verdict.

@@ -4,7 +4,7 @@ ghost use Rattle.std.specs.Prelude.{◌≡◌, ◌++◌, [], codes, OnOk};
 ghost use Rattle.std.specs.Fmt.{decimal};
 ghost use Rattle.tm_base.specs.Classes.{class_text};
 ghost use Rattle.tm_report.specs.Words.{time_word};
-ghost use Rattle.trace_text.specs.CauseTexts.{around, around_two};
+ghost use Rattle.step_causes.specs.CauseTexts.{around, around_two};
 
 use text_words::{push_bytes, push_number};
 use tm_base::{Class, Jiffy, NEVER, NoMemory};

@@ -4,7 +4,7 @@ ghost use Rattle.std.specs.Prelude.{◌≡◌, ◌++◌, ◌<◌, codes, length,
 ghost use Rattle.tm_base.specs.Classes.{class_text};
 ghost use Rattle.core_world.specs.Enabled.{Enabled};
 ghost use Rattle.core_world.specs.World.{cpu_of};
-ghost use Rattle.trace_text.specs.CauseTexts.{around, around_two};
+ghost use Rattle.step_causes.specs.CauseTexts.{around, around_two};
 ghost use Rattle.trace_explain.specs.Sentences.{step_text};
 ghost use Rattle.trace_explain.specs.Walks.{walk_text};
 

@@ -3,6 +3,5 @@ mod FieldWords
 mod FieldLaws
 mod LineLaws
 mod BodyLaws
-mod HeadLaws
+pub mod HeadLaws
 mod TraceLaws
-mod Prints

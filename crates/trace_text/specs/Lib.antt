@@ -4,4 +4,3 @@ pub mod Reading
 pub mod Faults
 pub mod Reader
 pub mod Steps
-pub mod CauseTexts

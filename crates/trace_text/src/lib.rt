@@ -1,6 +1,6 @@
-//! A trace as a text: a list of the core's steps, with questions between them, read and printed; and
-//! the sentence of each fact that forbids a step. Whether the steps of a trace can be made
-//! `trace_check` answers, on the core. Nothing here needs one.
+//! A trace as a text: a list of the core's steps, with questions between them, read. `trace_explain`
+//! prints it. Whether the steps of a trace can be made `trace_check` answers, on the core. Nothing
+//! here needs one.
 //!
 //! A line feed (byte 10) ends each line, and one space parts its words, as in a script. The machine
 //! is that of a script of version 2. So each trace has one text:
@@ -27,21 +27,15 @@
 #![tactic(auto)]
 
 mod answers;
-mod cause_texts;
-mod causes;
 mod fields;
 mod lines;
 mod lists;
-mod printing;
 mod reading;
 mod traces;
 mod words;
 
 pub use answers::ReadTrace;
-pub use cause_texts::text_of;
-pub use causes::{Cause, CpuFact};
 pub use lists::TraceLines;
-pub use printing::print_trace;
 pub use reading::read_trace;
 pub use traces::{Trace, TraceLine};
 pub use words::{ARG_LIMIT, Command, Field, JOB_LIMIT, LINE_LIMIT, Limits, Slot};

@@ -1,6 +1,7 @@
 use core_world::Step;
 use std::alloc::Global;
 use std::test::Fail;
+use step_causes::*;
 use step_core::one_node_core;
 use tm_base::CpuId;
 use tm_report::Report;

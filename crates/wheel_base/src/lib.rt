@@ -2,7 +2,6 @@
 //! items.
 #![tactic(auto)]
 
-mod both;
 mod marks;
 mod moves;
 mod outs;
@@ -10,7 +9,6 @@ mod place;
 mod store;
 mod wheel;
 
-pub use both::calls_on_both;
 pub use wheel::WheelBase;
 
 #[cfg(test)]

@@ -2,4 +2,3 @@ pub mod WheelExpiry
 pub mod PlainBase
 pub mod ListBase
 pub mod Scan
-pub mod Calls

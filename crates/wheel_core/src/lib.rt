@@ -2,14 +2,12 @@
 #![tactic(auto)]
 
 mod base;
-mod calls;
 mod expiry;
 mod item;
 mod list_base;
 mod scan;
 
 pub use base::TimerBase;
-pub use calls::{BaseAnswer, BaseCall, make_calls};
 pub use expiry::wheel_expiry;
 pub use item::{Item, NoRoom};
 pub use list_base::ListBase;

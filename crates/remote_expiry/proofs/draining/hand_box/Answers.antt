@@ -4,9 +4,9 @@ use Rattle.cpu_bases.specs.CpuBases.{base_of}
 use Rattle.shared_rule.specs.declared.parts.BoxView.{BoxView}
 use Rattle.shared_rule.specs.Parts.{HeldPart}
 use Rattle.shared_rule.specs.Passes.{HeldPass}
-use Rattle.remote_expiry.specs.Handing.{HasHanded}
-use Rattle.remote_expiry.specs.Pieces.{Piece}
-use Rattle.remote_expiry.proofs.OwnDrains.{err_as, handed, may_run_own, room_alone}
+use Rattle.remote_parts.specs.Handing.{HasHanded}
+use Rattle.remote_parts.specs.Pieces.{Piece}
+use Rattle.remote_parts.proofs.OwnDrains.{err_as, handed, may_run_own, room_alone}
 use Rattle.remote_expiry.proofs.draining.hand_box.Goals as goal
 
 pub returns-in_err-room_for-clause-done : goal.returns-in_err-room_for-clause-done

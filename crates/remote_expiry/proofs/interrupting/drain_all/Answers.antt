@@ -1,9 +1,10 @@
 use Rattle.std.proofs.Common.{[]}
 use Rattle.std.proofs.lemmas.Result.{err_from_is_err_and}
-use Rattle.remote_expiry.specs.Trying.{BreaksOff, HasDrainedAll}
-use Rattle.remote_expiry.proofs.Gaining.{still_inside}
-use Rattle.remote_expiry.proofs.OwnDrains.{err_as}
-use Rattle.remote_expiry.proofs.Served.{inside_of}
+use Rattle.remote_parts.specs.Tries.{BreaksOff}
+use Rattle.remote_parts.proofs.Gaining.{still_inside}
+use Rattle.remote_parts.proofs.OwnDrains.{err_as}
+use Rattle.remote_parts.proofs.Served.{inside_of}
+use Rattle.remote_expiry.specs.Trying.{HasDrainedAll}
 use Rattle.remote_expiry.proofs.Worked.{drain_off, drained_last, second_off}
 use Rattle.remote_expiry.proofs.interrupting.drain_all.Goals as goal
 

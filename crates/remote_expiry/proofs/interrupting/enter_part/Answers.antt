@@ -3,8 +3,9 @@ use Rattle.shared_rule.specs.Parts.{HeldPart}
 use Rattle.shared_rule.specs.Turns.{entered_box, entered_pass}
 use Rattle.shared_cpus.specs.Conditions.{CanEnter}
 use Rattle.shared_cpus.specs.Pairs.{by_pair, of_box}
-use Rattle.remote_expiry.proofs.Closing.{agree_of, box_by_step, can_enter, entered, fault_by}
-use Rattle.remote_expiry.proofs.Closing.{free_with, guest_by, online_by, parted_by}
+use Rattle.remote_parts.proofs.Closing.{agree_of, box_by_step, can_enter, free_with, guest_by}
+use Rattle.remote_parts.proofs.Closing.{online_by, parted_by}
+use Rattle.remote_expiry.proofs.Closing.{entered, fault_by}
 use Rattle.remote_expiry.proofs.Interrupted.{not_refused}
 use Rattle.remote_expiry.proofs.interrupting.enter_part.Goals as goal
 

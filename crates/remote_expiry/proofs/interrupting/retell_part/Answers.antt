@@ -9,8 +9,8 @@ use Rattle.shared_rule.specs.Passes.{HeldPass, passes_of}
 use Rattle.shared_cpus.specs.Conditions.{CanRetell}
 use Rattle.shared_table.specs.Readied.{HasNoneBehind}
 use Rattle.walk_inactive.specs.Ends.{HasWalked, reevaluated, retells_with, retold}
-use Rattle.remote_expiry.proofs.Closing.{agree_of, can_retell, free_with, online_in, retells}
-use Rattle.remote_expiry.proofs.Closing.{told_anew}
+use Rattle.remote_parts.proofs.Closing.{agree_of, can_retell, free_with, online_in}
+use Rattle.remote_expiry.proofs.Closing.{retells, told_anew}
 use Rattle.remote_expiry.proofs.interrupting.retell_part.Goals as goal
 
 pub bring-requires-clause-pass : goal.bring-requires-clause-pass

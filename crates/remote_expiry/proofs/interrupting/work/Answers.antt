@@ -1,8 +1,9 @@
 use Rattle.std.proofs.Common.{[], arith}
 use Rattle.std.proofs.lemmas.Result.{err_from_is_err_and}
-use Rattle.remote_expiry.specs.Trying.{BreaksOff, HasWorked}
-use Rattle.remote_expiry.proofs.OwnDrains.{err_as}
-use Rattle.remote_expiry.proofs.Served.{more_off, still_at_work}
+use Rattle.remote_parts.specs.Tries.{BreaksOff}
+use Rattle.remote_parts.proofs.OwnDrains.{err_as}
+use Rattle.remote_parts.proofs.Served.{more_off, still_at_work}
+use Rattle.remote_expiry.specs.Trying.{HasWorked}
 use Rattle.remote_expiry.proofs.Worked.{worked_last}
 use Rattle.remote_expiry.proofs.interrupting.work.Goals as goal
 

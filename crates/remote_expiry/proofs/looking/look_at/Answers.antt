@@ -1,10 +1,11 @@
 use Rattle.std.proofs.Common.{subst, arith}
 use Rattle.std.proofs.lemmas.Result.{err_from_is_err_and}
-use Rattle.remote_expiry.specs.Trying.{BreaksOff, HasRounds, IsRound}
-use Rattle.remote_expiry.proofs.Gaining.{no_piece}
+use Rattle.remote_parts.specs.Tries.{BreaksOff}
+use Rattle.remote_parts.proofs.Gaining.{no_piece}
+use Rattle.remote_parts.proofs.OwnDrains.{err_as}
+use Rattle.remote_expiry.specs.Trying.{HasRounds, IsRound}
 use Rattle.remote_expiry.proofs.Levels.{few_rounds, no_round, one_round, round_work, rounds_done}
 use Rattle.remote_expiry.proofs.Levels.{rounds_off, rounds_up}
-use Rattle.remote_expiry.proofs.OwnDrains.{err_as}
 use Rattle.remote_expiry.proofs.looking.look_at.Goals as goal
 
 pub loop-turn-init : goal.loop-turn-init

@@ -1,10 +1,10 @@
 use Rattle.std.proofs.Common.{[], refl, arith}
 use Rattle.std.proofs.lemmas.Result.{err_from_is_err_and}
+use Rattle.remote_parts.proofs.OwnDrains.{err_as}
+use Rattle.remote_parts.proofs.Served.{still_at_work}
 use Rattle.remote_expiry.specs.Trying.{BreaksRound, IsRound}
-use Rattle.remote_expiry.proofs.OwnDrains.{err_as}
 use Rattle.remote_expiry.proofs.Rounds.{due_piece, round_off, sees_no_group, sees_nothing}
 use Rattle.remote_expiry.proofs.Rounds.{sees_others, tries_one}
-use Rattle.remote_expiry.proofs.Served.{still_at_work}
 use Rattle.remote_expiry.proofs.looking.look_once.Goals as goal
 
 pub serve-requires-clause-at_work : goal.serve-requires-clause-at_work

@@ -8,8 +8,9 @@ use Rattle.cpu_bases.specs.CpuBases.{CpuBases}
 use Rattle.shared_cpus.specs.Conditions.{CanCarry}
 use Rattle.shared_table.specs.Readied.{HasNoneBehind}
 use Rattle.walk_inactive.specs.Ends.{HasCarried, has_carried, retells_with}
-use Rattle.remote_expiry.proofs.Closing.{agree_of, can_carry, carries, free_with}
-use Rattle.remote_expiry.proofs.Trials.{carried}
+use Rattle.remote_parts.proofs.Closing.{agree_of, can_carry, free_with}
+use Rattle.remote_expiry.proofs.Closing.{carries}
+use Rattle.remote_expiry.proofs.Carried.{carried}
 use Rattle.remote_expiry.proofs.marking.carry_for.Goals as goal
 
 pub bring-requires-clause-pass : goal.bring-requires-clause-pass

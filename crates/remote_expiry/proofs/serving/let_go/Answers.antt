@@ -1,6 +1,6 @@
 use Rattle.std.proofs.Common.{[], ◌∷◌, sym, ap, ◌∙◌, subst}
 use Rattle.shared_rule.specs.Parts.{HeldPart}
-use Rattle.remote_expiry.specs.Trying.{AtWork, HasLetGo}
+use Rattle.remote_parts.specs.Tries.{AtWork, HasLetGo}
 use Rattle.remote_expiry.proofs.serving.let_go.Goals as goal
 
 pub lock-guard-requires : goal.lock-guard-requires

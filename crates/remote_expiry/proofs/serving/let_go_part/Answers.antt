@@ -2,10 +2,10 @@ use Rattle.std.proofs.Common.{[], ◌∷◌, refl, sym, ap, ◌∙◌, subst}
 use Rattle.core_state.specs.Shown.{shown_cpu}
 use Rattle.cpu_word.specs.declared.state.CpuState.{CpuState}
 use Rattle.shared_rule.specs.Parts.{HeldPart}
-use Rattle.remote_expiry.specs.Trying.{AtWork}
-use Rattle.remote_expiry.proofs.Taking.{awake_by_line, awake_by_rest, let_go_carried}
-use Rattle.remote_expiry.proofs.Taking.{let_go_released, looked_work}
-use Rattle.remote_expiry.proofs.Trials.{noted}
+use Rattle.remote_parts.specs.Tries.{AtWork}
+use Rattle.remote_parts.proofs.Taking.{awake_by_line, awake_by_rest, let_go_carried}
+use Rattle.remote_parts.proofs.Taking.{let_go_released, looked_work}
+use Rattle.remote_parts.proofs.Trials.{noted}
 use Rattle.remote_expiry.proofs.serving.let_go_part.Goals as goal
 use Rattle.remote_expiry.proofs.serving.let_go_part.Goals.{else-state-via-else-state}
 use Rattle.remote_expiry.proofs.serving.let_go_part.Goals.{else-state-via-then-state+else-state-2}

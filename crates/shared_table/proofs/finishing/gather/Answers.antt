@@ -1,4 +1,4 @@
-use Rattle.std.proofs.Common.{◌≡◌, ◌++◌, length, sym, ap, ◌∙◌, subst}
+use Rattle.std.proofs.Common.{◌≡◌, ◌++◌, arith, length, sym, ap, ◌∙◌, subst}
 use Rattle.core_world.specs.World.{World}
 use Rattle.shared_rule.specs.Rule.{Me}
 use Rattle.shared_table.specs.Ended.{AreApart, AreCpusWhole}
@@ -6,6 +6,25 @@ use Rattle.shared_table.specs.Joined.{boxes_of, owns_of}
 use Rattle.shared_table.proofs.Ending.{all_whole, are_of_run, has_all, taken_in}
 use Rattle.shared_table.proofs.Ordered.{all_boxes_there}
 use Rattle.shared_table.proofs.finishing.gather.Goals as goal
+
+pub join_passes-requires-clause-table : goal.join_passes-requires-clause-table
+join_passes-requires-clause-table g c = c.requires.table
+
+pub join_boxes-requires-clause-table : goal.join_boxes-requires-clause-table
+join_boxes-requires-clause-table g c = c.join_passes.ensures.table
+
+pub join_boxes-requires-clause-room : goal.join_boxes-requires-clause-room
+join_boxes-requires-clause-room g c =
+    let none = ap length c.requires.room.none in
+    let enough = c.requires.room.enough in
+    let boxes = c.requires.boxes in
+    omega (arith, none, enough, boxes)
+
+pub find_apart-requires : goal.find_apart-requires
+find_apart-requires g c = c.join_boxes.ensures.table
+
+pub returns-clause-table : goal.returns-clause-table
+returns-clause-table g c = c.find_apart.ensures.table
 
 pub join_passes-requires-clause-passes : goal.join_passes-requires-clause-passes
 join_passes-requires-clause-passes g c =

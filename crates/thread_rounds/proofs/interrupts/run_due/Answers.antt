@@ -1,6 +1,5 @@
 use Rattle.std.proofs.Common.{◌≡◌, ◌++◌, List, Ok, ap, map, subst, true}
-use Rattle.remote_expiry.specs.Runs.{RoomyRuns}
-use Rattle.remote_expiry.specs.declared.runs.Ran.{Ran}
+use Rattle.remote_expiry.specs.Runs.{Ran, RoomyRuns}
 use Rattle.remote_expiry.specs.Interrupts.{Tells}
 use Rattle.thread_rounds.specs.Lines.{ran_line}
 use Rattle.thread_rounds.specs.Standing.{HasRun}

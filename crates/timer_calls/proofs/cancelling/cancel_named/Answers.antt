@@ -1,6 +1,6 @@
 use Rattle.std.proofs.Common.{refl, subst}
+use Rattle.remote_looks.proofs.Looks.{still_of}
 use Rattle.timer_calls.specs.Cancels.{HasTried, IsElsewhere}
-use Rattle.timer_calls.proofs.Looks.{still_of}
 use Rattle.timer_calls.proofs.Trying.{short_more}
 use Rattle.timer_calls.proofs.cancelling.cancel_named.Goals as goal
 

@@ -1,5 +1,5 @@
+use Rattle.remote_looks.specs.Looks.{IsPassOf}
 use Rattle.timer_calls.specs.Cancels.{FellShort}
-use Rattle.timer_calls.specs.Looks.{IsPassOf}
 use Rattle.timer_calls.proofs.cancelling.cancel_named.Given as goal
 
 abbrev pub invariant-loop : goal.invariant-loop

@@ -4,7 +4,7 @@ use Rattle.cpu_bases.specs.CpuBases.{CpuBases, class_in}
 use Rattle.shared_rule.specs.Parts.{HeldPart, with_guest}
 use Rattle.shared_rule.specs.Passes.{HeldPass}
 use Rattle.shared_timers.specs.Queueing.{MayCancel}
-use Rattle.timer_calls.specs.Rooms.{with_more_room}
+use Rattle.remote_looks.specs.Rooms.{with_more_room}
 use Rattle.timer_calls.proofs.Taking.{class_found, may_cancel, taken_out}
 use Rattle.timer_calls.proofs.cancelling.cancel_part.Goals as goal
 

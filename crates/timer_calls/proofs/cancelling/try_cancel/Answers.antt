@@ -1,8 +1,8 @@
 use Rattle.std.proofs.Common.{◌<◌, length, sym, subst}
 use Rattle.core_world.specs.World.{World}
 use Rattle.shared_timers.specs.Exchanging.{timer_word}
+use Rattle.remote_looks.proofs.Looks.{of_run, still_of}
 use Rattle.timer_calls.specs.Cancels.{HasTried}
-use Rattle.timer_calls.proofs.Looks.{of_run, still_of}
 use Rattle.timer_calls.proofs.Trying.{came_to, elsewhere}
 use Rattle.timer_calls.proofs.cancelling.try_cancel.Goals as goal
 

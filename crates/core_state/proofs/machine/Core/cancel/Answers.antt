@@ -1,6 +1,15 @@
-use Rattle.std.proofs.Common.{arith, refl}
+use Rattle.std.proofs.Common.{arith, refl, sym, subst, ◌∙◌}
+use Rattle.core_world.specs.World.{World}
+use Rattle.core_state.specs.Kept.{IsKept}
 use Rattle.core_state.proofs.TimerSteps.{cancel_kept, cancel_low, on_err, unchanged}
 use Rattle.core_state.proofs.machine.Core.cancel.Goals as goal
+
+pub invariant_of-self : goal.invariant_of-self
+invariant_of-self g c =
+    subst (λ (w : World). IsKept w c.self.inside.holders.items c.self.inside.tally)
+    (sym (unchanged _ c.args.self.now c.from.result c.index_mut.result.now c.cancel.new.self
+    c.self.view_is c.index_mut.ensures.value c.in_err-cancel.ensures.err ∙ sym c.self.view_is))
+    c.self.invariant
 
 pub returns-in_err-cancel-clause-err : goal.returns-in_err-cancel-clause-err
 returns-in_err-cancel-clause-err g c =

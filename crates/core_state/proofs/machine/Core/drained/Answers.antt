@@ -1,6 +1,15 @@
-use Rattle.std.proofs.Common.{refl}
+use Rattle.std.proofs.Common.{refl, sym, subst, ◌∙◌}
+use Rattle.core_world.specs.World.{World}
+use Rattle.core_state.specs.Kept.{IsKept}
 use Rattle.core_state.proofs.TimerSteps.{on_err, tick_kept, unchanged}
 use Rattle.core_state.proofs.machine.Core.drained.Goals as goal
+
+pub invariant_of-self : goal.invariant_of-self
+invariant_of-self g c =
+    subst (λ (w : World). IsKept w c.self.inside.holders.items c.self.inside.tally)
+    (sym (unchanged _ c.args.self.now c.from.result c.index_mut.result.now c.drain_one.new.self
+    c.self.view_is c.index_mut.ensures.value c.in_err-drain_one.ensures.err ∙ sym c.self.view_is))
+    c.self.invariant
 
 pub returns-in_err-drain_one-clause-err : goal.returns-in_err-drain_one-clause-err
 returns-in_err-drain_one-clause-err g c =

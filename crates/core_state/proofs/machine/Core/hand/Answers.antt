@@ -1,6 +1,15 @@
-use Rattle.std.proofs.Common.{refl, arith}
+use Rattle.std.proofs.Common.{refl, arith, sym, subst, ◌∙◌}
+use Rattle.core_world.specs.World.{World}
+use Rattle.core_state.specs.Kept.{IsKept}
 use Rattle.core_state.proofs.TimerSteps.{hand_kept, hand_low, on_err, unchanged}
 use Rattle.core_state.proofs.machine.Core.hand.Goals as goal
+
+pub invariant_of-self : goal.invariant_of-self
+invariant_of-self g c =
+    subst (λ (w : World). IsKept w c.self.inside.holders.items c.self.inside.tally)
+    (sym (unchanged _ c.args.self.now c.from.result c.index_mut.result.now c.hand.new.self
+    c.self.view_is c.index_mut.ensures.value c.in_err-hand.ensures.err ∙ sym c.self.view_is))
+    c.self.invariant
 
 pub returns-in_err-hand-clause-err : goal.returns-in_err-hand-clause-err
 returns-in_err-hand-clause-err g c =

@@ -1,0 +1,2 @@
+pub mod WheelRuns
+pub mod BasesRuns

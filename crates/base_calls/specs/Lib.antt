@@ -1,0 +1,2 @@
+pub mod WheelCalls
+pub mod BasesCalls

@@ -1,6 +1,0 @@
-use Rattle.cpu_bases.proofs.Runs.{RanSoFar}
-use Rattle.cpu_bases.proofs.calls.make_calls.Given as goal
-
-abbrev pub invariant-loop-call : goal.invariant-loop-call
-invariant-loop-call g l =
-    RanSoFar l.calls l.call-index l.answers.items l.fn.bases l.bases

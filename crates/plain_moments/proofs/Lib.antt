@@ -1,0 +1,4 @@
+mod Tellers
+mod Spreading
+mod Gathered
+mod PlainMoments

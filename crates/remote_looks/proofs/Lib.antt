@@ -1,0 +1,3 @@
+pub mod Looks
+mod Sighted
+mod Marked

@@ -1,0 +1,4 @@
+pub mod Rooms
+pub mod Looks
+pub mod Sights
+pub mod Marks

@@ -1,0 +1,3 @@
+pub mod CauseTexts
+pub mod Causes
+pub mod CauseParts

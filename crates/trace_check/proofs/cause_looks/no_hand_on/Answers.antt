@@ -1,9 +1,0 @@
-use Rattle.trace_check.proofs.cause_looks.no_hand_on.Goals as goal
-
-pub returns-in-Some-clause-named : goal.returns-in-Some-clause-named
-returns-in-Some-clause-named g c =
-    let by = c.in-Some.ensures.named in
-    record {
-      so = by.so;
-      forbids = λ v so may. by.forbids v so (may.made, may.walk, may.handing);
-    }
