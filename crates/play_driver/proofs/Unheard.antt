@@ -1,5 +1,5 @@
 -- a play of which no text is made, and which is broken off
-use Rattle.std.proofs.Common.{◌≡◌, ℕ, List, [], refl, subst}
+use Rattle.std.proofs.Common.{◌≡◌, ◌≢◌, ℕ, List, [], refl, subst}
 use Rattle.std.specs.Prelude.{None}
 use Rattle.tm_script.specs.declared.syntax.Script.{Script}
 use Rattle.play_rules.specs.Interrupts.{Replies}
@@ -21,3 +21,10 @@ module _ {S : Type 0} (r : Rules S) (jobs : Replies) (table : ℕ) (script : Scr
       let ts = script_turns jobs r script start in
       (new, (known, subst (λ t. BreaksOff limit count ts t new) none ends))
   fault_unheard old new NoMemory none ends = ([], refl)
+
+  pub fault_told : (old new : List ℕ) (fault : DriveFault) → fault ≢ NoMemory
+      → EndsEarly (work_limit script.version) (script_turns jobs r script start) fault old new
+      → SaysFault r jobs table script start fault old new
+  fault_told old new (BadJob line job) other ends = absurd ends
+  fault_told old new (WorkSpent count) other ends = (known, ends)
+  fault_told old new NoMemory other ends = absurd (other refl)

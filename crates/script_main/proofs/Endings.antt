@@ -6,8 +6,8 @@ use Rattle.std.specs.Prelude.{◌⊎◌, take, String}
 use Rattle.std.specs.declared.alloc.Global.{Global}
 use Rattle.std.specs.Io.KnownBytes.{Appends}
 use Rattle.tm_base.specs.declared.limits.TheConstants.{MOST_BYTES, WORK_LIMIT_V1}
-use Rattle.tm_io.specs.Seen.{SourceSeen, SourceUnbroken, SinkSeen}
-use Rattle.tm_io.specs.Sources.{TakesUpTo}
+use Rattle.tm_io.specs.Seen.{SourceFailed, SourceSeen, SourceUnbroken, SinkSeen}
+use Rattle.tm_io.specs.Sources.{TakesCount, TakesUpTo}
 use Rattle.tm_script.specs.declared.faults.ScriptFault.{ScriptFault}
 use Rattle.tm_generate.specs.Generated.{generated}
 use Rattle.play_rules.specs.Interrupts.{Replies}
@@ -22,23 +22,26 @@ use Rattle.program_texts.specs.declared.replies.Reply.TheVariants.{Usage, ReadFa
 use Rattle.program_texts.specs.declared.replies.Reply.TheVariants.{Refused, JobUnknown, WorkSpent}
 use Rattle.program_texts.specs.declared.replies.Reply.TheVariants.{Played, Made}
 use Rattle.program_texts.specs.declared.statuses.TheConstants.{DONE, USAGE, NO_MEMORY, WRITE_FAULT}
-use Rattle.program_texts.specs.declared.statuses.TheConstants.{WORK_SPENT, JOB_UNKNOWN}
-use Rattle.program_texts.specs.Words.{command_of, form_of, recipe_in, HasJobsRun}
+use Rattle.program_texts.specs.declared.statuses.TheConstants.{WORK_SPENT, JOB_UNKNOWN, READ_FAULT}
+use Rattle.program_texts.specs.declared.statuses.TheConstants.{TOO_LONG}
+use Rattle.program_texts.specs.Words.{command_of, form_of, recipe_in, HasJobsRun, Reads}
 use Rattle.program_texts.specs.Brought.{BringsBy, MakesScript, script_by, ReadsNone}
 use Rattle.program_texts.specs.Replies.{reply_text}
-use Rattle.program_texts.specs.Statuses.{refused_status, status_written, status_broken}
+use Rattle.program_texts.specs.Statuses.{IsEither, refused_status, status_written, status_broken}
 use Rattle.program_texts.specs.Ends.{EndsAs, WritesAll, WritesFront, Writes, whole, part, wanting}
 use Rattle.program_texts.specs.Ends.{unwritten}
 use Rattle.program_texts.proofs.Told.{brought_up, takes_up}
 use Rattle.program_texts.proofs.Refusals.{is_refusal, no_break, no_want, no_done, no_job, no_work}
 use Rattle.program_texts.proofs.Refusals.{never_write_fault, never_no_memory, broken_output}
 use Rattle.program_texts.proofs.Refusals.{own_of_broken, never_broken_done}
-use Rattle.program_texts.proofs.Written.{by_end, no_change}
+use Rattle.program_texts.proofs.Written.{by_end, either, no_change}
 use Rattle.script_main.specs.Scripts.{EndsLate, IsOutput, LacksJob, SpendsBy, SpendsWork}
 use Rattle.script_main.specs.Replies.{IsReply, IsReplyBy, RepliesToInput}
 use Rattle.script_main.specs.Statuses.{HasInput, SaysDone, SaysJobUnknown, SaysNoMemory}
-use Rattle.script_main.specs.Statuses.{SaysRefusedAs, SaysWorkSpent, IsShortDay, SaysWriteFault}
+use Rattle.script_main.specs.Statuses.{SaysReadFault, SaysRefusedAs, SaysTooLong, SaysUsage}
+use Rattle.script_main.specs.Statuses.{SaysWorkSpent, IsShortDay, SaysWriteFault}
 use Rattle.script_main.specs.Statuses.{WritesNothing, WritesReplyFront}
+use Rattle.script_main.proofs.Apart.{apart, fault_written, long_written, no_usage, usage_written}
 use Rattle.script_main.proofs.OneText.{front_of_none}
 
 -- ---- what a reply with its own status rests on
@@ -81,18 +84,20 @@ module _ (jobs : Replies) (table : ℕ) (words : List (String Global)) (s t : So
   has_input command named reply r =
       record { named = named; brought = r.brought; unbroken = r.unbroken }
 
-  no_usage : (reply : Reply) (x : ℕ) → reply ≡ Usage → status_written reply ≡ x → USAGE ≡ x
-  no_usage reply x e at = sym (ap status_written e) ∙ at
+  usage_at : (reply : Reply) (x : ℕ) → reply ≡ Usage → status_written reply ≡ x → USAGE ≡ x
+  usage_at reply x e at = sym (ap status_written e) ∙ at
 
   outputs : (o : Option Command) → command_of words ≡ o → (reply : Reply)
       → IsReplyBy jobs table o s t reply → status_written reply ≡ DONE → Outputs reply
-  outputs None named reply is at = absurd (let no = no_usage reply DONE is at in cc)
-  outputs (Some command) named Usage is at = cc
-  outputs (Some command) named ReadFault is at = cc
-  outputs (Some command) named TooLong is at = cc
+  outputs None named reply is at =
+      absurd (apart USAGE DONE refl refl (usage_at reply DONE is at))
+  outputs (Some command) named Usage is at = absurd is
+  outputs (Some command) named ReadFault is at = absurd (apart READ_FAULT DONE refl refl at)
+  outputs (Some command) named TooLong is at = absurd (apart TOO_LONG DONE refl refl at)
   outputs (Some command) named (Refused form fault) is at = absurd (no_done form (sym at))
-  outputs (Some command) named (JobUnknown line job) is at = cc
-  outputs (Some command) named (WorkSpent count) is at = cc
+  outputs (Some command) named (JobUnknown line job) is at =
+      absurd (apart JOB_UNKNOWN DONE refl refl at)
+  outputs (Some command) named (WorkSpent count) is at = absurd (apart WORK_SPENT DONE refl refl at)
   outputs (Some command) named (Played text) is at = record {
     command = command;
     input = is.input;
@@ -108,10 +113,12 @@ module _ (jobs : Replies) (table : ℕ) (words : List (String Global)) (s t : So
 
   lacks_job : (o : Option Command) → command_of words ≡ o → (reply : Reply)
       → IsReplyBy jobs table o s t reply → status_written reply ≡ JOB_UNKNOWN → Lacks reply
-  lacks_job None named reply is at = absurd (let no = no_usage reply JOB_UNKNOWN is at in cc)
-  lacks_job (Some command) named Usage is at = cc
-  lacks_job (Some command) named ReadFault is at = cc
-  lacks_job (Some command) named TooLong is at = cc
+  lacks_job None named reply is at =
+      absurd (apart USAGE JOB_UNKNOWN refl refl (usage_at reply JOB_UNKNOWN is at))
+  lacks_job (Some command) named Usage is at = absurd is
+  lacks_job (Some command) named ReadFault is at =
+      absurd (apart READ_FAULT JOB_UNKNOWN refl refl at)
+  lacks_job (Some command) named TooLong is at = absurd (apart TOO_LONG JOB_UNKNOWN refl refl at)
   lacks_job (Some command) named (Refused form fault) is at = absurd (no_job form (sym at))
   lacks_job (Some command) named (JobUnknown line job) is at = record {
     command = command;
@@ -123,18 +130,22 @@ module _ (jobs : Replies) (table : ℕ) (words : List (String Global)) (s t : So
     lacks = is.reply_is.1;
     is = refl;
   }
-  lacks_job (Some command) named (WorkSpent count) is at = cc
-  lacks_job (Some command) named (Played text) is at = cc
-  lacks_job (Some command) named (Made text) is at = cc
+  lacks_job (Some command) named (WorkSpent count) is at =
+      absurd (apart WORK_SPENT JOB_UNKNOWN refl refl at)
+  lacks_job (Some command) named (Played text) is at = absurd (apart DONE JOB_UNKNOWN refl refl at)
+  lacks_job (Some command) named (Made text) is at = absurd (apart DONE JOB_UNKNOWN refl refl at)
 
   spends_work : (o : Option Command) → command_of words ≡ o → (reply : Reply)
       → IsReplyBy jobs table o s t reply → status_written reply ≡ WORK_SPENT → Spends reply
-  spends_work None named reply is at = absurd (let no = no_usage reply WORK_SPENT is at in cc)
-  spends_work (Some command) named Usage is at = cc
-  spends_work (Some command) named ReadFault is at = cc
-  spends_work (Some command) named TooLong is at = cc
+  spends_work None named reply is at =
+      absurd (apart USAGE WORK_SPENT refl refl (usage_at reply WORK_SPENT is at))
+  spends_work (Some command) named Usage is at = absurd is
+  spends_work (Some command) named ReadFault is at =
+      absurd (apart READ_FAULT WORK_SPENT refl refl at)
+  spends_work (Some command) named TooLong is at = absurd (apart TOO_LONG WORK_SPENT refl refl at)
   spends_work (Some command) named (Refused form fault) is at = absurd (no_work form (sym at))
-  spends_work (Some command) named (JobUnknown line job) is at = cc
+  spends_work (Some command) named (JobUnknown line job) is at =
+      absurd (apart JOB_UNKNOWN WORK_SPENT refl refl at)
   spends_work (Some command) named (WorkSpent count) is at = record {
     command = command;
     input = is.input;
@@ -144,8 +155,23 @@ module _ (jobs : Replies) (table : ℕ) (words : List (String Global)) (s t : So
     spends = is.reply_is.1;
     is = refl;
   }
-  spends_work (Some command) named (Played text) is at = cc
-  spends_work (Some command) named (Made text) is at = cc
+  spends_work (Some command) named (Played text) is at = absurd (apart DONE WORK_SPENT refl refl at)
+  spends_work (Some command) named (Made text) is at = absurd (apart DONE WORK_SPENT refl refl at)
+
+  no_words : (o : Option Command) → command_of words ≡ o → IsReplyBy jobs table o s t Usage
+      → command_of words ≡ None
+  no_words None named is = named
+  no_words (Some command) named is = absurd is
+
+  fault_by : (o : Option Command) → command_of words ≡ o → IsReplyBy jobs table o s t ReadFault
+      → Reads words × SourceFailed s t × TakesUpTo s t MOST_BYTES
+  fault_by None named is = absurd (no_usage ReadFault refl is)
+  fault_by (Some command) named is = ((command, named, is.0), is.1, is.2)
+
+  long_by : (o : Option Command) → command_of words ≡ o → IsReplyBy jobs table o s t TooLong
+      → Reads words × SourceUnbroken s t × TakesCount s t (MOST_BYTES + 1)
+  long_by None named is = absurd (no_usage TooLong refl is)
+  long_by (Some command) named is = ((command, named, is.0), is.1, is.2)
 
   record Refuses (form : Form) (reply : Reply) : Type 0 where
     command : Command
@@ -159,7 +185,7 @@ module _ (jobs : Replies) (table : ℕ) (words : List (String Global)) (s t : So
 
   refusal_by : (form : Form) (fault : ScriptFault) (o : Option Command) → command_of words ≡ o
       → IsReplyBy jobs table o s t (Refused form fault) → Refuses form (Refused form fault)
-  refusal_by form fault None named is = cc
+  refusal_by form fault None named is = absurd (no_usage (Refused form fault) refl is)
   refusal_by form fault (Some command) named is = record {
     command = command;
     named = named;
@@ -215,11 +241,11 @@ module _ (jobs : Replies) (table : ℕ) (words : List (String Global)) (s t : So
     nothing_put o named Usage by is = front_of Usage is (lit< tt) (no_change k m same)
     nothing_put o named ReadFault by is = front_of ReadFault is (lit< tt) (no_change k m same)
     nothing_put o named TooLong by is = front_of TooLong is (lit< tt) (no_change k m same)
-    nothing_put None named (Refused form fault) by is = cc
-    nothing_put None named (JobUnknown line job) by is = cc
-    nothing_put None named (WorkSpent count) by is = cc
-    nothing_put None named (Played text) by is = cc
-    nothing_put None named (Made text) by is = cc
+    nothing_put None named (Refused form fault) by is = absurd (no_usage (Refused form fault) refl by)
+    nothing_put None named (JobUnknown line job) by is = absurd (no_usage (JobUnknown line job) refl by)
+    nothing_put None named (WorkSpent count) by is = absurd (no_usage (WorkSpent count) refl by)
+    nothing_put None named (Played text) by is = absurd (no_usage (Played text) refl by)
+    nothing_put None named (Made text) by is = absurd (no_usage (Made text) refl by)
     nothing_put (Some command) named (Refused form fault) by is =
         has_read command named by.1 (takes_up s t by.3.bytes by.3.read)
     nothing_put (Some command) named (JobUnknown line job) by is =
@@ -276,7 +302,8 @@ module _ {jobs : Replies} {table : ℕ} {words : List (String Global)} {s t : So
         output = out.output;
         writes = w;
       })
-      (λ own w. absurd (never_broken_done e.reply own)) (λ own. cc)
+      (λ own w. absurd (never_broken_done e.reply own))
+      (λ own. absurd (apart NO_MEMORY DONE refl refl own))
 
   pub says_write_fault : status ≡ WRITE_FAULT → SaysWriteFault jobs table words s t k m
   says_write_fault at =
@@ -289,7 +316,7 @@ module _ {jobs : Replies} {table : ℕ} {words : List (String Global)} {s t : So
         output = out.output;
         writes = w;
       })
-      (λ own. cc)
+      (λ own. absurd (apart NO_MEMORY WRITE_FAULT refl refl own))
 
   pub says_no_memory : status ≡ NO_MEMORY → SaysNoMemory jobs table words s t k m
   says_no_memory at = no_memory_by e.ends
@@ -298,7 +325,7 @@ module _ {jobs : Replies} {table : ℕ} {words : List (String Global)} {s t : So
       no_memory_by (whole w own) = absurd (never_no_memory e.reply (sym own ∙ at))
       no_memory_by (part w own) =
           absurd (never_no_memory e.reply
-          (own_of_broken e.reply NO_MEMORY (λ no. cc) (sym own ∙ at)))
+          (own_of_broken e.reply NO_MEMORY (apart WRITE_FAULT NO_MEMORY refl refl) (sym own ∙ at)))
       no_memory_by (wanting count front sound own) = record {
         sound = sound;
         written = inr (record {
@@ -311,6 +338,62 @@ module _ {jobs : Replies} {table : ℕ} {words : List (String Global)} {s t : So
       }
       no_memory_by (unwritten same) =
           unwritten_says jobs table words s t k m same.0 e.reply e.is
+
+  usage_said : status_written e.reply ≡ USAGE → Writes (reply_text e.reply) k m
+      → SaysUsage words k m
+  usage_said own w =
+      let same = usage_written e.reply own in
+      let Wrote : Reply → Type 0 = λ r. Writes (reply_text r) k m in
+      let Is : Reply → Type 0 = λ r. IsReply jobs table words s t r in
+      record {
+        words_are = no_words jobs table words s t (command_of words) refl (subst Is same e.is);
+        writes = subst Wrote same w;
+      }
+
+  pub says_usage : status ≡ USAGE → SaysUsage words k m
+  says_usage at =
+      by USAGE at (λ own w. usage_said own (inl w))
+      (λ own w. usage_said (own_of_broken e.reply USAGE (apart WRITE_FAULT USAGE refl refl) own)
+      (inr w))
+      (λ own. absurd (apart NO_MEMORY USAGE refl refl own))
+
+  read_fault_said : status_written e.reply ≡ READ_FAULT → Writes (reply_text e.reply) k m
+      → SaysReadFault words s t k m
+  read_fault_said own w =
+      let same = fault_written e.reply own in
+      let Wrote : Reply → Type 0 = λ r. Writes (reply_text r) k m in
+      let Is : Reply → Type 0 = λ r. IsReply jobs table words s t r in
+      let is = fault_by jobs table words s t (command_of words) refl (subst Is same e.is) in
+      record { reads = is.0; cause = is.1; read = is.2; writes = subst Wrote same w }
+
+  pub says_read_fault : status ≡ READ_FAULT → SaysReadFault words s t k m
+  says_read_fault at =
+      by READ_FAULT at (λ own w. read_fault_said own (inl w))
+      (λ own w. read_fault_said (own_of_broken e.reply READ_FAULT (apart WRITE_FAULT READ_FAULT refl refl) own)
+      (inr w))
+      (λ own. absurd (apart NO_MEMORY READ_FAULT refl refl own))
+
+  too_long_said : status_written e.reply ≡ TOO_LONG → Writes (reply_text e.reply) k m
+      → SaysTooLong words s t k m
+  too_long_said own w =
+      let same = long_written e.reply own in
+      let Wrote : Reply → Type 0 = λ r. Writes (reply_text r) k m in
+      let Is : Reply → Type 0 = λ r. IsReply jobs table words s t r in
+      let is = long_by jobs table words s t (command_of words) refl (subst Is same e.is) in
+      record { reads = is.0; unbroken = is.1; read = is.2; writes = subst Wrote same w }
+
+  pub says_too_long : status ≡ TOO_LONG → SaysTooLong words s t k m
+  says_too_long at =
+      by TOO_LONG at (λ own w. too_long_said own (inl w))
+      (λ own w. too_long_said (own_of_broken e.reply TOO_LONG (apart WRITE_FAULT TOO_LONG refl refl) own)
+      (inr w))
+      (λ own. absurd (apart NO_MEMORY TOO_LONG refl refl own))
+
+  pub usage_exactly : command_of words ≡ None → IsEither status USAGE NO_MEMORY
+  usage_exactly none =
+      let By : Option Command → Type 0 = λ o. IsReplyBy jobs table o s t e.reply in
+      let Ends : Reply → Type 0 = λ r. EndsAs r k m status in
+      either (reply_text Usage) k m status USAGE (subst Ends (subst By none e.is) e.ends)
 
   job_said : status_written e.reply ≡ JOB_UNKNOWN → Writes (reply_text e.reply) k m
       → SaysJobUnknown table words s t k m
@@ -331,7 +414,9 @@ module _ {jobs : Replies} {table : ℕ} {words : List (String Global)} {s t : So
   pub says_job_unknown : status ≡ JOB_UNKNOWN → SaysJobUnknown table words s t k m
   says_job_unknown at =
       by JOB_UNKNOWN at (λ own w. job_said own (inl w))
-      (λ own w. job_said (own_of_broken e.reply JOB_UNKNOWN (λ no. cc) own) (inr w)) (λ own. cc)
+      (λ own w. job_said (own_of_broken e.reply JOB_UNKNOWN (apart WRITE_FAULT JOB_UNKNOWN refl refl) own)
+      (inr w))
+      (λ own. absurd (apart NO_MEMORY JOB_UNKNOWN refl refl own))
 
   work_said : status_written e.reply ≡ WORK_SPENT → Writes (reply_text e.reply) k m
       → SaysWorkSpent jobs table words s t k m
@@ -351,7 +436,9 @@ module _ {jobs : Replies} {table : ℕ} {words : List (String Global)} {s t : So
   pub says_work_spent : status ≡ WORK_SPENT → SaysWorkSpent jobs table words s t k m
   says_work_spent at =
       by WORK_SPENT at (λ own w. work_said own (inl w))
-      (λ own w. work_said (own_of_broken e.reply WORK_SPENT (λ no. cc) own) (inr w)) (λ own. cc)
+      (λ own w. work_said (own_of_broken e.reply WORK_SPENT (apart WRITE_FAULT WORK_SPENT refl refl) own)
+      (inr w))
+      (λ own. absurd (apart NO_MEMORY WORK_SPENT refl refl own))
 
   refusal_said : (form : Form) → status_written e.reply ≡ refused_status form
       → Writes (reply_text e.reply) k m → SaysRefusedAs form words s t k m

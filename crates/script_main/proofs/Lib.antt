@@ -1,5 +1,6 @@
 mod Replying
 mod Known
+mod Apart
 mod OneText
 mod Endings
 mod Exactly

@@ -1,7 +1,9 @@
 -- parts of CPUs in a row, which are cut off one by one
 use Rattle.std.proofs.Common.{◌≡◌, ◌≢◌, ℕ, zero, suc, ◌+◌, ◌<◌, List, [], ◌∷◌, ◌++◌, length, map}
-use Rattle.std.proofs.Common.{refl, sym, ap, ◌∙◌, subst, arith}
+use Rattle.std.proofs.Common.{◌≤◌, refl, sym, ap, ◌∙◌, subst, arith}
 use Rattle.std.specs.List.{range_with_len}
+use Rattle.tree_plan.specs.Shape.{Shape}
+use Rattle.tree_plan.specs.Paths.{cpu_count_of}
 use Rattle.core_world.specs.World.{World}
 use Rattle.shared_rule.specs.declared.parts.BoxView.{BoxView}
 use Rattle.shared_rule.specs.declared.parts.PassView.{PassView}
@@ -86,3 +88,12 @@ begins_with o core made me same knows =
         (all_passes (first_whole o made) (length o.cpus))
         ≡ seat_of (boxes_from o 0 (length o.cpus)) (passes_from o made 0 (length o.cpus))
     passes = ap (seat_of (boxes_from o 0 (length o.cpus))) (passes_row o made (length o.cpus))
+
+-- room for as many as a core's tree has CPUs is room for all CPUs of the world that it is
+pub room_for_all : (o core : World) (tree : Shape) (count room : ℕ) → core ≡ o → tree ≡ core.tree
+    → length core.cpus ≡ cpu_count_of core.tree → count ≡ cpu_count_of tree → count ≤ room
+    → length o.cpus ≤ room
+room_for_all o core tree count room same planted sized counted enough =
+    let many = ap (λ (w : World). length w.cpus) same in
+    let of_tree = counted ∙ ap cpu_count_of planted in
+    omega (arith, many, sized, of_tree, enough)

@@ -20,7 +20,10 @@ use Rattle.step_play.specs.SamePlay.{core_start}
 use Rattle.story.specs.Stories.{BrokenFrom, IsTurn, StoryFrom}
 use Rattle.core_plays.specs.OnCore.{EachIsAnsweredFor}
 use Rattle.play_driver.specs.Outcomes.{work_limit}
-use Rattle.tm_driver.specs.Runs.{BreaksStory, EachRests, RunsOut, RunsToEnd, RunsWhole, TellsMoment, work_of}
+use Rattle.play_driver.specs.declared.outcomes.DriveFault.{DriveFault}
+use Rattle.play_driver.specs.declared.outcomes.DriveFault.TheVariants.{BadJob, NoMemory, WorkSpent}
+use Rattle.tm_driver.specs.Runs.{BreaksRun, BreaksStory, EachRests, EndsRunEarly, RunsOut, RunsToEnd}
+use Rattle.tm_driver.specs.Runs.{RunsWhole, TellsMoment, work_of}
 use Rattle.core_plays.proofs.BySteps.{at_rest}
 use Rattle.play_driver.proofs.Turns.{below_test, last_push, spent_more, turn_lines_push, work_more}
 
@@ -221,3 +224,11 @@ module _ (jobs : Replies) (script : Script) where
     within = whole.within;
     rests = whole.rests;
   }
+
+  -- a run that is broken off, but not for want of memory
+  pub broken : (table : ℕ) (old new : List ℕ) (fault : DriveFault) → (fault ≡ NoMemory → ⊥) →
+      None ≡ first_unknown_job table script.moments → EndsRunEarly jobs script fault old new →
+      BreaksRun jobs table script fault old new
+  broken table old new (BadJob line job) other known ends = absurd ends
+  broken table old new (WorkSpent count) other known ends = (sym known, ends)
+  broken table old new NoMemory other known ends = absurd (other refl)

@@ -33,11 +33,15 @@ leads_on w z g (covers.there x k is at) = ap is_some is
 leads_on w z g (covers.further x k h is at rest) = ap is_some is
 
 -- two paths meet at one level, in one group
+pub meeting_is : (w : World) (d c level at : ℕ) → IsHierarchy w.tree →
+    (m : MeetsBelow w d (Some at) c level) → m.meeting ≡ at
+meeting_is w d c level at lawful m = lawful.one_level c d m.meeting at m.group m.path m.other
+
 pub meet_once : (w : World) (d c level at one two : ℕ) → IsHierarchy w.tree
     → group_at_of w.tree c at ≡ Some one → group_at_of w.tree d at ≡ Some two
     → MeetsBelow w d (Some at) c level → one ≡ two
 meet_once w d c level at one two lawful path other m =
-    let same : m.meeting ≡ at = lawful.one_level c d m.meeting at m.group m.path m.other in
+    let same = meeting_is w d c level at lawful m in
     let there : group_at_of w.tree c at ≡ Some m.group =
     subst (λ l. group_at_of w.tree c l ≡ Some m.group) same m.path in
     let here : group_at_of w.tree d at ≡ Some m.group = m.other in

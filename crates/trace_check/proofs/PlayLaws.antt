@@ -12,22 +12,27 @@ use Rattle.tm_base.specs.declared.names.CpuId.{CpuId}
 use Rattle.tm_base.specs.declared.names.TimerId.{TimerId}
 use Rattle.tm_report.specs.declared.lines.Line.TheVariants as report
 use Rattle.tm_report.specs.Lines.{line_text}
+use Rattle.tree_plan.proofs.Below.{paths}
 use Rattle.core_world.specs.declared.step.Step.{Step}
 use Rattle.core_world.specs.Enabled.{Enabled}
 use Rattle.core_world.specs.Lists.{EachEnabled, IsRun, after_all}
 use Rattle.core_world.specs.Start.{start_cpu}
 use Rattle.core_world.specs.Steps.{stepped}
 use Rattle.core_world.specs.World.{World}
+use Rattle.core_state.specs.Kept.{WorldFits}
 use Rattle.trace_text.specs.declared.traces.Trace.{Trace}
 use Rattle.trace_text.specs.declared.traces.TraceLine.{TraceLine}
 use Rattle.trace_text.specs.declared.traces.TraceLine.TheVariants as lines
 use Rattle.trace_text.specs.declared.words.Limits.{Limits}
 use Rattle.trace_text.specs.Lines.{IsLine, line_text as text_of}
 use Rattle.trace_text.specs.Texts.{IsTrace, cpu_count, limits_of, machine_lines}
+use Rattle.trace_check.specs.declared.reason.Reason.{Reason}
+use Rattle.trace_check.specs.declared.reason.Reason.TheVariants as reasons
 use Rattle.trace_check.specs.declared.verdict.Verdict.{Verdict}
 use Rattle.trace_check.specs.declared.verdict.Verdict.TheVariants as verdicts
 use Rattle.trace_check.specs.Answers.{IsCheckText, IsPlayed, IsVerdict, start_for, steps_of}
-use Rattle.trace_check.specs.Playing.{Asks, AsksOf, Plays, WritesPlayed}
+use Rattle.trace_check.specs.Playing.{Asks, AsksOf, IsThere, Plays, WritesPlayed}
+use Rattle.trace_check.specs.Reasons.{IsReason}
 
 -- so many lines were played: what is played of the others from here on is, with what stands in the
 -- report, what is played of all
@@ -41,6 +46,19 @@ pub record IsUnderWay
   pub written : new ≡ old ++ text
   pub on : (verdict : Verdict) (behind : List ℕ) → IsPlayed w made (drop index ls) verdict behind →
       IsPlayed start 0 ls verdict (text ++ behind)
+
+-- ---- one question
+
+-- the group that a reason names is there
+pub is_there : (w : World) → WorldFits w → (c timer : ℕ) (reason : Reason) →
+    IsReason w c timer reason → IsThere w reason
+is_there w fits c timer (reasons.Held group cpu) is =
+    let held = is.first.held in
+    let low = (paths w.tree fits.planned).group_within c held.level held.in_group held.on_path in
+    let count = fits.lawful.sized.groups in
+    let same = is.first.group in omega (arith, low, count, same)
+is_there w fits c timer (reasons.Woken cpu at) is = tt
+is_there w fits c timer (reasons.Carried case) is = tt
 
 -- ---- one line
 

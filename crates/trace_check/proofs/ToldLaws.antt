@@ -6,6 +6,7 @@ use Rattle.std.proofs.lemmas.Bool.{cases_lt, false≢true}
 use Rattle.std.proofs.lemmas.Option.{none-some, same_Some}
 use Rattle.event_queue.specs.EventMap.{event_at}
 use Rattle.tree_plan.specs.Paths.{group_at_of}
+use Rattle.tree_plan.specs.Shape.{Shape}
 use Rattle.coverage.specs.Coverage.{HasEvent, Held, Leads, Told, TopWakes, WakesItself, Woken}
 use Rattle.coverage.specs.Coverage.{to_cpu, to_group}
 use Rattle.walk_rules.specs.Hierarchy.{at_top, side}
@@ -26,6 +27,11 @@ not_on m on none = true≢false (sym on ∙ ap is_some none)
 pub no_more : (m : Option ℕ) → is_none m ≡ true → m ≡ None
 no_more None e = refl
 no_more (Some k) e = absurd (false≢true e)
+
+-- a path's group, as it is answered of a tree that is the core's
+pub path_from : (t u : Shape) (c level : ℕ) (o : Option ℕ) → u ≡ t → o ≡ group_at_of u c level →
+    group_at_of t c level ≡ o
+path_from t u c level o same is = ap (λ (x : Shape). group_at_of x c level) (sym same) ∙ sym is
 
 -- two ends at a top are at one time
 abbrev time_at : End → ℕ

@@ -23,8 +23,8 @@ use Rattle.step_play.proofs.Drains.{Rebases, base_after, free_after, hand_is, is
 use Rattle.step_play.proofs.Drains.{may_after, may_hand, rebased}
 use Rattle.step_play.proofs.Worlds.{put_same}
 use Rattle.core_machine.specs.Draining.Turns.{DrainedSome, Drains, handed_each, handed_next}
-use Rattle.core_machine.proofs.Draining.Sames.{rebased_online, rebased_same, same_then}
-use Rattle.core_machine.proofs.Draining.Sames.{online_then}
+use Rattle.core_machine.proofs.Draining.Sames.{rebased_online, rebased_same, same_self, same_then}
+use Rattle.core_machine.proofs.Draining.Sames.{online_self, online_then}
 
 module _ (law : StepsStayLawful) (w : World) (home : ℕ) (class : Class) (runner : ℕ)
     (d : Drains w home class runner) (lawful : IsLawful w) where
@@ -116,6 +116,16 @@ module _ (home : ℕ) (class : Class) (runner : ℕ) (start : World) where
     pub is : w ≡ handed_each home runner out start
     pub same : Same step_rules start w
     pub online : SameOnline step_rules start w
+
+  pub nothing_out : Drains start home class runner → DrainsSoFar start []
+  nothing_out drains = record {
+    drains = drains;
+    items = refl;
+    state = refl;
+    is = refl;
+    same = same_self start start refl;
+    online = online_self start start refl;
+  }
 
   pub drained_some : (w : World) (out : List Item) → DrainsSoFar w out →
       DrainedSome start home class runner w

@@ -1,4 +1,5 @@
 use Rattle.std.proofs.Common.{rules, sym, refl, arith, ◌∙◌}
+use Rattle.std.proofs.lemmas.Result.{err_from_is_err_and}
 use Rattle.play_rules.proofs.Plays.{gains_then}
 use Rattle.play_driver.specs.Conditions.{IsMomentInRange}
 use Rattle.play_driver.proofs.Scripts.{after_in_range, after_rise, from_said, rise_from, said_by_end}
@@ -50,3 +51,80 @@ returns-clause-whole g c =
     let done = c.in_ok-deep_turn-2.ensures in
     rw (sym c.work_limit-limit.ensures)
     (all_told _ _ _ _ _ _ _ _ _ _ _ _ _ c.loop-now.invariant.far _ _ done.leaves.prints (omega (arith, c.loop-now.invariant.by_end, c.loop-now-test.false)))
+
+pub deep_turn-requires-clause-by_wakeups : goal.deep_turn-requires-clause-by_wakeups
+deep_turn-requires-clause-by_wakeups g c = c.requires.by_wakeups
+
+pub deep_turn-requires-clause-not_back : goal.deep_turn-requires-clause-not_back
+deep_turn-requires-clause-not_back g c = c.loop-now.invariant.not_back
+
+pub deep_turn-requires-clause-in_time : goal.deep_turn-requires-clause-in_time
+deep_turn-requires-clause-in_time g c =
+    omega (arith, c.loop-now-test.true, c.requires.playable.in_time)
+
+pub deep_turn-requires-clause-in_range : goal.deep_turn-requires-clause-in_range
+deep_turn-requires-clause-in_range g c = c.loop-now.invariant.in_range
+
+pub deep_turn-requires-clause-fit : goal.deep_turn-requires-clause-fit
+deep_turn-requires-clause-fit g c = c.loop-now.invariant.fit
+
+pub deep_turn-requires-clause-device : goal.deep_turn-requires-clause-device
+deep_turn-requires-clause-device g c = c.loop-now.invariant.device
+
+pub returns-in_err-deep_turn-clause-whole : goal.returns-in_err-deep_turn-clause-whole
+returns-in_err-deep_turn-clause-whole g c =
+    let p = err_from_is_err_and c.from_residual.result c.from_residual.ensures.1 in rw p.1 tt
+
+pub returns-in_err-deep_turn-clause-fault : goal.returns-in_err-deep_turn-clause-fault
+returns-in_err-deep_turn-clause-fault g c =
+    let p = err_from_is_err_and c.from_residual.result c.from_residual.ensures.1 in
+    rw (p.1, p.2)
+    (gains_then _ _ _ c.loop-now.invariant.gains c.in_err-deep_turn.ensures.leaves.gains)
+
+pub returns-then-work-limit-clause-whole : goal.returns-then-work-limit-clause-whole
+returns-then-work-limit-clause-whole g c = tt
+
+pub moment_after-now-requires : goal.moment_after-now-requires
+moment_after-now-requires g c =
+    omega (
+      arith,
+      c.in_ok-deep_turn.ensures.clock,
+      c.loop-now-test.true,
+      c.requires.playable.in_time,
+    )
+
+pub loop-now-smaller : goal.loop-now-smaller
+loop-now-smaller g c =
+    rw c.moment_after-now.ensures
+    (omega (arith, c.in_ok-deep_turn.ensures.clock, c.loop-now-test.true))
+
+pub deep_turn-requires-2-clause-by_wakeups : goal.deep_turn-requires-2-clause-by_wakeups
+deep_turn-requires-2-clause-by_wakeups g c = c.requires.by_wakeups
+
+pub deep_turn-requires-2-clause-not_back : goal.deep_turn-requires-2-clause-not_back
+deep_turn-requires-2-clause-not_back g c = c.loop-now.invariant.not_back
+
+pub deep_turn-requires-2-clause-in_time : goal.deep_turn-requires-2-clause-in_time
+deep_turn-requires-2-clause-in_time g c =
+    omega (arith, c.loop-now.invariant.by_end, c.requires.playable.in_time)
+
+pub deep_turn-requires-2-clause-in_range : goal.deep_turn-requires-2-clause-in_range
+deep_turn-requires-2-clause-in_range g c = c.loop-now.invariant.in_range
+
+pub deep_turn-requires-2-clause-fit : goal.deep_turn-requires-2-clause-fit
+deep_turn-requires-2-clause-fit g c = c.loop-now.invariant.fit
+
+pub deep_turn-requires-2-clause-device : goal.deep_turn-requires-2-clause-device
+deep_turn-requires-2-clause-device g c = c.loop-now.invariant.device
+
+pub returns-in_err-deep_turn-2-clause-whole : goal.returns-in_err-deep_turn-2-clause-whole
+returns-in_err-deep_turn-2-clause-whole g c =
+    let left = c.from_residual-in_err-deep_turn-2 in
+    let p = err_from_is_err_and left.result left.ensures.1 in rw p.1 tt
+
+pub returns-in_err-deep_turn-2-clause-fault : goal.returns-in_err-deep_turn-2-clause-fault
+returns-in_err-deep_turn-2-clause-fault g c =
+    let left = c.from_residual-in_err-deep_turn-2 in
+    let p = err_from_is_err_and left.result left.ensures.1 in
+    rw (p.1, p.2)
+    (gains_then _ _ _ c.loop-now.invariant.gains c.in_err-deep_turn-2.ensures.leaves.gains)

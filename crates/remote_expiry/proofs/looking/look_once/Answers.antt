@@ -1,5 +1,8 @@
-use Rattle.std.proofs.Common.{[], refl, arith}
+use Rattle.std.proofs.Common.{◌<◌, ◌∙◌, [], ap, arith, length, refl, subst}
 use Rattle.std.proofs.lemmas.Result.{err_from_is_err_and}
+use Rattle.tree_plan.specs.Paths.{is_placed_in}
+use Rattle.core_world.specs.World.{World}
+use Rattle.shared_rule.specs.Slots.{IsGrouped}
 use Rattle.remote_parts.proofs.OwnDrains.{err_as}
 use Rattle.remote_parts.proofs.Served.{still_at_work}
 use Rattle.remote_expiry.specs.Trying.{BreaksRound, IsRound}
@@ -66,3 +69,44 @@ returns-in_ok-serve-in-Due g c =
     c.args.level c.args.tried.now c.add.new.self c.args.pass.now c.look.new.pass
     c.serve.new.pass c.args.runs.now.runs c.serve.new.runs.runs c.in-Due.cpu w.pass w.seated
     w.is.opening c.in-Due.ensures c.add.ensures.added c.in_ok-serve-in-Due.ensures
+
+pub look-requires-clause-run : goal.look-requires-clause-run
+look-requires-clause-run g c = (c.requires.at_work.pass, c.requires.at_work.seated)
+
+pub look-requires-clause-cpu : goal.look-requires-clause-cpu
+look-requires-clause-cpu g c =
+    let w = c.requires.at_work in
+    subst (λ n. n < length g.N.RunName.opening.cpus)
+    (c.law.ensures g.N.RunName.table w.pass w.seated) w.is.cpu
+
+pub add-requires : goal.add-requires
+add-requires g c =
+    let w = c.requires.at_work in
+    let due = subst (λ (z : World). IsGrouped z c.in-Due.cpu.0) w.is.opening
+    (c.in-Due.ensures.of_run w.pass w.seated) in
+    let many = c.law_shape.ensures.many in
+    omega (arith, due.0, many)
+
+pub serve-requires-clause-placed : goal.serve-requires-clause-placed
+serve-requires-clause-placed g c =
+    let table = g.N.RunName.table in
+    let o = g.N.RunName.opening in
+    let held = c.args.pass.now in
+    let w = c.requires.at_work in
+    let piece = due_piece table o c.args.now c.args.level c.args.tried.now held c.look.new.pass
+    c.in-Due.cpu w.pass w.seated c.in-Due.ensures in
+    let seen = c.in-Due.ensures.seen in
+    ap (is_placed_in o.tree) piece.1.cpu
+    ∙ c.law_shape.ensures.placed held.cpu c.args.level seen.group seen.path
+
+pub serve-requires-clause-due : goal.serve-requires-clause-due
+serve-requires-clause-due g c =
+    let w = c.requires.at_work in
+    subst (λ (z : World). IsGrouped z c.in-Due.cpu.0) w.is.opening
+    (c.in-Due.ensures.of_run w.pass w.seated)
+
+pub serve-requires-clause-now : goal.serve-requires-clause-now
+serve-requires-clause-now g c = c.requires.now
+
+pub serve-requires-clause-in_time : goal.serve-requires-clause-in_time
+serve-requires-clause-in_time g c = c.requires.in_time

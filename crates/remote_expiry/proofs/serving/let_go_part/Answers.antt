@@ -1,7 +1,8 @@
-use Rattle.std.proofs.Common.{[], ◌∷◌, refl, sym, ap, ◌∙◌, subst}
+use Rattle.std.proofs.Common.{[], ◌∷◌, inl, inr, refl, sym, ap, ◌∙◌, subst}
 use Rattle.core_state.specs.Shown.{shown_cpu}
 use Rattle.cpu_word.specs.declared.state.CpuState.{CpuState}
 use Rattle.shared_rule.specs.Parts.{HeldPart}
+use Rattle.shared_table.specs.Begun.{IsFree}
 use Rattle.remote_parts.specs.Tries.{AtWork}
 use Rattle.remote_parts.proofs.Taking.{awake_by_line, awake_by_rest, let_go_carried}
 use Rattle.remote_parts.proofs.Taking.{let_go_released, looked_work}
@@ -74,3 +75,48 @@ returns-else-state-clause-pass g c =
       | else-state-via-else-state w ↦
           awake_by_line part.box.own.online part.box.own.idle (online ∙ w.if-state.false)
     ]) n c.take_back.ensures.pass
+
+pub may_take-requires-clause-run : goal.may_take-requires-clause-run
+may_take-requires-clause-run g c = (c.requires.marked.pass, c.requires.marked.seated)
+
+pub may_take-requires-clause-alone : goal.may_take-requires-clause-alone
+may_take-requires-clause-alone g c = c.requires.free.alone
+
+pub may_take-requires-clause-now : goal.may_take-requires-clause-now
+may_take-requires-clause-now g c = c.requires.now
+
+pub carry_for-requires-clause-free : goal.carry_for-requires-clause-free
+carry_for-requires-clause-free g c =
+    let free = c.requires.free in
+    subst IsFree (sym c.may_take.ensures.part)
+    (record { walkless = free.walkless; alone = refl; whole = free.whole })
+
+pub carry_for-requires-clause-online : goal.carry_for-requires-clause-online
+carry_for-requires-clause-online g c =
+    ap (λ (s : CpuState). s.online) (sym c.state-state.ensures) ∙ c.if-state.true
+
+pub carry_for-requires-clause-idle : goal.carry_for-requires-clause-idle
+carry_for-requires-clause-idle g c =
+    ap (λ (s : CpuState). s.idle) (sym c.state-state.ensures) ∙ c.if-state-2.true
+
+pub take_back-requires-clause-free : goal.take_back-requires-clause-free
+take_back-requires-clause-free g c =
+    let free = c.requires.free in
+    subst IsFree (sym c.may_take.ensures.part)
+    (record { walkless = free.walkless; alone = refl; whole = free.whole })
+
+pub take_back-requires-clause-awake : goal.take_back-requires-clause-awake
+take_back-requires-clause-awake g c =
+    let shown = sym c.state-state.ensures in
+    elim c.else-state.branch [
+      | else-state-via-then-state+else-state-2 w ↦
+          inr (ap (λ (s : CpuState). s.idle) shown ∙ w.if-state-2.false)
+      | else-state-via-else-state w ↦
+          inl (ap (λ (s : CpuState). s.online) shown ∙ w.if-state.false)
+    ]
+
+pub returns-then-state-2-clause-free : goal.returns-then-state-2-clause-free
+returns-then-state-2-clause-free g c = c.carry_for.ensures.free
+
+pub returns-else-state-clause-free : goal.returns-else-state-clause-free
+returns-else-state-clause-free g c = c.take_back.ensures.free

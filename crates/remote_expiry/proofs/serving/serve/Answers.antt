@@ -80,3 +80,26 @@ returns g c =
     c.run_all-ended.new.runs.runs c.run_all-ended.result c.requires.at_work
     (subst (λ (xs : List Item). HasTaken table o d xs held mid) (sym c.deref.ensures.value) taken)
     c.in_ok-take.ensures.runs c.run_all-ended.ensures c.let_go.ensures
+
+pub take-requires-clause-at_work : goal.take-requires-clause-at_work
+take-requires-clause-at_work g c = c.requires.at_work
+
+pub take-requires-clause-placed : goal.take-requires-clause-placed
+take-requires-clause-placed g c = c.requires.placed
+
+pub take-requires-clause-due : goal.take-requires-clause-due
+take-requires-clause-due g c = c.requires.due
+
+pub take-requires-clause-now : goal.take-requires-clause-now
+take-requires-clause-now g c = c.requires.now
+
+pub take-requires-clause-none : goal.take-requires-clause-none
+take-requires-clause-none g c = c.new-items.ensures.items
+
+pub run_all-ended-requires-clause-timers : goal.run_all-ended-requires-clause-timers
+run_all-ended-requires-clause-timers g c =
+    rw c.deref.ensures.value (c.in_ok-take.ensures.runnable c.if-not-branch.false).timers
+
+pub run_all-ended-requires-clause-room : goal.run_all-ended-requires-clause-room
+run_all-ended-requires-clause-room g c =
+    rw c.deref.ensures.value (c.in_ok-take.ensures.runnable c.if-not-branch.false).places

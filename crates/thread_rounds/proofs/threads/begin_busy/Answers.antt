@@ -1,3 +1,4 @@
+use Rattle.std.proofs.Common.{refl}
 use Rattle.std.proofs.Crossing.{crosses}
 use denote.Param.Send.{sendable}
 use Rattle.thread_rounds.proofs.Sends.{pass_send, shared_sync}
@@ -13,3 +14,20 @@ spawn_with-requires-send-F g c κs within =
     let gate_sync = c.type_bounds.sync-G in
     let handle_sync = c.type_bounds.sync-R in
     search (sendable, crosses, pass_send, shared_sync) depth 200 fits 1000000
+
+pub spawn_with-requires-clause-runs : goal.spawn_with-requires-clause-runs
+spawn_with-requires-clause-runs g c κs within =
+    (c.requires.may, c.requires.now, c.requires.in_time)
+
+pub spawn_with-requires-clause-keeps : goal.spawn_with-requires-clause-keeps
+spawn_with-requires-clause-keeps g c κs within share done =
+    rw (c.of-2.ensures, c.of.ensures, c.cpu.ensures) done
+
+pub returns-in-Ok : goal.returns-in-Ok
+returns-in-Ok g c =
+    rw c.in-Ok.ensures.ok (record {
+      cpu_is = c.cpu.ensures;
+      due_is = refl;
+      ops_are = rw c.of.ensures refl;
+      jobs_are = rw c.of-2.ensures refl;
+    })

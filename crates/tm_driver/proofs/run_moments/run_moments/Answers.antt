@@ -1,4 +1,5 @@
 use Rattle.std.proofs.Common.{rules, arith, ap, subst, length}
+use Rattle.std.proofs.lemmas.Result.{err_from_is_err_and}
 use Rattle.play_rules.proofs.Plays.{gains_then}
 use Rattle.core_world.specs.World.{World}
 use Rattle.step_play.specs.SamePlay.{core_start}
@@ -69,3 +70,69 @@ returns-clause-whole g c =
     all_done (g.J.Jobs.replies c.args.jobs.now) c.args.script.now c.args.telling.now.text c.loop-now.now c.loop-now.left.now c.loop-now.player c.loop-now.telling
     c.loop-now.invariant.far c.in_ok-player-2.player c.run_turn-2.new.telling done.tells c.law_each_settled.ensures done.fit
     (omega (arith, c.loop-now.invariant.by_end, c.loop-now-test.false))
+
+pub run_turn-requires-clause-not_back : goal.run_turn-requires-clause-not_back
+run_turn-requires-clause-not_back g c κs within = c.loop-now.invariant.not_back
+
+pub run_turn-requires-clause-in_time : goal.run_turn-requires-clause-in_time
+run_turn-requires-clause-in_time g c κs within =
+    omega (arith, c.loop-now-test.true, c.requires.playable.in_time)
+
+pub run_turn-requires-clause-in_range : goal.run_turn-requires-clause-in_range
+run_turn-requires-clause-in_range g c κs within = c.loop-now.invariant.in_range
+
+pub run_turn-requires-clause-fit : goal.run_turn-requires-clause-fit
+run_turn-requires-clause-fit g c κs within = c.loop-now.invariant.fit
+
+pub returns-in_err-player-clause-whole : goal.returns-in_err-player-clause-whole
+returns-in_err-player-clause-whole g c =
+    let p = err_from_is_err_and c.from_residual.result c.from_residual.ensures.1 in rw p.1 tt
+
+pub returns-in_err-player-clause-fault : goal.returns-in_err-player-clause-fault
+returns-in_err-player-clause-fault g c =
+    let p = err_from_is_err_and c.from_residual.result c.from_residual.ensures.1 in
+    rw (p.1, p.2) (gains_then _ _ _ c.loop-now.invariant.gains c.in_err-player.ensures.gains)
+
+pub returns-in_err-player-clause-gains : goal.returns-in_err-player-clause-gains
+returns-in_err-player-clause-gains g c =
+    gains_then _ _ _ c.loop-now.invariant.gains c.in_err-player.ensures.gains
+
+pub returns-then-work-limit-clause-whole : goal.returns-then-work-limit-clause-whole
+returns-then-work-limit-clause-whole g c = tt
+
+pub moment_after-now-requires : goal.moment_after-now-requires
+moment_after-now-requires g c =
+    omega (arith, c.in_ok-player.ensures.clock, c.loop-now-test.true, c.requires.playable.in_time)
+
+pub loop-now-smaller : goal.loop-now-smaller
+loop-now-smaller g c =
+    rw c.moment_after-now.ensures
+    (omega (arith, c.in_ok-player.ensures.clock, c.loop-now-test.true))
+
+pub run_turn-requires-2-clause-not_back : goal.run_turn-requires-2-clause-not_back
+run_turn-requires-2-clause-not_back g c κs within = c.loop-now.invariant.not_back
+
+pub run_turn-requires-2-clause-in_time : goal.run_turn-requires-2-clause-in_time
+run_turn-requires-2-clause-in_time g c κs within =
+    omega (arith, c.loop-now.invariant.by_end, c.requires.playable.in_time)
+
+pub run_turn-requires-2-clause-in_range : goal.run_turn-requires-2-clause-in_range
+run_turn-requires-2-clause-in_range g c κs within = c.loop-now.invariant.in_range
+
+pub run_turn-requires-2-clause-fit : goal.run_turn-requires-2-clause-fit
+run_turn-requires-2-clause-fit g c κs within = c.loop-now.invariant.fit
+
+pub returns-in_err-player-2-clause-whole : goal.returns-in_err-player-2-clause-whole
+returns-in_err-player-2-clause-whole g c =
+    let left = c.from_residual-in_err-player-2 in
+    let p = err_from_is_err_and left.result left.ensures.1 in rw p.1 tt
+
+pub returns-in_err-player-2-clause-fault : goal.returns-in_err-player-2-clause-fault
+returns-in_err-player-2-clause-fault g c =
+    let left = c.from_residual-in_err-player-2 in
+    let p = err_from_is_err_and left.result left.ensures.1 in
+    rw (p.1, p.2) (gains_then _ _ _ c.loop-now.invariant.gains c.in_err-player-2.ensures.gains)
+
+pub returns-in_err-player-2-clause-gains : goal.returns-in_err-player-2-clause-gains
+returns-in_err-player-2-clause-gains g c =
+    gains_then _ _ _ c.loop-now.invariant.gains c.in_err-player-2.ensures.gains

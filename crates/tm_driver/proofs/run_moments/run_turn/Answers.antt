@@ -4,6 +4,8 @@ use Rattle.std.specs.List.{list_any}
 use Rattle.std.specs.Option.{option_copied}
 use Rattle.tm_script.specs.declared.syntax.Op.{Op}
 use Rattle.core_world.specs.World.{World}
+use Rattle.play_rules.specs.Machines.{SameBuild}
+use Rattle.step_play.specs.Rules.StepRules.{step_rules}
 use Rattle.story.specs.Stories.{is_hotplug, is_plain}
 use Rattle.tm_driver.specs.Runs.{IsRunMoment, TellsMoment}
 use Rattle.play_driver.proofs.Scripts.{due_in_range}
@@ -51,3 +53,48 @@ returns-clause-tells g c =
     c.set_clock.ensures.state c.having_interrupt-due.ensures.set c.moment_due-m.ensures
     (subst (λ (ops : List Op). is_plain (length s.cpus) due ops ≡ false) c.ops_of.ensures by_count))
     c.threaded_moment.ensures.tells
+
+pub set_clock-requires-clause-fit : goal.set_clock-requires-clause-fit
+set_clock-requires-clause-fit g c = c.requires.fit
+
+pub plain_moment-requires-clause-online : goal.plain_moment-requires-clause-online
+plain_moment-requires-clause-online g c = c.having_interrupt-due.ensures.online
+
+pub plain_moment-requires-clause-fit : goal.plain_moment-requires-clause-fit
+plain_moment-requires-clause-fit g c = c.set_clock.ensures.fit
+
+pub threaded_moment-requires-clause-online : goal.threaded_moment-requires-clause-online
+threaded_moment-requires-clause-online g c κs within = c.having_interrupt-due.ensures.online
+
+pub threaded_moment-requires-clause-fit : goal.threaded_moment-requires-clause-fit
+threaded_moment-requires-clause-fit g c κs within = c.set_clock.ensures.fit
+
+pub returns-in-Ok-clause-fit : goal.returns-in-Ok-clause-fit
+returns-in-Ok-clause-fit g c = c.in-Ok.ensures.fit
+
+pub returns-in-Ok-clause-gains : goal.returns-in-Ok-clause-gains
+returns-in-Ok-clause-gains g c = c.plain_moment.ensures.gains
+
+pub returns-in-Err-clause-gains : goal.returns-in-Err-clause-gains
+returns-in-Err-clause-gains g c = c.plain_moment.ensures.gains
+
+pub returns-clause-clock : goal.returns-clause-clock
+returns-clause-clock g c =
+    IfOk-weaker c.threaded_moment.result _ (λ (w : World). w.clock ≡ c.args.now)
+    (λ after same. same ∙ c.set_clock.ensures.clock) c.threaded_moment.ensures.clock
+
+pub returns-clause-same : goal.returns-clause-same
+returns-clause-same g c =
+    let at = c.set_clock.ensures in
+    IfOk-weaker c.threaded_moment.result _ (SameBuild step_rules c.args.player)
+    (λ after same. record {
+      timers = same.timers ∙ at.timers;
+      cpus = same.cpus ∙ at.cpus;
+    })
+    c.threaded_moment.ensures.same
+
+pub returns-clause-fit : goal.returns-clause-fit
+returns-clause-fit g c = c.threaded_moment.ensures.fit
+
+pub returns-clause-gains : goal.returns-clause-gains
+returns-clause-gains g c = c.threaded_moment.ensures.gains

@@ -1,4 +1,5 @@
-use Rattle.std.proofs.Common.{◌≡◌, ◌∙◌, List, ap, subst, sym, true}
+use Rattle.std.proofs.Common.{◌≡◌, ◌∙◌, List, ap, length, subst, sym, true}
+use Rattle.std.proofs.lemmas.Result.{err_from_is_err_and}
 use Rattle.std.specs.Option.{option_copied}
 use Rattle.tm_report.specs.declared.lines.Line.{Line}
 use Rattle.tm_script.specs.declared.syntax.Op.{Op}
@@ -36,3 +37,41 @@ returns-in-Ok-clause-tells g c =
     c.in-Ok.ensures.tells jobs due c.args.player
     (subst (λ (w : World). IsRound jobs c.args.player due (ops_of m) w c.as_slice.result.now) (sym c.new-player.ensures) told)
     (c.count_due-count.ensures.count ∙ ap (λ n. count_due n due) c.cpus.ensures.count)
+
+pub returns-in_err-core-clause-tells : goal.returns-in_err-core-clause-tells
+returns-in_err-core-clause-tells g c =
+    let p = err_from_is_err_and c.from_residual.result c.from_residual.ensures.1 in rw p.1 tt
+
+pub returns-in_err-core-clause-clock : goal.returns-in_err-core-clause-clock
+returns-in_err-core-clause-clock g c =
+    let p = err_from_is_err_and c.from_residual.result c.from_residual.ensures.1 in rw p.1 tt
+
+pub returns-in_err-core-clause-same : goal.returns-in_err-core-clause-same
+returns-in_err-core-clause-same g c =
+    let p = err_from_is_err_and c.from_residual.result c.from_residual.ensures.1 in rw p.1 tt
+
+pub returns-in_err-core-clause-fit : goal.returns-in_err-core-clause-fit
+returns-in_err-core-clause-fit g c =
+    let p = err_from_is_err_and c.from_residual.result c.from_residual.ensures.1 in rw p.1 tt
+
+pub returns-in-Ok-clause-gains : goal.returns-in-Ok-clause-gains
+returns-in-Ok-clause-gains g c = c.tell_round-told.ensures.gains
+
+pub returns-in-Err-clause-gains : goal.returns-in-Err-clause-gains
+returns-in-Err-clause-gains g c = c.tell_round-told.ensures.gains
+
+pub returns-in-Ok-clause-clock : goal.returns-in-Ok-clause-clock
+returns-in-Ok-clause-clock g c =
+    rw c.new-player.ensures
+    (c.in_ok-core.ensures.clock ∙ ap (λ (w : World). w.clock) c.into_core.ensures)
+
+pub returns-in-Ok-clause-same : goal.returns-in-Ok-clause-same
+returns-in-Ok-clause-same g c =
+    rw c.new-player.ensures
+    (record {
+      timers = c.in_ok-core.ensures.timers ∙ ap (λ (w : World). w.timers) c.into_core.ensures;
+      cpus = c.in_ok-core.ensures.cpus ∙ ap (λ (w : World). length w.cpus) c.into_core.ensures;
+    })
+
+pub returns-in-Ok-clause-fit : goal.returns-in-Ok-clause-fit
+returns-in-Ok-clause-fit g c = rw c.new-player.ensures c.in_ok-core.ensures.in_run

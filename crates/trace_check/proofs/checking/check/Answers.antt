@@ -1,5 +1,17 @@
-use Rattle.trace_check.proofs.PlayLaws.{is_text, is_verdict, is_yes}
+use Rattle.std.proofs.Common.{length, subst, sym}
+use Rattle.std.specs.Prelude.{All}
+use Rattle.trace_check.specs.Playing.{AsksOf}
+use Rattle.trace_check.proofs.PlayLaws.{asks_in, few_in, is_text, is_verdict, is_yes}
 use Rattle.trace_check.proofs.checking.check.Goals as goal
+
+pub play_lines-requires-clause-few : goal.play_lines-requires-clause-few
+play_lines-requires-clause-few c =
+    rw c.as_slice.ensures (few_in c.args.trace.now c.requires)
+
+pub play_lines-requires-clause-in_range : goal.play_lines-requires-clause-in_range
+play_lines-requires-clause-in_range c =
+    subst (All (AsksOf (length c.in_ok-core.core.cpus))) (sym c.as_slice.ensures)
+    (asks_in c.args.trace.now c.in_ok-core.core c.requires c.in_ok-core.ensures)
 
 pub returns-clause-verdict : goal.returns-clause-verdict
 returns-clause-verdict c =
