@@ -1,3 +1,4 @@
 pub mod Leaves
 pub mod Insides
 pub mod Rests
+pub mod InTime

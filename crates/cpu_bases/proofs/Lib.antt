@@ -7,6 +7,7 @@ pub mod Replays
 pub mod Keeping
 pub mod Drains
 pub mod Steps
+mod Seen
 pub mod Queued
 pub mod EntryKinds
 pub mod Ends

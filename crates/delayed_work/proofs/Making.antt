@@ -1,6 +1,6 @@
 -- works stay lawful through each call, and what a call makes of standings
 use Rattle.std.proofs.Common.{◌≡◌, ◌≢◌, ℕ, zero, suc, ◌-◌, ◌^◌, ◌<◌, ◌≤◌, Bool, true, false}
-use Rattle.std.proofs.Common.{Option, Some, None, length, refl, sym, ap, ◌∙◌, subst}
+use Rattle.std.proofs.Common.{List, [], Option, Some, None, length, refl, sym, ap, ◌∙◌, subst}
 use Rattle.std.proofs.Common.{◌⊎◌, inl, inr, arith, get_or}
 use Rattle.std.specs.Prelude.{◌==◌, is_some, replicate, if◌then◌else◌}
 use Rattle.std.proofs.lemmas.Bool.{cases_Bool, eqb-true, eqb-false}
@@ -19,13 +19,14 @@ use Rattle.cpu_bases.proofs.Drains.{one_fewer}
 use Rattle.cpu_bases.proofs.Keeping.{handing_out_keeps, or_item}
 use Rattle.job_table.specs.declared.jobs.JobReply.{JobReply}
 use Rattle.job_table.specs.declared.jobs.JobReply.TheVariants.{Done, Mark, Again}
-use Rattle.key_lists.specs.Tables.{first_key}
+use Rattle.key_lists.specs.Tables.{KeyTable, first_key, list_of}
 use Rattle.delayed_work.specs.declared.calls.WorksCall.{WorksCall}
 use Rattle.delayed_work.specs.declared.calls.WorksCall.TheVariants.{Queue, Cancel, Expire, RunNext}
 use Rattle.delayed_work.specs.declared.standing.Standing.{Standing}
 use Rattle.delayed_work.specs.declared.standing.Standing.TheVariants.{Free, Waiting, Ready}
 use Rattle.delayed_work.specs.declared.standing.End.TheVariants as ends
-use Rattle.delayed_work.specs.Ledger.{IsSound, LedgerState, accepted_ready}
+use Rattle.delayed_work.specs.Kept.{IsKept, ledger_of}
+use Rattle.delayed_work.specs.Ledger.{IsSound, LedgerState, Told, accepted_ready}
 use Rattle.delayed_work.specs.Ledger.{accepted_waiting, come_ready, ended, ended_from, is_ready}
 use Rattle.delayed_work.specs.Ledger.{is_waiting, new_ledger, number_in, ready_from, standing_of}
 use Rattle.delayed_work.specs.Works.{IsLawful, WorksState, all_ready, call_of}
@@ -54,6 +55,22 @@ new_sound count = record {
   numbered = λ work number is. absurd (none-some number (ap number_in (sym (free_in count work)) ∙ is));
   told = λ number told is. absurd (none-some told is);
 }
+
+-- what a new ledger keeps of its parts
+pub kept_new : (count : ℕ) (standings : List Standing) (table : KeyTable) (story : List Told)
+    → standings ≡ replicate count Free → table.number ≡ 1 → list_of table 0 ≡ []
+    → count ≤ table.room → story ≡ [] → count ≤ MOST_TIMERS → IsKept standings table 0 story
+kept_new count standings table story all one none room untold few =
+    let same : ledger_of standings table story ≡ new_ledger count =
+    λ i. record { standings = all i; ready = none i; story = untold i } in
+    let len : length standings ≡ count = ap length all ∙ length-replicate count Free in
+    record {
+      sound = subst IsSound (sym same) (new_sound count);
+      one_list = one;
+      room = omega (arith, len, room);
+      counted = ap length (sym none);
+      few = omega (arith, len, few);
+    }
 
 pub new_lawful : (bases : CpuBases) (count : ℕ) → IsConsistent bases
     → bases.bases ≡ empty_bases.bases → count ≤ MOST_TIMERS → IsLawful (new_works bases count)

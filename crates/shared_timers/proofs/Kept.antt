@@ -1,7 +1,7 @@
 -- a part after a step that writes an entry: its bytes and those of the pass that is brought are what
 -- the seat says
-use Rattle.std.proofs.Common.{◌≡◌, ℕ, List, [], ◌∷◌, ◌++◌, length, Option, Some, refl, sym}
-use Rattle.std.proofs.Common.{ap, ◌∙◌, subst}
+use Rattle.std.proofs.Common.{◌≡◌, ◌<◌, ℕ, List, [], ◌∷◌, ◌++◌, length, Option, Some, None, refl}
+use Rattle.std.proofs.Common.{sym, ap, ◌∙◌, subst}
 use Rattle.std.specs.Prelude.{slice_get}
 use Rattle.atomic_table.specs.Seated.{TableId}
 use Rattle.event_queue.specs.declared.event.Event.{Event}
@@ -18,7 +18,8 @@ use Rattle.shared_rule.specs.Shows.{receipt_of}
 use Rattle.shared_rule.specs.Timers.{noted_at, with_box_bases}
 use Rattle.shared_rule.proofs.Fronts.{get_end}
 use Rattle.shared_rule.specs.declared.box_part.Guest.{Guest}
-use Rattle.shared_rule.specs.Parts.{HeldPart, Hosts, IsGuest, PartHolds, box_held, looked_of}
+use Rattle.shared_rule.specs.Parts.{HeldPart, Hosts, IsGuest, PartHolds, box_held, guest_room}
+use Rattle.shared_rule.specs.Parts.{looked_of}
 use Rattle.shared_rule.proofs.Holding.{holds}
 use Rattle.shared_timers.specs.Entries.{on_both_of, with_receipt}
 
@@ -42,6 +43,21 @@ pub guest_of : (guest : Guest) (ps : List PassView) (p : PassView) → Hosts (So
     → ps ≡ p ∷ [] → IsGuest guest p
 guest_of guest ps p hosts is =
     subst (IsGuest guest) (ap (first_or p) (sym hosts.1 ∙ is)) hosts.2
+
+-- there is room in the bytes for one more receipt, as there was in the part
+pub note_room : (held : Option Guest) (guest : Guest) (ps : List PassView) (p : PassView)
+    → held ≡ Some guest → Hosts held ps → ps ≡ p ∷ [] → length p.receipts < guest_room held
+    → length guest.receipts.receipts < guest.receipts.capacity
+note_room held guest ps p there hosts one low =
+    let bytes = guest_of guest ps p (subst (λ (z : Option Guest). Hosts z ps) there hosts) one in
+    subst (λ n. n < guest.receipts.capacity) (ap length bytes.receipts)
+    (subst (λ (z : Option Guest). length p.receipts < guest_room z) there low)
+
+-- a part with a pass has bytes
+pub never_none : (held : Option Guest) (ps : List PassView) (p : PassView) → held ≡ None
+    → Hosts held ps → ps ≡ p ∷ [] → ⊥
+never_none held ps p none hosts one =
+    let empty : ps ≡ [] = subst (λ (z : Option Guest). Hosts z ps) none hosts in cc
 
 -- bytes with one more receipt are those of the pass with it
 pub kept : (name table : TableId) (o : World) (cpu : ℕ) (status : CpuStatus)

@@ -49,3 +49,26 @@ returns g c =
     (λ done. RanAll table o jobs home c.deref.result.now mid after before now)
     (λ e. RanSome table home c.deref.result.now mid after before now)) c.hand_own.ensures.runs
     c.run_all.ensures))
+
+pub run_all-requires-clause-now : goal.run_all-requires-clause-now
+run_all-requires-clause-now g c = c.requires.now
+
+pub run_all-requires-clause-in_time : goal.run_all-requires-clause-in_time
+run_all-requires-clause-in_time g c = c.requires.in_time
+
+pub run_all-requires-clause-timers : goal.run_all-requires-clause-timers
+run_all-requires-clause-timers g c =
+    rw c.deref.ensures.value c.in_ok-hand_own.ensures.done.timers
+
+pub run_all-requires-clause-room : goal.run_all-requires-clause-room
+run_all-requires-clause-room g c =
+    rw (c.deref.ensures.value, c.hand_own.ensures.runs) c.in_ok-hand_own.ensures.done.room
+
+pub hand_own-requires-clause-inside : goal.hand_own-requires-clause-inside
+hand_own-requires-clause-inside g c = c.requires.inside
+
+pub hand_own-requires-clause-now : goal.hand_own-requires-clause-now
+hand_own-requires-clause-now g c = c.requires.now
+
+pub hand_own-requires-clause-none : goal.hand_own-requires-clause-none
+hand_own-requires-clause-none g c = c.new-items.ensures.items

@@ -4,6 +4,7 @@ use Rattle.cpu_bases.specs.CpuBases.{base_of}
 use Rattle.shared_rule.specs.declared.parts.BoxView.{BoxView}
 use Rattle.shared_rule.specs.Parts.{HeldPart}
 use Rattle.shared_rule.specs.Passes.{HeldPass}
+use Rattle.shared_table.specs.Readied.{HasNoneBehind}
 use Rattle.remote_parts.specs.Handing.{HasHanded}
 use Rattle.remote_parts.specs.Pieces.{Piece}
 use Rattle.remote_parts.proofs.OwnDrains.{err_as, handed, may_run_own, room_alone}
@@ -52,3 +53,29 @@ returns-clause-done g c =
     (subst (λ (b : BoxView). length c.hand_all.new.items.items
     ≤ length (base_of c.args.class b.own.bases).items) c.room_for.ensures.part all.fewer)
     c.in_ok-room_for.ensures.told
+
+pub hand_all-requires-clause-alone : goal.hand_all-requires-clause-alone
+hand_all-requires-clause-alone g c = c.room_for.ensures.brought ∙ c.cpu_box.invariant.alone
+
+pub hand_all-requires-clause-free : goal.hand_all-requires-clause-free
+hand_all-requires-clause-free g c =
+    ap (λ (b : BoxView). b.own.walk) c.room_for.ensures.part ∙ c.cpu_box.invariant.walkless
+
+pub hand_all-requires-clause-now : goal.hand_all-requires-clause-now
+hand_all-requires-clause-now g c = c.requires.now
+
+pub hand_all-requires-clause-room : goal.hand_all-requires-clause-room
+hand_all-requires-clause-room g c = c.in_ok-room_for.ensures.ok
+
+pub hand_all-requires-clause-none : goal.hand_all-requires-clause-none
+hand_all-requires-clause-none g c = c.room_for.ensures.items ∙ c.requires.none
+
+pub invariant_of-cpu_box : goal.invariant_of-cpu_box
+invariant_of-cpu_box g c =
+    let free = c.cpu_box.invariant in
+    let box = c.room_for.ensures.part in
+    record {
+      walkless = ap (λ (b : BoxView). b.own.walk) box ∙ free.walkless;
+      alone = c.room_for.ensures.brought ∙ free.alone;
+      whole = subst (λ (b : BoxView). HasNoneBehind b.own.bases) (sym box) free.whole;
+    }

@@ -67,3 +67,21 @@ returns g c =
     c.in_ok-drain_own.ensures c.drain_own-2.new.pass c.drain_own-2.new.runs.runs
     c.in_ok-drain_own-2.ensures c.drain_own-3.new.pass c.drain_own-3.new.runs.runs
     c.drain_own-3.result c.drain_own-3.ensures
+
+pub drain_own-requires-clause-now : goal.drain_own-requires-clause-now
+drain_own-requires-clause-now g c = c.requires.now
+
+pub drain_own-requires-clause-in_time : goal.drain_own-requires-clause-in_time
+drain_own-requires-clause-in_time g c = c.requires.in_time
+
+pub drain_own-requires-2-clause-now : goal.drain_own-requires-2-clause-now
+drain_own-requires-2-clause-now g c = c.requires.now
+
+pub drain_own-requires-2-clause-in_time : goal.drain_own-requires-2-clause-in_time
+drain_own-requires-2-clause-in_time g c = c.requires.in_time
+
+pub drain_own-requires-3-clause-now : goal.drain_own-requires-3-clause-now
+drain_own-requires-3-clause-now g c = c.requires.now
+
+pub drain_own-requires-3-clause-in_time : goal.drain_own-requires-3-clause-in_time
+drain_own-requires-3-clause-in_time g c = c.requires.in_time

@@ -12,3 +12,9 @@ pub end_box-requires-clause-own : goal.end_box-requires-clause-own
 end_box-requires-clause-own g c =
     sym c.cpu.ensures
     ∙ (sym c.lock-guard.ensures ∙ sym (ap (λ (z : HeldPart). z.box.cpu) c.deref_mut.ensures.value))
+
+pub end_box-requires-clause-at_work : goal.end_box-requires-clause-at_work
+end_box-requires-clause-at_work g c = c.requires.at_work
+
+pub returns : goal.returns
+returns g c = c.end_box.ensures

@@ -11,3 +11,9 @@ end_part-requires-clause-free g c = c.cpu_box.invariant
 
 pub invariant_of-cpu_box : goal.invariant_of-cpu_box
 invariant_of-cpu_box g c = c.end_part.ensures.free
+
+pub end_part-requires-clause-at_work : goal.end_part-requires-clause-at_work
+end_part-requires-clause-at_work g c = c.requires.at_work
+
+pub returns : goal.returns
+returns g c = c.end_part.ensures.closed

@@ -12,3 +12,9 @@ pub enter_box-requires-clause-own : goal.enter_box-requires-clause-own
 enter_box-requires-clause-own g c =
     sym c.cpu.ensures
     ∙ (sym c.lock-guard.ensures ∙ sym (ap (λ (z : HeldPart). z.box.cpu) c.deref_mut.ensures.value))
+
+pub enter_box-requires-clause-enterable : goal.enter_box-requires-clause-enterable
+enter_box-requires-clause-enterable g c = c.requires.enterable
+
+pub returns : goal.returns
+returns g c = c.enter_box.ensures

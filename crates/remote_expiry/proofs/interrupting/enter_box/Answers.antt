@@ -11,3 +11,9 @@ enter_part-requires-clause-free g c = c.cpu_box.invariant
 
 pub invariant_of-cpu_box : goal.invariant_of-cpu_box
 invariant_of-cpu_box g c = c.enter_part.ensures.free
+
+pub enter_part-requires-clause-enterable : goal.enter_part-requires-clause-enterable
+enter_part-requires-clause-enterable g c = c.requires.enterable
+
+pub returns : goal.returns
+returns g c = c.enter_part.ensures.done

@@ -1,5 +1,6 @@
 use Rattle.std.proofs.Common.{refl, sym, ap, ◌∙◌, subst}
 use Rattle.shared_rule.specs.Parts.{HeldPart}
+use Rattle.shared_rule.specs.Passes.{HeldPass}
 use Rattle.shared_rule.specs.Turns.{entered_box, entered_pass}
 use Rattle.shared_cpus.specs.Conditions.{CanEnter}
 use Rattle.shared_cpus.specs.Pairs.{by_pair, of_box}
@@ -85,3 +86,9 @@ returns-clause-done g c =
     (parted_by table (by_pair (of_box entered_box) entered_pass) part c.bring.new.part
     c.enter_step.new.part held c.bring.new.pass c.part_off.new.pass c.bring.ensures.pass
     c.bring.ensures.part c.enter_step.ensures c.part_off.ensures.pass)
+
+pub part_off-requires-clause-pass : goal.part_off-requires-clause-pass
+part_off-requires-clause-pass g c = ap (λ (z : HeldPass). z.seated) c.bring.ensures.pass
+
+pub returns-in-Some-clause-free : goal.returns-in-Some-clause-free
+returns-in-Some-clause-free g c = c.requires.free

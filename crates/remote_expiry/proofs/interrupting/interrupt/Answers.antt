@@ -50,3 +50,9 @@ pub returns-in-Err : goal.returns-in-Err
 returns-in-Err g c =
     not_interrupted g.N.RunName.table g.N.RunName.opening (g.J.Jobs.replies c.args.jobs.now)
     c.args.pass.now c.enter.new.pass c.args.runs.now.runs c.in-Err.fault c.in-Err.ensures
+
+pub inside-requires-clause-now : goal.inside-requires-clause-now
+inside-requires-clause-now g c = c.requires.now
+
+pub inside-requires-clause-in_time : goal.inside-requires-clause-in_time
+inside-requires-clause-in_time g c = c.requires.in_time

@@ -33,3 +33,18 @@ returns g c =
     c.args.pass.now c.drain_all.new.pass c.look_up.new.pass c.args.runs.now.runs
     c.drain_all.new.runs.runs c.look_up.new.runs.runs c.look_up.result c.in_ok-drain_all.ensures
     c.look_up.ensures
+
+pub look_up-requires-clause-now : goal.look_up-requires-clause-now
+look_up-requires-clause-now g c = c.requires.now
+
+pub look_up-requires-clause-in_time : goal.look_up-requires-clause-in_time
+look_up-requires-clause-in_time g c = c.requires.in_time
+
+pub drain_all-requires-clause-now : goal.drain_all-requires-clause-now
+drain_all-requires-clause-now g c = c.requires.now
+
+pub drain_all-requires-clause-in_time : goal.drain_all-requires-clause-in_time
+drain_all-requires-clause-in_time g c = c.requires.in_time
+
+pub drain_all-requires-clause-at_work : goal.drain_all-requires-clause-at_work
+drain_all-requires-clause-at_work g c = c.requires.at_work

@@ -43,3 +43,9 @@ returns g c =
     c.loop-item.runs.runs c.loop-item.ended)
     (take_all c.loop-item.item-index c.args.items.now c.loop-item-test.false)
     c.loop-item.invariant.so_far)
+
+pub run_told-told-requires-clause-now : goal.run_told-told-requires-clause-now
+run_told-told-requires-clause-now g c = c.requires.now
+
+pub run_told-told-requires-clause-in_time : goal.run_told-told-requires-clause-in_time
+run_told-told-requires-clause-in_time g c = c.requires.in_time

@@ -91,3 +91,9 @@ unreachable-requires g c =
     (g.J.Jobs.replies c.args.jobs.now) c.loop-turn._turn c.loop-turn.tried c.args.pass.now
     c.loop-turn.pass c.args.runs.now.runs c.loop-turn.runs.runs c.loop-turn.invariant in
     omega (arith, c.loop-turn-test.false, few, many)
+
+pub look_once-requires-clause-now : goal.look_once-requires-clause-now
+look_once-requires-clause-now g c = c.requires.now
+
+pub look_once-requires-clause-in_time : goal.look_once-requires-clause-in_time
+look_once-requires-clause-in_time g c = c.requires.in_time

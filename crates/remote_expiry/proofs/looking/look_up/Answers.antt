@@ -83,3 +83,9 @@ returns g c =
     c.loop-level.runs.runs c.loop-level.invariant
     (up_to c.loop-level.level _ _ levels c.loop-level.auto.level-end c.loop-level-test.false)
     c.law_shape.ensures.low
+
+pub look_at-requires-clause-now : goal.look_at-requires-clause-now
+look_at-requires-clause-now g c = c.requires.now
+
+pub look_at-requires-clause-in_time : goal.look_at-requires-clause-in_time
+look_at-requires-clause-in_time g c = c.requires.in_time

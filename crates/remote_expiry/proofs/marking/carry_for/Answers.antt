@@ -99,3 +99,6 @@ returns-clause-pass g c =
     (c.part_off.ensures.pass
     ∙ ap (λ n. pass_parted table n c.carry.new.cpu_part)
     (ap (λ (z : HeldPass). z.cpu) c.bring.ensures.pass))
+
+pub part_off-requires-clause-pass : goal.part_off-requires-clause-pass
+part_off-requires-clause-pass g c = ap (λ (z : HeldPass). z.seated) c.bring.ensures.pass

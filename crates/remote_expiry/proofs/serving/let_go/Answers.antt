@@ -17,3 +17,6 @@ returns g c =
     let cpu = ap (λ (z : HeldPart). z.box.cpu) c.deref_mut.ensures.value ∙ c.lock-guard.ensures in
     subst (λ n. HasLetGo g.N.RunName.table g.N.RunName.opening n c.args.pass.now
     c.let_go_box.new.pass) cpu c.let_go_box.ensures
+
+pub let_go_box-requires-clause-now : goal.let_go_box-requires-clause-now
+let_go_box-requires-clause-now g c = c.requires.now

@@ -18,3 +18,6 @@ pub returns : goal.returns
 returns g c =
     subst (λ (z : HeldPart). HasLetGo g.N.RunName.table g.N.RunName.opening z.box.cpu c.args.pass.now
     c.let_go_part.new.pass) c.cpu_box.view_is c.let_go_part.ensures.pass
+
+pub let_go_part-requires-clause-now : goal.let_go_part-requires-clause-now
+let_go_part-requires-clause-now g c = c.requires.now

@@ -103,3 +103,15 @@ run_all-ended-requires-clause-timers g c =
 pub run_all-ended-requires-clause-room : goal.run_all-ended-requires-clause-room
 run_all-ended-requires-clause-room g c =
     rw c.deref.ensures.value (c.in_ok-take.ensures.runnable c.if-not-branch.false).places
+
+pub run_all-ended-requires-clause-now : goal.run_all-ended-requires-clause-now
+run_all-ended-requires-clause-now g c = c.requires.now
+
+pub run_all-ended-requires-clause-in_time : goal.run_all-ended-requires-clause-in_time
+run_all-ended-requires-clause-in_time g c = c.requires.in_time
+
+pub let_go-requires-clause-due : goal.let_go-requires-clause-due
+let_go-requires-clause-due g c = c.requires.due
+
+pub let_go-requires-clause-now : goal.let_go-requires-clause-now
+let_go-requires-clause-now g c = c.requires.now

@@ -23,3 +23,21 @@ returns-clause-done g c =
     subst (λ n. MatchResult c.take_box.result
     (TakesOrLeaves table g.N.RunName.opening n c.take_box.new.items.items held after)
     (λ e. Piece table held after [] [] 0)) cpu c.take_box.ensures.done
+
+pub take_box-requires-clause-at_work : goal.take_box-requires-clause-at_work
+take_box-requires-clause-at_work g c = c.requires.at_work
+
+pub take_box-requires-clause-placed : goal.take_box-requires-clause-placed
+take_box-requires-clause-placed g c = c.requires.placed
+
+pub take_box-requires-clause-now : goal.take_box-requires-clause-now
+take_box-requires-clause-now g c = c.requires.now
+
+pub take_box-requires-clause-none : goal.take_box-requires-clause-none
+take_box-requires-clause-none g c = c.requires.none
+
+pub returns-clause-runs : goal.returns-clause-runs
+returns-clause-runs g c = c.take_box.ensures.runs
+
+pub returns-clause-runnable : goal.returns-clause-runnable
+returns-clause-runnable g c = c.take_box.ensures.runnable

@@ -25,3 +25,21 @@ returns-clause-done g c =
     subst (λ (z : HeldPart). MatchResult c.take_part.result
     (TakesOrLeaves table g.N.RunName.opening z.box.cpu c.take_part.new.items.items held after)
     (λ e. Piece table held after [] [] 0)) c.cpu_box.view_is c.take_part.ensures.done
+
+pub take_part-requires-clause-at_work : goal.take_part-requires-clause-at_work
+take_part-requires-clause-at_work g c = c.requires.at_work
+
+pub take_part-requires-clause-placed : goal.take_part-requires-clause-placed
+take_part-requires-clause-placed g c = c.requires.placed
+
+pub take_part-requires-clause-now : goal.take_part-requires-clause-now
+take_part-requires-clause-now g c = c.requires.now
+
+pub take_part-requires-clause-none : goal.take_part-requires-clause-none
+take_part-requires-clause-none g c = c.requires.none
+
+pub returns-clause-runs : goal.returns-clause-runs
+returns-clause-runs g c = c.take_part.ensures.runs
+
+pub returns-clause-runnable : goal.returns-clause-runnable
+returns-clause-runnable g c = c.take_part.ensures.runnable

@@ -1,13 +1,14 @@
 use Rattle.std.proofs.Common.{◌≡◌, ℕ, ◌∷◌, [], List, Option, Some, None, refl, sym, ap}
 use Rattle.std.proofs.Common.{◌∙◌, subst}
-use Rattle.std.specs.Prelude.{IfNone, length}
+use Rattle.std.specs.Prelude.{IfNone, OnSome, length}
 use Rattle.std.specs.Option.{option_copied_mut}
 use Rattle.core_world.specs.World.{World}
 use Rattle.tm_base.specs.declared.names.CpuId.{CpuId}
 use Rattle.cpu_bases.specs.declared.entry.Entry.{Entry}
 use Rattle.wheel_core.specs.declared.item.Item.{Item}
-use Rattle.wheel_core.specs.PlainBase.{NoneBehind, PlainBase}
+use Rattle.wheel_core.specs.PlainBase.{NoneBehind, OneFewer, OutIsDue, PlainBase, next_out}
 use Rattle.cpu_bases.specs.CpuBases.{CpuBases, NotAhead, base_of, handed_out}
+use Rattle.cpu_bases.specs.Laws.{HandsOut}
 use Rattle.shared_rule.specs.declared.parts.BoxView.{BoxView}
 use Rattle.shared_rule.specs.Timers.{handed_box}
 use Rattle.shared_rule.specs.declared.box_part.Guest.{Guest}
@@ -18,7 +19,8 @@ use Rattle.shared_timers.specs.Draining.{MayDrain, drained_pass}
 use Rattle.shared_timers.specs.Entries.{on_both_of, with_receipt}
 use Rattle.shared_timers.specs.Exchanging.{IsNext}
 use Rattle.shared_timers.proofs.Exchanged.{on_pair_of}
-use Rattle.shared_timers.proofs.Kept.{entry_there, guest_of, noted_part, shown, shown_part}
+use Rattle.shared_timers.proofs.Kept.{entry_there, guest_of, never_none, note_room, noted_part}
+use Rattle.shared_timers.proofs.Kept.{shown, shown_part}
 use Rattle.shared_timers.proofs.Outgoing.{journal_is, may_drain, out_entry, pass_is}
 use Rattle.shared_timers.proofs.draining.drain_step.Goals as goal
 
@@ -139,3 +141,62 @@ returns-clause-none_behind g c =
     (base_of c.args.class c.take_due-item.new.self.plain) c.take_due-item.result
     (subst (λ n. NotAhead n (base_of c.args.class bases)) (sym c.requires.now)
     (c.part.invariant.fits.ahead c.args.class)) c.take_due-item.ensures.none_behind
+
+pub next_timer-next-requires : goal.next_timer-next-requires
+next_timer-next-requires g c = record { now = c.requires.now }
+
+pub note-requires-clause-room : goal.note-requires-clause-room
+note-requires-clause-room g c =
+    let part = c.part.inside in
+    let guest : Guest = c.in-Some.guest.now in
+    let may = subst (λ z. MayDrain z c.args.class) (sym c.part.view_is) c.requires.may in
+    note_room part.guest guest part.seat.me.0.passes may.pass
+    (sym c.as_mut.ensures.value ∙ ap option_copied_mut c.in-Some.is) c.part.invariant.hosts
+    may.brought may.entry.receipt
+
+pub take_due-item-requires-clause-entry_room : goal.take_due-item-requires-clause-entry_room
+take_due-item-requires-clause-entry_room g c =
+    (subst (λ z. MayDrain z c.args.class) (sym c.part.view_is) c.requires.may).entry.entry
+
+pub unreachable-requires : goal.unreachable-requires
+unreachable-requires g c =
+    let part = c.part.inside in
+    let may = subst (λ z. MayDrain z c.args.class) (sym c.part.view_is) c.requires.may in
+    never_none part.guest part.seat.me.0.passes may.pass
+    (sym c.as_mut.ensures.value ∙ ap option_copied_mut c.in-None.is) c.part.invariant.hosts
+    may.brought
+
+pub returns-clause-item : goal.returns-clause-item
+returns-clause-item g c =
+    c.take_due-item.ensures.item
+    ∙ ap (λ (z : HeldPart). next_out c.args.now (base_of c.args.class z.box.own.bases))
+    c.part.view_is
+
+pub returns-clause-due : goal.returns-clause-due
+returns-clause-due g c =
+    subst (λ (z : HeldPart). OutIsDue c.args.now (base_of c.args.class z.box.own.bases).items
+    c.take_due-item.result) c.part.view_is c.take_due-item.ensures.due
+
+pub returns-clause-one_fewer : goal.returns-clause-one_fewer
+returns-clause-one_fewer g c =
+    subst (λ (z : HeldPart). OnSome c.take_due-item.result
+    (OneFewer (base_of c.args.class z.box.own.bases)
+    (base_of c.args.class c.take_due-item.new.self.plain))) c.part.view_is
+    c.take_due-item.ensures.one_fewer
+
+pub returns-clause-keeps : goal.returns-clause-keeps
+returns-clause-keeps g c =
+    λ p one.
+    let part = c.part.inside in
+    let bases : CpuBases = part.bases.plain in
+    let new : CpuBases = c.take_due-item.new.self.plain in
+    let guest : Guest = c.in-Some.guest.now in
+    let ps = part.seat.me.0.passes in
+    let there : part.guest ≡ Some guest =
+    sym c.as_mut.ensures.value ∙ ap option_copied_mut c.in-Some.is in
+    let bytes = guest_of guest ps p
+    (subst (λ (z : Option Guest). Hosts z ps) there c.part.invariant.hosts)
+    (ap (λ (z : HeldPart). z.brought) c.part.view_is ∙ one) in
+    subst (λ (z : HeldPart). HandsOut c.args.now c.args.class p.cpu z.box.own.bases new)
+    c.part.view_is (subst (λ n. HandsOut c.args.now c.args.class n bases new) (sym bytes.cpu)
+    c.take_due-item.ensures.keeps)

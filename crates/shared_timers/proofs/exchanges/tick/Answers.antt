@@ -1,4 +1,4 @@
-use Rattle.std.proofs.Common.{◌∷◌, [], sym, ap, ◌∙◌, subst}
+use Rattle.std.proofs.Common.{◌≡◌, ◌∷◌, [], sym, ap, ◌∙◌, subst}
 use mathlib.Core.Option.{none}
 use Rattle.atomic_table.specs.Table.{step}
 use Rattle.tm_base.specs.declared.names.Class.{Class}
@@ -58,3 +58,39 @@ load-requires-in-Deferrable g c =
     (c.index-place.ensures ∙ ap (λ n. index_of run.layout (cpu_at n)) (sym may.cpu_is)) may.fits.cpu
     (c.law_tick.ensures o table.slots seat.id Deferrable b p
     (subst (λ (k : Class). MayStoreTick o b k p) c.in-Deferrable.is may.fits))
+
+pub returns-in-Pinned-clause-table : goal.returns-in-Pinned-clause-table
+returns-in-Pinned-clause-table g c = c.load.ensures.0 ∙ c.requires.table
+
+pub returns-in-Pinned-clause-told : goal.returns-in-Pinned-clause-told
+returns-in-Pinned-clause-told g c =
+    subst (λ (k : Class). c.load.new.seat.me
+    ≡ turns.on_pair (turns.ticked_box k) (turns.ticked_pass k) c.args.seat.now.me)
+    (sym c.in-Pinned.is) c.load.ensures.2.0
+
+pub returns-in-Pinned-clause-sound : goal.returns-in-Pinned-clause-sound
+returns-in-Pinned-clause-sound g c = c.load.ensures.2.1
+
+pub returns-in-Global-clause-table : goal.returns-in-Global-clause-table
+returns-in-Global-clause-table g c = c.load-in-Global.ensures.0 ∙ c.requires.table
+
+pub returns-in-Global-clause-told : goal.returns-in-Global-clause-told
+returns-in-Global-clause-told g c =
+    subst (λ (k : Class). c.load-in-Global.new.seat.me
+    ≡ turns.on_pair (turns.ticked_box k) (turns.ticked_pass k) c.args.seat.now.me)
+    (sym c.in-Global.is) c.load-in-Global.ensures.2.0
+
+pub returns-in-Global-clause-sound : goal.returns-in-Global-clause-sound
+returns-in-Global-clause-sound g c = c.load-in-Global.ensures.2.1
+
+pub returns-in-Deferrable-clause-table : goal.returns-in-Deferrable-clause-table
+returns-in-Deferrable-clause-table g c = c.load-in-Deferrable.ensures.0 ∙ c.requires.table
+
+pub returns-in-Deferrable-clause-told : goal.returns-in-Deferrable-clause-told
+returns-in-Deferrable-clause-told g c =
+    subst (λ (k : Class). c.load-in-Deferrable.new.seat.me
+    ≡ turns.on_pair (turns.ticked_box k) (turns.ticked_pass k) c.args.seat.now.me)
+    (sym c.in-Deferrable.is) c.load-in-Deferrable.ensures.2.0
+
+pub returns-in-Deferrable-clause-sound : goal.returns-in-Deferrable-clause-sound
+returns-in-Deferrable-clause-sound g c = c.load-in-Deferrable.ensures.2.1

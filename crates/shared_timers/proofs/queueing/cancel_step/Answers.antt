@@ -1,6 +1,8 @@
 use Rattle.std.proofs.Common.{◌≡◌, ◌∷◌, [], List, Option, Some, refl, sym, ap, ◌∙◌, subst}
+use Rattle.std.proofs.Common.{arith}
 use Rattle.std.specs.Prelude.{length}
 use Rattle.std.specs.Option.{option_copied_mut}
+use Rattle.std.proofs.lemmas.Option.{none-some}
 use Rattle.core_world.specs.World.{World}
 use Rattle.tm_base.specs.declared.names.CpuId.{CpuId}
 use Rattle.cpu_bases.specs.declared.entry.Entry.{Entry}
@@ -16,7 +18,8 @@ use Rattle.shared_timers.specs.Entries.{on_both_of, with_receipt}
 use Rattle.shared_timers.specs.Queueing.{MayCancel}
 use Rattle.shared_timers.proofs.Cancelled.{entry, journal_is, may_take_out, pass_is}
 use Rattle.shared_timers.proofs.Exchanged.{on_pair_of}
-use Rattle.shared_timers.proofs.Kept.{entry_there, guest_of, noted_part, shown, shown_part}
+use Rattle.shared_timers.proofs.Kept.{entry_there, guest_of, never_none, note_room, noted_part}
+use Rattle.shared_timers.proofs.Kept.{shown, shown_part}
 use Rattle.shared_timers.proofs.queueing.cancel_step.Goals as goal
 
 pub take_out-requires-clause-may : goal.take_out-requires-clause-may
@@ -136,3 +139,37 @@ pub returns-clause-keeps : goal.returns-clause-keeps
 returns-clause-keeps g c =
     subst (λ (z : HeldPart). CallKeeps c.args.now z.box.own.bases c.cancel.new.self.plain)
     c.part.view_is c.cancel.ensures.keeps
+
+pub cancel-requires-clause-now_in_time : goal.cancel-requires-clause-now_in_time
+cancel-requires-clause-now_in_time g c =
+    omega (arith, c.requires.now, c.part.invariant.fits.opening.in_time)
+
+pub cancel-requires-clause-entry_room : goal.cancel-requires-clause-entry_room
+cancel-requires-clause-entry_room g c =
+    (subst (λ z. MayCancel g.N.RunName.opening z c.args.timer) (sym c.part.view_is)
+    c.requires.may).entry.entry
+
+pub note-requires-clause-room : goal.note-requires-clause-room
+note-requires-clause-room g c =
+    let part = c.part.inside in
+    let guest : Guest = c.in-Some-as_mut.guest.now in
+    let may = subst (λ z. MayCancel g.N.RunName.opening z c.args.timer) (sym c.part.view_is)
+    c.requires.may in
+    note_room part.guest guest part.seat.me.0.passes may.pass
+    (sym c.as_mut.ensures.value ∙ ap option_copied_mut c.in-Some-as_mut.is) c.part.invariant.hosts
+    may.brought may.entry.receipt
+
+pub unreachable-requires-in-None : goal.unreachable-requires-in-None
+unreachable-requires-in-None g c =
+    let part = c.part.inside in
+    let may = subst (λ z. MayCancel g.N.RunName.opening z c.args.timer) (sym c.part.view_is)
+    c.requires.may in
+    never_none part.guest part.seat.me.0.passes may.pass
+    (sym c.as_mut.ensures.value ∙ ap option_copied_mut c.in-None.is) c.part.invariant.hosts
+    may.brought
+
+pub unreachable-requires : goal.unreachable-requires
+unreachable-requires g c =
+    let may = subst (λ z. MayCancel g.N.RunName.opening z c.args.timer) (sym c.part.view_is)
+    c.requires.may in
+    none-some may.class (c.in_default.ensures ∙ may.may.queued)

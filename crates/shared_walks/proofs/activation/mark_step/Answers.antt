@@ -1,5 +1,5 @@
 use Rattle.std.proofs.Common.{◌≡◌, ◌+◌, ◌^◌, ◌<◌, Some, suc, refl, sym, ap, ◌∙◌, subst}
-use Rattle.std.proofs.Common.{◌∷◌, [], false, ne_eqb, arith}
+use Rattle.std.proofs.Common.{◌∷◌, [], false, eq-eqb, ne_eqb, arith}
 use Rattle.std.specs.Prelude.{bit_or}
 use mathlib.Core.Option.{none}
 use Rattle.atomic_table.specs.Table.{step}
@@ -7,14 +7,18 @@ use Rattle.tree_plan.specs.Paths.{group_at_of}
 use Rattle.walk_rules.specs.declared.walk.Walk.{Walk}
 use Rattle.walk_rules.specs.declared.walk.Stage.TheVariants as stages
 use Rattle.walk_rules.specs.Hierarchy.{side}
+use Rattle.walk_rules.specs.Stages.{mark_next}
 use Rattle.core_world.specs.World.{World}
 use Rattle.core_state.specs.Kept.{HasLevel}
 use Rattle.shared_words.specs.Layout.{index_of}
+use Rattle.shared_rule.specs.declared.parts.BoxView.{BoxView}
 use Rattle.shared_rule.specs.Plays as plays
 use Rattle.shared_rule.specs.Rule.{seat_of}
 use Rattle.shared_rule.specs.Whole.{slot_at}
-use Rattle.shared_rule.specs.Parts.{box_held, looked_of}
+use Rattle.shared_rule.specs.Parts.{HeldPart, box_held, guest_room, looked_of}
 use Rattle.shared_rule.proofs.Calls.{asks}
+use Rattle.shared_walks.specs.Steps.{on_part}
+use Rattle.shared_walks.proofs.Boxed.{keeps, shows, walked}
 use Rattle.shared_walks.proofs.Standing.{fits_at}
 use Rattle.shared_walks.proofs.activation.mark_step.Goals as goal
 
@@ -115,3 +119,125 @@ fetch_or-requires g c =
       stage = c.requires.stage;
       path = ap (group_at_of o.tree b.cpu) (sym same) ∙ c.group_on-group.ensures.path;
     }))
+
+pub invariant_of-part : goal.invariant_of-part
+invariant_of-part g c =
+    let part = c.part.inside in
+    let o : World = g.N.RunName.opening in
+    let looked = looked_of part.seat.me.0.boxes in
+    let b : BoxView = box_held o part.cpu.0 part.status part.bases.plain
+    part.leaf part.read looked in
+    let k : Walk = c.args.walk in
+    let ps = part.seat.me.0.passes in
+    let at : part.status.walk ≡ Some k
+    = ap (λ z. z.box.own.walk) c.part.view_is ∙ c.requires.walk in
+    let m = c.load-found.new.seat.me in
+    let is : m ≡ seat_of (plays.by_walk plays.marked_walk b ∷ []) ps
+    = c.load-found.ensures.2.0
+    ∙ (ap (λ z. plays.on_box (plays.marked_where z) part.seat.me) (eq-eqb _ _ c.if-found.true)
+    ∙ ap (plays.on_box (plays.by_walk plays.marked_walk)) c.part.invariant.seat) in
+    let next : c.mark_next-next.result ≡ plays.marked_walk b k
+    = c.mark_next-next.ensures.next
+    ∙ sym (ap (λ z. mark_next (plays.marks_more z) k) c.requires.stage) in
+    let same = walked o part.cpu.0 part.status b.own part.leaf part.read looked
+    plays.marked_walk k c.mark_next-next.result at next in
+    keeps g.N.RunName.table c.load-found.new.seat.table_id o part.cpu.0
+    (record part.status { walk = c.mark_next-next.result }) b.own
+    part.leaf part.read looked part.guest m (plays.by_walk plays.marked_walk) b ps is same
+    (c.load-found.ensures.0 ∙ c.part.invariant.named) c.load-found.ensures.2.1
+    c.part.invariant.hosts
+
+pub returns-then-found : goal.returns-then-found
+returns-then-found g c =
+    let part = c.part.inside in
+    let o : World = g.N.RunName.opening in
+    let looked = looked_of part.seat.me.0.boxes in
+    let b : BoxView = box_held o part.cpu.0 part.status part.bases.plain
+    part.leaf part.read looked in
+    let k : Walk = c.args.walk in
+    let ps = part.seat.me.0.passes in
+    let v : HeldPart = record {
+      box = b;
+      brought = ps;
+      room = part.bases.room;
+      receipts_room = guest_room part.guest;
+    } in
+    let at : part.status.walk ≡ Some k
+    = ap (λ z. z.box.own.walk) c.part.view_is ∙ c.requires.walk in
+    let m = c.load-found.new.seat.me in
+    let is : m ≡ seat_of (plays.by_walk plays.marked_walk b ∷ []) ps
+    = c.load-found.ensures.2.0
+    ∙ (ap (λ z. plays.on_box (plays.marked_where z) part.seat.me) (eq-eqb _ _ c.if-found.true)
+    ∙ ap (plays.on_box (plays.by_walk plays.marked_walk)) c.part.invariant.seat) in
+    let next : c.mark_next-next.result ≡ plays.marked_walk b k
+    = c.mark_next-next.ensures.next
+    ∙ sym (ap (λ z. mark_next (plays.marks_more z) k) c.requires.stage) in
+    let same = walked o part.cpu.0 part.status b.own part.leaf part.read looked
+    plays.marked_walk k c.mark_next-next.result at next in
+    shows g.N.RunName.table c.load-found.new.seat.table_id o part.cpu.0
+    (record part.status { walk = c.mark_next-next.result }) b.own
+    part.leaf part.read looked part.guest m (plays.by_walk plays.marked_walk) b ps is same v
+    ∙ ap (on_part (plays.by_walk plays.marked_walk)) c.part.view_is
+
+pub invariant_of-part-2 : goal.invariant_of-part-2
+invariant_of-part-2 g c =
+    let part = c.part.inside in
+    let o : World = g.N.RunName.opening in
+    let looked = looked_of part.seat.me.0.boxes in
+    let b : BoxView = box_held o part.cpu.0 part.status part.bases.plain
+    part.leaf part.read looked in
+    let k : Walk = c.args.walk in
+    let ps = part.seat.me.0.passes in
+    let at : part.status.walk ≡ Some k
+    = ap (λ z. z.box.own.walk) c.part.view_is ∙ c.requires.walk in
+    let m = c.fetch_or.new.seat.me in
+    let first : c.load-found.new.seat.me ≡ seat_of (b ∷ []) ps
+    = c.load-found.ensures.2.0
+    ∙ (ap (λ z. plays.on_box (plays.marked_where z) part.seat.me) (ne_eqb _ _ c.if-found.false)
+    ∙ ap (plays.on_box (plays.marked_where false)) c.part.invariant.seat) in
+    let is : m ≡ seat_of (plays.by_walk plays.marked_walk b ∷ []) ps
+    = c.fetch_or.ensures.2.0 ∙ ap (plays.on_box (plays.by_walk plays.marked_walk)) first in
+    let next : c.mark_next-next.result ≡ plays.marked_walk b k
+    = c.mark_next-next.ensures.next
+    ∙ sym (ap (λ z. mark_next (plays.marks_more z) k) c.requires.stage) in
+    let same = walked o part.cpu.0 part.status b.own part.leaf part.read looked
+    plays.marked_walk k c.mark_next-next.result at next in
+    keeps g.N.RunName.table c.fetch_or.new.seat.table_id o part.cpu.0
+    (record part.status { walk = c.mark_next-next.result }) b.own
+    part.leaf part.read looked part.guest m (plays.by_walk plays.marked_walk) b ps is same
+    (c.fetch_or.ensures.0 ∙ (c.load-found.ensures.0 ∙ c.part.invariant.named))
+    c.fetch_or.ensures.2.1 c.part.invariant.hosts
+
+pub returns : goal.returns
+returns g c =
+    let part = c.part.inside in
+    let o : World = g.N.RunName.opening in
+    let looked = looked_of part.seat.me.0.boxes in
+    let b : BoxView = box_held o part.cpu.0 part.status part.bases.plain
+    part.leaf part.read looked in
+    let k : Walk = c.args.walk in
+    let ps = part.seat.me.0.passes in
+    let v : HeldPart = record {
+      box = b;
+      brought = ps;
+      room = part.bases.room;
+      receipts_room = guest_room part.guest;
+    } in
+    let at : part.status.walk ≡ Some k
+    = ap (λ z. z.box.own.walk) c.part.view_is ∙ c.requires.walk in
+    let m = c.fetch_or.new.seat.me in
+    let first : c.load-found.new.seat.me ≡ seat_of (b ∷ []) ps
+    = c.load-found.ensures.2.0
+    ∙ (ap (λ z. plays.on_box (plays.marked_where z) part.seat.me) (ne_eqb _ _ c.if-found.false)
+    ∙ ap (plays.on_box (plays.marked_where false)) c.part.invariant.seat) in
+    let is : m ≡ seat_of (plays.by_walk plays.marked_walk b ∷ []) ps
+    = c.fetch_or.ensures.2.0 ∙ ap (plays.on_box (plays.by_walk plays.marked_walk)) first in
+    let next : c.mark_next-next.result ≡ plays.marked_walk b k
+    = c.mark_next-next.ensures.next
+    ∙ sym (ap (λ z. mark_next (plays.marks_more z) k) c.requires.stage) in
+    let same = walked o part.cpu.0 part.status b.own part.leaf part.read looked
+    plays.marked_walk k c.mark_next-next.result at next in
+    shows g.N.RunName.table c.fetch_or.new.seat.table_id o part.cpu.0
+    (record part.status { walk = c.mark_next-next.result }) b.own
+    part.leaf part.read looked part.guest m (plays.by_walk plays.marked_walk) b ps is same v
+    ∙ ap (on_part (plays.by_walk plays.marked_walk)) c.part.view_is

@@ -1,11 +1,12 @@
 use Rattle.std.proofs.Common.{◌≡◌, ◌≢◌, ◌==◌, ◌∷◌, [], ℕ, Some, false, refl, sym, ap, ◌∙◌}
-use Rattle.std.proofs.Common.{subst, arith, ne_eqb}
+use Rattle.std.proofs.Common.{subst, arith, eq-eqb, ne_eqb, not}
 use mathlib.Core.Option.{none}
 use prog.Atomic.{either}
 use Rattle.atomic_table.specs.Table.{step}
 use Rattle.walk_rules.specs.declared.walk.Walk.{Walk}
 use Rattle.walk_rules.specs.declared.walk.Stage.TheVariants as stages
 use Rattle.walk_rules.specs.Hierarchy.{group_on}
+use Rattle.walk_rules.specs.Stages.{up_next}
 use Rattle.core_world.specs.World.{World}
 use Rattle.shared_words.specs.Exchanges.{IsJoinOf}
 use Rattle.shared_rule.specs.declared.parts.BoxView.{BoxView}
@@ -14,7 +15,9 @@ use Rattle.shared_rule.specs.Rule.{Me, seat_of}
 use Rattle.shared_rule.specs.Whole.{state_at}
 use Rattle.shared_rule.specs.Parts.{HeldPart, box_held, guest_room, looked_of}
 use Rattle.shared_rule.proofs.Calls.{asks, place}
+use Rattle.shared_rule.proofs.Holding.{holds}
 use Rattle.shared_walks.specs.Steps.{on_part, state_place}
+use Rattle.shared_walks.proofs.Boxed.{keeps, shows, walked}
 use Rattle.shared_walks.proofs.Standing.{path_to, stands}
 use Rattle.shared_walks.proofs.activation.up_step.Goals as goal
 
@@ -138,3 +141,107 @@ returns-then-found-old g c =
           ∙ (ap (λ n. on_part (missed n) (shown part.seat.me)) c.state_place-place.ensures.place
           ∙ ap (on_part (λ x. missed (state_place o x.cpu c.args.walk.level) x)) c.part.view_is);
     }
+
+pub invariant_of-part : goal.invariant_of-part
+invariant_of-part g c =
+    let part = c.part.inside in
+    let o : World = g.N.RunName.opening in
+    let looked = looked_of part.seat.me.0.boxes in
+    let b : BoxView = box_held o part.cpu.0 part.status part.bases.plain
+    part.leaf part.read looked in
+    let ps = part.seat.me.0.passes in
+    let old = c.load-old.result in
+    let found = c.compare_exchange-found.result in
+    let where_at = c.state_place-place.result in
+    let m = c.compare_exchange-found.new.seat.me in
+    let first : c.load-old.new.seat.me ≡ seat_of (plays.trying where_at old b ∷ []) ps
+    = c.load-old.ensures.2.0.0
+    ∙ ap (plays.on_box (plays.trying where_at old)) c.part.invariant.seat in
+    let is : m ≡ seat_of (plays.trying where_at found (plays.trying where_at old b) ∷ []) ps
+    = c.compare_exchange-found.ensures.2.0
+    ∙ (ap (λ z. plays.on_box (plays.up_box z old where_at found) c.load-old.new.seat.me)
+    (ne_eqb _ _ c.if-found-old.true) ∙ ap (plays.on_box (plays.trying where_at found)) first) in
+    holds g.N.RunName.table c.compare_exchange-found.new.seat.table_id o part.cpu.0
+    part.status part.bases.plain part.leaf part.read
+    (plays.trying where_at found (plays.trying where_at old b)).looked m part.guest ps
+    (c.compare_exchange-found.ensures.0 ∙ (c.load-old.ensures.0 ∙ c.part.invariant.named))
+    is c.compare_exchange-found.ensures.2.1 c.part.invariant.hosts
+
+pub invariant_of-part-2 : goal.invariant_of-part-2
+invariant_of-part-2 g c =
+    let part = c.part.inside in
+    let o : World = g.N.RunName.opening in
+    let looked = looked_of part.seat.me.0.boxes in
+    let b : BoxView = box_held o part.cpu.0 part.status part.bases.plain
+    part.leaf part.read looked in
+    let k : Walk = c.args.walk in
+    let ps = part.seat.me.0.passes in
+    let at : part.status.walk ≡ Some k
+    = ap (λ z. z.box.own.walk) c.part.view_is ∙ c.requires.walk in
+    let old = c.load-old.result in
+    let found = c.compare_exchange-found.result in
+    let where_at = c.state_place-place.result in
+    let m = c.compare_exchange-found.new.seat.me in
+    let first : c.load-old.new.seat.me ≡ seat_of (plays.trying where_at old b ∷ []) ps
+    = c.load-old.ensures.2.0.0
+    ∙ ap (plays.on_box (plays.trying where_at old)) c.part.invariant.seat in
+    let is : m ≡ seat_of (plays.risen_box old b ∷ []) ps
+    = c.compare_exchange-found.ensures.2.0
+    ∙ (ap (λ z. plays.on_box (plays.up_box z old where_at found) c.load-old.new.seat.me)
+    (eq-eqb _ _ c.if-found-old.false) ∙ ap (plays.on_box (plays.risen_box old)) first) in
+    let next : c.up_next.result ≡ plays.up_walk old b k
+    = c.up_next.ensures.next
+    ∙ (λ i. up_next (c.at_top-top.ensures i) (not (c.has_migrator-more.ensures.exact i)) k) in
+    let same : box_held o part.cpu.0 (record part.status { walk = c.up_next.result })
+    part.bases.plain part.leaf part.read (record looked { tried = [] }) ≡ plays.risen_box old b
+    = ap plays.done_trying (walked o part.cpu.0 part.status b.own part.leaf part.read
+    looked (plays.up_walk old) k c.up_next.result at next) in
+    keeps g.N.RunName.table c.compare_exchange-found.new.seat.table_id o part.cpu.0
+    (record part.status { walk = c.up_next.result }) b.own
+    part.leaf part.read (record looked { tried = [] }) part.guest m (plays.risen_box old)
+    b ps is same
+    (c.compare_exchange-found.ensures.0 ∙ (c.load-old.ensures.0 ∙ c.part.invariant.named))
+    c.compare_exchange-found.ensures.2.1 c.part.invariant.hosts
+
+pub returns : goal.returns
+returns g c =
+    let part = c.part.inside in
+    let o : World = g.N.RunName.opening in
+    let looked = looked_of part.seat.me.0.boxes in
+    let b : BoxView = box_held o part.cpu.0 part.status part.bases.plain
+    part.leaf part.read looked in
+    let k : Walk = c.args.walk in
+    let ps = part.seat.me.0.passes in
+    let v : HeldPart = record {
+      box = b;
+      brought = ps;
+      room = part.bases.room;
+      receipts_room = guest_room part.guest;
+    } in
+    let at : part.status.walk ≡ Some k
+    = ap (λ z. z.box.own.walk) c.part.view_is ∙ c.requires.walk in
+    let old = c.load-old.result in
+    let found = c.compare_exchange-found.result in
+    let where_at = c.state_place-place.result in
+    let m = c.compare_exchange-found.new.seat.me in
+    let first : c.load-old.new.seat.me ≡ seat_of (plays.trying where_at old b ∷ []) ps
+    = c.load-old.ensures.2.0.0
+    ∙ ap (plays.on_box (plays.trying where_at old)) c.part.invariant.seat in
+    let is : m ≡ seat_of (plays.risen_box old b ∷ []) ps
+    = c.compare_exchange-found.ensures.2.0
+    ∙ (ap (λ z. plays.on_box (plays.up_box z old where_at found) c.load-old.new.seat.me)
+    (eq-eqb _ _ c.if-found-old.false) ∙ ap (plays.on_box (plays.risen_box old)) first) in
+    let next : c.up_next.result ≡ plays.up_walk old b k
+    = c.up_next.ensures.next
+    ∙ (λ i. up_next (c.at_top-top.ensures i) (not (c.has_migrator-more.ensures.exact i)) k) in
+    let same : box_held o part.cpu.0 (record part.status { walk = c.up_next.result })
+    part.bases.plain part.leaf part.read (record looked { tried = [] }) ≡ plays.risen_box old b
+    = ap plays.done_trying (walked o part.cpu.0 part.status b.own part.leaf part.read
+    looked (plays.up_walk old) k c.up_next.result at next) in (
+      old,
+      shows g.N.RunName.table c.compare_exchange-found.new.seat.table_id o part.cpu.0
+          (record part.status { walk = c.up_next.result }) b.own
+          part.leaf part.read (record looked { tried = [] }) part.guest m (plays.risen_box old)
+          b ps is same v
+          ∙ ap (on_part (plays.risen_box old)) c.part.view_is,
+    )

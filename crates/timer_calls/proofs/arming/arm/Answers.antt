@@ -1,4 +1,4 @@
-use Rattle.std.proofs.Common.{◌+◌, ◌<◌, arith, sym, ap, ◌∙◌, subst}
+use Rattle.std.proofs.Common.{◌+◌, ◌<◌, arith, length, sym, ap, ◌∙◌, subst}
 use Rattle.std.specs.Prelude.{MatchResult}
 use Rattle.tm_base.specs.declared.names.TheConstants.{TIME_LIMIT}
 use Rattle.shared_rule.specs.Parts.{HeldPart, without_guest}
@@ -34,3 +34,13 @@ returns g c =
           (NotArmed table g.N.RunName.opening c.args.timer.0 part held after)) c.from.ensures
           c.arm_in.ensures.done,
     )
+
+pub lock-guard-requires : goal.lock-guard-requires
+lock-guard-requires g c =
+    subst (λ n. n < length g.N.RunName.opening.cpus) (sym c.cpu.ensures) c.requires.cpu
+
+pub arm_in-requires-clause-run : goal.arm_in-requires-clause-run
+arm_in-requires-clause-run g c = c.requires.run
+
+pub arm_in-requires-clause-now : goal.arm_in-requires-clause-now
+arm_in-requires-clause-now g c = c.requires.now

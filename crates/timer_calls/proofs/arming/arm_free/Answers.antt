@@ -62,3 +62,9 @@ pub returns-in-Err-clause-free : goal.returns-in-Err-clause-free
 returns-in-Err-clause-free g c =
     free_as c.args.part.now c.take_room.new.part c.take_room.ensures.kept
     (c.take_room.ensures.brought ∙ c.requires.free.alone) c.requires.free
+
+pub arm_with-requires-clause-now : goal.arm_with-requires-clause-now
+arm_with-requires-clause-now g c = c.requires.now
+
+pub returns-in-Err-clause-done : goal.returns-in-Err-clause-done
+returns-in-Err-clause-done g c = c.in-Err.ensures.err

@@ -28,3 +28,12 @@ returns-clause-done g c =
     (HasArmed table c.args.now c.args.arming (without_guest z) held after)
     (NotArmed table g.N.RunName.opening c.args.arming.timer.0 (without_guest z) held after))
     c.cpu_box.view_is c.arm_part.ensures.done
+
+pub arm_part-requires-clause-run : goal.arm_part-requires-clause-run
+arm_part-requires-clause-run g c = c.requires.run
+
+pub arm_part-requires-clause-now : goal.arm_part-requires-clause-now
+arm_part-requires-clause-now g c = c.requires.now
+
+pub arm_part-requires-clause-arming : goal.arm_part-requires-clause-arming
+arm_part-requires-clause-arming g c = c.requires.arming

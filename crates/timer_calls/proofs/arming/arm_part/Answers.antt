@@ -78,3 +78,18 @@ returns-in-None-clause-done g c =
     (HasFailed table o a.timer.0 (without_guest part) h after)) meets.pass
     (subst (λ (q : HeldPart). MatchResult result (IsArmed table c.args.now a q c.visit.new.pass after)
     (HasFailed table o a.timer.0 q c.visit.new.pass after)) meets.part c.arm_free.ensures.done))
+
+pub visit-requires-clause-run : goal.visit-requires-clause-run
+visit-requires-clause-run g c = c.requires.run
+
+pub visit-requires-clause-own : goal.visit-requires-clause-own
+visit-requires-clause-own g c = c.requires.own
+
+pub visit-requires-clause-alone : goal.visit-requires-clause-alone
+visit-requires-clause-alone g c = c.requires.free.alone
+
+pub arm_free-requires-clause-now : goal.arm_free-requires-clause-now
+arm_free-requires-clause-now g c = c.requires.now
+
+pub returns-in-None-clause-free : goal.returns-in-None-clause-free
+returns-in-None-clause-free g c = c.arm_free.ensures.free

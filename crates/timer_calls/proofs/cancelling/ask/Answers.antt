@@ -1,4 +1,4 @@
-use Rattle.std.proofs.Common.{sym, ap, ◌∙◌}
+use Rattle.std.proofs.Common.{◌<◌, length, sym, ap, ◌∙◌, subst}
 use Rattle.shared_rule.specs.Parts.{HeldPart, without_guest}
 use Rattle.timer_calls.proofs.cancelling.ask.Goals as goal
 
@@ -9,3 +9,10 @@ ask_box-requires-clause-own g c =
 
 pub returns : goal.returns
 returns g c = (without_guest c.deref_mut.result.now, c.ask_box.ensures)
+
+pub lock-guard-requires : goal.lock-guard-requires
+lock-guard-requires g c =
+    subst (λ n. n < length g.N.RunName.opening.cpus) (sym c.cpu.ensures) c.requires.cpu
+
+pub ask_box-requires-clause-run : goal.ask_box-requires-clause-run
+ask_box-requires-clause-run g c = c.requires.run

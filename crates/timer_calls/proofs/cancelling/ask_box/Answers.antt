@@ -17,3 +17,6 @@ pub returns : goal.returns
 returns g c =
     subst (λ (z : HeldPart). IsAsked g.N.RunName.table g.N.RunName.opening (without_guest z)
     c.args.pass.now c.ask_part.new.pass c.ask_part.result) c.cpu_box.view_is c.ask_part.ensures.asked
+
+pub ask_part-requires-clause-run : goal.ask_part-requires-clause-run
+ask_part-requires-clause-run g c = c.requires.run

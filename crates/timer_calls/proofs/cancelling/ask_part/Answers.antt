@@ -16,3 +16,12 @@ returns-clause-asked g c =
     asked g.N.RunName.table g.N.RunName.opening c.args.part.now c.visit.new.part c.args.pass.now
     c.visit.new.pass run.0 c.state.result c.cancel_fault.result run.1 c.requires.own
     c.state.ensures c.cancel_fault.ensures v.part v.pass v.opening v.own v.fits v.agree
+
+pub visit-requires-clause-run : goal.visit-requires-clause-run
+visit-requires-clause-run g c = c.requires.run
+
+pub visit-requires-clause-own : goal.visit-requires-clause-own
+visit-requires-clause-own g c = c.requires.own
+
+pub visit-requires-clause-alone : goal.visit-requires-clause-alone
+visit-requires-clause-alone g c = c.requires.free.alone

@@ -40,3 +40,15 @@ returns-in-None g c =
       finish table o c.args.timer.0 c.args.line part c.args.pass.now c.ask.new.pass
           c.cancel_named.new.pass run.0 c.cancel_named.result run.1 asked c.cancel_named.ensures,
     )
+
+pub ask-requires-clause-run : goal.ask-requires-clause-run
+ask-requires-clause-run g c = c.requires.run
+
+pub ask-requires-clause-cpu : goal.ask-requires-clause-cpu
+ask-requires-clause-cpu g c = c.requires.cpu
+
+pub cancel_named-requires-clause-now : goal.cancel_named-requires-clause-now
+cancel_named-requires-clause-now g c = c.requires.now
+
+pub cancel_named-requires-clause-timer : goal.cancel_named-requires-clause-timer
+cancel_named-requires-clause-timer g c = c.requires.timer

@@ -12,3 +12,15 @@ returns g c =
       subst (λ n. IsPartOf g.N.RunName.opening n home) cpu c.cancel_box.ensures.part,
       c.cancel_box.ensures.done,
     )
+
+pub lock-guard-requires : goal.lock-guard-requires
+lock-guard-requires g c = c.requires.cpu
+
+pub cancel_box-requires-clause-run : goal.cancel_box-requires-clause-run
+cancel_box-requires-clause-run g c = c.requires.run
+
+pub cancel_box-requires-clause-now : goal.cancel_box-requires-clause-now
+cancel_box-requires-clause-now g c = c.requires.now
+
+pub cancel_box-requires-clause-timer : goal.cancel_box-requires-clause-timer
+cancel_box-requires-clause-timer g c = c.requires.timer

@@ -22,3 +22,12 @@ returns-clause-done g c =
     subst (λ (z : HeldPart). MatchResult c.cancel_part.result
     (TookOut g.N.RunName.table c.args.timer.0 c.args.line z held after) (λ e. after ≡ held))
     c.cpu_box.view_is c.cancel_part.ensures.done
+
+pub cancel_part-requires-clause-run : goal.cancel_part-requires-clause-run
+cancel_part-requires-clause-run g c = c.requires.run
+
+pub cancel_part-requires-clause-now : goal.cancel_part-requires-clause-now
+cancel_part-requires-clause-now g c = c.requires.now
+
+pub cancel_part-requires-clause-timer : goal.cancel_part-requires-clause-timer
+cancel_part-requires-clause-timer g c = c.requires.timer

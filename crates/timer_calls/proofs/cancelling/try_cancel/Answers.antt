@@ -40,3 +40,22 @@ returns-in-Err g c =
     elsewhere o c.args.timer.0 c.see_timer-found.result spot c.args.pass.now
     c.see_timer-found.new.self c.cancel_at.new.pass c.see_timer-found.ensures.remembered
     c.in-Some.ensures.exact low c.in-Err.ensures.2
+
+pub see_timer-found-requires-clause-run : goal.see_timer-found-requires-clause-run
+see_timer-found-requires-clause-run g c = (c.requires.run.pass, c.requires.run.seated)
+
+pub see_timer-found-requires-clause-timer : goal.see_timer-found-requires-clause-timer
+see_timer-found-requires-clause-timer g c = c.requires.timer
+
+pub cancel_at-requires-clause-cpu : goal.cancel_at-requires-clause-cpu
+cancel_at-requires-clause-cpu g c =
+    let run = c.requires.run in
+    let spot = c.in-Some.spot in
+    subst (λ (w : World). spot.cpu.0 < length w.cpus) run.opening
+    (c.see_timer-found.ensures.named run.pass run.seated spot (sym c.in-Some.ensures.exact))
+
+pub cancel_at-requires-clause-now : goal.cancel_at-requires-clause-now
+cancel_at-requires-clause-now g c = c.requires.now
+
+pub cancel_at-requires-clause-timer : goal.cancel_at-requires-clause-timer
+cancel_at-requires-clause-timer g c = c.requires.timer

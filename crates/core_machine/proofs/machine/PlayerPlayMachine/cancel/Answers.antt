@@ -1,10 +1,13 @@
-use Rattle.std.proofs.Common.{◌≡◌, Some, subst, sym}
+use Rattle.std.proofs.Common.{Some, length, subst, sym, ◌<◌, ◌≡◌}
 use Rattle.std.specs.Prelude.{option_map}
 use Rattle.std.specs.Result.{OnErr, OnOk}
+use Rattle.std.proofs.lemmas.Result.{on_ok_weaker}
 use Rattle.play_rules.specs.Machines.{Same}
 use Rattle.play_rules.specs.declared.asks.Queued.{Queued}
 use Rattle.core_world.specs.World.{World}
+use Rattle.step_play.specs.Rules.Seen.{InPlay, resting}
 use Rattle.step_play.specs.Rules.StepRules.{step_rules}
+use Rattle.core_machine.proofs.Calls.InTime.{stays_in_time}
 use Rattle.core_machine.proofs.machine.PlayerPlayMachine.cancel.Goals as goal
 
 pub cancel-requires-clause-queued : goal.cancel-requires-clause-queued
@@ -28,3 +31,31 @@ pub returns-clause-kept : goal.returns-clause-kept
 returns-clause-kept g c =
     subst (λ (w : World). OnErr c.cancel.result (c.cancel.new.core ≡ w)) c.self.view_is
     c.cancel.ensures.err
+
+pub cancel-requires-clause-fit : goal.cancel-requires-clause-fit
+cancel-requires-clause-fit g c =
+    (subst (InPlay resting) (sym c.self.view_is) c.requires.fit).in_run
+
+pub returns-clause-fit : goal.returns-clause-fit
+returns-clause-fit g c =
+    on_ok_weaker c.cancel.result (λ goes. goes (subst (InPlay resting) (sym c.self.view_is)
+    c.requires.fit)) c.cancel.ensures.play
+
+pub cancel-requires-clause-home : goal.cancel-requires-clause-home
+cancel-requires-clause-home g c =
+    subst (λ (w : World). c.args.home.0 < length w.cpus) (sym c.self.view_is) c.requires.home
+
+pub cancel-requires-clause-timer : goal.cancel-requires-clause-timer
+cancel-requires-clause-timer g c =
+    subst (λ (w : World). c.args.cancelling.timer.0 < w.timers) (sym c.self.view_is)
+    c.requires.timer
+
+pub cancel-requires-clause-by : goal.cancel-requires-clause-by
+cancel-requires-clause-by g c =
+    subst (λ (w : World). c.args.cancelling.by.0 < length w.cpus) (sym c.self.view_is)
+    c.requires.by
+
+pub invariant_of-self : goal.invariant_of-self
+invariant_of-self g c =
+    stays_in_time c.cancel.result c.self.inside.core c.cancel.new.core c.self.invariant
+    c.cancel.ensures.same c.cancel.ensures.err

@@ -1,10 +1,13 @@
-use Rattle.std.proofs.Common.{◌≡◌, false, subst, sym, true}
+use Rattle.std.proofs.Common.{false, length, subst, sym, true, ◌<◌, ◌≡◌}
 use Rattle.std.specs.Prelude.{option_map}
 use Rattle.std.specs.Result.{IfOk, OnErr, OnOk}
+use Rattle.std.proofs.lemmas.Result.{on_ok_weaker}
 use Rattle.play_rules.specs.Machines.{Same, SameFlags, after_move}
 use Rattle.play_rules.specs.Phases.{IsUp}
 use Rattle.core_world.specs.World.{World}
+use Rattle.step_play.specs.Rules.Seen.{InPlay, resting}
 use Rattle.step_play.specs.Rules.StepRules.{step_rules}
+use Rattle.core_machine.proofs.Calls.InTime.{stays_in_time}
 use Rattle.core_machine.proofs.machine.PlayerPlayMachine.move_first.Goals as goal
 
 pub move_first-requires-clause-offline : goal.move_first-requires-clause-offline
@@ -48,3 +51,28 @@ pub returns-clause-kept : goal.returns-clause-kept
 returns-clause-kept g c =
     subst (λ (w : World). OnErr c.move_first.result (c.move_first.new.core ≡ w)) c.self.view_is
     c.move_first.ensures.err
+
+pub move_first-requires-clause-fit : goal.move_first-requires-clause-fit
+move_first-requires-clause-fit g c =
+    (subst (InPlay resting) (sym c.self.view_is) c.requires.fit).in_run
+
+pub returns-clause-fit : goal.returns-clause-fit
+returns-clause-fit g c =
+    on_ok_weaker c.move_first.result (λ goes. goes (subst (InPlay resting) (sym c.self.view_is)
+    c.requires.fit)) c.move_first.ensures.play
+
+pub move_first-requires-clause-from : goal.move_first-requires-clause-from
+move_first-requires-clause-from g c =
+    subst (λ (w : World). c.args.from.0 < length w.cpus) (sym c.self.view_is) c.requires.from
+
+pub move_first-requires-clause-to : goal.move_first-requires-clause-to
+move_first-requires-clause-to g c =
+    subst (λ (w : World). c.args.to.0 < length w.cpus) (sym c.self.view_is) c.requires.to
+
+pub move_first-requires-clause-other : goal.move_first-requires-clause-other
+move_first-requires-clause-other g c = c.requires.other
+
+pub invariant_of-self : goal.invariant_of-self
+invariant_of-self g c =
+    stays_in_time c.move_first.result c.self.inside.core c.move_first.new.core c.self.invariant
+    c.move_first.ensures.same c.move_first.ensures.err

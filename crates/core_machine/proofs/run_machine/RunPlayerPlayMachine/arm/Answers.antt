@@ -1,10 +1,11 @@
-use Rattle.std.proofs.Common.{◌≡◌, subst}
+use Rattle.std.proofs.Common.{None, length, subst, sym, ◌<◌, ◌≡◌}
 use Rattle.std.specs.Result.{IfOk, OnErr, OnOk}
 use Rattle.play_rules.specs.Machines.{Same, SameOnline}
-use Rattle.play_rules.specs.Phases.{MayArmIn, StaysFit}
+use Rattle.play_rules.specs.Phases.{FitsSome, MayArmIn, StaysFit}
 use Rattle.core_world.specs.World.{World}
 use Rattle.step_play.specs.Rules.Seen.{InRun}
 use Rattle.step_play.specs.Rules.StepRules.{step_rules}
+use Rattle.core_machine.proofs.Calls.InTime.{stays_in_time}
 use Rattle.core_machine.proofs.run_machine.RunPlayerPlayMachine.arm.Goals as goal
 
 pub returns-clause-fit : goal.returns-clause-fit
@@ -39,3 +40,29 @@ pub returns-clause-kept : goal.returns-clause-kept
 returns-clause-kept g c =
     subst (λ (w : World). OnErr c.arm.result (c.arm.new.core ≡ w)) c.self.view_is
     c.arm.ensures.err
+
+pub arm-requires-clause-fit : goal.arm-requires-clause-fit
+arm-requires-clause-fit g c =
+    subst (λ (w : World). FitsSome InRun (λ ph. MayArmIn step_rules w ph c.args.cpu.0) w) (sym
+    c.self.view_is) c.requires.fit
+
+pub arm-requires-clause-cpu : goal.arm-requires-clause-cpu
+arm-requires-clause-cpu g c =
+    subst (λ (w : World). c.args.cpu.0 < length w.cpus) (sym c.self.view_is) c.requires.cpu
+
+pub arm-requires-clause-timer : goal.arm-requires-clause-timer
+arm-requires-clause-timer g c =
+    subst (λ (w : World). c.args.arming.timer.0 < w.timers) (sym c.self.view_is) c.requires.timer
+
+pub arm-requires-clause-not_queued : goal.arm-requires-clause-not_queued
+arm-requires-clause-not_queued g c =
+    subst (λ (w : World). step_rules.queued w c.args.arming.timer.0 ≡ None) (sym c.self.view_is)
+    c.requires.not_queued
+
+pub arm-requires-clause-in_time : goal.arm-requires-clause-in_time
+arm-requires-clause-in_time g c = c.self.invariant
+
+pub invariant_of-self : goal.invariant_of-self
+invariant_of-self g c =
+    stays_in_time c.arm.result c.self.inside.core c.arm.new.core c.self.invariant
+    c.arm.ensures.same c.arm.ensures.err

@@ -1,7 +1,8 @@
-use Rattle.std.proofs.Common.{◌<◌, ◌≡◌, Some, subst, sym}
+use Rattle.std.proofs.Common.{Some, length, subst, sym, ◌<◌, ◌≡◌}
 use Rattle.tm_base.specs.declared.limits.TheConstants.{SCRIPT_TIME_LIMIT}
 use Rattle.play_rules.specs.Machines.{Same, SameOnline}
 use Rattle.core_world.specs.World.{World}
+use Rattle.step_play.specs.Rules.Seen.{InRun, resting}
 use Rattle.step_play.specs.Rules.StepRules.{step_rules}
 use Rattle.core_machine.proofs.run_machine.RunPlayerPlayMachine.control.Goals as goal
 
@@ -28,3 +29,19 @@ pub returns-clause-online : goal.returns-clause-online
 returns-clause-online g c =
     subst (λ (w : World). SameOnline step_rules w c.control.new.core) c.self.view_is
     c.control.ensures.online
+
+pub control-requires-clause-fit : goal.control-requires-clause-fit
+control-requires-clause-fit g c = subst (InRun resting) (sym c.self.view_is) c.requires.fit
+
+pub returns-clause-fit : goal.returns-clause-fit
+returns-clause-fit g c = c.control.ensures.fit
+
+pub control-requires-clause-cpu : goal.control-requires-clause-cpu
+control-requires-clause-cpu g c =
+    subst (λ (w : World). c.args.cpu.0 < length w.cpus) (sym c.self.view_is) c.requires.cpu
+
+pub returns-clause-placed : goal.returns-clause-placed
+returns-clause-placed g c = c.control.ensures.placed
+
+pub returns-clause-active : goal.returns-clause-active
+returns-clause-active g c = c.control.ensures.active

@@ -1,9 +1,11 @@
-use Rattle.std.proofs.Common.{◌∙◌, subst, sym}
+use Rattle.std.proofs.Common.{◌∙◌, refl, subst, sym}
+use Rattle.std.proofs.lemmas.Result.{err_from_is_err_and}
 use Rattle.play_rules.specs.Machines.{Same, SameFlags}
 use Rattle.step_play.specs.Rules.Seen.{InPlay, InRun, resting}
 use Rattle.step_play.specs.Rules.StepRules.{step_rules}
 use Rattle.core_machine.proofs.Draining.FirstMoves.{move_enabled, move_fits, move_flags, move_in_play}
 use Rattle.core_machine.proofs.Draining.FirstMoves.{move_same, move_told}
+use Rattle.core_machine.proofs.Draining.Sames.{same_self}
 use Rattle.core_machine.proofs.timers.moving.move_first.Goals as goal
 
 pub move_timer-requires : goal.move_timer-requires
@@ -46,3 +48,34 @@ returns-clause-flags g c =
     (move_flags c.law_step.ensures c.args.core.now c.requires.fit c.args.from.0 c.args.to.0
     c.requires.from c.requires.offline c.requires.placed c.requires.active c.in-Some.timer
     c.in-Some.ensures)
+
+pub first_timer-requires : goal.first_timer-requires
+first_timer-requires g c = c.requires.from
+
+pub returns-in_default-clause-fit : goal.returns-in_default-clause-fit
+returns-in_default-clause-fit g c = c.requires.fit
+
+pub returns-in_default-clause-play : goal.returns-in_default-clause-play
+returns-in_default-clause-play g c = λ p. p
+
+pub returns-in_default-clause-same : goal.returns-in_default-clause-same
+returns-in_default-clause-same g c = same_self c.args.core.now c.args.core.now refl
+
+pub returns-in_default-clause-flags : goal.returns-in_default-clause-flags
+returns-in_default-clause-flags g c = record { online = λ d. refl; idle = λ d. refl }
+
+pub returns-in_err-wheel : goal.returns-in_err-wheel
+returns-in_err-wheel g c =
+    let p = err_from_is_err_and c.from_residual.result c.from_residual.ensures.1 in
+    record {
+      fit = rw p.1 tt;
+      play = rw p.1 tt;
+      moved = rw p.1 tt;
+      state = rw p.1 tt;
+      same = rw p.1 tt;
+      flags = rw p.1 tt;
+      err = rw p.1 c.in_err-wheel.ensures.err;
+    }
+
+pub returns-clause-err : goal.returns-clause-err
+returns-clause-err g c = tt

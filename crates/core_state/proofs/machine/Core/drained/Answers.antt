@@ -1,7 +1,9 @@
-use Rattle.std.proofs.Common.{refl, sym, subst, ◌∙◌}
+use Rattle.std.proofs.Common.{◌<◌, arith, length, refl, subst, sym, ◌∙◌}
+use Rattle.std.proofs.lemmas.Result.{err_from_is_err_and}
+use Rattle.cpu_bases.specs.CpuBases.{handed_out}
 use Rattle.core_world.specs.World.{World}
 use Rattle.core_state.specs.Kept.{IsKept}
-use Rattle.core_state.proofs.TimerSteps.{on_err, tick_kept, unchanged}
+use Rattle.core_state.proofs.TimerSteps.{done_is, on_err, tick_kept, unchanged}
 use Rattle.core_state.proofs.machine.Core.drained.Goals as goal
 
 pub invariant_of-self : goal.invariant_of-self
@@ -24,3 +26,32 @@ invariant_of-self-2 g c =
     c.index_mut.result.now c.drain_one.new.self c.now-now.result c.self.view_is c.self.invariant
     refl c.kept.ensures.stays c.timers_kept.ensures c.from.ensures c.index_mut.ensures.value
     c.now-now.ensures c.args.class c.args.runner c.requires c.in_ok-drain_one.ensures.ok
+
+pub timers_kept-requires : goal.timers_kept-requires
+timers_kept-requires g c = c.requires.is_free.in_range
+
+pub index_mut-requires : goal.index_mut-requires
+index_mut-requires g c =
+    let low = subst (λ (w : World). c.args.cpu.0 < length w.cpus) (sym c.self.view_is)
+    c.requires.is_free.in_range in
+    let at = c.from.ensures in
+    omega (arith, low, at)
+
+pub drain_one-requires : goal.drain_one-requires
+drain_one-requires g c =
+    let fits = c.kept.ensures.fits.in_time in
+    let time = c.now-now.ensures in
+    omega (arith, fits, time)
+
+pub returns-in_err-drain_one-clause-ok : goal.returns-in_err-drain_one-clause-ok
+returns-in_err-drain_one-clause-ok g c =
+    let p = err_from_is_err_and c.from_residual.result c.from_residual.ensures.1 in rw p.1 tt
+
+pub returns-clause-ok : goal.returns-clause-ok
+returns-clause-ok g c =
+    done_is _ c.args.self.now c.args.cpu.0 c.from.result c.index_mut.result.now c.drain_one.new.self
+    (λ n b. handed_out n c.args.class c.args.runner b)
+    c.now-now.result c.self.view_is c.from.ensures c.requires.is_free.in_range
+    c.index_mut.ensures.value
+    c.now-now.ensures c.in_ok-drain_one.ensures.ok
+    (length c.self.inside.holders.items) refl

@@ -1,6 +1,7 @@
-use Rattle.std.proofs.Common.{◌≡◌, true, sym, subst}
+use Rattle.std.proofs.Common.{◌<◌, ◌≡◌, ap, arith, length, subst, sym, true, ◌∙◌}
 use Rattle.tree_plan.specs.Paths.{IsBelow}
 use Rattle.core_world.specs.World.{World}
+use Rattle.core_world.proofs.Moves.{stale_if_length}
 use Rattle.core_state.proofs.Making.{made, made_kept}
 use Rattle.core_state.proofs.machine.Core.make.Goals as goal
 
@@ -26,3 +27,36 @@ pub if_exchanged-requires-clause-below : goal.if_exchanged-requires-clause-below
 if_exchanged-requires-clause-below g c =
     subst (λ (w : World). c.args.exchanges ≡ true → IsBelow w.tree c.args.cpu.0 c.args.group.0)
     (sym c.self.view_is) c.requires.below
+
+pub recount-requires-clause-cpu : goal.recount-requires-clause-cpu
+recount-requires-clause-cpu g c =
+    subst (λ (w : World). c.args.cpu.0 < length w.cpus) (sym c.self.view_is) c.requires.cpu
+
+pub recount-requires-clause-each_cpu : goal.recount-requires-clause-each_cpu
+recount-requires-clause-each_cpu g c = c.self.invariant.fits.lawful.sized.cpus
+
+pub recount-requires-clause-tallied : goal.recount-requires-clause-tallied
+recount-requires-clause-tallied g c = c.self.invariant.tallied
+
+pub index_mut-requires : goal.index_mut-requires
+index_mut-requires g c =
+    let low = subst (λ (w : World). c.args.group.0 < length w.groups) (sym c.self.view_is)
+    c.requires.group in
+    let at = c.from.ensures in
+    omega (arith, low, at)
+
+pub change-requires : goal.change-requires
+change-requires g c = c.requires.change
+
+pub set_status-requires : goal.set_status-requires
+set_status-requires g c = c.requires.in_range
+
+pub index_mut-requires-2 : goal.index_mut-requires-2
+index_mut-requires-2 g c =
+    let low = subst (λ (w : World). c.args.cpu.0 < length w.cpus) (sym c.self.view_is)
+    c.requires.cpu
+    in
+    let len = ap length c.if_exchanged.ensures
+    ∙ stale_if_length c.self.inside.tree c.args.exchanges c.args.group.0 c.self.inside.cpus.items in
+    let at = c.from-2.ensures in
+    omega (arith, low, len, at)

@@ -1,11 +1,16 @@
-use Rattle.std.proofs.Common.{◌≡◌, ◌+◌, subst, sym, arith}
-use Rattle.wheel_core.specs.PlainBase.{added, forwarded}
+use Rattle.std.proofs.Common.{◌≡◌, ◌+◌, ◌<◌, ◌∙◌, ap, subst, sym, arith}
+use Rattle.tm_base.specs.declared.names.TheConstants.{TIME_LIMIT}
+use Rattle.wheel_core.specs.declared.item.Item.{Item}
+use Rattle.wheel_core.specs.WheelExpiry.{KeepsTime}
+use Rattle.wheel_core.specs.PlainBase.{NoneBehind, PlainBase, added, forwarded, item_added, item_of}
 use Rattle.cpu_bases.specs.declared.entry.Act.TheVariants.{MovedIn}
-use Rattle.cpu_bases.specs.CpuBases.{IsConsistent, moved_in}
+use Rattle.cpu_bases.specs.CpuBases.{IsConsistent, on_bases, moved_in}
 use Rattle.cpu_bases.specs.Laws.{CallKeeps, MayQueue}
 use Rattle.cpu_bases.specs.Trio.{plain_of}
+use Rattle.cpu_bases.proofs.Consistent.{base_none}
 use Rattle.cpu_bases.proofs.Keeping.{moving_in_keeps}
-use Rattle.cpu_bases.proofs.Steps.{kept_so, stored_queued}
+use Rattle.cpu_bases.proofs.Seen.{base_seen, became_so, entry_fits, room_fits}
+use Rattle.cpu_bases.proofs.Steps.{kept_so, plain_base, stored_queued}
 use Rattle.cpu_bases.proofs.bases.Bases.move_in.Goals as goal
 
 -- the bases as they were, and what was done to them
@@ -58,3 +63,59 @@ returns-clause-keeps g c =
     c.self.view_is
     (subst (CallKeeps c.args.now (plain_of c.self.inside.trio c.self.inside.journal.entries))
     (sym (became g c)) (law g c).1)
+
+pub queue-item-requires-clause-room : goal.queue-item-requires-clause-room
+queue-item-requires-clause-room g c =
+    room_fits c.self.inside.trio c.self.inside.timers c.self.inside.journal c.args.self.now
+    c.self.view_is c.args.class c.self.invariant.room c.requires.room
+
+pub queue-item-requires-clause-not_queued : goal.queue-item-requires-clause-not_queued
+queue-item-requires-clause-not_queued g c =
+    let base =
+    base_seen c.self.inside.trio c.self.inside.timers c.self.inside.journal c.args.self.now
+    c.self.view_is c.args.class in
+    (λ i. item_of (c.from-id.ensures i) (base i).items)
+    ∙ base_none c.args.self.now.plain c.args.timer.0 c.requires.not_queued c.args.class
+
+pub queue-item-requires-clause-clock_in_time : goal.queue-item-requires-clause-clock_in_time
+queue-item-requires-clause-clock_in_time g c =
+    subst (λ (b : PlainBase). b.clock < TIME_LIMIT) (plain_base c.args.class c.self.inside.trio)
+    (c.self.invariant.consistent.fits c.args.class).clock
+
+pub queue-item-requires-clause-none_behind : goal.queue-item-requires-clause-none_behind
+queue-item-requires-clause-none_behind g c =
+    subst (λ (b : PlainBase). NoneBehind b)
+    (sym
+    (base_seen c.self.inside.trio c.self.inside.timers c.self.inside.journal c.args.self.now
+    c.self.view_is c.args.class))
+    c.requires.none_behind
+
+pub write-requires : goal.write-requires
+write-requires g c =
+    entry_fits c.self.inside.trio c.self.inside.timers c.self.inside.journal c.args.self.now
+    c.self.view_is c.requires.entry_room
+
+pub returns-clause-wheel : goal.returns-clause-wheel
+returns-clause-wheel g c =
+    ap (λ (item : Item). item.wheel) c.queue-item.ensures.item
+    ∙ ap (λ (b : PlainBase). (item_added (forwarded (c.args.now + 1) b).clock c.args.timer.0
+    c.args.expires c.args.job c.args.arg).wheel)
+    (base_seen c.self.inside.trio c.self.inside.timers c.self.inside.journal c.args.self.now
+    c.self.view_is c.args.class)
+
+pub returns-clause-keeps_time : goal.returns-clause-keeps_time
+returns-clause-keeps_time g c =
+    subst (λ (b : PlainBase). KeepsTime c.args.expires (forwarded (c.args.now + 1) b).clock)
+    (base_seen c.self.inside.trio c.self.inside.timers c.self.inside.journal c.args.self.now
+    c.self.view_is c.args.class)
+    c.queue-item.ensures.keeps_time
+
+pub returns-clause-after : goal.returns-clause-after
+returns-clause-after g c =
+    became_so c.self.inside.trio c.self.inside.timers c.self.inside.journal c.args.self.now
+    c.self.view_is
+    (moved_in c.args.now c.args.class c.from-id.result c.args.expires
+    c.args.job c.args.arg c.args.by)
+    c.queue-item.new.self c.write.new.self (became g c) c.write.ensures.capacity
+    ∙ ap (λ id. on_bases (moved_in c.args.now c.args.class id c.args.expires
+    c.args.job c.args.arg c.args.by) c.args.self.now) c.from-id.ensures

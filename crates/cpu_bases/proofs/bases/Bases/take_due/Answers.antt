@@ -1,9 +1,11 @@
 use Rattle.std.proofs.Common.{◌≡◌, Some, None, ap, subst, sym, ◌∙◌}
-use Rattle.wheel_core.specs.PlainBase.{NoneBehind, next_out, taken}
+use Rattle.wheel_core.specs.PlainBase.{NoneBehind, OneFewer, OutIsDue, PlainBase, next_out, taken}
+use Rattle.cpu_bases.specs.ByClass.{of_class}
 use Rattle.cpu_bases.specs.CpuBases.{NotAhead, base_of, handed_out}
 use Rattle.cpu_bases.specs.Laws.{HandsOut}
 use Rattle.cpu_bases.specs.Trio.{plain_of}
 use Rattle.cpu_bases.proofs.Keeping.{behind_drained, handing_out_keeps}
+use Rattle.cpu_bases.proofs.Seen.{base_seen, became_so, entry_fits}
 use Rattle.cpu_bases.proofs.Steps.{id_fits, kept_so, plain_base, stored_taken}
 use Rattle.cpu_bases.proofs.bases.Bases.take_due.Goals as goal
 
@@ -85,3 +87,60 @@ returns-clause-keeps g c =
     (subst (HandsOut c.args.now c.args.class c.args.by.0 cpu) (sym (handed g c))
     (handing_out_keeps c.args.now c.args.class c.args.by cpu c.requires.now_in_time
     c.self.invariant.consistent).1)
+
+pub write-requires : goal.write-requires
+write-requires g c =
+    entry_fits c.self.inside.trio c.self.inside.timers c.self.inside.journal c.args.self.now
+    c.self.view_is c.requires.entry_room
+
+pub returns-in_default-clause-item : goal.returns-in_default-clause-item
+returns-in_default-clause-item g c =
+    c.in_default.ensures.item
+    ∙ ap (next_out c.args.now) (base_seen c.self.inside.trio c.self.inside.timers c.self.inside.journal c.args.self.now
+    c.self.view_is c.args.class)
+
+pub returns-in_default-clause-due : goal.returns-in_default-clause-due
+returns-in_default-clause-due g c =
+    subst (λ (b : PlainBase). OutIsDue c.args.now b.items None)
+    (base_seen c.self.inside.trio c.self.inside.timers c.self.inside.journal c.args.self.now
+    c.self.view_is c.args.class)
+    c.in_default.ensures.due
+
+pub returns-in_default-clause-after : goal.returns-in_default-clause-after
+returns-in_default-clause-after g c =
+    became_so c.self.inside.trio c.self.inside.timers c.self.inside.journal c.args.self.now
+    c.self.view_is (handed_out c.args.now c.args.class c.args.by) c.take_next.new.self
+    c.write.new.self (drained g c) c.write.ensures.capacity
+
+pub write-requires-2 : goal.write-requires-2
+write-requires-2 g c =
+    entry_fits c.self.inside.trio c.self.inside.timers c.self.inside.journal c.args.self.now
+    c.self.view_is c.requires.entry_room
+
+pub returns-clause-item : goal.returns-clause-item
+returns-clause-item g c =
+    c.in-Some.ensures.item
+    ∙ ap (next_out c.args.now) (base_seen c.self.inside.trio c.self.inside.timers c.self.inside.journal c.args.self.now
+    c.self.view_is c.args.class)
+
+pub returns-clause-due : goal.returns-clause-due
+returns-clause-due g c =
+    subst (λ (b : PlainBase). OutIsDue c.args.now b.items (Some c.in-Some.item))
+    (base_seen c.self.inside.trio c.self.inside.timers c.self.inside.journal c.args.self.now
+    c.self.view_is c.args.class)
+    c.in-Some.ensures.due
+
+pub returns-clause-one_fewer : goal.returns-clause-one_fewer
+returns-clause-one_fewer g c =
+    subst (λ (b : PlainBase). OneFewer b
+    (base_of c.args.class (plain_of c.take_next.new.self c.write-2.new.self.entries)))
+    (base_seen c.self.inside.trio c.self.inside.timers c.self.inside.journal c.args.self.now
+    c.self.view_is c.args.class)
+    (subst (λ (b : PlainBase). OneFewer (of_class c.args.class c.self.inside.trio).plain b)
+    (sym (plain_base c.args.class c.take_next.new.self)) c.in-Some.ensures.one_fewer)
+
+pub returns-clause-after : goal.returns-clause-after
+returns-clause-after g c =
+    became_so c.self.inside.trio c.self.inside.timers c.self.inside.journal c.args.self.now
+    c.self.view_is (handed_out c.args.now c.args.class c.args.by) c.take_next.new.self
+    c.write-2.new.self (handed g c) c.write-2.ensures.capacity

@@ -9,7 +9,7 @@ use Rattle.shared_rule.specs.Rule.{seat_of}
 use Rattle.shared_rule.specs.Whole.{layout_of}
 use Rattle.shared_rule.specs.Passes.{Seated}
 use Rattle.shared_rule.proofs.Calls.{allowed, below, place}
-use Rattle.shared_rule.proofs.Seated.{loaded, seat_there}
+use Rattle.shared_rule.proofs.Seated.{loaded, remembered, seat_there}
 use Rattle.shared_rule.proofs.pass.Pass.see.Goals as goal
 
 pub load-requires : goal.load-requires
@@ -45,3 +45,19 @@ invariant_of-self g c =
     (sym c.in-Some.ensures.value) c.self.invariant in
     loaded seat.me c.load.new.seat.me there.0 pass.cpu.0 pass.walks pass.receipts.receipts
     c.index-place.result c.load.result there.2 c.load.ensures.2
+
+pub returns : goal.returns
+returns g c =
+    let run = c.args.run.now in
+    let o : World = g.N.RunName.opening in
+    let key : World = run.words.shared.key.core in
+    let pass = c.self.inside in
+    let seat = c.in-Some.seat.now in
+    let there = seat_there pass.seat seat pass.cpu.0 pass.walks pass.receipts.receipts
+    (sym c.in-Some.ensures.value) c.self.invariant in
+    remembered c.args.self.now pass.seat seat c.load.new.seat.table_id c.load.new.seat.me there.0
+    pass.cpu.0 pass.receipts.capacity c.index-place.result (index_of (layout_of o) c.args.word)
+    c.load.result c.self.view_is there.1 there.2.alone c.load.ensures.0 c.load.ensures.2
+    (c.index-place.ensures
+    ∙ place g.N.RunName.table o run.words.shared.table_id key run.tree run.layout run.fits
+    c.args.word)
