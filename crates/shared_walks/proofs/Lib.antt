@@ -1,4 +1,4 @@
 pub mod Standing
 pub mod Fitting
 pub mod Retrying
-pub mod Boxed
+mod Boxed
