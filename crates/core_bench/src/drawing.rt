@@ -1,9 +1,9 @@
 //! Lists of steps that are drawn at random.
 
-use core_state::Core;
 use core_world::Step;
 use std::alloc::Global;
-use step_core::{apply, enabled};
+use step_laws::the_core_state::Core;
+use step_laws::the_step_core::{apply, enabled};
 use tm_base::{Class, CpuId, NoMemory, TimerId};
 use walk_rules::Stage;
 use wheel_base::WheelBase;

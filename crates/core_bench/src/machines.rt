@@ -5,10 +5,10 @@ ghost use Rattle.tm_base.specs.declared.limits.TheConstants.{MOST_NODE_CPUS, MOS
 ghost use Rattle.cpu_bases.specs.CpuBases.{empty_bases};
 ghost use Rattle.wheel_base.specs.Wheels.{no_base};
 
-use core_state::Core;
 use cpu_bases::Bases;
 use std::alloc::Global;
-use step_core::new_core;
+use step_laws::the_core_state::Core;
+use step_laws::the_step_core::new_core;
 use tm_base::{CpuSet, MOST_NODE_CPUS, MOST_NODES, NoMemory};
 use tree_plan::plan;
 use wheel_base::WheelBase;

@@ -15,3 +15,4 @@ pub mod Reaches
 pub mod Scenes
 pub mod ToldRead
 pub mod WalkersRead
+pub use Rattle.core_laws.proofs as core_laws

@@ -9,7 +9,7 @@ use Rattle.std.proofs.lemmas.Nat.Bits.{bit_at_above}
 use Rattle.tm_base.specs.declared.names.TheConstants.{NEVER, TIME_LIMIT}
 use Rattle.event_queue.specs.declared.event.Event.{Event}
 use Rattle.event_queue.specs.EventMap.{event_at}
-use Rattle.group_word.specs.Group.{GroupLaw, IsActive}
+use Rattle.walk_rules.specs.group_word.Group.{GroupLaw, IsActive}
 use Rattle.wheel_core.specs.declared.item.Item.{Item}
 use Rattle.wheel_core.specs.PlainBase.{FitsWheel}
 use Rattle.cpu_bases.specs.CpuBases.{base_of}

@@ -13,3 +13,6 @@ pub mod Reach
 pub mod Stepping
 pub mod Told
 pub mod Walkers
+pub use Rattle.core_laws.specs as core_laws
+pub use Rattle.event_queue.specs as event_queue
+pub use Rattle.walk_rules.specs as walk_rules

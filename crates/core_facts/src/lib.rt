@@ -20,6 +20,7 @@ ghost use Rattle.core_facts.specs.Stepping.{EachStageLawful};
 ghost use Rattle.core_facts.specs.Told.{EachHasToldOwn};
 ghost use Rattle.core_facts.specs.Walkers.{EachWalkerIs};
 
+pub use core_laws as the_core_laws;
 pub use core_laws::law_step;
 use core_world::{law_quiet, law_sizes};
 pub use cover_laws::{
@@ -27,7 +28,9 @@ pub use cover_laws::{
     law_once, law_rest, law_rest_events,
 };
 use cpu_bases::{law_bases, law_calls};
+pub use event_queue as the_event_queue;
 use tree_plan::{law_cuts, law_paths};
+pub use walk_rules as the_walk_rules;
 pub use worked_rows::{
     row_carried_alone, row_early_read_breaks, row_forgotten_event, row_lost_exchange,
     row_settled_cover, row_stale_exchange_breaks, row_stale_run,

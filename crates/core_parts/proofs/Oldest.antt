@@ -4,7 +4,7 @@ use Rattle.std.specs.Prelude.{All, IfSome}
 use Rattle.std.proofs.lemmas.List.Elements.{All-head}
 use Rattle.tm_base.specs.declared.names.Class.{Class}
 use Rattle.wheel_core.specs.declared.item.Item.{Item}
-use Rattle.cpu_bases.specs.CpuBases.{CpuBases, IsConsistent, base_of, oldest_in}
+use Rattle.core_world.specs.cpu_bases.CpuBases.{CpuBases, IsConsistent, base_of, oldest_in}
 
 -- what holds of all holds of the first in arming order
 pub oldest_holds : (P : Item → Type 0) (items : List Item) → All P items

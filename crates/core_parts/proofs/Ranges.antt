@@ -5,10 +5,10 @@ use Rattle.std.specs.Prelude.{if◌then◌else◌}
 use Rattle.std.proofs.lemmas.List.Elements.{All-contains}
 use Rattle.tm_base.specs.declared.names.TheConstants.{NEVER, TIME_LIMIT}
 use Rattle.tm_base.specs.declared.names.Class.TheVariants.{Global}
-use Rattle.group_word.specs.Group.{IsActive}
-use Rattle.cpu_bases.specs.declared.entry.Entry.{Entry}
-use Rattle.cpu_bases.specs.CpuBases.{CpuBases, IsConsistent, events_of, first_expiry}
-use Rattle.cpu_bases.specs.Laws.{FirstWasArmed}
+use Rattle.core_world.specs.group_word.Group.{IsActive}
+use Rattle.core_world.specs.cpu_bases.declared.entry.Entry.{Entry}
+use Rattle.core_world.specs.cpu_bases.CpuBases.{CpuBases, IsConsistent, events_of, first_expiry}
+use Rattle.core_world.specs.cpu_bases.Laws.{FirstWasArmed}
 
 first_in_range : FirstWasArmed → (cpu : CpuBases) → IsConsistent cpu → first_expiry Global cpu < 2 ^ 48
 first_in_range law cpu consistent = elim (law cpu Global consistent) [

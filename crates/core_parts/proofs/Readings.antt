@@ -5,8 +5,8 @@ use Rattle.std.proofs.Common.{get_or-set_other, inl, inr}
 use Rattle.std.specs.Prelude.{nat_le, slice_set}
 use Rattle.std.proofs.lemmas.Bool.{cases_eq, cases_Bool, leb-false, leb-true}
 use Rattle.std.proofs.lemmas.List.{ext_get_or}
-use Rattle.tree_plan.specs.Shape.{Shape}
-use Rattle.tree_plan.specs.Paths.{IsBelow}
+use Rattle.core_world.specs.tree_plan.Shape.{Shape}
+use Rattle.core_world.specs.tree_plan.Paths.{IsBelow}
 use Rattle.core_parts.proofs.Under.{untouched}
 use Rattle.core_world.specs.World.{CpuRecord, all_stale, no_cpu, stale, stale_if}
 use Rattle.core_world.proofs.Moves.{stale_length, stale_read}

@@ -2,7 +2,7 @@
 use Rattle.std.proofs.Common.{◌≡◌, ℕ, ◌<◌, length, ap, sym, subst, ◌∙◌, arith}
 use Rattle.tm_base.specs.declared.names.Class.{Class}
 use Rattle.tm_base.specs.declared.names.Class.TheVariants.{Pinned, Global, Deferrable}
-use Rattle.cpu_bases.specs.CpuBases.{CpuBases, RoomyBases, base_of, on_bases, with_room}
+use Rattle.core_world.specs.cpu_bases.CpuBases.{CpuBases, RoomyBases, base_of, on_bases, with_room}
 use Rattle.core_world.specs.Steps.{with_bases}
 use Rattle.core_world.specs.World.{CpuRecord}
 use Rattle.core_parts.specs.Status.{CpuStatus, record_of}

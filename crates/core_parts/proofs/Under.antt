@@ -4,10 +4,10 @@ use Rattle.std.proofs.Common.{refl, sym, ap, ◌∙◌, arith, inl, inr}
 use Rattle.std.specs.Prelude.{◌==◌, ◌⊎◌, nat_le, not, option_map}
 use Rattle.std.specs.Option.{option_map_or}
 use Rattle.std.proofs.lemmas.Bool.{and_right, cases_Bool, ne_eqb, eq-eqb, leb-true, leb-false}
-use Rattle.tree_plan.specs.Laws.{BelowLaws, PathLaws}
-use Rattle.tree_plan.specs.Shape.{Shape}
-use Rattle.tree_plan.specs.Paths.{IsBelow, group_at_of, level_of}
-use Rattle.walk_rules.specs.declared.walk.Walk.{Walk}
+use Rattle.core_world.specs.tree_plan.Laws.{BelowLaws, PathLaws}
+use Rattle.core_world.specs.tree_plan.Shape.{Shape}
+use Rattle.core_world.specs.tree_plan.Paths.{IsBelow, group_at_of, level_of}
+use Rattle.core_world.specs.walk_rules.declared.walk.Walk.{Walk}
 use Rattle.core_world.specs.World.{CpuRecord, is_reading, reads_at, stale, stale_walk}
 
 -- a group that is named there, if any

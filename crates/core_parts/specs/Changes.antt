@@ -1,8 +1,8 @@
 -- what a step of a walk makes of a group
 use Rattle.std.specs.Prelude.{◌<◌, Some, None}
-use Rattle.walk_rules.specs.Scene.{Group}
-use Rattle.walk_rules.specs.Stages.{joined_by, left_by, with_event, with_lock, with_mark}
-use Rattle.walk_rules.specs.Ranges.{EventFits}
+use Rattle.core_world.specs.walk_rules.Scene.{Group}
+use Rattle.core_world.specs.walk_rules.Stages.{joined_by, left_by, with_event, with_lock, with_mark}
+use Rattle.core_world.specs.walk_rules.Ranges.{EventFits}
 use Rattle.core_parts.specs.declared.change.GroupChange.{GroupChange}
 use Rattle.core_parts.specs.declared.change.GroupChange.TheVariants as changes
 pub use Rattle.core_parts.specs.declared.change.GroupChange.TheVariants.{Mark, Join, Leave, Lock}

@@ -5,8 +5,9 @@ use Rattle.tm_base.specs.declared.names.Class.{Class}
 use Rattle.tm_base.specs.declared.names.CpuId.{CpuId}
 use Rattle.wheel_core.specs.declared.item.Item.{Item}
 use Rattle.wheel_core.specs.PlainBase.{NoneBehind}
-use Rattle.cpu_bases.specs.CpuBases.{CpuBases, base_of, class_in, item_queued, moved_in, moved_out}
-use Rattle.cpu_bases.specs.CpuBases.{oldest_in}
+use Rattle.core_world.specs.cpu_bases.CpuBases.{CpuBases, base_of, class_in, item_queued, moved_in}
+use Rattle.core_world.specs.cpu_bases.CpuBases.{moved_out}
+use Rattle.core_world.specs.cpu_bases.CpuBases.{oldest_in}
 use Rattle.core_world.specs.Steps.{first_moved, with_bases}
 use Rattle.core_world.specs.World.{CpuRecord, World, cpu_of, no_cpu}
 

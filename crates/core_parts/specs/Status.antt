@@ -1,12 +1,12 @@
 -- what a CPU is besides its timers, and its record with another one of it
 use Rattle.std.specs.Prelude.{ℕ, ◌==◌, Option, Some, None, false, if◌then◌else◌, min, slice_set}
 use Rattle.tm_base.specs.declared.names.TheConstants.{NEVER}
-use Rattle.cpu_bases.specs.CpuBases.{CpuBases}
-use Rattle.walk_rules.specs.declared.walk.Walk.{Walk}
-use Rattle.walk_rules.specs.declared.walk.WalkKind.{WalkKind}
-use Rattle.walk_rules.specs.declared.walk.WalkKind.TheVariants as kinds
-use Rattle.walk_rules.specs.declared.walk.Stage.TheVariants as stages
-use Rattle.walk_rules.specs.Stages.{at_stage}
+use Rattle.core_world.specs.cpu_bases.CpuBases.{CpuBases}
+use Rattle.core_world.specs.walk_rules.declared.walk.Walk.{Walk}
+use Rattle.core_world.specs.walk_rules.declared.walk.WalkKind.{WalkKind}
+use Rattle.core_world.specs.walk_rules.declared.walk.WalkKind.TheVariants as kinds
+use Rattle.core_world.specs.walk_rules.declared.walk.Stage.TheVariants as stages
+use Rattle.core_world.specs.walk_rules.Stages.{at_stage}
 use Rattle.core_world.specs.World.{CpuRecord, World, cpu_of}
 pub use Rattle.core_parts.specs.declared.status.CpuStatus.{CpuStatus}
 

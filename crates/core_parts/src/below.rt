@@ -2,10 +2,10 @@
 
 ghost use Rattle.std.specs.Prelude.{◌≡◌, ℕ, ◌+◌, ◌-◌, ◌<◌, ◌≤◌, ◌==◌, not, false};
 ghost use Rattle.std.specs.Option.{option_map_or};
-ghost use Rattle.tree_plan.specs.Paths.{IsBelow, cpu_count_of, group_at_of};
+ghost use Rattle.core_world.specs.tree_plan.Paths.{IsBelow, cpu_count_of, group_at_of};
 
+use core_world::the_tree_plan::{Tree, law_below, law_levels, law_paths};
 use tm_base::{CpuId, GroupId};
-use tree_plan::{Tree, law_below, law_levels, law_paths};
 
 /// Whether the path of a CPU has another group than this one at a level.
 fn is_apart(tree: &Tree, cpu: CpuId, level: u8, group: GroupId) -> bool

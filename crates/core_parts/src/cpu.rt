@@ -2,16 +2,16 @@
 
 ghost use Rattle.std.specs.Prelude.{◌≡◌, ◌^◌, ◌<◌, false};
 ghost use Rattle.std.specs.Option.{option_map_or};
-ghost use Rattle.cpu_bases.specs.CpuBases.{empty_bases, events_of};
-ghost use Rattle.walk_rules.specs.declared.walk.Walk.{Walk};
+ghost use Rattle.core_world.specs.cpu_bases.CpuBases.{empty_bases, events_of};
+ghost use Rattle.core_world.specs.walk_rules.declared.walk.Walk.{Walk};
 ghost use Rattle.core_world.specs.Start.{start_cpu};
 ghost use Rattle.core_world.specs.World.{is_reading};
 ghost use Rattle.core_parts.specs.Status.{record_of, status_of, with_status};
-ghost use Rattle.walk_rules.specs.Ranges.{IsInRange};
+ghost use Rattle.core_world.specs.walk_rules.Ranges.{IsInRange};
 
 use crate::stale::is_reading;
 use crate::status::CpuStatus;
-use cpu_bases::{Bases, NextEvents, law_bases};
+use core_world::the_cpu_bases::{Bases, NextEvents, law_bases};
 use std::marker::Model;
 use tm_base::NEVER;
 use wheel_core::TimerBase;
@@ -28,7 +28,7 @@ impl<B: TimerBase> Model for CoreCpu<B> {
 
     ghost Value = { CpuRecord };
 
-    ghost use Rattle.walk_rules.specs.Ranges.{IsInRange};
+    ghost use Rattle.core_world.specs.walk_rules.Ranges.{IsInRange};
 
     ghost view = { λ c.
         record {

@@ -2,7 +2,7 @@
 
 ghost use Rattle.std.specs.Prelude.{◌≡◌, ◌↔◌, IsTrue};
 ghost use Rattle.wheel_core.specs.PlainBase.{NoneBehind, next_out, oldest_of};
-ghost use Rattle.cpu_bases.specs.CpuBases.{base_of, class_in};
+ghost use Rattle.core_world.specs.cpu_bases.CpuBases.{base_of, class_in};
 
 use crate::cpu::CoreCpu;
 use tm_base::{Class, Jiffy, TimerId};

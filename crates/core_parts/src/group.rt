@@ -1,17 +1,18 @@
 //! One group of the core.
 
 ghost use Rattle.std.specs.Prelude.{◌≡◌, ◌-◌, ◌^◌, ◌<◌, ◌≤◌, is_none, is_some};
-ghost use Rattle.group_word.specs.Group.{GroupLaw};
-ghost use Rattle.group_word.specs.State.{IsLawfulState};
-ghost use Rattle.event_queue.specs.EventMap.{event_at};
+ghost use Rattle.core_world.specs.group_word.Group.{GroupLaw};
+ghost use Rattle.core_world.specs.group_word.State.{IsLawfulState};
+ghost use Rattle.core_world.specs.event_queue.EventMap.{event_at};
 ghost use Rattle.core_world.specs.Start.{start_group};
-ghost use Rattle.walk_rules.specs.Stages.{joined_by, left_by, with_event, with_lock, with_mark};
+ghost use Rattle.core_world.specs.walk_rules.Stages.{joined_by, left_by, with_event, with_lock};
+ghost use Rattle.core_world.specs.walk_rules.Stages.{with_mark};
 ghost use Rattle.core_parts.specs.Changes.{ChangeFits, changed};
-ghost use Rattle.walk_rules.specs.Ranges.{EventFits};
+ghost use Rattle.core_world.specs.walk_rules.Ranges.{EventFits};
 
 use crate::change::GroupChange;
-use event_queue::{Event, Events};
-use group_word::{GroupState, activated, swapped};
+use core_world::the_event_queue::{Event, Events};
+use core_world::the_group_word::{GroupState, activated, swapped};
 use std::marker::Model;
 
 /// One group: which children are active, which of them is the migrator, whose walk has the lock,
@@ -25,8 +26,8 @@ pub struct CoreGroup {
 }
 
 impl Model for CoreGroup {
-    ghost use Rattle.group_word.specs.Group.{GroupLaw};
-    ghost use Rattle.walk_rules.specs.Scene.{Group};
+    ghost use Rattle.core_world.specs.group_word.Group.{GroupLaw};
+    ghost use Rattle.core_world.specs.walk_rules.Scene.{Group};
 
     ghost Value = { Group };
 

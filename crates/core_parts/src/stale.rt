@@ -3,16 +3,16 @@
 ghost use Rattle.std.specs.Prelude.{◌≡◌, ◌<◌, option_map, slice_set, vec_len};
 ghost use Rattle.std.specs.Prelude.{◌==◌, false, slice_index_or, true};
 ghost use Rattle.std.specs.Option.{option_map_or};
-ghost use Rattle.tree_plan.specs.Paths.{IsBelow, cpu_count_of, group_at_of};
+ghost use Rattle.core_world.specs.tree_plan.Paths.{IsBelow, cpu_count_of, group_at_of};
 ghost use Rattle.core_world.specs.World.{is_reading, no_cpu, stale, stale_if, stale_walk};
-ghost use Rattle.walk_rules.specs.Ranges.{IsInRange, WalkRanges};
+ghost use Rattle.core_world.specs.walk_rules.Ranges.{IsInRange, WalkRanges};
 
 use crate::below::{behind_below, first_below};
 use crate::cpu::CoreCpu;
 use crate::status::CpuStatus;
+use core_world::the_tree_plan::{Tree, law_paths};
+use core_world::the_walk_rules::{Stage, Walk};
 use tm_base::{CpuId, GroupId};
-use tree_plan::{Tree, law_paths};
-use walk_rules::{Stage, Walk};
 use wheel_core::TimerBase;
 
 /// Whether a walk has read the group's word and is going to exchange it.

@@ -1,7 +1,7 @@
 //! What a CPU is besides its timers.
 
+use core_world::the_walk_rules::Walk;
 use tm_base::Jiffy;
-use walk_rules::Walk;
 
 /// The word and the walk of a CPU.
 #[derive(Clone, Copy)]

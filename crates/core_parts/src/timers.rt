@@ -3,8 +3,9 @@
 ghost use Rattle.std.specs.Prelude.{◌≡◌, ◌-◌, ◌<◌, None, IfOk, OnErr, OnOk};
 ghost use Rattle.tm_base.specs.declared.names.TheConstants.{TIME_LIMIT};
 ghost use Rattle.wheel_core.specs.PlainBase.{NoneBehind};
-ghost use Rattle.cpu_bases.specs.CpuBases.{IsConsistent, armed, base_of, cancelled, class_in};
-ghost use Rattle.cpu_bases.specs.CpuBases.{handed_out, item_queued};
+ghost use Rattle.core_world.specs.cpu_bases.CpuBases.{IsConsistent, armed, base_of, cancelled};
+ghost use Rattle.core_world.specs.cpu_bases.CpuBases.{class_in};
+ghost use Rattle.core_world.specs.cpu_bases.CpuBases.{handed_out, item_queued};
 ghost use Rattle.core_world.specs.Steps.{handed_of, with_bases};
 
 use crate::cpu::CoreCpu;

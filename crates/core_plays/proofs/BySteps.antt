@@ -15,10 +15,10 @@ use Rattle.play_rules.specs.Play.{plain_rules, play_start}
 use Rattle.play_rules.specs.Tallies.{no_lines, tallied_all}
 use Rattle.core_world.specs.Covered.{IsSettled}
 use Rattle.core_world.specs.World.{World, cpu_of}
-use Rattle.core_facts.specs.Cover.Headline.{EachSettled}
-use Rattle.step_play.specs.Rules.Seen.{InPlay, InRun, WalkFits, resting, state_of}
-use Rattle.step_play.specs.Rules.StepRules.{step_rules}
-use Rattle.step_play.specs.SamePlay.{IsPlayOfSteps, core_start, step_turns, turn_seen}
+use Rattle.step_core.specs.core_facts.Cover.Headline.{EachSettled}
+use Rattle.core_machine.specs.step_play.Rules.Seen.{InPlay, InRun, WalkFits, resting, state_of}
+use Rattle.core_machine.specs.step_play.Rules.StepRules.{step_rules}
+use Rattle.core_machine.specs.step_play.SamePlay.{IsPlayOfSteps, core_start, step_turns, turn_seen}
 use Rattle.play_driver.specs.declared.outcomes.Counts.{Counts}
 use Rattle.play_driver.specs.declared.outcomes.DriveFault.{DriveFault}
 use Rattle.play_driver.specs.declared.outcomes.DriveFault.TheVariants.{BadJob, NoMemory, WorkSpent}

@@ -18,15 +18,15 @@ use Rattle.play_rules.specs.Moments.{Turn, closing, finished, last_state, turn_l
 use Rattle.play_rules.specs.Parts.{counted}
 use Rattle.play_rules.specs.Play.{plain_rules, play_start, play_turns}
 use Rattle.play_rules.specs.State.{Cpu, cpu_at, new_cpu}
-use Rattle.play_laws.proofs.Shape.AlikeTurns.{closing_alike, lines_seen}
+use Rattle.core_machine.proofs.play_laws.Shape.AlikeTurns.{closing_alike, lines_seen}
 use Rattle.core_world.specs.World.{CpuRecord, World, cpu_of, no_cpu}
 use Rattle.tree_plan.specs.Shape.{tree_of}
 use Rattle.tree_plan.specs.Paths.{cpu_count_of}
 use Rattle.core_world.specs.Start.{start_cpu}
-use Rattle.step_play.specs.Rules.Seen.{state_of}
-use Rattle.step_play.specs.Rules.StepRules.{step_rules}
-use Rattle.step_play.specs.SamePlay.{IsPlayOfSteps, core_start, step_turns, turn_seen}
-use Rattle.step_play.proofs.Queues.Sights.{count_seen, seen_at}
+use Rattle.core_machine.specs.step_play.Rules.Seen.{state_of}
+use Rattle.core_machine.specs.step_play.Rules.StepRules.{step_rules}
+use Rattle.core_machine.specs.step_play.SamePlay.{IsPlayOfSteps, core_start, step_turns, turn_seen}
+use Rattle.core_machine.proofs.step_play.Queues.Sights.{count_seen, seen_at}
 use Rattle.play_driver.specs.declared.outcomes.DriveFault.{DriveFault}
 use Rattle.play_driver.specs.declared.outcomes.DriveFault.TheVariants.{BadJob, NoMemory, WorkSpent}
 use Rattle.core_plays.specs.Deep.{BreaksDeep, DeepToEnd, after_fire, deep_lines, deep_text}

@@ -1,10 +1,12 @@
 -- the next moment of a core: it is by the end, passes no timer over, and is the one of the play
 use Rattle.std.proofs.Common.{◌≡◌, ℕ, zero, suc, ◌+◌, ◌<◌, ◌≤◌, List, [], ◌∷◌, Bool, true, false}
 use Rattle.std.proofs.Common.{Some, refl, sym, ap, ◌∙◌, subst, arith, inl, inr, length, min}
-use Rattle.std.specs.Prelude.{All, Contains, ◌≢◌, ◌==◌, ◌&&◌, if◌then◌else◌, nat_lt, not, option_map}
+use Rattle.std.specs.Prelude.{All, Contains, ◌≢◌, ◌==◌, ◌&&◌, if◌then◌else◌, nat_lt, not}
+use Rattle.std.specs.Prelude.{option_map}
 use Rattle.std.specs.Prelude.{slice_get}
 use Rattle.std.specs.List.{fold, list_any}
-use Rattle.std.proofs.lemmas.Bool.{and_parts, both_ways, cases_Bool, cases_eq, cases_lt, cond-false, cond-true}
+use Rattle.std.proofs.lemmas.Bool.{and_parts, both_ways, cases_Bool, cases_eq, cases_lt, cond-false}
+use Rattle.std.proofs.lemmas.Bool.{cond-true}
 use Rattle.std.proofs.lemmas.Bool.{eq-eqb, eqb-false, false_from_ne_true, ne_eqb}
 use Rattle.std.proofs.lemmas.Bool.Decides.{nat_tests}
 use Rattle.std.proofs.lemmas.List.{get_or_past}
@@ -28,22 +30,24 @@ use Rattle.play_rules.specs.Moments.{turns}
 use Rattle.play_rules.specs.Play.{at_clock, next_interrupt, plain_rules, play_turns}
 use Rattle.play_rules.specs.State.{State, all_cpus, cpu_at, cpu_count, start}
 use Rattle.play_rules.specs.State.{is_active as is_active_in}
-use Rattle.play_laws.proofs.Answered.Ranges.{any_here, in_range, least_below}
-use Rattle.play_laws.proofs.Answered.Plays.{rules_keep}
-use Rattle.play_laws.proofs.Answered.Scripts.{moments_in, moments_rise, planned_for, tree_for}
-use Rattle.play_laws.proofs.Answered.Settles.{Begun, Settles, due_online}
-use Rattle.play_laws.proofs.Answered.Starts.{start_kept}
-use Rattle.play_laws.proofs.Shape.Shape.{KeptByRules, Stage}
-use Rattle.play_laws.proofs.Shape.ShapeTurns.{IsMomentIn, Playing, Rise, after_in, after_rise}
-use Rattle.play_laws.proofs.Shape.ShapeTurns.{moment_kept, next_is}
+use Rattle.core_machine.proofs.play_laws.Answered.Ranges.{any_here, in_range, least_below}
+use Rattle.core_machine.proofs.play_laws.Answered.Plays.{rules_keep}
+use Rattle.core_machine.proofs.play_laws.Answered.Scripts.{moments_in, moments_rise, planned_for}
+use Rattle.core_machine.proofs.play_laws.Answered.Scripts.{tree_for}
+use Rattle.core_machine.proofs.play_laws.Answered.Settles.{Begun, Settles, due_online}
+use Rattle.core_machine.proofs.play_laws.Answered.Starts.{start_kept}
+use Rattle.core_machine.proofs.play_laws.Shape.Shape.{KeptByRules, Stage}
+use Rattle.core_machine.proofs.play_laws.Shape.ShapeTurns.{IsMomentIn, Playing, Rise, after_in}
+use Rattle.core_machine.proofs.play_laws.Shape.ShapeTurns.{after_rise}
+use Rattle.core_machine.proofs.play_laws.Shape.ShapeTurns.{moment_kept, next_is}
 use Rattle.core_world.specs.Covered.{IsSettled}
 use Rattle.core_world.specs.Lawful.{IsLawful}
 use Rattle.core_world.specs.World.{World, cpu_of, is_active, no_cpu}
-use Rattle.core_facts.specs.Cover.Rest.{EachWakes}
-use Rattle.step_play.specs.Rules.Seen.{state_of}
-use Rattle.step_play.specs.Rules.StepRules.{step_rules}
-use Rattle.step_play.specs.SamePlay.{StepsArePlay, step_turns, turn_seen}
-use Rattle.step_play.proofs.Queues.Sights.{count_seen}
+use Rattle.step_core.specs.core_facts.Cover.Rest.{EachWakes}
+use Rattle.core_machine.specs.step_play.Rules.Seen.{state_of}
+use Rattle.core_machine.specs.step_play.Rules.StepRules.{step_rules}
+use Rattle.core_machine.specs.step_play.SamePlay.{StepsArePlay, step_turns, turn_seen}
+use Rattle.core_machine.proofs.step_play.Queues.Sights.{count_seen}
 use Rattle.core_machine.proofs.Views.Seen.{idle_seen, online_seen, wakeup_seen}
 use Rattle.core_plays.specs.Following.{IsNextOfPlay, PassesNone, moments_past}
 

@@ -10,7 +10,7 @@ use Rattle.tm_script.specs.declared.syntax.Script.{Script}
 use Rattle.play_rules.specs.Interrupts.{Replies}
 use Rattle.play_rules.specs.Moments.{Turn}
 use Rattle.core_world.specs.World.{World, cpu_of}
-use Rattle.step_play.specs.SamePlay.{step_turns}
+use Rattle.core_machine.specs.step_play.SamePlay.{step_turns}
 
 -- a script's moments ascend: without those at its front that don't come after the time
 abbrev pub moments_past : (now : ℕ) → List Moment → List Moment

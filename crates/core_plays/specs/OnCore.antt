@@ -9,8 +9,8 @@ use Rattle.play_rules.specs.Interrupts.{Replies}
 use Rattle.play_rules.specs.Moments.{AfterEach, last_state}
 use Rattle.core_world.specs.Covered.{machine_of}
 use Rattle.core_world.specs.World.{World}
-use Rattle.core_facts.specs.Cover.Headline.{IsWaiting}
-use Rattle.step_play.specs.SamePlay.{IsPlayOfSteps, core_start, step_turns}
+use Rattle.step_core.specs.core_facts.Cover.Headline.{IsWaiting}
+use Rattle.core_machine.specs.step_play.SamePlay.{IsPlayOfSteps, core_start, step_turns}
 
 -- a core has as many CPUs and timers as a script says
 pub record HasMachineOf (script : Script) (w : World) : Type 0 where

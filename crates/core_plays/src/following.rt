@@ -4,13 +4,13 @@ ghost use Rattle.std.specs.Prelude.{◌≡◌, ◌<◌, ◌≤◌};
 ghost use Rattle.tm_script.specs.Grammar.{IsScript};
 ghost use Rattle.play_rules.specs.Moments.{next_moment};
 ghost use Rattle.core_world.specs.Covered.{IsSettled};
-ghost use Rattle.step_play.specs.Rules.StepRules.{step_rules};
+ghost use Rattle.core_machine.specs.step_play.Rules.StepRules.{step_rules};
 ghost use Rattle.core_plays.specs.Following.{IsNextOfPlay, PassesNone, moments_past};
 
-use core_facts::law_next_moment;
 use core_machine::readings::next_interrupt;
-use core_state::Core;
-use step_play::law_steps_are_play;
+use core_machine::the_step_play::law_steps_are_play;
+use step_core::the_core_facts::law_next_moment;
+use step_core::the_core_state::Core;
 use tm_base::Jiffy;
 use tm_script::{Moment, Script};
 use wheel_core::TimerBase;

@@ -4,9 +4,9 @@ ghost use Rattle.std.specs.Prelude.{◌≡◌, ◌≤◌, [], IfErr, IfOk, OnErr
 ghost use Rattle.tm_script.specs.Grammar.{IsScript};
 ghost use Rattle.play_rules.specs.Moments.{moment};
 ghost use Rattle.play_rules.specs.Play.{plain_rules, play_start};
-ghost use Rattle.step_play.specs.Rules.Seen.{InPlay, InRun, resting, state_of};
-ghost use Rattle.step_play.specs.Rules.StepRules.{step_rules};
-ghost use Rattle.step_play.specs.SamePlay.{core_start};
+ghost use Rattle.core_machine.specs.step_play.Rules.Seen.{InPlay, InRun, resting, state_of};
+ghost use Rattle.core_machine.specs.step_play.Rules.StepRules.{step_rules};
+ghost use Rattle.core_machine.specs.step_play.SamePlay.{core_start};
 ghost use Rattle.play_driver.specs.Conditions.{AreOnline};
 ghost use Rattle.play_driver.specs.Outcomes.{moment_of};
 ghost use Rattle.core_plays.specs.OnCore.{HasMachineOf, core_end};
@@ -16,17 +16,17 @@ ghost use Rattle.core_plays.specs.Plays.{PlaysToEnd, Summarizes, summary_with};
 
 use crate::numbers::Summary;
 use crate::starting::start_core;
-use core_facts::law_each_settled;
-use core_machine::{Player, RunPlayer};
-use core_state::Core;
-use job_table::Jobs;
-use play_driver::{Counts, DriveFault, moment_by_itself, play_on, play_unheard};
-use play_laws::{
+use core_machine::the_play_laws::{
     law_covers, law_each_answered, law_each_runs, law_ends, law_in_its_jiffy, law_left, law_lines,
     law_moments,
 };
+use core_machine::the_step_play::law_steps_are_play;
+use core_machine::{Player, RunPlayer};
+use job_table::Jobs;
+use play_driver::{Counts, DriveFault, moment_by_itself, play_on, play_unheard};
 use std::alloc::Global;
-use step_play::law_steps_are_play;
+use step_core::the_core_facts::law_each_settled;
+use step_core::the_core_state::Core;
 use tm_base::{CpuSet, Jiffy, NoMemory};
 use tm_report::Report;
 use tm_script::Script;

@@ -5,14 +5,14 @@ use Rattle.std.specs.Prelude.{slice_set}
 use Rattle.std.proofs.lemmas.Bool.{cases_eq}
 use Rattle.std.proofs.lemmas.List.{get_or_default, set-get_or}
 use Rattle.tm_base.specs.declared.names.CpuId.{CpuId}
-use Rattle.walk_rules.specs.Scene.{no_group}
-use Rattle.core_world.specs.declared.step.Step.TheVariants as steps
-use Rattle.core_world.specs.Enabled.{Enabled}
-use Rattle.walk_rules.specs.declared.walk.Walk.{Walk}
-use Rattle.walk_rules.specs.declared.walk.WalkKind.{WalkKind}
-use Rattle.walk_rules.specs.declared.walk.WalkKind.TheVariants as kinds
-use Rattle.core_world.specs.Steps.{finished}
-use Rattle.core_world.specs.World.{CpuRecord, World, cpu_of, no_cpu, own}
+use Rattle.core_facts.specs.walk_rules.Scene.{no_group}
+use Rattle.core_parts.specs.core_world.declared.step.Step.TheVariants as steps
+use Rattle.core_parts.specs.core_world.Enabled.{Enabled}
+use Rattle.core_facts.specs.walk_rules.declared.walk.Walk.{Walk}
+use Rattle.core_facts.specs.walk_rules.declared.walk.WalkKind.{WalkKind}
+use Rattle.core_facts.specs.walk_rules.declared.walk.WalkKind.TheVariants as kinds
+use Rattle.core_parts.specs.core_world.Steps.{finished}
+use Rattle.core_parts.specs.core_world.World.{CpuRecord, World, cpu_of, no_cpu, own}
 use Rattle.core_parts.specs.declared.status.CpuStatus.{CpuStatus}
 use Rattle.core_state.specs.Kept.{IsHeld, IsKept, WorldFits, WorldsStayFit, is_queued}
 use Rattle.core_state.specs.Tally.{CpuTally, IsTallied}

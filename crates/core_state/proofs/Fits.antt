@@ -1,5 +1,5 @@
 -- for crates above: what follows of a world that fits
-use Rattle.core_world.specs.World.{World, scene_of}
+use Rattle.core_parts.specs.core_world.World.{World, scene_of}
 use Rattle.core_facts.specs.Invariant.{WalksFit}
 use Rattle.core_state.specs.Kept.{WorldFits}
 

@@ -7,7 +7,7 @@ use Rattle.std.proofs.lemmas.Bool.{cases_eq, cases_lt, eq-eqb, eqb-true, ne_eqb}
 use Rattle.std.proofs.lemmas.List.{get_or_default, get_or_past}
 use Rattle.std.proofs.lemmas.Option.{none-some}
 use Rattle.tm_base.specs.declared.names.CpuId.{CpuId}
-use Rattle.core_world.specs.World.{CpuRecord, World, cpu_of, no_cpu, own}
+use Rattle.core_parts.specs.core_world.World.{CpuRecord, World, cpu_of, no_cpu, own}
 use Rattle.core_state.specs.Kept.{IsHeld, holds, is_queued, noted}
 use Rattle.core_state.proofs.Queues.{and_false, and_true, some_or_none}
 

@@ -8,3 +8,4 @@ pub mod Paths
 mod Queues
 mod Tallies
 mod TimerSteps
+pub use Rattle.core_facts.proofs.core_laws as core_laws

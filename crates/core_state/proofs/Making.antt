@@ -5,10 +5,11 @@ use Rattle.std.specs.Prelude.{slice_set}
 use Rattle.std.proofs.lemmas.Bool.{cases_eq}
 use Rattle.std.proofs.lemmas.List.{get_or_default}
 use Rattle.tm_base.specs.declared.names.CpuId.{CpuId}
-use Rattle.walk_rules.specs.Scene.{Group, no_group}
-use Rattle.walk_rules.specs.declared.walk.Walk.{Walk}
-use Rattle.core_world.specs.Steps.{with_walk}
-use Rattle.core_world.specs.World.{CpuRecord, World, cpu_of, group_of, moved, no_cpu, stale_if}
+use Rattle.core_facts.specs.walk_rules.Scene.{Group, no_group}
+use Rattle.core_facts.specs.walk_rules.declared.walk.Walk.{Walk}
+use Rattle.core_parts.specs.core_world.Steps.{with_walk}
+use Rattle.core_parts.specs.core_world.World.{CpuRecord, World, cpu_of, group_of, moved, no_cpu}
+use Rattle.core_parts.specs.core_world.World.{stale_if}
 use Rattle.core_parts.specs.declared.change.GroupChange.{GroupChange}
 use Rattle.core_parts.specs.declared.status.CpuStatus.{CpuStatus}
 use Rattle.core_parts.specs.Changes.{changed}
@@ -16,7 +17,7 @@ use Rattle.core_state.specs.Kept.{IsHeld, IsKept, WorldFits}
 use Rattle.core_parts.specs.Status.{with_status}
 use Rattle.core_state.specs.Tally.{CpuTally, IsTallied}
 use Rattle.core_state.proofs.Changes.{cpu_read, held_on}
-use Rattle.core_world.proofs.Moves.{stale_if_length}
+use Rattle.core_parts.proofs.core_world.Moves.{stale_if_length}
 use Rattle.core_parts.proofs.Readings.{same_part, same_timers}
 use Rattle.core_state.proofs.Tallies.{set_alike}
 

@@ -14,10 +14,10 @@ use Rattle.wheel_core.specs.PlainBase.{item_of}
 use Rattle.cpu_bases.specs.CpuBases.{CpuBases, IsConsistent, base_of, class_in, found_or, moved_in}
 use Rattle.cpu_bases.specs.CpuBases.{moved_out, oldest_in}
 use Rattle.cpu_bases.specs.Laws.{QueuedOnce}
-use Rattle.core_world.specs.declared.step.Step.TheVariants as steps
-use Rattle.core_world.specs.Enabled.{MayMove}
-use Rattle.core_world.specs.Steps.{first_moved, moved_with, stepped, with_bases}
-use Rattle.core_world.specs.World.{CpuRecord, World, cpu_of, is_active, no_cpu, own}
+use Rattle.core_parts.specs.core_world.declared.step.Step.TheVariants as steps
+use Rattle.core_parts.specs.core_world.Enabled.{MayMove}
+use Rattle.core_parts.specs.core_world.Steps.{first_moved, moved_with, stepped, with_bases}
+use Rattle.core_parts.specs.core_world.World.{CpuRecord, World, cpu_of, is_active, no_cpu, own}
 use Rattle.core_state.specs.Kept.{IsHeld, IsKept, StaysFit, WorldFits, but, holds, is_queued, noted}
 use Rattle.core_state.specs.Tally.{CpuTally, IsTallied}
 use Rattle.core_parts.specs.Moves.{MayTakeIn, after_moving, taken_in, wheel_in, wheel_moved}

@@ -10,7 +10,7 @@ use Rattle.tree_plan.specs.Laws.{EdgeLaws, PathLaws}
 use Rattle.tree_plan.specs.Shape.{Shape}
 use Rattle.tree_plan.specs.Paths.{bit_in, bit_of, child_towards, group_at_of, group_count_of}
 use Rattle.tree_plan.specs.Paths.{is_placed_in, parent_of}
-use Rattle.walk_rules.specs.Hierarchy.{side}
+use Rattle.core_facts.specs.walk_rules.Hierarchy.{side}
 use Rattle.core_state.specs.Kept.{HasLevel}
 use Rattle.core_facts.proofs.Leaves.{leaf_or}
 

@@ -1,6 +1,7 @@
 -- what is noted of all CPUs, as their marks and their being online change
 use Rattle.std.proofs.Common.{◌≡◌, ◌≢◌, ℕ, ◌+◌, ◌-◌, ◌^◌, ◌<◌, Bool, true, false, true≢false, List}
-use Rattle.std.proofs.Common.{Option, Some, None, length, refl, sym, ap, ◌∙◌, arith, inl, inr, get_or}
+use Rattle.std.proofs.Common.{Option, Some, None, length, refl, sym, ap, ◌∙◌, arith, inl, inr}
+use Rattle.std.proofs.Common.{get_or}
 use Rattle.std.proofs.Common.{get_or-set_other, get_or-set_same, length-set}
 use Rattle.std.specs.Prelude.{◌==◌, ◌&&◌, ◌↔◌, not, replicate, slice_set}
 use Rattle.std.proofs.lemmas.Bool.{and_parts, cases_eq, cases_lt, eq-eqb, eqb-true}
@@ -8,8 +9,8 @@ use Rattle.std.proofs.lemmas.List.{get_or-replicate, get_or_past, length-replica
 use Rattle.std.proofs.lemmas.Option.{none-some}
 use Rattle.tree_plan.specs.Shape.{Shape}
 use Rattle.tree_plan.specs.Paths.{is_placed_in}
-use Rattle.core_world.specs.Enabled.{MarksNobody}
-use Rattle.core_world.specs.World.{CpuRecord, World, cpu_of, no_cpu}
+use Rattle.core_parts.specs.core_world.Enabled.{MarksNobody}
+use Rattle.core_parts.specs.core_world.World.{CpuRecord, World, cpu_of, no_cpu}
 use Rattle.core_parts.specs.declared.status.CpuStatus.{CpuStatus}
 use Rattle.core_parts.specs.Status.{status_of}
 use Rattle.core_state.specs.Tally.{CpuTally, IsTallied, MayCountIn, MayCountOut, TalliesFirst}

@@ -7,10 +7,10 @@ use Rattle.tm_base.specs.declared.names.Class.{Class}
 use Rattle.tm_base.specs.declared.names.CpuId.{CpuId}
 use Rattle.tm_base.specs.declared.names.TimerId.{TimerId}
 use Rattle.cpu_bases.specs.CpuBases.{CpuBases, IsConsistent, armed, cancelled, class_in, handed_out}
-use Rattle.core_world.specs.declared.step.Step.TheVariants as steps
-use Rattle.core_world.specs.Enabled.{Enabled, MayArm, MayCancel, MayHand, MayTick}
-use Rattle.core_world.specs.Steps.{handed_of, stepped, with_bases}
-use Rattle.core_world.specs.World.{CpuRecord, World, cpu_of, own}
+use Rattle.core_parts.specs.core_world.declared.step.Step.TheVariants as steps
+use Rattle.core_parts.specs.core_world.Enabled.{Enabled, MayArm, MayCancel, MayHand, MayTick}
+use Rattle.core_parts.specs.core_world.Steps.{handed_of, stepped, with_bases}
+use Rattle.core_parts.specs.core_world.World.{CpuRecord, World, cpu_of, own}
 use Rattle.core_state.specs.Kept.{IsHeld, IsKept, StaysFit, WorldFits, but, is_queued}
 use Rattle.core_state.specs.Tally.{CpuTally, IsTallied}
 use Rattle.core_state.proofs.Changes.{cpu_read, own_is, written}

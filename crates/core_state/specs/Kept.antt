@@ -7,14 +7,14 @@ use Rattle.wheel_core.specs.declared.item.Item.{Item}
 use Rattle.tree_plan.specs.Shape.{Shape, IsPlanned}
 use Rattle.tree_plan.specs.Paths.{group_at_of}
 use Rattle.cpu_bases.specs.CpuBases.{CpuBases, class_in}
-use Rattle.walk_rules.specs.Scene.{Group}
+use Rattle.core_facts.specs.walk_rules.Scene.{Group}
 use Rattle.core_facts.specs.Levels.{LevelsFit}
 use Rattle.core_facts.specs.Played.{AllPlayed}
-use Rattle.core_world.specs.declared.step.Step.{Step}
-use Rattle.core_world.specs.Enabled.{Enabled}
-use Rattle.core_world.specs.Lawful.{IsLawful}
-use Rattle.core_world.specs.Steps.{stepped}
-use Rattle.core_world.specs.World.{CpuRecord, World, cpu_of}
+use Rattle.core_parts.specs.core_world.declared.step.Step.{Step}
+use Rattle.core_parts.specs.core_world.Enabled.{Enabled}
+use Rattle.core_parts.specs.core_world.Lawful.{IsLawful}
+use Rattle.core_parts.specs.core_world.Steps.{stepped}
+use Rattle.core_parts.specs.core_world.World.{CpuRecord, World, cpu_of}
 use Rattle.core_state.specs.Tally.{CpuTally, IsTallied}
 
 -- the world that the fields of a core are

@@ -2,7 +2,7 @@
 use Rattle.std.specs.Prelude.{ℕ, option_map}
 use Rattle.tm_base.specs.declared.names.CpuId.{CpuId}
 use Rattle.cpu_word.specs.declared.state.CpuState.{CpuState}
-use Rattle.core_world.specs.World.{CpuRecord}
+use Rattle.core_parts.specs.core_world.World.{CpuRecord}
 
 -- a number as the id of a CPU
 abbrev pub as_cpu : ℕ → CpuId

@@ -5,7 +5,7 @@ use Rattle.std.specs.Prelude.{slice_index_or}
 use Rattle.std.specs.List.{range_with_len}
 use Rattle.tree_plan.specs.Shape.{Shape}
 use Rattle.tree_plan.specs.Paths.{is_placed_in}
-use Rattle.core_world.specs.World.{CpuRecord, World, cpu_of, no_cpu}
+use Rattle.core_parts.specs.core_world.World.{CpuRecord, World, cpu_of, no_cpu}
 
 -- for each CPU how many CPUs have its mark, and how many placed CPUs are online
 pub record CpuTally : Type 0 where

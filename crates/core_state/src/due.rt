@@ -3,7 +3,7 @@
 ghost use Rattle.std.specs.Prelude.{◌≡◌, ◌<◌, ◌↔◌, IsTrue, length};
 ghost use Rattle.wheel_core.specs.PlainBase.{NoneBehind, next_out, oldest_of};
 ghost use Rattle.cpu_bases.specs.CpuBases.{base_of, class_in};
-ghost use Rattle.core_world.specs.World.{cpu_of};
+ghost use Rattle.core_parts.specs.core_world.World.{cpu_of};
 
 use crate::machine::Core;
 use tm_base::{Class, CpuId, TimerId};

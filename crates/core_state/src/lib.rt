@@ -13,6 +13,8 @@ mod shown;
 mod tally;
 mod tree;
 
+pub use core_facts as the_core_facts;
+pub use core_facts::the_core_laws;
 pub use core_parts::{CoreCpu, CoreGroup, CpuStatus, GroupChange};
 pub use machine::Core;
 pub use parts::CoreParts;

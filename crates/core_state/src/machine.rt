@@ -2,14 +2,14 @@
 
 ghost use Rattle.std.specs.Prelude.{◌≡◌, ◌<◌, length, true};
 ghost use Rattle.tree_plan.specs.Paths.{IsBelow};
-ghost use Rattle.core_world.specs.declared.step.Step.TheVariants as steps;
-ghost use Rattle.core_world.specs.Enabled.{Enabled};
-ghost use Rattle.core_world.specs.Steps.{stepped};
-ghost use Rattle.core_world.specs.World.{cpu_of, group_of, moved};
+ghost use Rattle.core_parts.specs.core_world.declared.step.Step.TheVariants as steps;
+ghost use Rattle.core_parts.specs.core_world.Enabled.{Enabled};
+ghost use Rattle.core_parts.specs.core_world.Steps.{stepped};
+ghost use Rattle.core_parts.specs.core_world.World.{cpu_of, group_of, moved};
 ghost use Rattle.core_parts.specs.Changes.{ChangeFits, changed};
 ghost use Rattle.core_state.specs.Kept.{StaysFit, WorldFits};
 ghost use Rattle.core_parts.specs.Status.{status_of, with_cpu_status, with_status};
-ghost use Rattle.walk_rules.specs.Ranges.{IsInRange};
+ghost use Rattle.core_facts.specs.walk_rules.Ranges.{IsInRange};
 
 use crate::laws::law_fits;
 use crate::tally::Tally;
@@ -32,7 +32,7 @@ pub struct Core<B: TimerBase> {
 }
 
 impl<B: TimerBase> Model for Core<B> {
-    ghost use Rattle.core_world.specs.World.{World};
+    ghost use Rattle.core_parts.specs.core_world.World.{World};
     ghost use Rattle.std.specs.Prelude.{length};
     ghost use Rattle.std.specs.Coded.{codes};
     ghost use Rattle.tree_plan.specs.Codes.{shape_code};

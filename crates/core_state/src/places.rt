@@ -4,16 +4,16 @@ ghost use Rattle.std.specs.Prelude.{◌≡◌, ℕ, ◌-◌, ◌^◌, ◌<◌, �
 ghost use Rattle.std.specs.Prelude.{is_none, is_some, length, true};
 ghost use Rattle.tree_plan.specs.Paths.{IsBelow, group_at_of, is_placed_in};
 ghost use Rattle.cpu_bases.specs.CpuBases.{events_of};
-ghost use Rattle.event_queue.specs.EventMap.{event_at};
+ghost use Rattle.core_facts.specs.event_queue.EventMap.{event_at};
 ghost use Rattle.core_facts.specs.Levels.{IsLowWalk};
-ghost use Rattle.walk_rules.specs.Hierarchy.{IsHierarchy, at_top, group_on, side};
-ghost use Rattle.core_world.specs.Enabled.{MarksNobody};
-ghost use Rattle.core_world.specs.Steps.{child_on};
-ghost use Rattle.core_world.specs.World.{cpu_of, group_of, moved, own};
-ghost use Rattle.core_world.specs.Steps.{with_walk};
+ghost use Rattle.core_facts.specs.walk_rules.Hierarchy.{IsHierarchy, at_top, group_on, side};
+ghost use Rattle.core_parts.specs.core_world.Enabled.{MarksNobody};
+ghost use Rattle.core_parts.specs.core_world.Steps.{child_on};
+ghost use Rattle.core_parts.specs.core_world.World.{cpu_of, group_of, moved, own};
+ghost use Rattle.core_parts.specs.core_world.Steps.{with_walk};
 ghost use Rattle.core_parts.specs.Changes.{ChangeFits, changed};
 ghost use Rattle.core_state.specs.Kept.{HasLevel, StaysFit, WorldFits};
-ghost use Rattle.walk_rules.specs.Ranges.{EventFits, IsInRange};
+ghost use Rattle.core_facts.specs.walk_rules.Ranges.{EventFits, IsInRange};
 ghost use Rattle.core_state.specs.Tally.{OthersOnline};
 
 use crate::laws::law_fits;
@@ -21,12 +21,12 @@ use crate::machine::Core;
 use crate::tally::is_placed_online;
 use crate::tree;
 use core_facts::law_height;
+use core_facts::the_event_queue::Event;
+use core_facts::the_walk_rules::{Walk, law_hierarchy};
 use core_parts::{CpuStatus, GroupChange};
 use cpu_bases::NextEvents;
-use event_queue::Event;
 use tm_base::{CpuId, GroupId};
 use tree_plan::{law_cuts, law_paths};
-use walk_rules::{Walk, law_hierarchy};
 use wheel_core::TimerBase;
 
 impl<B: TimerBase> Core<B> {

@@ -2,10 +2,10 @@
 
 ghost use Rattle.std.specs.Prelude.{◌≡◌, ◌<◌, IfOk, OnErr, OnOk, length, option_map};
 ghost use Rattle.cpu_bases.specs.CpuBases.{IsConsistent, item_queued};
-ghost use Rattle.core_world.specs.declared.step.Step.TheVariants as steps;
-ghost use Rattle.core_world.specs.Enabled.{Enabled};
-ghost use Rattle.core_world.specs.Steps.{first_moved, stepped};
-ghost use Rattle.core_world.specs.World.{cpu_of};
+ghost use Rattle.core_parts.specs.core_world.declared.step.Step.TheVariants as steps;
+ghost use Rattle.core_parts.specs.core_world.Enabled.{Enabled};
+ghost use Rattle.core_parts.specs.core_world.Steps.{first_moved, stepped};
+ghost use Rattle.core_parts.specs.core_world.World.{cpu_of};
 ghost use Rattle.core_parts.specs.Moves.{wheel_moved};
 
 use crate::machine::Core;

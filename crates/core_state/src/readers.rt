@@ -2,20 +2,20 @@
 
 ghost use Rattle.std.specs.Prelude.{◌≡◌, ℕ, ◌<◌, IfNone, IfSome, length, option_map, true, false};
 ghost use Rattle.core_facts.specs.Played.{AllPlayed};
-ghost use Rattle.core_world.specs.Frames.{IsSized};
-ghost use Rattle.core_world.specs.Lawful.{IsLawful};
-ghost use Rattle.core_world.specs.World.{cpu_of, group_of};
+ghost use Rattle.core_parts.specs.core_world.Frames.{IsSized};
+ghost use Rattle.core_parts.specs.core_world.Lawful.{IsLawful};
+ghost use Rattle.core_parts.specs.core_world.World.{cpu_of, group_of};
 ghost use Rattle.core_state.specs.Kept.{is_queued};
 ghost use Rattle.core_state.specs.Shown.{as_cpu, shown_cpu};
 
 use crate::machine::Core;
 use crate::shown::cpu_number;
+use core_facts::the_event_queue::Events;
+use core_facts::the_walk_rules::Walk;
 use cpu_bases::Bases;
 use cpu_word::CpuState;
-use event_queue::Events;
 use tm_base::{CpuId, GroupId, Jiffy, TimerId};
 use tree_plan::Tree;
-use walk_rules::Walk;
 use wheel_core::TimerBase;
 
 impl<B: TimerBase> Core<B> {

@@ -3,7 +3,7 @@
 ghost use Rattle.std.specs.Prelude.{◌≡◌, ◌<◌, ◌&&◌, ◌↔◌, IfOk, IsTrue, length, replicate, true};
 ghost use Rattle.std.specs.Prelude.{slice_index_or, slice_set};
 ghost use Rattle.tree_plan.specs.Paths.{cpu_count_of, is_placed_in};
-ghost use Rattle.core_world.specs.World.{no_cpu};
+ghost use Rattle.core_parts.specs.core_world.World.{no_cpu};
 ghost use Rattle.core_parts.specs.Status.{with_status};
 ghost use Rattle.core_state.specs.Tally.{IsTallied, MayCountIn, MayCountOut, TalliesFirst};
 ghost use Rattle.core_state.specs.Tally.{TalliesOneMore, one_if};

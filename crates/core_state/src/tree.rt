@@ -3,7 +3,7 @@
 ghost use Rattle.std.specs.Prelude.{◌≡◌, ◌<◌};
 ghost use Rattle.tm_base.specs.Children.{of_cpu};
 ghost use Rattle.tree_plan.specs.Paths.{bit_of, cpu_count_of, group_count_of};
-ghost use Rattle.walk_rules.specs.Hierarchy.{at_top, group_on, side};
+ghost use Rattle.core_facts.specs.walk_rules.Hierarchy.{at_top, group_on, side};
 ghost use Rattle.core_state.specs.Kept.{HasLevel};
 
 use tm_base::{CpuId, GroupId};

@@ -1,5 +1,6 @@
 -- for crates above: where a walk stands as it makes a step, and that the world fits after it
-use Rattle.std.proofs.Common.{◌≡◌, inl, inr, ℕ, zero, suc, ◌-◌, ◌<◌, Bool, Some, sym, ap, ◌∙◌, subst, arith}
+use Rattle.std.proofs.Common.{◌≡◌, inl, inr, ℕ, zero, suc, ◌-◌, ◌<◌, Bool, Some, sym, ap, ◌∙◌}
+use Rattle.std.proofs.Common.{subst, arith}
 use Rattle.std.specs.Prelude.{option_map, unwrap_or}
 use Rattle.tm_base.specs.declared.names.CpuId.{CpuId}
 use Rattle.tree_plan.specs.Shape.{Shape}
@@ -14,10 +15,10 @@ use Rattle.core_world.specs.declared.step.Step.TheVariants as steps
 use Rattle.core_world.specs.Enabled.{MayGoOn, MayWalk}
 use Rattle.core_world.specs.Steps.{swapped, walk_made, walked}
 use Rattle.core_world.specs.World.{World, cpu_of, scene_of}
-use Rattle.core_laws.proofs.Walks.Stands.{stage_fits, stands_in}
+use Rattle.core_state.proofs.core_laws.Walks.Stands.{stage_fits, stands_in}
 use Rattle.core_state.specs.Kept.{HasLevel, StaysFit, WorldFits}
 use Rattle.core_state.proofs.Fits.{walks_fit}
-use Rattle.core_facts.specs.Stepping.{MayStepAt}
+use Rattle.core_state.specs.core_facts.Stepping.{MayStepAt}
 
 pub may_walk : (w : World) (c : ℕ) (k : Walk) (st : Stage) → MayStepAt w c k st → MayWalk w c
 may_walk w c k st stands = record {

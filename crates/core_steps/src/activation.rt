@@ -3,7 +3,7 @@
 ghost use Rattle.std.specs.Prelude.{◌≡◌, ◌<◌, suc};
 ghost use Rattle.walk_rules.specs.declared.walk.Stage.TheVariants as stages;
 ghost use Rattle.core_world.specs.Steps.{walked};
-ghost use Rattle.core_facts.specs.Stepping.{MayStepAt};
+ghost use Rattle.core_state.specs.core_facts.Stepping.{MayStepAt};
 ghost use Rattle.walk_rules.specs.Ranges.{WalkRanges};
 
 use core_state::{Core, GroupChange};

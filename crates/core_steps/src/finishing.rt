@@ -5,7 +5,7 @@ ghost use Rattle.walk_rules.specs.declared.walk.Stage.TheVariants as stages;
 ghost use Rattle.core_world.specs.declared.step.Step.TheVariants as steps;
 ghost use Rattle.core_world.specs.Enabled.{Enabled};
 ghost use Rattle.core_world.specs.Steps.{stepped, walked};
-ghost use Rattle.core_facts.specs.Stepping.{MayStepAt};
+ghost use Rattle.core_state.specs.core_facts.Stepping.{MayStepAt};
 ghost use Rattle.core_state.specs.Status.{finished_status};
 ghost use Rattle.walk_rules.specs.Ranges.{IsInRange, WalkRanges};
 ghost use Rattle.core_state.specs.Status.{handing_walk};

@@ -10,4 +10,6 @@ mod locking;
 mod steps;
 mod telling;
 
+pub use core_state as the_core_state;
+pub use core_state::{the_core_facts, the_core_laws};
 pub use steps::apply;

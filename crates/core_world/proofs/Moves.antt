@@ -1,16 +1,19 @@
 -- for crates above: what a moved world has at each place
-use Rattle.std.proofs.Common.{◌≡◌, ◌≢◌, ℕ, zero, suc, ◌+◌, ◌<◌, eq-eqb, Bool, true, false, true≢false, cond, List, [], ◌∷◌, length, get_or, Option, Some, None, refl, sym, ap, ◌∙◌, arith}
+use Rattle.std.proofs.Common.{◌≡◌, ◌≢◌, ℕ, zero, suc, ◌+◌, ◌<◌, eq-eqb, Bool, true, false}
+use Rattle.std.proofs.Common.{true≢false, cond, List, [], ◌∷◌, length, get_or, Option, Some, None}
+use Rattle.std.proofs.Common.{refl, sym, ap, ◌∙◌, arith}
 use Rattle.std.specs.Prelude.{◌&&◌, ◌==◌, option_map}
 use Rattle.std.specs.Option.{option_map_or}
 use Rattle.std.proofs.lemmas.List.{get_or-set_same, get_or-set_other}
 use Rattle.std.proofs.lemmas.Option.{none-some, same_Some}
 use Rattle.std.proofs.Math.ListN.{length-set}
-use Rattle.tree_plan.specs.Shape.{Shape}
-use Rattle.tree_plan.specs.Paths.{group_at_of}
+use Rattle.walk_rules.specs.tree_plan.Shape.{Shape}
+use Rattle.walk_rules.specs.tree_plan.Paths.{group_at_of}
 use Rattle.walk_rules.specs.declared.walk.Walk.{Walk}
 use Rattle.walk_rules.specs.Scene.{Group, no_group}
 use Rattle.walk_rules.specs.Stages.{forget}
-use Rattle.core_world.specs.World.{CpuRecord, World, all_stale, cpu_of, is_reading, moved, no_cpu, reads_at, stale, stale_if, stale_walk}
+use Rattle.core_world.specs.World.{CpuRecord, World, all_stale, cpu_of, is_reading, moved, no_cpu}
+use Rattle.core_world.specs.World.{reads_at, stale, stale_if, stale_walk}
 use Rattle.core_world.specs.Frames.{MovedLaws}
 
 pub stale_read : (t : Shape) (g n : ℕ) (ys : List CpuRecord) (d : ℕ) → get_or (all_stale t g n ys) d no_cpu ≡ stale t g (n + d) (get_or ys d no_cpu)

@@ -2,7 +2,7 @@
 use Rattle.std.proofs.Common.{◌≡◌, ℕ, Bool, true, false, length, Option, Some, None, refl, ◌∙◌}
 use Rattle.std.proofs.Math.ListN.{length-set}
 use Rattle.tm_base.specs.declared.names.Class.{Class}
-use Rattle.wheel_core.specs.declared.item.Item.{Item}
+use Rattle.cpu_bases.specs.wheel_core.declared.item.Item.{Item}
 use Rattle.walk_rules.specs.declared.walk.Walk.{Walk}
 use Rattle.walk_rules.specs.declared.walk.Stage.{Stage}
 use Rattle.walk_rules.specs.declared.walk.Stage.TheVariants as stages
@@ -10,7 +10,8 @@ use Rattle.walk_rules.specs.Scene.{Group}
 use Rattle.walk_rules.specs.Stages.{left_by}
 use Rattle.core_world.specs.declared.step.Step.TheVariants as steps
 use Rattle.core_world.specs.Frames.{SameSize, SizesStay}
-use Rattle.core_world.specs.Steps.{first_moved, giver, moved_with, swapped, taker, walk_made, walked}
+use Rattle.core_world.specs.Steps.{first_moved, giver, moved_with, swapped, taker, walk_made}
+use Rattle.core_world.specs.Steps.{walked}
 use Rattle.core_world.specs.World.{CpuRecord, World, cpu_of, group_of, moved}
 use Rattle.core_world.proofs.Moves.{moved_laws}
 use Rattle.core_world.proofs.Quiet.{moved_group_field}

@@ -3,10 +3,10 @@ use Rattle.std.specs.Prelude.{◌≡◌, ◌⊎◌, ℕ, ◌&&◌, not, true, fa
 use Rattle.std.specs.Prelude.{Option, Some, None, if◌then◌else◌}
 use Rattle.tm_base.specs.declared.names.Child.{Child}
 use Rattle.tm_base.specs.Children.{of_group}
-use Rattle.event_queue.specs.declared.event.Event.{Event}
-use Rattle.event_queue.specs.EventMap.{event_at}
+use Rattle.walk_rules.specs.event_queue.declared.event.Event.{Event}
+use Rattle.walk_rules.specs.event_queue.EventMap.{event_at}
 use Rattle.coverage.specs.Coverage.{Held, Machine, Told, Woken}
-use Rattle.tree_plan.specs.Paths.{child_at, group_at_of, is_placed_in}
+use Rattle.walk_rules.specs.tree_plan.Paths.{child_at, group_at_of, is_placed_in}
 use Rattle.walk_rules.specs.declared.walk.Walk.{Walk}
 use Rattle.walk_rules.specs.Clearing.{clears_at, side_of_exchange}
 use Rattle.walk_rules.specs.Edges.{StandsBelow}

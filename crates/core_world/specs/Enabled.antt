@@ -3,12 +3,12 @@ use Rattle.std.specs.Prelude.{◌≡◌, ◌≢◌, ◌⊎◌, ℕ, ◌+◌, ◌
 use Rattle.std.specs.Prelude.{min, length}
 use Rattle.tm_base.specs.declared.names.Class.{Class}
 use Rattle.tm_base.specs.declared.names.Class.TheVariants.{Global}
-use Rattle.event_queue.specs.declared.event.Event.{Event}
-use Rattle.event_queue.specs.EventMap.{Counts, event_at}
-use Rattle.wheel_core.specs.declared.item.Item.{Item}
-use Rattle.wheel_core.specs.PlainBase.{NoneBehind, next_out}
+use Rattle.walk_rules.specs.event_queue.declared.event.Event.{Event}
+use Rattle.walk_rules.specs.event_queue.EventMap.{Counts, event_at}
+use Rattle.cpu_bases.specs.wheel_core.declared.item.Item.{Item}
+use Rattle.cpu_bases.specs.wheel_core.PlainBase.{NoneBehind, next_out}
 use Rattle.cpu_bases.specs.CpuBases.{CpuBases, base_of, class_in, events_of}
-use Rattle.tree_plan.specs.Paths.{group_at_of, is_placed_in}
+use Rattle.walk_rules.specs.tree_plan.Paths.{group_at_of, is_placed_in}
 use Rattle.walk_rules.specs.declared.walk.Walk.{Walk}
 use Rattle.walk_rules.specs.declared.walk.WalkKind.TheVariants as kinds
 use Rattle.walk_rules.specs.declared.walk.Stage.{Stage}

@@ -1,7 +1,7 @@
 -- what a step of the general form changes, and what stays
 use Rattle.std.specs.Prelude.{◌≡◌, ◌≢◌, ℕ, ◌<◌, Bool, true, false, Some, length}
-use Rattle.tree_plan.specs.Shape.{Shape}
-use Rattle.tree_plan.specs.Paths.{cpu_count_of, group_at_of, group_count_of}
+use Rattle.walk_rules.specs.tree_plan.Shape.{Shape}
+use Rattle.walk_rules.specs.tree_plan.Paths.{cpu_count_of, group_at_of, group_count_of}
 use Rattle.walk_rules.specs.declared.walk.Walk.{Walk}
 use Rattle.walk_rules.specs.Scene.{Group, Scene}
 use Rattle.core_world.specs.declared.step.Step.{Step}

@@ -2,11 +2,11 @@
 use Rattle.std.specs.Prelude.{◌≡◌, ◌⊎◌, ℕ, ◌<◌, Some, Contains, length}
 use Rattle.tm_base.specs.declared.names.TheConstants.{NEVER}
 use Rattle.tm_base.specs.declared.names.Child.{Child}
-use Rattle.event_queue.specs.declared.event.Event.{Event}
-use Rattle.event_queue.specs.EventMap.{event_at}
+use Rattle.walk_rules.specs.event_queue.declared.event.Event.{Event}
+use Rattle.walk_rules.specs.event_queue.EventMap.{event_at}
 use Rattle.cpu_bases.specs.declared.entry.Entry.{Entry}
 use Rattle.cpu_bases.specs.declared.entry.Act.TheVariants as acts
-use Rattle.tree_plan.specs.Paths.{bit_of, child_towards, group_at_of}
+use Rattle.walk_rules.specs.tree_plan.Paths.{bit_of, child_towards, group_at_of}
 use Rattle.walk_rules.specs.declared.walk.Walk.{Walk}
 use Rattle.walk_rules.specs.Queues.{group_under}
 use Rattle.core_world.specs.World.{World, cpu_of, group_of}

@@ -2,8 +2,8 @@
 use Rattle.std.specs.Prelude.{ℕ, ◌-◌, ◌^◌, true, false, Some, None, map, replicate}
 use Rattle.std.specs.List.{range_with_len}
 use Rattle.tm_base.specs.declared.names.TheConstants.{NEVER}
-use Rattle.tree_plan.specs.Shape.{Shape}
-use Rattle.tree_plan.specs.Paths.{cpu_count_of, group_count_of, child_count_of}
+use Rattle.walk_rules.specs.tree_plan.Shape.{Shape}
+use Rattle.walk_rules.specs.tree_plan.Paths.{cpu_count_of, group_count_of, child_count_of}
 use Rattle.walk_rules.specs.Scene.{Group}
 use Rattle.cpu_bases.specs.CpuBases.{empty_bases}
 use Rattle.core_world.specs.World.{CpuRecord, World}

@@ -5,11 +5,11 @@ use Rattle.tm_base.specs.declared.names.TheConstants.{NEVER}
 use Rattle.tm_base.specs.declared.names.CpuId.{CpuId}
 use Rattle.tm_base.specs.declared.names.Class.{Class}
 use Rattle.tm_base.specs.declared.names.Class.TheVariants.{Pinned, Global, Deferrable}
-use Rattle.event_queue.specs.EventMap.{event_at}
-use Rattle.wheel_core.specs.declared.item.Item.{Item}
+use Rattle.walk_rules.specs.event_queue.EventMap.{event_at}
+use Rattle.cpu_bases.specs.wheel_core.declared.item.Item.{Item}
 use Rattle.cpu_bases.specs.CpuBases.{CpuBases, armed, base_of, cancelled, class_in, events_of}
 use Rattle.cpu_bases.specs.CpuBases.{found_or, handed_out, moved_in, moved_out, oldest_in}
-use Rattle.tree_plan.specs.Paths.{group_at_of}
+use Rattle.walk_rules.specs.tree_plan.Paths.{group_at_of}
 use Rattle.walk_rules.specs.declared.walk.Walk.{Walk}
 use Rattle.walk_rules.specs.declared.walk.WalkKind.{WalkKind}
 use Rattle.walk_rules.specs.declared.walk.WalkKind.TheVariants as kinds

@@ -2,8 +2,8 @@
 use Rattle.std.specs.Prelude.{◌≡◌, ◌≢◌, ℕ, ◌-◌, ◌^◌, ◌<◌, ◌≤◌, Some, All}
 use Rattle.tm_base.specs.declared.names.TheConstants.{NEVER, TIME_LIMIT}
 use Rattle.tm_base.specs.declared.names.Class.{Class}
-use Rattle.event_queue.specs.declared.event.Event.{Event}
-use Rattle.event_queue.specs.EventMap.{event_at}
+use Rattle.walk_rules.specs.event_queue.declared.event.Event.{Event}
+use Rattle.walk_rules.specs.event_queue.EventMap.{event_at}
 use Rattle.cpu_bases.specs.CpuBases.{IsConsistent, base_of, class_in}
 use Rattle.cpu_bases.specs.Journals.{LegalUpTo}
 use Rattle.walk_rules.specs.declared.walk.Walk.{Walk}

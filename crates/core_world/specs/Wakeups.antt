@@ -2,10 +2,10 @@
 -- OffAtRest
 use Rattle.std.specs.Prelude.{◌≡◌, ◌⊎◌, ℕ, ◌<◌, ◌≤◌, Bool, true, false, Option, Some, None}
 use Rattle.tm_base.specs.declared.names.TheConstants.{NEVER}
-use Rattle.event_queue.specs.declared.event.Event.{Event}
-use Rattle.event_queue.specs.EventMap.{Counts, event_at}
+use Rattle.walk_rules.specs.event_queue.declared.event.Event.{Event}
+use Rattle.walk_rules.specs.event_queue.EventMap.{Counts, event_at}
 use Rattle.cpu_bases.specs.CpuBases.{events_of}
-use Rattle.tree_plan.specs.Paths.{group_at_of}
+use Rattle.walk_rules.specs.tree_plan.Paths.{group_at_of}
 use Rattle.walk_rules.specs.declared.walk.Walk.{Walk}
 use Rattle.walk_rules.specs.declared.walk.WalkKind.{WalkKind}
 use Rattle.walk_rules.specs.declared.walk.WalkKind.TheVariants as kinds

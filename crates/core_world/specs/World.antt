@@ -4,8 +4,8 @@ use Rattle.std.specs.Prelude.{None, option_map, slice_index_or, slice_set, if◌
 use Rattle.std.specs.Option.{option_map_or}
 use Rattle.tm_base.specs.declared.names.TheConstants.{NEVER}
 use Rattle.cpu_bases.specs.CpuBases.{CpuBases, empty_bases}
-use Rattle.tree_plan.specs.Shape.{Shape}
-use Rattle.tree_plan.specs.Paths.{group_at_of}
+use Rattle.walk_rules.specs.tree_plan.Shape.{Shape}
+use Rattle.walk_rules.specs.tree_plan.Paths.{group_at_of}
 use Rattle.walk_rules.specs.declared.walk.Walk.{Walk}
 use Rattle.walk_rules.specs.declared.walk.Stage.{Stage}
 use Rattle.walk_rules.specs.declared.walk.Stage.TheVariants as stages

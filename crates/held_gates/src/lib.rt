@@ -9,3 +9,5 @@ mod meetings;
 pub use answers::is_answered;
 pub use calls::{ByPoints, HeldCall, MOST_LOOKS, Place};
 pub use meetings::Meeting;
+pub use step_laws as the_step_laws;
+pub use step_laws::the_core_state;

@@ -1,11 +1,11 @@
-use core_state::Core;
 use core_world::Step;
+use held_gates::the_core_state::Core;
+use held_gates::the_step_laws::{is_settled, run_steps};
 use held_gates::{HeldCall, Place};
 use std::alloc::Global;
 use std::sync::Wait;
 use std::test::Fail;
 use std::thread::Threads;
-use step_laws::{is_settled, run_steps};
 use tm_base::{Class, CpuId, CpuSet, FreeGate, Gate, NoMemory, Point, TimerId};
 use walk_rows::{Crew, Plan, Ran, Turn, Watch, agrees, is_active, no_base_behind, run_plan, start};
 use wheel_base::WheelBase;

@@ -8,9 +8,9 @@ use Rattle.core_world.specs.Enabled.{MayWake}
 use Rattle.core_world.specs.Lawful.{IsLawful}
 use Rattle.core_world.specs.Steps.{begins}
 use Rattle.core_world.specs.World.{CpuRecord, World, cpu_of}
-use Rattle.step_play.specs.Rules.Alone.{goes_on}
-use Rattle.step_play.specs.Rules.StepRules.{made_active, woken_by_steps}
-use Rattle.step_play.proofs.Hotplug.{runs}
+use Rattle.core_machine.specs.step_play.Rules.Alone.{goes_on}
+use Rattle.core_machine.specs.step_play.Rules.StepRules.{made_active, woken_by_steps}
+use Rattle.core_machine.proofs.step_play.Hotplug.{runs}
 use Rattle.hotplug.specs.Frames.{Activated, MayActivate}
 use Rattle.core_machine.proofs.Alone.Frames.{Framed, begun_framed}
 use Rattle.hotplug.proofs.Settling.{online_free}

@@ -5,7 +5,7 @@ use Rattle.tm_base.specs.declared.names.Class.TheVariants.{Pinned, Global, Defer
 use Rattle.wheel_core.specs.PlainBase.{NoneBehind}
 use Rattle.cpu_bases.specs.CpuBases.{CpuBases, base_of, empty_bases}
 use Rattle.core_world.specs.World.{CpuRecord, World, cpu_of}
-use Rattle.step_play.proofs.Queues.Sights.{past_of}
+use Rattle.core_machine.proofs.step_play.Queues.Sights.{past_of}
 use Rattle.hotplug.specs.Settled.{AllWhole, IsWhole}
 
 empty_whole : IsWhole empty_bases

@@ -14,17 +14,17 @@ use Rattle.wheel_core.specs.PlainBase.{NoneBehind}
 use Rattle.cpu_bases.specs.ByClass.{of_class}
 use Rattle.cpu_bases.specs.CpuBases.{base_of}
 use Rattle.tree_plan.specs.Paths.{is_placed_in}
-use Rattle.play_laws.proofs.Answered.Ranges.{found_some}
+use Rattle.core_machine.proofs.play_laws.Answered.Ranges.{found_some}
 use Rattle.play_rules.specs.Machines.{after_move}
 use Rattle.play_rules.specs.State.{cpu_at, cpu_count}
 use Rattle.play_rules.specs.Timers.{controller, first_to_move}
 use Rattle.core_world.specs.Covered.{IsSettled}
 use Rattle.core_world.specs.World.{CpuRecord, World, cpu_of}
-use Rattle.step_play.specs.Rules.Seen.{state_of}
-use Rattle.step_play.specs.Rules.StepRules.{made_active, step_rules}
-use Rattle.step_play.proofs.Queues.Sights.{count_seen}
-use Rattle.step_play.proofs.Hotplug.{IsHead, head_is, read}
-use Rattle.step_play.proofs.Takes.{there}
+use Rattle.core_machine.specs.step_play.Rules.Seen.{state_of}
+use Rattle.core_machine.specs.step_play.Rules.StepRules.{made_active, step_rules}
+use Rattle.core_machine.proofs.step_play.Queues.Sights.{count_seen}
+use Rattle.core_machine.proofs.step_play.Hotplug.{IsHead, head_is, read}
+use Rattle.core_machine.proofs.step_play.Takes.{there}
 use Rattle.core_machine.specs.Draining.Turns.{timer_of}
 use Rattle.hotplug.specs.Afterwards.{AllWith, NothingMoved, PartMoved, SomeMoved, StillQueued}
 use Rattle.hotplug.specs.Afterwards.{asked, items_of, timers_of}

@@ -17,12 +17,13 @@ use Rattle.core_world.specs.Enabled.{MayComeOnline, MayGoOffline, MayHandOn}
 use Rattle.core_world.specs.Lawful.{IsLawful}
 use Rattle.core_world.specs.Steps.{begins, begins_with, stepped, with_walk}
 use Rattle.core_world.specs.World.{CpuRecord, World, cpu_of, is_active}
-use Rattle.step_play.specs.Rules.Alone.{goes_on}
-use Rattle.step_play.specs.Rules.StepRules.{come_by_steps, gone_by_steps, handed_on_by_steps}
-use Rattle.step_play.specs.Rules.StepRules.{is_waiting}
-use Rattle.step_play.proofs.Hotplug.{runs}
-use Rattle.step_play.proofs.Worlds.{own_is, put_all, put_else, put_field}
-use Rattle.step_play.proofs.Activation.Calm.{handing}
+use Rattle.core_machine.specs.step_play.Rules.Alone.{goes_on}
+use Rattle.core_machine.specs.step_play.Rules.StepRules.{come_by_steps, gone_by_steps}
+use Rattle.core_machine.specs.step_play.Rules.StepRules.{handed_on_by_steps}
+use Rattle.core_machine.specs.step_play.Rules.StepRules.{is_waiting}
+use Rattle.core_machine.proofs.step_play.Hotplug.{runs}
+use Rattle.core_machine.proofs.step_play.Worlds.{own_is, put_all, put_else, put_field}
+use Rattle.core_machine.proofs.step_play.Activation.Calm.{handing}
 use Rattle.hotplug.specs.Afterwards.{HasCome, HasLeft}
 use Rattle.hotplug.specs.Frames.{Activated, HandedOn, MayActivate, Waits}
 use Rattle.hotplug.specs.Settled.{AllWhole, IsWhole, gone_whole, heir_at, offline_fault}

@@ -25,11 +25,12 @@ use Rattle.core_world.specs.Enabled.{MayMove}
 use Rattle.core_world.specs.Lawful.{IsLawful}
 use Rattle.core_world.specs.Steps.{giver, moved_with, stepped, taker, with_bases}
 use Rattle.core_world.specs.World.{CpuRecord, World, cpu_of, is_active}
-use Rattle.step_play.specs.Rules.StepRules.{moved_by_steps, step_rules}
-use Rattle.step_play.proofs.Bases.{moved_out_whole, queued_whole}
-use Rattle.step_play.proofs.Held.{bases_seen}
-use Rattle.step_play.proofs.Moves.{first_alike}
-use Rattle.step_play.proofs.Worlds.{put, put_all, put_count, put_else, put_field, put_same}
+use Rattle.core_machine.specs.step_play.Rules.StepRules.{moved_by_steps, step_rules}
+use Rattle.core_machine.proofs.step_play.Bases.{moved_out_whole, queued_whole}
+use Rattle.core_machine.proofs.step_play.Held.{bases_seen}
+use Rattle.core_machine.proofs.step_play.Moves.{first_alike}
+use Rattle.core_machine.proofs.step_play.Worlds.{put, put_all, put_count, put_else, put_field}
+use Rattle.core_machine.proofs.step_play.Worlds.{put_same}
 use Rattle.core_machine.specs.Draining.Turns.{timer_of}
 use Rattle.core_machine.proofs.Draining.FirstMoves.{Found, found_first}
 use Rattle.hotplug.specs.Afterwards.{SomeMoved, StillQueued, asked}

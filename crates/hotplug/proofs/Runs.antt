@@ -4,7 +4,7 @@ use Rattle.core_world.specs.declared.step.Step.{Step}
 use Rattle.core_world.specs.Enabled.{Enabled}
 use Rattle.core_world.specs.Steps.{stepped}
 use Rattle.core_world.specs.World.{World}
-use Rattle.step_play.specs.Rules.Lone.{Reaches}
+use Rattle.core_machine.specs.step_play.Rules.Lone.{Reaches}
 
 pub stays : (w v : World) → v ≡ w → Reaches w v
 stays w v same = ([], record { enabled = tt; done = same })

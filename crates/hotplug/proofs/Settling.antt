@@ -12,10 +12,10 @@ use Rattle.walk_rules.specs.Standing.{FitsStage, IsWalker}
 use Rattle.core_world.specs.Covered.{IsSettled}
 use Rattle.core_world.specs.Lawful.{IsLawful}
 use Rattle.core_world.specs.World.{World, cpu_of, scene_of}
-use Rattle.core_laws.proofs.Walks.Stands.{stage_fits}
-use Rattle.step_play.specs.Rules.Alone.{goes_on}
-use Rattle.step_play.specs.Rules.Lone.{IsLone}
-use Rattle.step_play.proofs.Activation.Calm.{handing}
+use Rattle.core_machine.proofs.core_laws.Walks.Stands.{stage_fits}
+use Rattle.core_machine.specs.step_play.Rules.Alone.{goes_on}
+use Rattle.core_machine.specs.step_play.Rules.Lone.{IsLone}
+use Rattle.core_machine.proofs.step_play.Activation.Calm.{handing}
 
 -- only a CPU that is offline waits to hand on
 module _ (w : World) (c : ℕ) (lawful : IsLawful w) (online : (cpu_of w c).online ≡ true) where

@@ -3,8 +3,8 @@ use Rattle.std.specs.Prelude.{◌≡◌, ◌≢◌, ℕ, ◌<◌, true, false, N
 use Rattle.tree_plan.specs.Paths.{is_placed_in}
 use Rattle.core_world.specs.Covered.{IsSettled}
 use Rattle.core_world.specs.World.{World, cpu_of, is_active}
-use Rattle.step_play.specs.Rules.StepRules.{is_waiting}
-use Rattle.step_play.specs.Rules.Lone.{IsLone}
+use Rattle.core_machine.specs.step_play.Rules.StepRules.{is_waiting}
+use Rattle.core_machine.specs.step_play.Rules.Lone.{IsLone}
 use Rattle.hotplug.specs.Settled.{AllWhole}
 
 -- A CPU THAT IS MADE ACTIVE

@@ -10,9 +10,10 @@ use Rattle.cpu_bases.specs.CpuBases.{CpuBases, base_of}
 use Rattle.tree_plan.specs.Paths.{is_placed_in}
 use Rattle.play_rules.specs.Machines.{after_move}
 use Rattle.core_world.specs.World.{World, cpu_of}
-use Rattle.step_play.specs.Rules.StepRules.{gone_by_steps, handed_on_by_steps, is_waiting}
-use Rattle.step_play.specs.Rules.StepRules.{made_active}
-use Rattle.step_play.specs.Rules.StepRules.{step_rules}
+use Rattle.core_machine.specs.step_play.Rules.StepRules.{gone_by_steps, handed_on_by_steps}
+use Rattle.core_machine.specs.step_play.Rules.StepRules.{is_waiting}
+use Rattle.core_machine.specs.step_play.Rules.StepRules.{made_active}
+use Rattle.core_machine.specs.step_play.Rules.StepRules.{step_rules}
 
 -- OFFLINE: why CPU c can't leave, with CPU `to` to follow it; an isolated one needs nobody to
 abbrev pub offline_fault : World → (c to : ℕ) → Option OpFault

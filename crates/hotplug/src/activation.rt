@@ -1,12 +1,12 @@
 //! A CPU is made active.
 
 ghost use Rattle.std.specs.Prelude.{◌≡◌};
-ghost use Rattle.step_play.specs.Rules.StepRules.{made_active};
+ghost use Rattle.core_machine.specs.step_play.Rules.StepRules.{made_active};
 ghost use Rattle.hotplug.specs.Frames.{Activated, MayActivate};
-ghost use Rattle.step_play.specs.Rules.Lone.{Reaches};
+ghost use Rattle.core_machine.specs.step_play.Rules.Lone.{Reaches};
 
+use core_machine::the_core_state::Core;
 use core_machine::walks::wake;
-use core_state::Core;
 use tm_base::CpuId;
 use wheel_core::TimerBase;
 

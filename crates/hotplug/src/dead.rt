@@ -3,18 +3,18 @@
 ghost use Rattle.std.specs.Prelude.{◌≡◌, ◌+◌, ◌<◌, IfOk, OnErr, OnOk, false, is_some, length, true};
 ghost use Rattle.core_world.specs.Covered.{IsSettled};
 ghost use Rattle.play_rules.specs.Machines.{after_move};
-ghost use Rattle.step_play.specs.Rules.StepRules.{step_rules};
+ghost use Rattle.core_machine.specs.step_play.Rules.StepRules.{step_rules};
 ghost use Rattle.hotplug.specs.Afterwards.{AllMoved, PartMoved, SomeMoved, StillQueued};
 ghost use Rattle.hotplug.specs.Frames.{MayMoveAll};
-ghost use Rattle.step_play.specs.Rules.Lone.{Reaches};
+ghost use Rattle.core_machine.specs.step_play.Rules.Lone.{Reaches};
 ghost use Rattle.hotplug.specs.Settled.{AllWhole, MovedSome, SomeOnline, heir_of, moved_off};
 ghost use Rattle.hotplug.specs.Settled.{MovedTimes};
 
 use crate::activation::make_active;
-use core_laws::law_step;
 use core_machine::readings::controller;
+use core_machine::the_core_laws::law_step;
+use core_machine::the_core_state::Core;
 use core_machine::timers::first_timer;
-use core_state::Core;
 use tm_base::{CpuId, NoMemory};
 use wheel_core::TimerBase;
 

@@ -4,16 +4,16 @@ ghost use Rattle.std.specs.Prelude.{◌≡◌, ◌≢◌, ◌<◌, IfOk, MatchRe
 ghost use Rattle.std.specs.Prelude.{length, true};
 ghost use Rattle.tree_plan.specs.Paths.{is_placed_in};
 ghost use Rattle.core_world.specs.Covered.{IsSettled};
-ghost use Rattle.step_play.specs.Rules.StepRules.{handed_on_by_steps};
+ghost use Rattle.core_machine.specs.step_play.Rules.StepRules.{handed_on_by_steps};
 ghost use Rattle.hotplug.specs.Afterwards.{HasLeft};
 ghost use Rattle.hotplug.specs.Frames.{HandedOn, Waits};
-ghost use Rattle.step_play.specs.Rules.Lone.{Reaches};
+ghost use Rattle.core_machine.specs.step_play.Rules.Lone.{Reaches};
 ghost use Rattle.hotplug.specs.Settled.{AllWhole, gone_whole, heir_at, offline_fault};
 
 use crate::activation::make_active;
 use core_machine::readings::hands_on;
+use core_machine::the_core_state::Core;
 use core_machine::walks::make;
-use core_state::Core;
 use core_world::Step;
 use tm_base::{CpuId, OpFault};
 use wheel_core::TimerBase;

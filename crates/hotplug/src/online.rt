@@ -2,13 +2,13 @@
 
 ghost use Rattle.std.specs.Prelude.{◌≡◌, ◌<◌, MatchResult, None, OnErr, OnOk, Some, length};
 ghost use Rattle.core_world.specs.Covered.{IsSettled};
-ghost use Rattle.step_play.specs.Rules.StepRules.{come_by_steps};
-ghost use Rattle.step_play.specs.Rules.Lone.{Reaches};
+ghost use Rattle.core_machine.specs.step_play.Rules.StepRules.{come_by_steps};
+ghost use Rattle.core_machine.specs.step_play.Rules.Lone.{Reaches};
 ghost use Rattle.hotplug.specs.Afterwards.{HasCome};
 ghost use Rattle.hotplug.specs.Settled.{AllWhole, online_fault};
 
+use core_machine::the_core_state::Core;
 use core_machine::walks::come_online;
-use core_state::Core;
 use tm_base::{CpuId, OpFault};
 use wheel_core::TimerBase;
 

@@ -8,10 +8,10 @@ use Rattle.tree_plan.specs.Paths.{group_at_of}
 use Rattle.walk_rules.specs.declared.walk.WalkKind.TheVariants as kinds
 use Rattle.core_world.specs.Enabled.{first_event}
 use Rattle.core_world.specs.World.{World}
-use Rattle.shared_rule.specs.declared.parts.PassView.{PassView}
-use Rattle.shared_rule.specs.Plays.{Agree, PartFits}
-use Rattle.shared_rule.specs.Parts.{HeldPart}
-use Rattle.shared_rule.specs.Passes.{HeldPass, IsPassIn, Seated, knowing, with_pass}
+use Rattle.walk_active.specs.shared_rule.declared.parts.PassView.{PassView}
+use Rattle.walk_active.specs.shared_rule.Plays.{Agree, PartFits}
+use Rattle.walk_active.specs.shared_rule.Parts.{HeldPart}
+use Rattle.walk_active.specs.shared_rule.Passes.{HeldPass, IsPassIn, Seated, knowing, with_pass}
 use Rattle.walk_inactive.specs.Looks.{FindsFirst}
 use Rattle.idle_wakeup.specs.declared.idling.IdleAnswer.{IdleAnswer}
 use Rattle.idle_wakeup.specs.declared.idling.IdleAnswer.TheVariants as answers

@@ -10,14 +10,14 @@ use Rattle.atomic_table.specs.Seated.{TableId}
 use Rattle.tm_base.specs.declared.faults.OpFault.TheVariants as faults
 use Rattle.core_world.specs.World.{cpu_of}
 use Rattle.cpu_word.specs.declared.state.CpuState.{CpuState}
-use Rattle.core_state.specs.Shown.{shown_cpu}
-use Rattle.shared_rule.specs.declared.parts.PassView.{PassView}
-use Rattle.shared_rule.specs.Plays.{Agree, PartFits}
-use Rattle.shared_rule.specs.Shows.{BeginsWith}
-use Rattle.shared_rule.specs.Parts.{HeldPart, without_guest}
-use Rattle.shared_rule.specs.Passes.{HeldPass, IsOfRun, IsPassIn, Seated}
-use Rattle.shared_rule.specs.Passes.{knowing, walks_of, with_pass}
-use Rattle.shared_table.specs.declared.ready.TheConstants.{MOST_MADE}
+use Rattle.walk_active.specs.core_state.Shown.{shown_cpu}
+use Rattle.walk_active.specs.shared_rule.declared.parts.PassView.{PassView}
+use Rattle.walk_active.specs.shared_rule.Plays.{Agree, PartFits}
+use Rattle.walk_active.specs.shared_rule.Shows.{BeginsWith}
+use Rattle.walk_active.specs.shared_rule.Parts.{HeldPart, without_guest}
+use Rattle.walk_active.specs.shared_rule.Passes.{HeldPass, IsOfRun, IsPassIn, Seated}
+use Rattle.walk_active.specs.shared_rule.Passes.{knowing, walks_of, with_pass}
+use Rattle.walk_active.specs.shared_table.declared.ready.TheConstants.{MOST_MADE}
 use Rattle.walk_active.specs.Activated.{IsOwnPass, activated_pass}
 use Rattle.tm_base.specs.declared.faults.OpFault.{OpFault}
 use Rattle.idle_wakeup.specs.Calls.{Renews, awake, idle_fault_of, known_journal, refusal}

@@ -6,10 +6,10 @@ use Rattle.tm_base.specs.declared.faults.OpFault.{OpFault}
 use Rattle.tm_base.specs.declared.faults.OpFault.TheVariants as faults
 use Rattle.cpu_bases.specs.declared.entry.Entry.{Entry}
 use Rattle.core_world.specs.World.{cpu_of}
-use Rattle.shared_rule.specs.declared.parts.PassView.{PassView}
-use Rattle.shared_rule.specs.Shows.{BeginsWith}
-use Rattle.shared_rule.specs.Passes.{HeldPass, Seated, knowing, with_pass}
-use Rattle.shared_table.specs.declared.ready.TheConstants.{MOST_MADE}
+use Rattle.walk_active.specs.shared_rule.declared.parts.PassView.{PassView}
+use Rattle.walk_active.specs.shared_rule.Shows.{BeginsWith}
+use Rattle.walk_active.specs.shared_rule.Passes.{HeldPass, Seated, knowing, with_pass}
+use Rattle.walk_active.specs.shared_table.declared.ready.TheConstants.{MOST_MADE}
 
 -- too many walks were begun with a pass
 abbrev pub spent : (walks : ℕ) → Option OpFault

@@ -7,10 +7,10 @@ use Rattle.tree_plan.specs.Paths.{group_at_of}
 use Rattle.walk_rules.specs.declared.walk.WalkKind.TheVariants as kinds
 use Rattle.core_world.specs.Enabled.{first_event}
 use Rattle.core_world.specs.World.{World}
-use Rattle.shared_rule.specs.declared.parts.BoxView.{BoxView}
-use Rattle.shared_rule.specs.declared.parts.Look.{Look}
-use Rattle.shared_rule.specs.declared.parts.PassView.{PassView}
-use Rattle.shared_rule.specs.Passes.{HeldPass, IsPassIn, knowing, with_pass}
+use Rattle.walk_active.specs.shared_rule.declared.parts.BoxView.{BoxView}
+use Rattle.walk_active.specs.shared_rule.declared.parts.Look.{Look}
+use Rattle.walk_active.specs.shared_rule.declared.parts.PassView.{PassView}
+use Rattle.walk_active.specs.shared_rule.Passes.{HeldPass, IsPassIn, knowing, with_pass}
 use Rattle.atomic_table.specs.Seated.{TableId}
 use Rattle.walk_inactive.specs.Ends.{leaf_of, next_of, wakeup_of}
 use Rattle.walk_inactive.specs.Looks.{FindsFirst}

@@ -3,17 +3,17 @@
 ghost use Rattle.std.specs.Prelude.{◌≡◌, ◌+◌, ◌^◌, ◌<◌, IfOk, MatchResult, None, OnErr, Some};
 ghost use Rattle.std.specs.Prelude.{false, length, suc, true};
 ghost use Rattle.core_world.specs.Enabled.{first_event};
-ghost use Rattle.shared_rule.specs.Passes.{IsOfRun, walks_of};
+ghost use Rattle.walk_active.specs.shared_rule.Passes.{IsOfRun, walks_of};
 ghost use Rattle.walk_active.specs.Activated.{IsOwnPass};
 ghost use Rattle.idle_wakeup.specs.Calls.{Renews, idle_fault_of, refusal};
 ghost use Rattle.idle_wakeup.specs.Resting.{IsAnswer, IsBoxAnswer, IsOutside};
 
 use crate::meeting::meet_own;
 use cpu_word::CpuState;
-use shared_rule::{Pass, RunName};
-use shared_table::{CpuBox, MOST_MADE, Shared};
 use std::sync::Wait;
 use tm_base::{Gate, Jiffy, OpFault};
+use walk_active::the_shared_rule::{Pass, RunName};
+use walk_active::the_shared_table::{CpuBox, MOST_MADE, Shared};
 use walk_inactive::deactivate;
 use wheel_core::TimerBase;
 

@@ -8,3 +8,6 @@ mod waking;
 
 pub use idling::{IdleAnswer, go_idle};
 pub use waking::wake;
+pub use walk_active::{
+    the_core_state, the_shared_cpus, the_shared_rule, the_shared_table, the_shared_walks,
+};

@@ -1,14 +1,14 @@
 //! A pass meets the box of its CPU.
 
 ghost use Rattle.std.specs.Prelude.{◌≡◌};
-ghost use Rattle.shared_rule.specs.declared.parts.PassView.{PassView};
-ghost use Rattle.shared_rule.specs.Plays.{Agree, PartFits};
-ghost use Rattle.shared_rule.specs.Parts.{without_guest};
-ghost use Rattle.shared_rule.specs.Passes.{IsPassIn, knowing, with_pass};
+ghost use Rattle.walk_active.specs.shared_rule.declared.parts.PassView.{PassView};
+ghost use Rattle.walk_active.specs.shared_rule.Plays.{Agree, PartFits};
+ghost use Rattle.walk_active.specs.shared_rule.Parts.{without_guest};
+ghost use Rattle.walk_active.specs.shared_rule.Passes.{IsPassIn, knowing, with_pass};
 ghost use Rattle.walk_active.specs.Activated.{IsOwnPass};
 
-use shared_rule::{Pass, Run, RunName, visit};
-use shared_table::CpuBox;
+use walk_active::the_shared_rule::{Pass, Run, RunName, visit};
+use walk_active::the_shared_table::CpuBox;
 use wheel_core::TimerBase;
 
 /// A pass goes into the box of its CPU and off again, and so the two agree, and the pass has the

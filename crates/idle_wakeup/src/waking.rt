@@ -1,17 +1,17 @@
 //! A CPU wakes.
 
 ghost use Rattle.std.specs.Prelude.{◌≡◌, ◌<◌, MatchResult, None, OnErr, OnOk, Some, length};
-ghost use Rattle.shared_rule.specs.Passes.{IsOfRun};
+ghost use Rattle.walk_active.specs.shared_rule.Passes.{IsOfRun};
 ghost use Rattle.walk_active.specs.Activated.{IsOwnPass};
 ghost use Rattle.idle_wakeup.specs.Calls.{Renews, awake, refusal, wake_fault_of};
 
 use crate::meeting::meet_own;
 use cpu_word::CpuState;
-use shared_rule::{Pass, RunName};
-use shared_table::{CpuBox, MOST_MADE, Shared};
 use std::sync::Wait;
 use tm_base::{Gate, OpFault};
 use walk_active::activate;
+use walk_active::the_shared_rule::{Pass, RunName};
+use walk_active::the_shared_table::{CpuBox, MOST_MADE, Shared};
 use wheel_core::TimerBase;
 
 /// Why a CPU that shows this, and with whose pass so many walks were begun, can't wake.

@@ -4,10 +4,10 @@ ghost use Rattle.std.specs.Prelude.{◌<◌};
 
 use crate::cases::Case;
 use crate::machines::{CPUS, EACH, Load};
-use core_state::Core;
 use core_world::Step;
 use std::alloc::Global;
-use step_core::{apply, enabled};
+use table_stress::the_core_state::Core;
+use table_stress::the_step_core::{apply, enabled};
 use tm_base::{Class, CpuId, NoMemory, TimerId};
 use wheel_base::WheelBase;
 

@@ -1,10 +1,10 @@
 //! The machines whose interrupts are timed.
 
-use core_state::Core;
 use core_world::Step;
 use std::alloc::Global;
-use step_laws::run_steps;
 use table_stress::start;
+use table_stress::the_core_state::Core;
+use table_stress::the_step_laws::run_steps;
 use tm_base::{Class, CpuId, CpuSet, NoMemory, TimerId};
 use wheel_base::WheelBase;
 

@@ -7,3 +7,4 @@
 mod moments;
 
 pub use moments::plain_moment;
+pub use story::{the_core_facts, the_play_laws};

@@ -8,14 +8,14 @@ use Rattle.tm_base.specs.declared.faults.OpFault.TheVariants as faults
 use Rattle.job_table.specs.declared.jobs.JobCall.{JobCall}
 use Rattle.job_table.specs.declared.jobs.JobReply.{JobReply}
 use Rattle.core_world.specs.World.{World}
-use Rattle.shared_rule.specs.declared.parts.PassView.{PassView}
-use Rattle.shared_rule.specs.Parts.{HeldPart}
-use Rattle.shared_rule.specs.Passes.{HeldPass, IsOfRun, Seated}
-use Rattle.shared_rule.specs.Starts.{first_pass_of}
-use Rattle.shared_table.specs.Begun.{begun_pass}
+use Rattle.shared_rows.specs.shared_rule.declared.parts.PassView.{PassView}
+use Rattle.shared_rows.specs.shared_rule.Parts.{HeldPart}
+use Rattle.shared_rows.specs.shared_rule.Passes.{HeldPass, IsOfRun, Seated}
+use Rattle.shared_rows.specs.shared_rule.Starts.{first_pass_of}
+use Rattle.shared_rows.specs.shared_table.Begun.{begun_pass}
 use Rattle.remote_expiry.specs.Runs.{Ran}
 use Rattle.remote_expiry.specs.Interrupts.{HasInterrupted, NotInterrupted, interrupt_fault}
-use Rattle.timer_calls.specs.Arms.{NotArmed}
+use Rattle.remote_expiry.specs.timer_calls.Arms.{NotArmed}
 
 -- an interrupt leaves a pass to its CPU, whatever it answers
 pub stays_its : {A : Type 0} (o : World) (jobs : ℕ → JobCall → JobReply) (p q : PassView)

@@ -4,22 +4,22 @@ ghost use Rattle.std.specs.Prelude.{◌≡◌, ◌-◌, ◌^◌, ◌<◌, ◌≤
 ghost use Rattle.tm_base.specs.declared.names.TheConstants.{TIME_LIMIT};
 ghost use Rattle.core_world.specs.Covered.{IsSettled};
 ghost use Rattle.core_world.specs.World.{cpu_of};
-ghost use Rattle.shared_rule.specs.Passes.{IsOfRun};
-ghost use Rattle.shared_table.specs.Begun.{begun_pass, begun_passes};
-ghost use Rattle.shared_table.specs.Ended.{AreAllPasses, HasNoBaseBehind};
+ghost use Rattle.shared_rows.specs.shared_rule.Passes.{IsOfRun};
+ghost use Rattle.shared_rows.specs.shared_table.Begun.{begun_pass, begun_passes};
+ghost use Rattle.shared_rows.specs.shared_table.Ended.{AreAllPasses, HasNoBaseBehind};
 
 use crate::cores::likeness;
-use core_state::Core;
 use job_table::{Job, JobTable, Jobs, OneShot};
+use remote_expiry::the_timer_calls::arm;
 use remote_expiry::{Runs, interrupt};
 use shared_rows::no_base_behind;
-use shared_rule::{Pass, RunName};
-use shared_table::{Ready, Shared};
+use shared_rows::the_core_state::Core;
+use shared_rows::the_shared_rule::{Pass, RunName};
+use shared_rows::the_shared_table::{Ready, Shared};
+use shared_rows::the_step_laws::is_settled;
 use std::alloc::Global;
 use std::marker::Brand;
 use std::sync::Wait;
-use step_laws::is_settled;
-use timer_calls::arm;
 use tm_base::{Class, FreeGate, Jiffy, NoMemory, OpFault, TimerId};
 use wheel_base::WheelBase;
 

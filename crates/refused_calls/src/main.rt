@@ -10,13 +10,13 @@ mod cores;
 
 use crate::calls::run_calls;
 use crate::cores::{likeness, machine, script};
-use core_state::Core;
 use core_world::Step;
 use shared_rows::no_base_behind;
+use shared_rows::the_core_state::Core;
+use shared_rows::the_step_laws::{StepsFault, is_settled, run_steps};
 use std::alloc::Global;
 use std::process::ExitCode;
 use std::sync::Wait;
-use step_laws::{StepsFault, is_settled, run_steps};
 use tm_base::NoMemory;
 use wheel_base::WheelBase;
 

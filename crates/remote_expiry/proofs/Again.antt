@@ -18,19 +18,19 @@ use Rattle.cpu_bases.specs.declared.entry.Entry.{Entry}
 use Rattle.cpu_bases.specs.CpuBases.{entry_of, item_queued}
 use Rattle.core_world.specs.World.{World}
 use Rattle.job_table.specs.declared.jobs.JobReply.TheVariants as replies
-use Rattle.shared_rule.specs.declared.parts.Did.{Did}
-use Rattle.shared_rule.specs.declared.parts.Deed.TheVariants as deeds
-use Rattle.shared_rule.specs.declared.parts.PassView.{PassView}
-use Rattle.shared_rule.specs.declared.parts.Receipt.{Receipt}
-use Rattle.shared_rule.specs.Parts.{HeldPart, pass_parted}
-use Rattle.shared_rule.specs.Passes.{HeldPass, IsPassIn, knowing, passes_of}
-use Rattle.shared_rule.specs.Plays.{head_pass, seen_pass}
-use Rattle.shared_rule.specs.Shows.{BeginsWith, receipt_of}
-use Rattle.shared_rule.specs.Timers.{armed_box, armed_pass}
-use Rattle.shared_rule.proofs.Visits.{knows}
-use Rattle.shared_timers.specs.declared.arming.Arming.{Arming}
-use Rattle.shared_timers.specs.Entries.{pair_changed}
-use Rattle.shared_timers.specs.Exchanging.{timer_word}
+use Rattle.walk_inactive.specs.shared_rule.declared.parts.Did.{Did}
+use Rattle.walk_inactive.specs.shared_rule.declared.parts.Deed.TheVariants as deeds
+use Rattle.walk_inactive.specs.shared_rule.declared.parts.PassView.{PassView}
+use Rattle.walk_inactive.specs.shared_rule.declared.parts.Receipt.{Receipt}
+use Rattle.walk_inactive.specs.shared_rule.Parts.{HeldPart, pass_parted}
+use Rattle.walk_inactive.specs.shared_rule.Passes.{HeldPass, IsPassIn, knowing, passes_of}
+use Rattle.walk_inactive.specs.shared_rule.Plays.{head_pass, seen_pass}
+use Rattle.walk_inactive.specs.shared_rule.Shows.{BeginsWith, receipt_of}
+use Rattle.walk_inactive.specs.shared_rule.Timers.{armed_box, armed_pass}
+use Rattle.walk_inactive.proofs.shared_rule.Visits.{knows}
+use Rattle.remote_parts.specs.shared_timers.declared.arming.Arming.{Arming}
+use Rattle.remote_parts.specs.shared_timers.Entries.{pair_changed}
+use Rattle.remote_parts.specs.shared_timers.Exchanging.{timer_word}
 use Rattle.timer_calls.specs.Arms.{HasArmed, IsQueued, MetBy, NotArmed, arming_of, met}
 use Rattle.timer_calls.specs.Arms.{roomy}
 use Rattle.remote_parts.specs.declared.runs.RanReply.TheVariants as ran

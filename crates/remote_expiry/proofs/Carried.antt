@@ -2,15 +2,15 @@
 use Rattle.std.proofs.Common.{◌≡◌, ℕ, suc, [], ◌∷◌, ◌++◌, length, refl, sym, ap, ◌∙◌, subst}
 use Rattle.std.proofs.Common.{arith}
 use Rattle.atomic_table.specs.Seated.{TableId}
-use Rattle.shared_rule.specs.declared.parts.BoxView.{BoxView}
-use Rattle.shared_rule.specs.declared.parts.Deed.TheVariants as deeds
-use Rattle.shared_rule.specs.declared.parts.PassView.{PassView}
-use Rattle.shared_rule.specs.Rule.{renewed, with_journal}
-use Rattle.shared_rule.specs.Shows.{BeginsWith}
-use Rattle.shared_rule.specs.Plays.{Agree, head_pass}
-use Rattle.shared_rule.specs.Parts.{HeldPart, pass_parted, with_guest}
-use Rattle.shared_rule.specs.Passes.{HeldPass, IsPassIn, passes_of, seated_of}
-use Rattle.shared_rule.specs.Turns.{marks_without}
+use Rattle.walk_inactive.specs.shared_rule.declared.parts.BoxView.{BoxView}
+use Rattle.walk_inactive.specs.shared_rule.declared.parts.Deed.TheVariants as deeds
+use Rattle.walk_inactive.specs.shared_rule.declared.parts.PassView.{PassView}
+use Rattle.walk_inactive.specs.shared_rule.Rule.{renewed, with_journal}
+use Rattle.walk_inactive.specs.shared_rule.Shows.{BeginsWith}
+use Rattle.walk_inactive.specs.shared_rule.Plays.{Agree, head_pass}
+use Rattle.walk_inactive.specs.shared_rule.Parts.{HeldPart, pass_parted, with_guest}
+use Rattle.walk_inactive.specs.shared_rule.Passes.{HeldPass, IsPassIn, passes_of, seated_of}
+use Rattle.walk_inactive.specs.shared_rule.Turns.{marks_without}
 use Rattle.walk_inactive.specs.Ends.{HasCarried, has_carried, next_of}
 use Rattle.remote_parts.specs.Tries.{HasUnmarked}
 use Rattle.remote_parts.proofs.Trials.{none_left, off_gains}

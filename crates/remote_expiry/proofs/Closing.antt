@@ -8,17 +8,18 @@ use Rattle.atomic_table.specs.Seated.{TableId}
 use Rattle.walk_rules.specs.declared.walk.WalkKind.TheVariants as kinds
 use Rattle.cpu_word.specs.declared.state.CpuState.{CpuState}
 use Rattle.core_world.specs.World.{World}
-use Rattle.core_state.specs.Shown.{shown_cpu}
-use Rattle.shared_rule.specs.declared.parts.BoxView.{BoxView}
-use Rattle.shared_rule.specs.declared.parts.PassView.{PassView}
-use Rattle.shared_rule.specs.Rule.{renewed, with_journal}
-use Rattle.shared_rule.specs.Shows.{BeginsWith}
-use Rattle.shared_rule.specs.Plays.{Agree, PartFits, head_pass}
-use Rattle.shared_rule.specs.Parts.{HeldPart, pass_parted, with_guest}
-use Rattle.shared_rule.specs.Passes.{HeldPass, IsPassIn, passes_of, seated_of, walks_of}
-use Rattle.shared_rule.specs.Turns.{entered_box, entered_pass}
-use Rattle.shared_cpus.specs.Pairs.{by_pair, of_box}
-use Rattle.shared_rule.specs.Free.{IsFree}
+use Rattle.walk_inactive.specs.core_state.Shown.{shown_cpu}
+use Rattle.walk_inactive.specs.shared_rule.declared.parts.BoxView.{BoxView}
+use Rattle.walk_inactive.specs.shared_rule.declared.parts.PassView.{PassView}
+use Rattle.walk_inactive.specs.shared_rule.Rule.{renewed, with_journal}
+use Rattle.walk_inactive.specs.shared_rule.Shows.{BeginsWith}
+use Rattle.walk_inactive.specs.shared_rule.Plays.{Agree, PartFits, head_pass}
+use Rattle.walk_inactive.specs.shared_rule.Parts.{HeldPart, pass_parted, with_guest}
+use Rattle.walk_inactive.specs.shared_rule.Passes.{HeldPass, IsPassIn, passes_of, seated_of}
+use Rattle.walk_inactive.specs.shared_rule.Passes.{walks_of}
+use Rattle.walk_inactive.specs.shared_rule.Turns.{entered_box, entered_pass}
+use Rattle.walk_inactive.specs.shared_cpus.Pairs.{by_pair, of_box}
+use Rattle.walk_inactive.specs.shared_rule.Free.{IsFree}
 use Rattle.walk_inactive.specs.Ends.{HasWalked, is_marked_by, reevaluated, retells_with, retold}
 use Rattle.remote_parts.specs.Interrupts.{own_walk}
 use Rattle.remote_parts.specs.Tries.{HasClosed}

@@ -12,10 +12,10 @@ use Rattle.wheel_core.specs.declared.item.Item.{Item}
 use Rattle.core_world.specs.World.{World}
 use Rattle.job_table.specs.declared.jobs.JobCall.{JobCall}
 use Rattle.job_table.specs.declared.jobs.JobReply.{JobReply}
-use Rattle.shared_rule.specs.declared.parts.Did.{Did}
-use Rattle.shared_rule.specs.declared.parts.PassView.{PassView}
-use Rattle.shared_rule.specs.declared.parts.Receipt.{Receipt}
-use Rattle.shared_rule.specs.Passes.{HeldPass, IsPassIn}
+use Rattle.walk_inactive.specs.shared_rule.declared.parts.Did.{Did}
+use Rattle.walk_inactive.specs.shared_rule.declared.parts.PassView.{PassView}
+use Rattle.walk_inactive.specs.shared_rule.declared.parts.Receipt.{Receipt}
+use Rattle.walk_inactive.specs.shared_rule.Passes.{HeldPass, IsPassIn}
 use Rattle.remote_parts.specs.declared.runs.Ran.{Ran}
 use Rattle.remote_parts.specs.Following.{Follows}
 use Rattle.remote_parts.specs.Pieces.{Piece, RanAll, RanSome}

@@ -15,11 +15,11 @@ use Rattle.tree_plan.specs.Paths.{group_at_of, level_count_of}
 use Rattle.core_world.specs.World.{World}
 use Rattle.job_table.specs.declared.jobs.JobCall.{JobCall}
 use Rattle.job_table.specs.declared.jobs.JobReply.{JobReply}
-use Rattle.shared_rule.specs.declared.parts.Deed.{Deed}
-use Rattle.shared_rule.specs.declared.parts.Deed.TheVariants as deeds
-use Rattle.shared_rule.specs.declared.parts.Did.{Did}
-use Rattle.shared_rule.specs.declared.parts.Receipt.{Receipt}
-use Rattle.shared_rule.specs.Passes.{HeldPass}
+use Rattle.walk_inactive.specs.shared_rule.declared.parts.Deed.{Deed}
+use Rattle.walk_inactive.specs.shared_rule.declared.parts.Deed.TheVariants as deeds
+use Rattle.walk_inactive.specs.shared_rule.declared.parts.Did.{Did}
+use Rattle.walk_inactive.specs.shared_rule.declared.parts.Receipt.{Receipt}
+use Rattle.walk_inactive.specs.shared_rule.Passes.{HeldPass}
 use Rattle.remote_parts.specs.declared.runs.Ran.{Ran}
 use Rattle.remote_parts.specs.Looks.{HasEnded, HasLooked, IsClosed, IsLeft, IsServed, IsTried}
 use Rattle.remote_parts.specs.Looks.{LooksFrom, saw}
@@ -28,8 +28,8 @@ use Rattle.remote_parts.specs.Tries.{AtWork, BreaksOff}
 use Rattle.remote_expiry.specs.Trying.{BreaksRound, HasClimbed, HasRounds, SeesEnd, SeesNothing}
 use Rattle.remote_expiry.specs.Trying.{TriesOne}
 use Rattle.walk_rules.specs.Hierarchy.{side}
-use Rattle.shared_cpus.specs.Pairs.{cpu_place}
-use Rattle.remote_looks.specs.Sights.{LooksBy, slot_looks, state_look}
+use Rattle.walk_inactive.specs.shared_cpus.Pairs.{cpu_place}
+use Rattle.remote_parts.specs.remote_looks.Sights.{LooksBy, slot_looks, state_look}
 use Rattle.remote_parts.proofs.Served.{deeds_behind, idle_work, still_at_work, works_break}
 use Rattle.remote_parts.proofs.Served.{works_then}
 use Rattle.remote_expiry.proofs.Counted.{count_below, few_below, more_below}

@@ -1,5 +1,6 @@
 -- what a round of a look leaves, by what the look loaded
-use Rattle.std.proofs.Common.{◌≡◌, inl, inr, ℕ, ◌+◌, ◌<◌, ◌≤◌, List, [], ◌∷◌, ◌++◌, Some, None, refl}
+use Rattle.std.proofs.Common.{◌≡◌, inl, inr, ℕ, ◌+◌, ◌<◌, ◌≤◌, List, [], ◌∷◌, ◌++◌, Some, None}
+use Rattle.std.proofs.Common.{refl}
 use Rattle.std.proofs.Common.{sym, ap, ◌∙◌, subst, length, map, arith}
 use Rattle.std.proofs.lemmas.List.{append-nil, append_assoc}
 use Rattle.std.specs.FinSet.{insert}
@@ -10,14 +11,15 @@ use Rattle.tree_plan.specs.Paths.{group_at_of}
 use Rattle.core_world.specs.World.{World}
 use Rattle.job_table.specs.declared.jobs.JobCall.{JobCall}
 use Rattle.job_table.specs.declared.jobs.JobReply.{JobReply}
-use Rattle.shared_rule.specs.declared.parts.Deed.{Deed}
-use Rattle.shared_rule.specs.declared.parts.Did.{Did}
-use Rattle.shared_rule.specs.declared.parts.Look.{Look}
-use Rattle.shared_rule.specs.declared.parts.PassView.{PassView}
-use Rattle.shared_rule.specs.Plays.{seen_pass}
-use Rattle.shared_rule.specs.Passes.{HeldPass, IsPassIn, with_pass}
-use Rattle.remote_looks.specs.Looks.{seen_all}
-use Rattle.remote_looks.specs.Sights.{IsOthers, ShowsDue, ShowsNothing, slot_looks, state_look}
+use Rattle.walk_inactive.specs.shared_rule.declared.parts.Deed.{Deed}
+use Rattle.walk_inactive.specs.shared_rule.declared.parts.Did.{Did}
+use Rattle.walk_inactive.specs.shared_rule.declared.parts.Look.{Look}
+use Rattle.walk_inactive.specs.shared_rule.declared.parts.PassView.{PassView}
+use Rattle.walk_inactive.specs.shared_rule.Plays.{seen_pass}
+use Rattle.walk_inactive.specs.shared_rule.Passes.{HeldPass, IsPassIn, with_pass}
+use Rattle.remote_parts.specs.remote_looks.Looks.{seen_all}
+use Rattle.remote_parts.specs.remote_looks.Sights.{IsOthers, ShowsDue, ShowsNothing, slot_looks}
+use Rattle.remote_parts.specs.remote_looks.Sights.{state_look}
 use Rattle.remote_parts.specs.declared.runs.Ran.{Ran}
 use Rattle.remote_parts.specs.Interrupts.{walks_by}
 use Rattle.remote_parts.specs.Looks.{IsTried, saw}

@@ -9,8 +9,8 @@ use Rattle.tree_plan.specs.Paths.{level_count_of}
 use Rattle.core_world.specs.World.{World}
 use Rattle.job_table.specs.declared.jobs.JobCall.{JobCall}
 use Rattle.job_table.specs.declared.jobs.JobReply.{JobReply}
-use Rattle.shared_rule.specs.declared.parts.Receipt.{Receipt}
-use Rattle.shared_rule.specs.Passes.{HeldPass}
+use Rattle.walk_inactive.specs.shared_rule.declared.parts.Receipt.{Receipt}
+use Rattle.walk_inactive.specs.shared_rule.Passes.{HeldPass}
 use Rattle.remote_parts.specs.declared.runs.Ran.{Ran}
 use Rattle.remote_parts.specs.Interrupts.{HasTicked}
 use Rattle.remote_parts.specs.Looks.{LooksFrom}

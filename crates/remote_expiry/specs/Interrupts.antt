@@ -10,13 +10,13 @@ use Rattle.tree_plan.specs.Paths.{level_count_of}
 use Rattle.core_world.specs.World.{World, cpu_of}
 use Rattle.job_table.specs.declared.jobs.JobCall.{JobCall}
 use Rattle.job_table.specs.declared.jobs.JobReply.{JobReply}
-use Rattle.shared_rule.specs.declared.parts.Did.{Did}
-use Rattle.shared_rule.specs.declared.parts.PassView.{PassView}
-use Rattle.shared_rule.specs.declared.parts.Receipt.{Receipt}
-use Rattle.shared_rule.specs.Passes.{HeldPass, IsPassIn}
-use Rattle.shared_rule.specs.Shows.{BeginsWith}
+use Rattle.walk_inactive.specs.shared_rule.declared.parts.Did.{Did}
+use Rattle.walk_inactive.specs.shared_rule.declared.parts.PassView.{PassView}
+use Rattle.walk_inactive.specs.shared_rule.declared.parts.Receipt.{Receipt}
+use Rattle.walk_inactive.specs.shared_rule.Passes.{HeldPass, IsPassIn}
+use Rattle.walk_inactive.specs.shared_rule.Shows.{BeginsWith}
 use Rattle.remote_parts.specs.declared.runs.Ran.{Ran}
-use Rattle.shared_table.specs.declared.ready.TheConstants.{MOST_MADE}
+use Rattle.walk_inactive.specs.shared_table.declared.ready.TheConstants.{MOST_MADE}
 use Rattle.remote_parts.specs.Following.{Follows, RunsOfSome}
 use Rattle.remote_parts.specs.Looks.{LooksFrom}
 pub use Rattle.remote_parts.specs.Interrupts.{HasTicked, KnowsOwn, own_walk, walks_by}

@@ -6,7 +6,7 @@ use Rattle.std.specs.FinSet.{insert}
 use Rattle.tm_base.specs.CpuSet.{Contains, Cpus}
 use Rattle.event_queue.specs.EventMap.{IsTakenUp, NoneFits}
 use Rattle.walk_rules.specs.Hierarchy.{side}
-use Rattle.remote_looks.specs.Sights.{LooksBy, events_in, slot_looks, state_look}
+use Rattle.remote_parts.specs.remote_looks.Sights.{LooksBy, events_in, slot_looks, state_look}
 use Rattle.remote_expiry.specs.declared.looking.Round.{Round}
 use Rattle.remote_expiry.specs.declared.looking.Round.TheVariants as rounds
 use Rattle.atomic_table.specs.Seated.{TableId}
@@ -17,11 +17,11 @@ use Rattle.tree_plan.specs.Paths.{group_at_of, level_count_of}
 use Rattle.core_world.specs.World.{World}
 use Rattle.job_table.specs.declared.jobs.JobCall.{JobCall}
 use Rattle.job_table.specs.declared.jobs.JobReply.{JobReply}
-use Rattle.shared_rule.specs.declared.parts.Deed.{Deed}
-use Rattle.shared_rule.specs.declared.parts.Did.{Did}
-use Rattle.shared_rule.specs.declared.parts.PassView.{PassView}
-use Rattle.shared_rule.specs.declared.parts.Receipt.{Receipt}
-use Rattle.shared_rule.specs.Passes.{HeldPass, IsPassIn}
+use Rattle.walk_inactive.specs.shared_rule.declared.parts.Deed.{Deed}
+use Rattle.walk_inactive.specs.shared_rule.declared.parts.Did.{Did}
+use Rattle.walk_inactive.specs.shared_rule.declared.parts.PassView.{PassView}
+use Rattle.walk_inactive.specs.shared_rule.declared.parts.Receipt.{Receipt}
+use Rattle.walk_inactive.specs.shared_rule.Passes.{HeldPass, IsPassIn}
 use Rattle.remote_parts.specs.declared.runs.Ran.{Ran}
 use Rattle.remote_parts.specs.Interrupts.{HasTicked}
 use Rattle.remote_parts.specs.Looks.{HasEnded, HasLooked, IsTried, LooksFrom, saw}

@@ -8,11 +8,11 @@ ghost use Rattle.remote_parts.specs.Pieces.{Breaks, HasDrained, HeldInside, Piec
 use crate::jobs::run_all;
 use job_table::Jobs;
 use remote_parts::{Runs, hand_all, room_for};
-use shared_rule::{Pass, Run, RunName};
-use shared_table::{CpuBox, Shared};
 use std::alloc::Global;
 use std::sync::Wait;
 use tm_base::{Class, Jiffy, NoMemory};
+use walk_inactive::the_shared_rule::{Pass, Run, RunName};
+use walk_inactive::the_shared_table::{CpuBox, Shared};
 use wheel_core::{Item, TimerBase};
 
 /// All due timers of a class go out of the box of the pass's CPU, with room for all that comes.

@@ -2,9 +2,9 @@
 
 ghost use Rattle.std.specs.Prelude.{◌≡◌, ◌-◌, ◌^◌, ◌<◌, ◌≤◌, [], MatchResult, false, length, true};
 ghost use Rattle.tm_base.specs.declared.names.TheConstants.{TIME_LIMIT};
-ghost use Rattle.shared_rule.specs.declared.parts.PassView.{PassView};
-ghost use Rattle.shared_rule.specs.Passes.{IsOfRun, IsPassIn};
-ghost use Rattle.shared_table.specs.Begun.{IsFree};
+ghost use Rattle.walk_inactive.specs.shared_rule.declared.parts.PassView.{PassView};
+ghost use Rattle.walk_inactive.specs.shared_rule.Passes.{IsOfRun, IsPassIn};
+ghost use Rattle.walk_inactive.specs.shared_table.Begun.{IsFree};
 ghost use Rattle.remote_parts.specs.Tries.{AtWork, BreaksOff, HasClosed};
 ghost use Rattle.remote_expiry.specs.Interrupts.{IsAtRest, Tells, interrupt_fault_of};
 ghost use Rattle.remote_expiry.specs.Trying.{HasDrainedAll, HasWorked, IsDone, IsEnterable};
@@ -15,13 +15,13 @@ use crate::looking::look_up;
 use cpu_word::CpuState;
 use job_table::Jobs;
 use remote_parts::{Runs, leave_part};
-use shared_cpus::enter_step;
-use shared_rule::{BoxPart, Pass, Run, RunName, bring, part_off};
-use shared_table::{CpuBox, MOST_MADE, Shared};
 use std::alloc::Global;
 use std::sync::Wait;
 use tm_base::{Class, Gate, Jiffy, NoMemory, OpFault};
 use walk_inactive::carry;
+use walk_inactive::the_shared_cpus::enter_step;
+use walk_inactive::the_shared_rule::{BoxPart, Pass, Run, RunName, bring, part_off};
+use walk_inactive::the_shared_table::{CpuBox, MOST_MADE, Shared};
 use wheel_core::TimerBase;
 
 /// Why a CPU that shows this, and with whose pass so many walks were begun, has no interrupt.

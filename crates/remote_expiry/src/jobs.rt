@@ -8,11 +8,11 @@ ghost use Rattle.remote_expiry.specs.Running.{holder_told};
 
 use job_table::{JobCall, JobReply, Jobs};
 use remote_parts::{Ran, RanReply, Runs};
-use shared_rule::{Pass, RunName};
-use shared_table::Shared;
 use std::sync::Wait;
 use timer_calls::arm;
 use tm_base::{Class, CpuId, Jiffy, NoMemory, OpFault, TimerId};
+use walk_inactive::the_shared_rule::{Pass, RunName};
+use walk_inactive::the_shared_table::Shared;
 use wheel_core::{Item, TimerBase};
 
 /// The CPU on which a timer was found queued that was to be armed.

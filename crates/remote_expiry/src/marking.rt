@@ -1,15 +1,15 @@
 //! A CPU carries the next event of one that it has marked upwards.
 
 ghost use Rattle.std.specs.Prelude.{◌≡◌, ℕ, ◌∷◌, [], true};
-ghost use Rattle.shared_rule.specs.declared.parts.Deed.TheVariants as deeds;
-ghost use Rattle.shared_table.specs.Begun.{IsFree};
+ghost use Rattle.walk_inactive.specs.shared_rule.declared.parts.Deed.TheVariants as deeds;
+ghost use Rattle.walk_inactive.specs.shared_table.Begun.{IsFree};
 ghost use Rattle.remote_parts.specs.Tries.{AtWork, HasUnmarked};
 
-use shared_rule::{BoxPart, Pass, RunName, bring, part_off};
-use shared_table::Shared;
 use std::sync::Wait;
 use tm_base::{Gate, Point};
 use walk_inactive::carry;
+use walk_inactive::the_shared_rule::{BoxPart, Pass, RunName, bring, part_off};
+use walk_inactive::the_shared_table::Shared;
 use wheel_core::TimerBase;
 
 /// The CPU of the pass carries the next event of that of the part, which still sleeps, upwards, and

@@ -4,8 +4,8 @@ ghost use Rattle.std.specs.Prelude.{◌≡◌, ◌-◌, ◌^◌, ◌≤◌, ◌�
 ghost use Rattle.tm_base.specs.declared.names.TheConstants.{TIME_LIMIT};
 ghost use Rattle.tree_plan.specs.Paths.{is_placed_in};
 ghost use Rattle.walk_rules.specs.Hierarchy.{HasGroup};
-ghost use Rattle.shared_rule.specs.Slots.{IsGrouped};
-ghost use Rattle.shared_table.specs.Begun.{IsFree};
+ghost use Rattle.walk_inactive.specs.shared_rule.Slots.{IsGrouped};
+ghost use Rattle.walk_inactive.specs.shared_table.Begun.{IsFree};
 ghost use Rattle.remote_parts.specs.Pieces.{Piece};
 ghost use Rattle.remote_parts.specs.Tries.{AtWork, BreaksOff, HasLetGo, HasTried, IsRunnable};
 ghost use Rattle.remote_parts.specs.Tries.{TakesOrLeaves};
@@ -13,13 +13,13 @@ ghost use Rattle.remote_parts.specs.Tries.{TakesOrLeaves};
 use crate::jobs::run_all;
 use crate::marking::carry_for;
 use job_table::Jobs;
-use remote_looks::may_take;
+use remote_parts::the_remote_looks::may_take;
 use remote_parts::{Runs, take_back, take_part};
-use shared_rule::{BoxPart, Pass, Run, RunName};
-use shared_table::{CpuBox, Shared};
 use std::alloc::Global;
 use std::sync::Wait;
 use tm_base::{CpuId, Gate, Jiffy, NoMemory};
+use walk_inactive::the_shared_rule::{BoxPart, Pass, Run, RunName};
+use walk_inactive::the_shared_table::{CpuBox, Shared};
 use wheel_core::{Item, TimerBase};
 
 /// The CPU of the pass marks that of the box, where that may be, and takes all that is due out of

@@ -3,11 +3,11 @@ use Rattle.std.proofs.Common.{◌≡◌, ℕ, List, [], ◌∷◌, ◌++◌, Opt
 use Rattle.std.specs.Prelude.{option_map}
 use Rattle.atomic_table.specs.Seated.{TableId}
 use Rattle.core_world.specs.World.{World}
-use Rattle.shared_rule.specs.declared.parts.Look.{Look}
-use Rattle.shared_rule.specs.declared.parts.PassView.{PassView}
-use Rattle.shared_rule.specs.Plays.{seen_pass}
-use Rattle.shared_rule.specs.Rule.{Each}
-use Rattle.shared_rule.specs.Passes.{HeldPass, IsOfRun, Seated, with_pass}
+use Rattle.shared_cpus.specs.shared_rule.declared.parts.Look.{Look}
+use Rattle.shared_cpus.specs.shared_rule.declared.parts.PassView.{PassView}
+use Rattle.shared_cpus.specs.shared_rule.Plays.{seen_pass}
+use Rattle.shared_cpus.specs.shared_rule.Rule.{Each}
+use Rattle.shared_cpus.specs.shared_rule.Passes.{HeldPass, IsOfRun, Seated, with_pass}
 use Rattle.remote_looks.specs.Looks.{IsPassOf, seen_all}
 
 -- a seat whose pass changes

@@ -9,12 +9,12 @@ use Rattle.event_queue.specs.Word.{slot_of}
 use Rattle.tree_plan.specs.Paths.{group_at_of}
 use Rattle.walk_rules.specs.Hierarchy.{HasGroup}
 use Rattle.core_world.specs.World.{World}
-use Rattle.core_state.specs.Shown.{as_cpu}
-use Rattle.shared_rule.specs.declared.parts.BoxView.{BoxView}
-use Rattle.shared_rule.specs.declared.parts.PassView.{PassView}
-use Rattle.shared_rule.specs.Plays.{head_pass, seen_pass}
-use Rattle.shared_rule.specs.Whole.{own_word}
-use Rattle.shared_rule.specs.Parts.{HasGuest, HeldPart, without_guest}
+use Rattle.shared_cpus.specs.core_state.Shown.{as_cpu}
+use Rattle.shared_cpus.specs.shared_rule.declared.parts.BoxView.{BoxView}
+use Rattle.shared_cpus.specs.shared_rule.declared.parts.PassView.{PassView}
+use Rattle.shared_cpus.specs.shared_rule.Plays.{head_pass, seen_pass}
+use Rattle.shared_cpus.specs.shared_rule.Whole.{own_word}
+use Rattle.shared_cpus.specs.shared_rule.Parts.{HasGuest, HeldPart, without_guest}
 use Rattle.shared_cpus.specs.Conditions.{IsDueThere}
 use Rattle.shared_cpus.specs.Pairs.{HasOne, box_by, cpu_place, leaf_place, with_seen}
 use Rattle.remote_looks.specs.Marks.{IsNoticed, cpu_seen, leaf_seen}

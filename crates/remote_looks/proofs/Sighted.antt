@@ -12,11 +12,11 @@ use Rattle.tm_base.specs.CpuSet.{Cpus}
 use Rattle.tree_plan.specs.Paths.{group_at_of}
 use Rattle.walk_rules.specs.Hierarchy.{side}
 use Rattle.core_world.specs.World.{World}
-use Rattle.shared_rule.specs.declared.parts.Look.{Look}
-use Rattle.shared_rule.specs.declared.parts.PassView.{PassView}
-use Rattle.shared_rule.specs.Plays.{seen_pass}
-use Rattle.shared_rule.specs.Slots.{IsGrouped}
-use Rattle.shared_rule.specs.Passes.{HeldPass, IsOfRun, IsPassIn, Seated, with_pass}
+use Rattle.shared_cpus.specs.shared_rule.declared.parts.Look.{Look}
+use Rattle.shared_cpus.specs.shared_rule.declared.parts.PassView.{PassView}
+use Rattle.shared_cpus.specs.shared_rule.Plays.{seen_pass}
+use Rattle.shared_cpus.specs.shared_rule.Slots.{IsGrouped}
+use Rattle.shared_cpus.specs.shared_rule.Passes.{HeldPass, IsOfRun, IsPassIn, Seated, with_pass}
 use Rattle.remote_looks.specs.Looks.{seen_all}
 use Rattle.remote_looks.specs.Sights.{HasSeenGroup, HasSeenSlot, HasSeenSlots, LooksBy}
 use Rattle.remote_looks.specs.Sights.{NothingBelow, ShowsDue, ShowsNothing, events_in, slot_look}

@@ -2,10 +2,10 @@
 use Rattle.std.specs.Prelude.{◌≡◌, List, [], ◌∷◌}
 use Rattle.atomic_table.specs.Seated.{TableId}
 use Rattle.core_world.specs.World.{World}
-use Rattle.shared_rule.specs.declared.parts.Look.{Look}
-use Rattle.shared_rule.specs.declared.parts.PassView.{PassView}
-use Rattle.shared_rule.specs.Plays.{seen_pass}
-use Rattle.shared_rule.specs.Passes.{HeldPass, IsPassIn}
+use Rattle.shared_cpus.specs.shared_rule.declared.parts.Look.{Look}
+use Rattle.shared_cpus.specs.shared_rule.declared.parts.PassView.{PassView}
+use Rattle.shared_cpus.specs.shared_rule.Plays.{seen_pass}
+use Rattle.shared_cpus.specs.shared_rule.Passes.{HeldPass, IsPassIn}
 
 -- a pass of the run, which began with this core
 pub record IsPassOf (table : TableId) (o : World) (held : HeldPass) : Type 0 where

@@ -4,10 +4,10 @@ use Rattle.atomic_table.specs.Seated.{TableId}
 use Rattle.event_queue.specs.Word.{slot_of}
 use Rattle.tree_plan.specs.Paths.{group_at_of}
 use Rattle.walk_rules.specs.Hierarchy.{HasGroup}
-use Rattle.shared_rule.specs.declared.parts.BoxView.{BoxView}
-use Rattle.shared_rule.specs.Whole.{own_word}
-use Rattle.shared_rule.specs.Parts.{HeldPart, pass_parted, with_guest}
-use Rattle.shared_rule.specs.Passes.{HeldPass}
+use Rattle.shared_cpus.specs.shared_rule.declared.parts.BoxView.{BoxView}
+use Rattle.shared_cpus.specs.shared_rule.Whole.{own_word}
+use Rattle.shared_cpus.specs.shared_rule.Parts.{HeldPart, pass_parted, with_guest}
+use Rattle.shared_cpus.specs.shared_rule.Passes.{HeldPass}
 use Rattle.shared_cpus.specs.Conditions.{IsDueThere}
 use Rattle.shared_cpus.specs.Pairs.{cpu_place, leaf_place, with_seen}
 

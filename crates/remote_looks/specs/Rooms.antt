@@ -2,7 +2,7 @@
 use Rattle.std.specs.Prelude.{ℕ, ◌+◌, length}
 use Rattle.tm_base.specs.declared.names.Class.{Class}
 use Rattle.cpu_bases.specs.CpuBases.{base_of, with_room}
-use Rattle.shared_rule.specs.Parts.{HeldPart}
+use Rattle.shared_cpus.specs.shared_rule.Parts.{HeldPart}
 
 -- a part with memory for so many timers more in each base, and for so many entries more
 abbrev pub with_more_room : (timers entries : ℕ) → HeldPart → HeldPart

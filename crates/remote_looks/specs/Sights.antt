@@ -16,12 +16,12 @@ use Rattle.tree_plan.specs.Paths.{group_at_of, level_count_of}
 use Rattle.walk_rules.specs.Hierarchy.{side}
 use Rattle.core_world.specs.World.{World}
 use Rattle.shared_words.specs.Layout.{index_of}
-use Rattle.shared_rule.specs.declared.parts.Look as loads
-use Rattle.shared_rule.specs.declared.parts.PassView.{PassView}
-use Rattle.shared_rule.specs.Plays.{seen_pass}
-use Rattle.shared_rule.specs.Slots.{IsGrouped}
-use Rattle.shared_rule.specs.Whole.{layout_of, slot_at, state_at}
-use Rattle.shared_rule.specs.Passes.{HeldPass, IsPassIn, with_pass}
+use Rattle.shared_cpus.specs.shared_rule.declared.parts.Look as loads
+use Rattle.shared_cpus.specs.shared_rule.declared.parts.PassView.{PassView}
+use Rattle.shared_cpus.specs.shared_rule.Plays.{seen_pass}
+use Rattle.shared_cpus.specs.shared_rule.Slots.{IsGrouped}
+use Rattle.shared_cpus.specs.shared_rule.Whole.{layout_of, slot_at, state_at}
+use Rattle.shared_cpus.specs.shared_rule.Passes.{HeldPass, IsPassIn, with_pass}
 use Rattle.remote_looks.specs.declared.sight.Look.{Look}
 use Rattle.remote_looks.specs.declared.sight.Look.TheVariants as answers
 use Rattle.remote_looks.specs.Looks.{seen_all}

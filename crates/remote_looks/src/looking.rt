@@ -2,14 +2,14 @@
 
 ghost use Rattle.std.specs.Prelude.{◌≡◌, ◌<◌, true, false, length};
 ghost use Rattle.shared_words.specs.Exchanges.{HasRoom};
-ghost use Rattle.shared_rule.specs.Passes.{IsOfRun};
+ghost use Rattle.shared_cpus.specs.shared_rule.Passes.{IsOfRun};
 ghost use Rattle.remote_looks.specs.Sights.{HasLooked, LooksBy, NeedsRemote, OtherBy};
 
 use crate::path::{group_at, side_on};
 use crate::sight::Look;
 use crate::slots::see_events;
 use group_word::{looks, unpack};
-use shared_rule::{Pass, Run, RunName};
+use shared_cpus::the_shared_rule::{Pass, Run, RunName};
 use tm_base::{CpuSet, Jiffy};
 use wheel_core::TimerBase;
 

@@ -3,17 +3,17 @@
 ghost use Rattle.std.specs.Prelude.{◌≡◌, ◌↔◌, ◌≤◌, Some, [], true, IsTrue};
 ghost use Rattle.event_queue.specs.declared.event.Event.{Event};
 ghost use Rattle.event_queue.specs.EventMap.{Counts};
-ghost use Rattle.shared_rule.specs.declared.parts.PassView.{PassView};
-ghost use Rattle.shared_rule.specs.Plays.{Agree};
-ghost use Rattle.shared_rule.specs.Parts.{without_guest};
-ghost use Rattle.shared_rule.specs.Passes.{IsOfRun, IsPassIn};
+ghost use Rattle.shared_cpus.specs.shared_rule.declared.parts.PassView.{PassView};
+ghost use Rattle.shared_cpus.specs.shared_rule.Plays.{Agree};
+ghost use Rattle.shared_cpus.specs.shared_rule.Parts.{without_guest};
+ghost use Rattle.shared_cpus.specs.shared_rule.Passes.{IsOfRun, IsPassIn};
 ghost use Rattle.shared_cpus.specs.Pairs.{HasOne};
 ghost use Rattle.remote_looks.specs.Marks.{HasNoticed, IsNoticed, IsTakable};
 
 use crate::path::group_at;
 use event_queue::Event;
+use shared_cpus::the_shared_rule::{BoxPart, Pass, Run, RunName, bring, part_off};
 use shared_cpus::{see_cpu, see_leaf};
-use shared_rule::{BoxPart, Pass, Run, RunName, bring, part_off};
 use tm_base::Jiffy;
 use wheel_core::TimerBase;
 

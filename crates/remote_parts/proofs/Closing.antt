@@ -6,18 +6,20 @@ use Rattle.std.proofs.lemmas.List.Elements.{Contains-push}
 use Rattle.atomic_table.specs.Seated.{TableId}
 use Rattle.tree_plan.specs.Paths.{is_placed_in}
 use Rattle.core_world.specs.World.{World, cpu_of}
-use Rattle.shared_rule.specs.declared.parts.BoxView.{BoxView}
-use Rattle.shared_rule.specs.declared.parts.PassView.{PassView}
-use Rattle.shared_rule.specs.Rule.{Each, with_journal}
-use Rattle.shared_rule.specs.Plays.{Agree, PartFits, head_pass}
-use Rattle.shared_rule.specs.Parts.{HasGuest, HeldPart, pass_parted, with_guest, without_guest}
-use Rattle.shared_rule.specs.Passes.{HeldPass, IsPassIn, away, passes_of}
-use Rattle.shared_rule.specs.Turns.{outside_box, outside_pass}
-use Rattle.shared_rule.proofs.Visits as visits
-use Rattle.shared_cpus.specs.Conditions.{CanCarry, CanEnter, CanLeave, CanRelease, CanRetell}
-use Rattle.shared_cpus.specs.Conditions.{CanTake, IsTurn}
-use Rattle.shared_cpus.specs.Pairs.{box_by, by_pair, of_box}
-use Rattle.shared_rule.specs.Free.{HasNoneBehind, IsFree}
+use Rattle.shared_timers.specs.shared_rule.declared.parts.BoxView.{BoxView}
+use Rattle.shared_timers.specs.shared_rule.declared.parts.PassView.{PassView}
+use Rattle.shared_timers.specs.shared_rule.Rule.{Each, with_journal}
+use Rattle.shared_timers.specs.shared_rule.Plays.{Agree, PartFits, head_pass}
+use Rattle.shared_timers.specs.shared_rule.Parts.{HasGuest, HeldPart, pass_parted, with_guest}
+use Rattle.shared_timers.specs.shared_rule.Parts.{without_guest}
+use Rattle.shared_timers.specs.shared_rule.Passes.{HeldPass, IsPassIn, away, passes_of}
+use Rattle.shared_timers.specs.shared_rule.Turns.{outside_box, outside_pass}
+use Rattle.shared_timers.proofs.shared_rule.Visits as visits
+use Rattle.remote_looks.specs.shared_cpus.Conditions.{CanCarry, CanEnter, CanLeave, CanRelease}
+use Rattle.remote_looks.specs.shared_cpus.Conditions.{CanRetell}
+use Rattle.remote_looks.specs.shared_cpus.Conditions.{CanTake, IsTurn}
+use Rattle.remote_looks.specs.shared_cpus.Pairs.{box_by, by_pair, of_box}
+use Rattle.shared_timers.specs.shared_rule.Free.{HasNoneBehind, IsFree}
 use Rattle.remote_looks.specs.Marks.{IsTakable}
 use Rattle.remote_parts.specs.Interrupts.{own_walk}
 use Rattle.remote_parts.specs.Pieces.{IsInside}

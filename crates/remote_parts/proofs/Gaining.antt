@@ -8,13 +8,13 @@ use Rattle.std.proofs.lemmas.Option.{same_Some}
 use Rattle.atomic_table.specs.Seated.{TableId}
 use Rattle.cpu_bases.specs.declared.entry.Entry.{Entry}
 use Rattle.core_world.specs.World.{World, cpu_of}
-use Rattle.shared_rule.specs.declared.parts.Deed.{Deed}
-use Rattle.shared_rule.specs.declared.parts.Deed.TheVariants as deeds
-use Rattle.shared_rule.specs.declared.parts.Did.{Did}
-use Rattle.shared_rule.specs.declared.parts.PassView.{PassView}
-use Rattle.shared_rule.specs.declared.parts.Receipt.{Receipt}
-use Rattle.shared_rule.specs.Passes.{HeldPass, IsPassIn, Seated}
-use Rattle.shared_rule.specs.Shows.{BeginsWith}
+use Rattle.shared_timers.specs.shared_rule.declared.parts.Deed.{Deed}
+use Rattle.shared_timers.specs.shared_rule.declared.parts.Deed.TheVariants as deeds
+use Rattle.shared_timers.specs.shared_rule.declared.parts.Did.{Did}
+use Rattle.shared_timers.specs.shared_rule.declared.parts.PassView.{PassView}
+use Rattle.shared_timers.specs.shared_rule.declared.parts.Receipt.{Receipt}
+use Rattle.shared_timers.specs.shared_rule.Passes.{HeldPass, IsPassIn, Seated}
+use Rattle.shared_timers.specs.shared_rule.Shows.{BeginsWith}
 use Rattle.remote_parts.specs.Interrupts.{KnowsOwn, walks_by}
 use Rattle.remote_parts.specs.Pieces.{Gains, HeldInside, Piece, deeds_of}
 

@@ -19,12 +19,12 @@ use Rattle.cpu_bases.specs.CpuBases.{ticked_entry, written}
 use Rattle.cpu_bases.specs.Laws as laws
 use Rattle.cpu_bases.proofs.Queued.{queued_once}
 use Rattle.core_world.specs.World.{World}
-use Rattle.shared_rule.specs.declared.parts.PassView.{PassView}
-use Rattle.shared_rule.specs.declared.parts.Receipt.{Receipt}
-use Rattle.shared_rule.specs.Parts.{HeldPart}
-use Rattle.shared_rule.specs.Plays.{PartFits}
-use Rattle.shared_rule.specs.Shows.{receipt_of}
-use Rattle.shared_rule.specs.Turns.{MayRunOf}
+use Rattle.shared_timers.specs.shared_rule.declared.parts.PassView.{PassView}
+use Rattle.shared_timers.specs.shared_rule.declared.parts.Receipt.{Receipt}
+use Rattle.shared_timers.specs.shared_rule.Parts.{HeldPart}
+use Rattle.shared_timers.specs.shared_rule.Plays.{PartFits}
+use Rattle.shared_timers.specs.shared_rule.Shows.{receipt_of}
+use Rattle.shared_timers.specs.shared_rule.Turns.{MayRunOf}
 use Rattle.shared_timers.specs.Draining.{MayDrain, drained_part, out_noted}
 use Rattle.shared_timers.specs.Entries.{pair_changed}
 use Rattle.remote_parts.specs.Handing.{ArePlaced, Drains, HandsEach, HandsNone, HandsOne}

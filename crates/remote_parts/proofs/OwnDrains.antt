@@ -10,12 +10,12 @@ use Rattle.wheel_core.specs.declared.item.Item.{Item}
 use Rattle.core_world.specs.World.{World}
 use Rattle.job_table.specs.declared.jobs.JobCall.{JobCall}
 use Rattle.job_table.specs.declared.jobs.JobReply.{JobReply}
-use Rattle.shared_rule.specs.declared.parts.BoxView.{BoxView}
-use Rattle.shared_rule.specs.declared.parts.PassView.{PassView}
-use Rattle.shared_rule.specs.declared.parts.Receipt.{Receipt}
-use Rattle.shared_rule.specs.Passes.{HeldPass, IsPassIn}
-use Rattle.shared_rule.specs.Plays.{Agree}
-use Rattle.shared_rule.specs.Turns.{MayRunOf}
+use Rattle.shared_timers.specs.shared_rule.declared.parts.BoxView.{BoxView}
+use Rattle.shared_timers.specs.shared_rule.declared.parts.PassView.{PassView}
+use Rattle.shared_timers.specs.shared_rule.declared.parts.Receipt.{Receipt}
+use Rattle.shared_timers.specs.shared_rule.Passes.{HeldPass, IsPassIn}
+use Rattle.shared_timers.specs.shared_rule.Plays.{Agree}
+use Rattle.shared_timers.specs.shared_rule.Turns.{MayRunOf}
 use Rattle.remote_parts.specs.declared.runs.Ran.{Ran}
 use Rattle.remote_parts.specs.Following.{Follows, RunsOfSome}
 use Rattle.remote_parts.specs.Handing.{HasHanded}

@@ -13,16 +13,18 @@ use Rattle.wheel_core.specs.PlainBase.{NoneBehind}
 use Rattle.cpu_bases.specs.CpuBases.{CpuBases, base_of}
 use Rattle.atomic_table.specs.Seated.{TableId}
 use Rattle.core_world.specs.World.{World}
-use Rattle.shared_rule.specs.declared.parts.PassView.{PassView}
-use Rattle.shared_rule.specs.declared.parts.Receipt.{Receipt}
-use Rattle.shared_rule.specs.Rule.{Each, renewed, with_journal}
-use Rattle.shared_rule.proofs.Visits.{agrees}
-use Rattle.shared_rule.specs.Parts.{HasGuest, HeldPart, pass_parted, with_guest, without_guest}
-use Rattle.shared_rule.specs.Passes.{HeldPass, IsPassIn, Seated, passes_of, receipts_of, seated_of}
-use Rattle.shared_rule.specs.Plays.{Agree}
-use Rattle.shared_rule.specs.Shows.{BeginsWith}
-use Rattle.shared_rule.specs.Turns.{MayRunOf}
-use Rattle.shared_rule.specs.Free.{HasNoneBehind}
+use Rattle.shared_timers.specs.shared_rule.declared.parts.PassView.{PassView}
+use Rattle.shared_timers.specs.shared_rule.declared.parts.Receipt.{Receipt}
+use Rattle.shared_timers.specs.shared_rule.Rule.{Each, renewed, with_journal}
+use Rattle.shared_timers.proofs.shared_rule.Visits.{agrees}
+use Rattle.shared_timers.specs.shared_rule.Parts.{HasGuest, HeldPart, pass_parted, with_guest}
+use Rattle.shared_timers.specs.shared_rule.Parts.{without_guest}
+use Rattle.shared_timers.specs.shared_rule.Passes.{HeldPass, IsPassIn, Seated, passes_of}
+use Rattle.shared_timers.specs.shared_rule.Passes.{receipts_of, seated_of}
+use Rattle.shared_timers.specs.shared_rule.Plays.{Agree}
+use Rattle.shared_timers.specs.shared_rule.Shows.{BeginsWith}
+use Rattle.shared_timers.specs.shared_rule.Turns.{MayRunOf}
+use Rattle.shared_timers.specs.shared_rule.Free.{HasNoneBehind}
 use Rattle.remote_parts.specs.Handing.{Drains, HandsEach, MayHandEach, with_receipts}
 use Rattle.remote_parts.specs.Interrupts.{KnowsOwn}
 use Rattle.remote_parts.specs.Pieces.{HandsOut, HasDrainRoom, IsTimerOf, Piece, but_for_bases}

@@ -6,7 +6,8 @@ use Rattle.std.proofs.Common.{subst, subst₂, suc, arith, length-append}
 use Rattle.std.proofs.Common.{Bool, true, false, length}
 use Rattle.std.specs.Prelude.{MatchResult, not}
 use Rattle.std.proofs.lemmas.List.{append-nil, append_assoc, map-append}
-use Rattle.std.proofs.lemmas.List.Elements.{Contains-append_left, Contains-append_right, Contains-push}
+use Rattle.std.proofs.lemmas.List.Elements.{Contains-append_left, Contains-append_right}
+use Rattle.std.proofs.lemmas.List.Elements.{Contains-push}
 use Rattle.atomic_table.specs.Seated.{TableId}
 use Rattle.tm_base.specs.declared.names.Class.{Class}
 use Rattle.tm_base.specs.declared.names.Class.TheVariants.{Global}
@@ -18,12 +19,12 @@ use Rattle.cpu_bases.specs.declared.entry.Act.TheVariants.{MovedOut, Ticked}
 use Rattle.core_world.specs.World.{World, cpu_of}
 use Rattle.job_table.specs.declared.jobs.JobCall.{JobCall}
 use Rattle.job_table.specs.declared.jobs.JobReply.{JobReply}
-use Rattle.shared_rule.specs.declared.parts.Deed.{Deed}
-use Rattle.shared_rule.specs.declared.parts.Deed.TheVariants as deeds
-use Rattle.shared_rule.specs.declared.parts.Did.{Did}
-use Rattle.shared_rule.specs.declared.parts.PassView.{PassView}
-use Rattle.shared_rule.specs.declared.parts.Receipt.{Receipt}
-use Rattle.shared_rule.specs.Passes.{HeldPass}
+use Rattle.shared_timers.specs.shared_rule.declared.parts.Deed.{Deed}
+use Rattle.shared_timers.specs.shared_rule.declared.parts.Deed.TheVariants as deeds
+use Rattle.shared_timers.specs.shared_rule.declared.parts.Did.{Did}
+use Rattle.shared_timers.specs.shared_rule.declared.parts.PassView.{PassView}
+use Rattle.shared_timers.specs.shared_rule.declared.parts.Receipt.{Receipt}
+use Rattle.shared_timers.specs.shared_rule.Passes.{HeldPass}
 use Rattle.remote_parts.specs.declared.runs.Ran.{Ran}
 use Rattle.remote_parts.specs.Following.{Follows, FollowsArmed, FollowsBy, FollowsOut, Owed}
 use Rattle.remote_parts.specs.Following.{RunsOfSome}

@@ -10,19 +10,19 @@ use Rattle.wheel_core.specs.declared.item.Item.{Item}
 use Rattle.cpu_bases.specs.CpuBases.{CpuBases, Room, base_of}
 use Rattle.walk_rules.specs.Hierarchy.{HasGroup}
 use Rattle.core_world.specs.World.{World}
-use Rattle.core_state.specs.Shown.{shown_cpu}
-use Rattle.shared_rule.specs.declared.parts.BoxView.{BoxView}
-use Rattle.shared_rule.specs.declared.parts.Deed.{Deed}
-use Rattle.shared_rule.specs.declared.parts.Deed.TheVariants as deeds
-use Rattle.shared_rule.specs.declared.parts.Did.{Did}
-use Rattle.shared_rule.specs.declared.parts.PassView.{PassView}
-use Rattle.shared_rule.specs.declared.parts.Receipt.{Receipt}
-use Rattle.shared_rule.specs.Parts.{HeldPart}
-use Rattle.shared_rule.specs.Passes.{HeldPass, IsPassIn, receipts_of}
-use Rattle.shared_rule.specs.Plays.{Agree, PartFits}
-use Rattle.shared_rule.specs.Turns.{MayRunOf}
-use Rattle.shared_rule.specs.Whole.{own_word}
-use Rattle.shared_cpus.specs.Pairs.{cpu_place}
+use Rattle.shared_timers.specs.core_state.Shown.{shown_cpu}
+use Rattle.shared_timers.specs.shared_rule.declared.parts.BoxView.{BoxView}
+use Rattle.shared_timers.specs.shared_rule.declared.parts.Deed.{Deed}
+use Rattle.shared_timers.specs.shared_rule.declared.parts.Deed.TheVariants as deeds
+use Rattle.shared_timers.specs.shared_rule.declared.parts.Did.{Did}
+use Rattle.shared_timers.specs.shared_rule.declared.parts.PassView.{PassView}
+use Rattle.shared_timers.specs.shared_rule.declared.parts.Receipt.{Receipt}
+use Rattle.shared_timers.specs.shared_rule.Parts.{HeldPart}
+use Rattle.shared_timers.specs.shared_rule.Passes.{HeldPass, IsPassIn, receipts_of}
+use Rattle.shared_timers.specs.shared_rule.Plays.{Agree, PartFits}
+use Rattle.shared_timers.specs.shared_rule.Turns.{MayRunOf}
+use Rattle.shared_timers.specs.shared_rule.Whole.{own_word}
+use Rattle.remote_looks.specs.shared_cpus.Pairs.{cpu_place}
 use Rattle.remote_looks.specs.Marks.{IsTakable}
 use Rattle.remote_parts.specs.Looks.{IsLeft}
 use Rattle.remote_parts.specs.Pieces.{Gains, HandsOut, HasDrainRoom, Piece, deeds_of}

@@ -23,22 +23,23 @@ use Rattle.cpu_bases.specs.declared.entry.Entry.{Entry}
 use Rattle.tree_plan.specs.Paths.{group_at_of}
 use Rattle.walk_rules.specs.Hierarchy.{HasGroup}
 use Rattle.core_world.specs.World.{World}
-use Rattle.core_state.specs.Shown.{as_cpu, shown_cpu}
-use Rattle.shared_rule.specs.declared.parts.BoxView.{BoxView}
-use Rattle.shared_rule.specs.declared.parts.Deed.{Deed}
-use Rattle.shared_rule.specs.declared.parts.Deed.TheVariants as deeds
-use Rattle.shared_rule.specs.declared.parts.Did.{Did}
-use Rattle.shared_rule.specs.declared.parts.PassView.{PassView}
-use Rattle.shared_rule.specs.declared.parts.Receipt.{Receipt}
-use Rattle.shared_rule.specs.Rule.{with_journal}
-use Rattle.shared_rule.specs.Shows.{BeginsWith}
-use Rattle.shared_rule.specs.Whole.{own_word}
-use Rattle.shared_rule.specs.Plays.{Agree, PartFits, seen_pass}
-use Rattle.shared_rule.specs.Parts.{HeldPart, pass_parted, with_guest}
-use Rattle.shared_rule.specs.Passes.{HeldPass, IsPassIn}
-use Rattle.shared_rule.specs.Turns.{marks_without, released_box, released_pass, taken_box}
-use Rattle.shared_rule.specs.Turns.{taken_pass}
-use Rattle.shared_cpus.specs.Pairs.{by_pair, cpu_place, leaf_place}
+use Rattle.shared_timers.specs.core_state.Shown.{as_cpu, shown_cpu}
+use Rattle.shared_timers.specs.shared_rule.declared.parts.BoxView.{BoxView}
+use Rattle.shared_timers.specs.shared_rule.declared.parts.Deed.{Deed}
+use Rattle.shared_timers.specs.shared_rule.declared.parts.Deed.TheVariants as deeds
+use Rattle.shared_timers.specs.shared_rule.declared.parts.Did.{Did}
+use Rattle.shared_timers.specs.shared_rule.declared.parts.PassView.{PassView}
+use Rattle.shared_timers.specs.shared_rule.declared.parts.Receipt.{Receipt}
+use Rattle.shared_timers.specs.shared_rule.Rule.{with_journal}
+use Rattle.shared_timers.specs.shared_rule.Shows.{BeginsWith}
+use Rattle.shared_timers.specs.shared_rule.Whole.{own_word}
+use Rattle.shared_timers.specs.shared_rule.Plays.{Agree, PartFits, seen_pass}
+use Rattle.shared_timers.specs.shared_rule.Parts.{HeldPart, pass_parted, with_guest}
+use Rattle.shared_timers.specs.shared_rule.Passes.{HeldPass, IsPassIn}
+use Rattle.shared_timers.specs.shared_rule.Turns.{marks_without, released_box, released_pass}
+use Rattle.shared_timers.specs.shared_rule.Turns.{taken_box}
+use Rattle.shared_timers.specs.shared_rule.Turns.{taken_pass}
+use Rattle.remote_looks.specs.shared_cpus.Pairs.{by_pair, cpu_place, leaf_place}
 use Rattle.remote_looks.specs.Marks.{HasNoticed, IsTakable, cpu_seen, leaf_seen}
 use Rattle.remote_parts.specs.Interrupts.{walks_by}
 use Rattle.remote_parts.specs.Looks.{IsClosed, IsLeft, IsNoneDue, is_for_others, is_let_be}

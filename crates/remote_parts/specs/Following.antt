@@ -8,15 +8,15 @@ use Rattle.cpu_bases.specs.declared.entry.Act.TheVariants.{Armed, Cancelled, Han
 use Rattle.cpu_bases.specs.declared.entry.Act.TheVariants.{MovedOut, Ticked}
 use Rattle.cpu_bases.specs.declared.entry.Entry.{Entry}
 use Rattle.core_world.specs.World.{World}
-use Rattle.core_state.specs.Shown.{as_cpu}
+use Rattle.shared_timers.specs.core_state.Shown.{as_cpu}
 use Rattle.job_table.specs.declared.jobs.JobCall.{JobCall}
 use Rattle.job_table.specs.declared.jobs.JobReply.{JobReply}
 use Rattle.job_table.specs.declared.jobs.JobReply.TheVariants as replies
 use Rattle.shared_words.specs.declared.spot.Spot.{Spot}
 use Rattle.shared_words.specs.Words.{spot_of}
-use Rattle.shared_rule.specs.declared.parts.Deed.TheVariants as deeds
-use Rattle.shared_rule.specs.declared.parts.Did.{Did}
-use Rattle.shared_rule.specs.declared.parts.Receipt.{Receipt}
+use Rattle.shared_timers.specs.shared_rule.declared.parts.Deed.TheVariants as deeds
+use Rattle.shared_timers.specs.shared_rule.declared.parts.Did.{Did}
+use Rattle.shared_timers.specs.shared_rule.declared.parts.Receipt.{Receipt}
 use Rattle.shared_timers.specs.Exchanging.{timer_word}
 use Rattle.remote_parts.specs.declared.runs.Ran.{Ran}
 use Rattle.remote_parts.specs.declared.runs.RanReply.{RanReply}

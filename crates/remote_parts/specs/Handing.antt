@@ -7,13 +7,13 @@ use Rattle.wheel_core.specs.declared.item.Item.{Item}
 use Rattle.wheel_core.specs.PlainBase.{NoneBehind, OneFewer}
 use Rattle.cpu_bases.specs.CpuBases.{CpuBases, base_of}
 use Rattle.core_world.specs.World.{World}
-use Rattle.shared_rule.specs.declared.parts.PassView.{PassView}
-use Rattle.shared_rule.specs.declared.parts.Receipt.{Receipt}
+use Rattle.shared_timers.specs.shared_rule.declared.parts.PassView.{PassView}
+use Rattle.shared_timers.specs.shared_rule.declared.parts.Receipt.{Receipt}
 use Rattle.atomic_table.specs.Seated.{TableId}
-use Rattle.shared_rule.specs.Parts.{HeldPart}
-use Rattle.shared_rule.specs.Passes.{HeldPass}
-use Rattle.shared_rule.specs.Shows.{BeginsWith}
-use Rattle.shared_rule.specs.Turns.{MayRunOf}
+use Rattle.shared_timers.specs.shared_rule.Parts.{HeldPart}
+use Rattle.shared_timers.specs.shared_rule.Passes.{HeldPass}
+use Rattle.shared_timers.specs.shared_rule.Shows.{BeginsWith}
+use Rattle.shared_timers.specs.shared_rule.Turns.{MayRunOf}
 use Rattle.remote_parts.specs.declared.runs.Ran.{Ran}
 use Rattle.remote_parts.specs.Pieces.{HandsOut, IsHandOut, IsTick, IsTimerOf, Piece}
 

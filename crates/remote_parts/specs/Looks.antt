@@ -14,11 +14,11 @@ use Rattle.cpu_bases.specs.declared.entry.Act.TheVariants.{Ticked}
 use Rattle.tree_plan.specs.Paths.{group_at_of}
 use Rattle.walk_rules.specs.Hierarchy.{side}
 use Rattle.core_world.specs.World.{World}
-use Rattle.shared_rule.specs.declared.parts.Deed.{Deed}
-use Rattle.shared_rule.specs.declared.parts.Deed.TheVariants as deeds
-use Rattle.shared_rule.specs.declared.parts.Look.{Look}
-use Rattle.shared_rule.specs.declared.parts.Receipt.{Receipt}
-use Rattle.shared_cpus.specs.Pairs.{cpu_place, leaf_place}
+use Rattle.shared_timers.specs.shared_rule.declared.parts.Deed.{Deed}
+use Rattle.shared_timers.specs.shared_rule.declared.parts.Deed.TheVariants as deeds
+use Rattle.shared_timers.specs.shared_rule.declared.parts.Look.{Look}
+use Rattle.shared_timers.specs.shared_rule.declared.parts.Receipt.{Receipt}
+use Rattle.remote_looks.specs.shared_cpus.Pairs.{cpu_place, leaf_place}
 use Rattle.remote_looks.specs.Sights.{LooksBy, OtherBy, events_in, slot_looks, state_look}
 
 -- a load as a deed of a pass

@@ -9,13 +9,13 @@ use Rattle.cpu_bases.specs.declared.entry.Act.TheVariants.{Handed, Ticked}
 use Rattle.core_world.specs.World.{World, cpu_of}
 use Rattle.job_table.specs.declared.jobs.JobCall.{JobCall}
 use Rattle.job_table.specs.declared.jobs.JobReply.{JobReply}
-use Rattle.shared_rule.specs.declared.parts.Deed.{Deed}
-use Rattle.shared_rule.specs.declared.parts.Did.{Did}
-use Rattle.shared_rule.specs.declared.parts.PassView.{PassView}
-use Rattle.shared_rule.specs.declared.parts.Receipt.{Receipt}
-use Rattle.shared_rule.specs.Parts.{HeldPart}
-use Rattle.shared_rule.specs.Passes.{HeldPass, IsPassIn, receipts_of}
-use Rattle.shared_rule.specs.Shows.{BeginsWith}
+use Rattle.shared_timers.specs.shared_rule.declared.parts.Deed.{Deed}
+use Rattle.shared_timers.specs.shared_rule.declared.parts.Did.{Did}
+use Rattle.shared_timers.specs.shared_rule.declared.parts.PassView.{PassView}
+use Rattle.shared_timers.specs.shared_rule.declared.parts.Receipt.{Receipt}
+use Rattle.shared_timers.specs.shared_rule.Parts.{HeldPart}
+use Rattle.shared_timers.specs.shared_rule.Passes.{HeldPass, IsPassIn, receipts_of}
+use Rattle.shared_timers.specs.shared_rule.Shows.{BeginsWith}
 use Rattle.remote_parts.specs.declared.runs.Ran.{Ran}
 use Rattle.remote_parts.specs.Following.{Follows, RunsOfSome}
 use Rattle.remote_parts.specs.Interrupts.{HasTicked, KnowsOwn, walks_by}

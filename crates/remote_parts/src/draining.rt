@@ -4,12 +4,12 @@ ghost use Rattle.std.specs.Prelude.{◌≡◌, ◌+◌, ◌≤◌, ◌∷◌, []
 ghost use Rattle.std.specs.Prelude.{List, MatchOption, None, OnOk, length};
 ghost use Rattle.std.specs.Prelude.{vec_capacity};
 ghost use Rattle.cpu_bases.specs.CpuBases.{base_of};
-ghost use Rattle.shared_rule.specs.declared.parts.PassView.{PassView};
-ghost use Rattle.shared_rule.specs.declared.parts.Receipt.{Receipt};
-ghost use Rattle.shared_rule.specs.Free.{HasNoneBehind};
-ghost use Rattle.shared_rule.specs.Plays.{Agree};
-ghost use Rattle.shared_rule.specs.Turns.{MayRunOf};
-ghost use Rattle.shared_rule.specs.Passes.{IsOfRun, IsPassIn};
+ghost use Rattle.shared_timers.specs.shared_rule.declared.parts.PassView.{PassView};
+ghost use Rattle.shared_timers.specs.shared_rule.declared.parts.Receipt.{Receipt};
+ghost use Rattle.shared_timers.specs.shared_rule.Free.{HasNoneBehind};
+ghost use Rattle.shared_timers.specs.shared_rule.Plays.{Agree};
+ghost use Rattle.shared_timers.specs.shared_rule.Turns.{MayRunOf};
+ghost use Rattle.shared_timers.specs.shared_rule.Passes.{IsOfRun, IsPassIn};
 ghost use Rattle.shared_timers.specs.Draining.{MayDrain};
 ghost use Rattle.remote_parts.specs.Handing.{HandsEach, HandsNone, HandsOne, MayHandEach};
 ghost use Rattle.remote_parts.specs.Pieces.{HandsOut, HasDrainRoom, IsTimerOf, Piece};
@@ -17,8 +17,8 @@ ghost use Rattle.remote_parts.specs.Pieces.{but_for_bases};
 
 use crate::runs::Runs;
 use remote_looks::make_room;
-use shared_rule::{BoxPart, Pass, Run, RunName, bring, part_off};
 use shared_timers::drain_step;
+use shared_timers::the_shared_rule::{BoxPart, Pass, Run, RunName, bring, part_off};
 use tm_base::{Class, Jiffy, NoMemory};
 use wheel_core::{Item, TimerBase};
 

@@ -1,11 +1,11 @@
 //! The end of an interrupt where the CPU is awake.
 
 ghost use Rattle.std.specs.Prelude.{◌≡◌, [], false};
-ghost use Rattle.shared_rule.specs.Free.{IsFree};
+ghost use Rattle.shared_timers.specs.shared_rule.Free.{IsFree};
 ghost use Rattle.remote_parts.specs.Tries.{AtWork, HasClosed};
 
-use shared_cpus::leave_step;
-use shared_rule::{BoxPart, Pass, Run, RunName, bring, part_off};
+use remote_looks::the_shared_cpus::leave_step;
+use shared_timers::the_shared_rule::{BoxPart, Pass, Run, RunName, bring, part_off};
 use wheel_core::TimerBase;
 
 /// An awake CPU leaves its interrupt, with its own pass.

@@ -2,13 +2,13 @@
 
 ghost use Rattle.std.specs.Prelude.{◌≡◌, ◌⊎◌, ◌∷◌, [], Some, false, true};
 ghost use Rattle.tree_plan.specs.Paths.{is_placed_in};
-ghost use Rattle.shared_rule.specs.declared.parts.Deed.TheVariants as deeds;
-ghost use Rattle.shared_rule.specs.Free.{IsFree};
+ghost use Rattle.shared_timers.specs.shared_rule.declared.parts.Deed.TheVariants as deeds;
+ghost use Rattle.shared_timers.specs.shared_rule.Free.{IsFree};
 ghost use Rattle.remote_looks.specs.Marks.{IsTakable};
 ghost use Rattle.remote_parts.specs.Tries.{AtWork, HasMarked, HasUnmarked, KeepsBases};
 
-use shared_cpus::{release_step, take_step};
-use shared_rule::{BoxPart, Pass, Run, RunName, bring, part_off};
+use remote_looks::the_shared_cpus::{release_step, take_step};
+use shared_timers::the_shared_rule::{BoxPart, Pass, Run, RunName, bring, part_off};
 use wheel_core::TimerBase;
 
 /// The CPU of the pass marks that of the part, which is due (`tmigr_handle_remote_cpu`).

@@ -3,7 +3,7 @@
 ghost use Rattle.std.specs.Prelude.{◌≡◌, [], IfOk, MatchResult, length, true};
 ghost use Rattle.tree_plan.specs.Paths.{is_placed_in};
 ghost use Rattle.walk_rules.specs.Hierarchy.{HasGroup};
-ghost use Rattle.shared_rule.specs.Free.{IsFree};
+ghost use Rattle.shared_timers.specs.shared_rule.Free.{IsFree};
 ghost use Rattle.remote_parts.specs.Pieces.{Piece};
 ghost use Rattle.remote_parts.specs.Tries.{AtWork, IsRunnable, TakesOrLeaves};
 
@@ -11,7 +11,7 @@ use crate::draining::{hand_all, room_for};
 use crate::marking::mark;
 use crate::runs::Runs;
 use remote_looks::may_take;
-use shared_rule::{BoxPart, Pass, Run, RunName};
+use shared_timers::the_shared_rule::{BoxPart, Pass, Run, RunName};
 use tm_base::{Class, Gate, Jiffy, NoMemory, Point};
 use wheel_core::{Item, TimerBase};
 

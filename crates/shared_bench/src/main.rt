@@ -6,16 +6,16 @@
 
 ghost use Rattle.std.specs.Prelude.{◌≡◌};
 ghost use Rattle.core_world.specs.Covered.{IsSettled};
-ghost use Rattle.shared_table.specs.Ended.{HasNoBaseBehind};
+ghost use Rattle.shared_rows.specs.shared_table.Ended.{HasNoBaseBehind};
 
-use core_state::Core;
+use shared_rows::the_core_state::Core;
+use shared_rows::the_shared_rule::RunName;
+use shared_rows::the_shared_table::{Ready, Shared};
+use shared_rows::the_step_laws::is_settled;
 use shared_rows::{no_base_behind, start, stir};
-use shared_rule::RunName;
-use shared_table::{Ready, Shared};
 use std::env;
 use std::marker::Brand;
 use std::time::Instant;
-use step_laws::is_settled;
 use tm_base::{CpuSet, NoMemory};
 use wheel_base::WheelBase;
 

@@ -9,7 +9,7 @@ use Rattle.walk_rules.specs.declared.walk.WalkKind.{WalkKind}
 use Rattle.walk_rules.specs.declared.walk.WalkKind.TheVariants as kinds
 use Rattle.walk_rules.specs.declared.walk.Stage.TheVariants as stages
 use Rattle.core_world.specs.Enabled.{first_event}
-use Rattle.core_state.specs.Shown.{as_cpu}
+use Rattle.shared_rule.specs.core_state.Shown.{as_cpu}
 use Rattle.shared_rule.specs.declared.parts.BoxView.{BoxView}
 use Rattle.shared_rule.specs.declared.parts.PassView.{PassView}
 use Rattle.shared_rule.specs.Parts.{HasGuest, HeldPart}

@@ -8,7 +8,7 @@ ghost use Rattle.shared_cpus.specs.Conditions.{CanEndCarry, EndsAs};
 ghost use Rattle.shared_cpus.specs.Pairs.{HasOwn, by_pair, of_box};
 
 use crate::status::status_word;
-use core_state::CpuStatus;
+use shared_rule::the_core_state::CpuStatus;
 use shared_rule::{BoxPart, CarryEnds, Reevaluates, Rests, Run, RunName, law_carry, law_finish};
 use shared_words::SharedWord;
 use tm_base::Jiffy;

@@ -7,14 +7,14 @@ ghost use Rattle.std.specs.Option.{ForSome};
 ghost use Rattle.cpu_bases.specs.CpuBases.{CpuBases};
 ghost use Rattle.cpu_word.specs.declared.state.TheConstants.{MARKER_LIMIT};
 ghost use Rattle.tree_plan.specs.Paths.{group_at_of};
-ghost use Rattle.core_state.specs.Shown.{as_cpu};
-ghost use Rattle.core_state.specs.Status.{record_of};
+ghost use Rattle.shared_rule.specs.core_state.Shown.{as_cpu};
+ghost use Rattle.shared_rule.specs.core_state.Status.{record_of};
 ghost use Rattle.shared_rule.specs.Whole.{own_word};
 ghost use Rattle.shared_rule.specs.Turns.{begun};
 ghost use Rattle.shared_cpus.specs.Guests.{guest_cpu, one_more};
 
-use core_state::CpuStatus;
 use cpu_word::{CpuState, pack_cpu};
+use shared_rule::the_core_state::CpuStatus;
 use shared_rule::{BoxPart, Guest, Run, RunName};
 use tm_base::CpuId;
 use walk_rules::{Stage, Walk, WalkKind, begun_where};

@@ -3,7 +3,7 @@ use Rattle.std.proofs.Common.{◌≡◌, ℕ, ◌+◌, ◌≤◌, List, ◌++◌
 use Rattle.std.proofs.Common.{arith}
 use Rattle.std.proofs.lemmas.List.{length-append, length-drop, length-take-le}
 use Rattle.atomic_table.specs.Seated.{TableId}
-use Rattle.shared_rule.specs.Passes.{HeldPass}
+use Rattle.shared_table.specs.shared_rule.Passes.{HeldPass}
 use Rattle.shared_table.specs.Ended.{AreAllPasses, PassesFrom}
 use Rattle.shared_table.proofs.Passes.{cut_back, put_together}
 

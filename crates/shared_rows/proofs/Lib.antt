@@ -1,2 +1,3 @@
 mod Halves
 mod Looks
+pub use Rattle.shared_table.proofs as shared_table

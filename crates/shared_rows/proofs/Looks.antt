@@ -3,9 +3,9 @@ use Rattle.std.proofs.Common.{◌≡◌, ℕ, ◌+◌, ◌<◌, List, length, se
 use Rattle.std.specs.Prelude.{get_or, option_map}
 use Rattle.std.proofs.lemmas.Option.{slice_get_read}
 use Rattle.atomic_table.specs.Seated.{TableId}
-use Rattle.shared_rule.specs.declared.parts.PassView.{PassView}
-use Rattle.shared_rule.specs.Plays.{seen_pass}
-use Rattle.shared_rule.specs.Passes.{HeldPass, IsOfRun, Seated, with_pass}
+use Rattle.shared_table.specs.shared_rule.declared.parts.PassView.{PassView}
+use Rattle.shared_table.specs.shared_rule.Plays.{seen_pass}
+use Rattle.shared_table.specs.shared_rule.Passes.{HeldPass, IsOfRun, Seated, with_pass}
 use Rattle.shared_table.specs.Ended.{IsPassAt, PassesFrom}
 use Rattle.shared_table.proofs.Passes.{one_changed, one_of}
 use Rattle.shared_rows.specs.Looks.{StaysAt}

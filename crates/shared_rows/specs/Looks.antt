@@ -1,7 +1,7 @@
 -- a pass that has loaded words
 use Rattle.std.specs.Prelude.{ℕ}
 use Rattle.atomic_table.specs.Seated.{TableId}
-use Rattle.shared_rule.specs.Passes.{HeldPass}
+use Rattle.shared_table.specs.shared_rule.Passes.{HeldPass}
 use Rattle.shared_table.specs.Ended.{IsPassAt}
 
 -- the pass of whatever CPU it was is that CPU's still, and outside an interrupt (no public clause

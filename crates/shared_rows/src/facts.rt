@@ -2,8 +2,8 @@
 
 ghost use Rattle.std.specs.Prelude.{◌<◌, length};
 
-use core_state::Core;
 use event_queue::Event;
+use shared_table::the_core_state::Core;
 use std::alloc::Global;
 use tm_base::{Class, CpuId, GroupId, NoMemory, TimerId};
 use wheel_base::WheelBase;

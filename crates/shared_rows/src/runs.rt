@@ -1,14 +1,14 @@
 //! A run in which two threads load words.
 
 ghost use Rattle.std.specs.Prelude.{◌≡◌, ◌<◌, length};
-ghost use Rattle.shared_rule.specs.Passes.{IsOfRun};
+ghost use Rattle.shared_table.specs.shared_rule.Passes.{IsOfRun};
 ghost use Rattle.shared_rows.specs.Looks.{StaysAt};
 ghost use Rattle.shared_table.specs.Ended.{AreAllPasses, PassesFrom};
 ghost use Rattle.core_world.specs.Covered.{IsSettled};
 ghost use Rattle.shared_table.specs.Ended.{HasNoBaseBehind};
 
-use core_state::Core;
-use shared_rule::{Pass, Run, RunName};
+use shared_table::the_core_state::Core;
+use shared_table::the_shared_rule::{Pass, Run, RunName};
 use shared_table::{Ready, Shared};
 use shared_words::{SharedWord, unpack_spot};
 use std::alloc::Global;

@@ -1,6 +1,6 @@
 use crate::{Seen, facts_of, no_base_behind, run_once, start, stir};
-use core_state::Core;
 use shared_table::Ready;
+use shared_table::the_core_state::Core;
 use std::alloc::Global;
 use std::test::*;
 use std::thread::Threads;

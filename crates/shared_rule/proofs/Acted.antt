@@ -18,9 +18,9 @@ use Rattle.core_world.specs.Lawful.{IsLawful}
 use Rattle.core_world.specs.Steps.{stepped}
 use Rattle.core_world.proofs.Moves.{cpu_same, cpu_else}
 use Rattle.core_world.proofs.Quiet.{own_field, own_group}
-use Rattle.core_facts.specs.Reach.{KeepsReach, reach_of}
-use Rattle.core_facts.specs.Played.{AllPlayed}
-use Rattle.core_facts.specs.Levels.{LevelsFit}
+use Rattle.core_state.specs.core_facts.Reach.{KeepsReach, reach_of}
+use Rattle.core_state.specs.core_facts.Played.{AllPlayed}
+use Rattle.core_state.specs.core_facts.Levels.{LevelsFit}
 use Rattle.core_state.specs.Kept.{WorldFits}
 use Rattle.shared_words.specs.declared.layout.SharedWord.{SharedWord}
 use Rattle.shared_words.specs.declared.layout.SharedWord.TheVariants.{State, Lock, Slot, Cpu, Timer}

@@ -17,12 +17,12 @@ use Rattle.walk_rules.specs.Hierarchy.{HasGroup, at_top, side}
 use Rattle.walk_rules.specs.Stages.{forget}
 use Rattle.walk_rules.specs.Standing.{FitsStage, FlagsAt, StandsAlone}
 use Rattle.core_world.specs.World.{World, CpuRecord, cpu_of, group_of}
-use Rattle.core_facts.specs.Told.{SaysOf}
-use Rattle.core_facts.specs.Walkers.{WalkerIs}
+use Rattle.core_state.specs.core_facts.Told.{SaysOf}
+use Rattle.core_state.specs.core_facts.Walkers.{WalkerIs}
 use Rattle.shared_words.specs.Exchanges.{HasRoom}
 use Rattle.shared_rule.specs.declared.parts.BoxView.{BoxView}
 use Rattle.shared_rule.specs.declared.parts.PassView.{PassView}
-use Rattle.core_facts.specs.Ranges.{ItemInRange}
+use Rattle.core_state.specs.core_facts.Ranges.{ItemInRange}
 use Rattle.shared_rule.specs.CoreLaws.{CoreLaws}
 use Rattle.shared_rule.proofs.Queues.{queued_all}
 use Rattle.shared_rule.specs.Whole.{Whole, box_of, quiet, group_word, group_state, leaf_in}

@@ -11,7 +11,7 @@ use Rattle.walk_rules.specs.Stages.{first_stage, forget, free_group_next, freed_
 use Rattle.core_world.specs.Enabled.{MayGoOn}
 use Rattle.core_world.specs.Steps.{child_here, here, walked, walks_at}
 use Rattle.core_world.specs.World.{World, group_of, is_reading}
-use Rattle.core_facts.specs.Exchanges.{stage_number}
+use Rattle.core_state.specs.core_facts.Exchanges.{stage_number}
 use Rattle.shared_rule.specs.declared.parts.BoxView.{BoxView}
 use Rattle.shared_rule.specs.declared.parts.PassView.{PassView}
 use Rattle.shared_rule.specs.CoreLaws.{CoreLaws}

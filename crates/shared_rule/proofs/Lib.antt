@@ -50,3 +50,4 @@ pub mod Seated
 pub mod Holding
 mod Slots
 pub mod Visits
+pub use Rattle.core_state.proofs as core_state

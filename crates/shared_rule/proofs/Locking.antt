@@ -16,7 +16,7 @@ use Rattle.core_world.specs.declared.step.Step.TheVariants as steps
 use Rattle.core_world.specs.Enabled.{MayGoOn}
 use Rattle.core_world.specs.Steps.{child_here, here, walk_made, walked, walks_at, with_walk}
 use Rattle.core_world.specs.World.{World, CpuRecord, cpu_of, group_of, moved, is_reading}
-use Rattle.core_facts.specs.Exchanges.{stage_number}
+use Rattle.core_state.specs.core_facts.Exchanges.{stage_number}
 use Rattle.shared_words.specs.Words.{lock_word}
 use Rattle.shared_rule.specs.declared.parts.BoxView.{BoxView}
 use Rattle.shared_rule.specs.declared.parts.PassView.{PassView}

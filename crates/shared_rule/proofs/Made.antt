@@ -22,9 +22,9 @@ use Rattle.core_world.specs.Enabled.{Enabled}
 use Rattle.core_world.specs.Lawful.{IsLawful}
 use Rattle.core_world.specs.Steps.{stepped}
 use Rattle.core_world.proofs.Moves.{cpu_same, cpu_else, beside}
-use Rattle.core_facts.specs.Reach.{Reach, reach_of, KeepsReach}
-use Rattle.core_facts.specs.Played.{AllPlayed}
-use Rattle.core_facts.specs.Levels.{LevelsFit}
+use Rattle.core_state.specs.core_facts.Reach.{Reach, reach_of, KeepsReach}
+use Rattle.core_state.specs.core_facts.Played.{AllPlayed}
+use Rattle.core_state.specs.core_facts.Levels.{LevelsFit}
 use Rattle.core_state.specs.Kept.{WorldFits}
 use Rattle.shared_rule.specs.declared.parts.PassView.{PassView}
 use Rattle.shared_rule.specs.declared.parts.Looked.{Looked}

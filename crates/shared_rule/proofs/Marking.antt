@@ -18,7 +18,7 @@ use Rattle.walk_rules.specs.Stages.{at_stage, forget, mark_next, with_event, wit
 use Rattle.core_world.specs.Enabled.{MayGoOn}
 use Rattle.core_world.specs.Steps.{walked, walks_at, with_walk}
 use Rattle.core_world.specs.World.{World, CpuRecord, cpu_of, group_of, is_reading, moved}
-use Rattle.core_facts.specs.Exchanges.{stage_number}
+use Rattle.core_state.specs.core_facts.Exchanges.{stage_number}
 use Rattle.shared_words.specs.declared.layout.SharedWord.{SharedWord}
 use Rattle.shared_words.specs.Words.{word_of_slot}
 use Rattle.shared_words.proofs.Back.{mark_slot}

@@ -11,7 +11,7 @@ use Rattle.core_world.specs.World.{World, cpu_of, own}
 use Rattle.core_world.specs.declared.step.Step.{Step}
 use Rattle.core_world.specs.Enabled.{Enabled}
 use Rattle.core_world.specs.Steps.{stepped}
-use Rattle.core_facts.specs.Reach.{reach_of}
+use Rattle.core_state.specs.core_facts.Reach.{reach_of}
 use Rattle.shared_words.specs.declared.spot.Spot.{Spot}
 use Rattle.shared_words.specs.Layout.{index_of}
 use Rattle.shared_words.specs.Words.{spot_word}

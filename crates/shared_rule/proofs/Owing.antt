@@ -14,7 +14,7 @@ use Rattle.walk_rules.specs.declared.walk.Stage.{Stage}
 use Rattle.walk_rules.specs.declared.walk.Stage.TheVariants as stages
 use Rattle.walk_rules.specs.Stages.{at_stage, first_stage, free_group_next, freed_next, higher}
 use Rattle.walk_rules.specs.Stages.{up_next}
-use Rattle.core_facts.specs.Exchanges.{stage_number}
+use Rattle.core_state.specs.core_facts.Exchanges.{stage_number}
 use Rattle.shared_rule.specs.Shows.{is_past, exchanges, is_on_path, owes, raised}
 
 one_at_most : (b : Bool) → cond b 1 0 ≤ 1

@@ -11,7 +11,7 @@ use Rattle.walk_rules.specs.Stages.{child_next, forget, read_next}
 use Rattle.core_world.specs.Enabled.{MayGoOn}
 use Rattle.core_world.specs.Steps.{child_on, walked, walks_on}
 use Rattle.core_world.specs.World.{World, cpu_of, is_reading}
-use Rattle.core_facts.specs.Exchanges.{stage_number}
+use Rattle.core_state.specs.core_facts.Exchanges.{stage_number}
 use Rattle.shared_words.specs.declared.layout.SharedWord.{SharedWord}
 use Rattle.shared_words.specs.Exchanges.{shows_migrator}
 use Rattle.shared_words.proofs.Back.{seq_of}

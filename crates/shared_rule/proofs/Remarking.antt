@@ -12,7 +12,7 @@ use Rattle.core_world.specs.Enabled.{Enabled}
 use Rattle.core_world.specs.Steps.{stepped}
 use Rattle.core_world.specs.World.{World, CpuRecord, cpu_of, group_of, is_reading, own}
 use Rattle.core_world.proofs.Moves.{cpu_same, cpu_else}
-use Rattle.core_facts.specs.Reach.{reach_of}
+use Rattle.core_state.specs.core_facts.Reach.{reach_of}
 use Rattle.shared_rule.specs.declared.parts.Did.{Did}
 use Rattle.shared_rule.specs.declared.parts.Looked.{Looked}
 use Rattle.shared_rule.specs.declared.parts.PassView.{PassView}

@@ -16,7 +16,7 @@ use Rattle.walk_rules.specs.Stages.{see_group_next}
 use Rattle.core_world.specs.Enabled.{MayGoOn}
 use Rattle.core_world.specs.Steps.{child_here, child_on, here, walked, walks_on, with_walk}
 use Rattle.core_world.specs.World.{World, cpu_of, group_of, is_reading}
-use Rattle.core_facts.specs.Exchanges.{stage_number}
+use Rattle.core_state.specs.core_facts.Exchanges.{stage_number}
 use Rattle.shared_words.specs.declared.layout.SharedWord.{SharedWord}
 use Rattle.shared_words.specs.Exchanges.{shows_migrator}
 use Rattle.shared_words.specs.Layout.{index_of}

@@ -21,7 +21,7 @@ use Rattle.core_world.specs.declared.step.Step.TheVariants as steps
 use Rattle.core_world.specs.Enabled.{MayGoOn}
 use Rattle.core_world.specs.Steps.{here, swapped, walk_made, walked, with_walk}
 use Rattle.core_world.specs.World.{World, CpuRecord, cpu_of, group_of, is_reading, moved}
-use Rattle.core_facts.specs.Exchanges.{stage_number}
+use Rattle.core_state.specs.core_facts.Exchanges.{stage_number}
 use Rattle.shared_words.specs.Exchanges.{IsSwapOf}
 use Rattle.shared_words.specs.Words.{word_of_slot}
 use Rattle.shared_rule.specs.declared.parts.BoxView.{BoxView}

@@ -15,7 +15,7 @@ use Rattle.core_world.specs.Steps.{stepped}
 use Rattle.core_world.specs.World.{World, CpuRecord, cpu_of, group_of, is_reading, own}
 use Rattle.core_world.proofs.Moves.{cpu_same}
 use Rattle.core_world.proofs.Quiet.{own_field}
-use Rattle.core_facts.specs.Reach.{reach_of}
+use Rattle.core_state.specs.core_facts.Reach.{reach_of}
 use Rattle.shared_words.specs.Layout.{index_of}
 use Rattle.shared_rule.specs.declared.parts.BoxView.{BoxView}
 use Rattle.shared_rule.specs.declared.parts.Looked.{Looked}

@@ -2,18 +2,18 @@
 use Rattle.tree_plan.specs.Shape.{Shape, IsPlanned}
 use Rattle.tree_plan.specs.Laws.{PathLaws, CutLaws}
 use Rattle.core_world.specs.Frames.{SizesStay}
-use Rattle.core_facts.specs.Cover.Rest.{EachRests}
-use Rattle.core_facts.specs.Exchanges.{EachGoesOn}
-use Rattle.core_facts.specs.Holders.{EachLockIsHeld}
-use Rattle.core_facts.specs.Levels.{EachLevelIsLow, LevelsStayFit}
-use Rattle.core_facts.specs.Marked.{EachMarkFits}
-use Rattle.core_facts.specs.Invariant.{StepsStayLawful}
-use Rattle.core_facts.specs.Places.{EachPlaceFits}
-use Rattle.core_facts.specs.Played.{EachAddsReplay, StaysPlayed}
-use Rattle.core_facts.specs.Ranges.{EachInRange}
-use Rattle.core_facts.specs.Reach.{EachKeeps}
-use Rattle.core_facts.specs.Told.{EachHasToldOwn}
-use Rattle.core_facts.specs.Walkers.{EachWalkerIs}
+use Rattle.core_state.specs.core_facts.Cover.Rest.{EachRests}
+use Rattle.core_state.specs.core_facts.Exchanges.{EachGoesOn}
+use Rattle.core_state.specs.core_facts.Holders.{EachLockIsHeld}
+use Rattle.core_state.specs.core_facts.Levels.{EachLevelIsLow, LevelsStayFit}
+use Rattle.core_state.specs.core_facts.Marked.{EachMarkFits}
+use Rattle.core_state.specs.core_facts.Invariant.{StepsStayLawful}
+use Rattle.core_state.specs.core_facts.Places.{EachPlaceFits}
+use Rattle.core_state.specs.core_facts.Played.{EachAddsReplay, StaysPlayed}
+use Rattle.core_state.specs.core_facts.Ranges.{EachInRange}
+use Rattle.core_state.specs.core_facts.Reach.{EachKeeps}
+use Rattle.core_state.specs.core_facts.Told.{EachHasToldOwn}
+use Rattle.core_state.specs.core_facts.Walkers.{EachWalkerIs}
 
 -- what is true of every lawful core and of every step: each law as the crate that has it says it
 pub record CoreLaws : Type 0 where

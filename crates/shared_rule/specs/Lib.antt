@@ -15,3 +15,6 @@ pub mod Parts
 pub mod Passes
 pub mod Slots
 pub mod Free
+pub use Rattle.core_state.specs.core_facts as core_facts
+pub use Rattle.core_state.specs.core_parts as core_parts
+pub use Rattle.core_state.specs as core_state

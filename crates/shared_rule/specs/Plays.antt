@@ -26,9 +26,9 @@ use Rattle.walk_rules.specs.Stages.{swap_next, up_next}
 use Rattle.core_world.specs.World.{World, CpuRecord, cpu_of, is_reading}
 use Rattle.walk_rules.specs.Stages.{begun_where}
 use Rattle.core_world.specs.Wakeups.{WalkTimes}
-use Rattle.core_facts.specs.Ranges.{WalkInRange}
-use Rattle.core_facts.specs.Told.{SaysOf}
-use Rattle.core_facts.specs.Walkers.{WalkerIs}
+use Rattle.core_state.specs.core_facts.Ranges.{WalkInRange}
+use Rattle.core_state.specs.core_facts.Told.{SaysOf}
+use Rattle.core_state.specs.core_facts.Walkers.{WalkerIs}
 use Rattle.core_state.specs.Kept.{WorldFits}
 use Rattle.shared_words.specs.declared.spot.Spot.{Spot}
 use Rattle.shared_words.specs.Exchanges.{HasRoom, shows_migrator}

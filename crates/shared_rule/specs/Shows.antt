@@ -18,7 +18,7 @@ use Rattle.walk_rules.specs.declared.walk.WalkKind.TheVariants as kinds
 use Rattle.walk_rules.specs.Scene.{Group}
 use Rattle.core_world.specs.World.{CpuRecord, World, cpu_of, is_reading, moved}
 use Rattle.core_world.specs.Frames.{SameSize}
-use Rattle.core_facts.specs.Exchanges.{stage_number}
+use Rattle.core_state.specs.core_facts.Exchanges.{stage_number}
 use Rattle.core_state.specs.Kept.{WorldFits, is_queued}
 use Rattle.shared_words.specs.declared.spot.Spot.{Spot}
 use Rattle.shared_words.specs.Exchanges.{HasRoom}

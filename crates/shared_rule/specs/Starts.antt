@@ -5,7 +5,7 @@ use Rattle.tm_base.specs.declared.names.Class.{Class}
 use Rattle.cpu_bases.specs.CpuBases.{class_in}
 use Rattle.core_world.specs.Covered.{IsSettled}
 use Rattle.core_world.specs.World.{World, cpu_of}
-use Rattle.core_facts.specs.Cover.Rest.{GroupsRest}
+use Rattle.core_state.specs.core_facts.Cover.Rest.{GroupsRest}
 use Rattle.shared_words.specs.declared.spot.Spot.{Spot}
 use Rattle.shared_rule.specs.declared.parts.BoxView.{BoxView}
 use Rattle.shared_rule.specs.declared.parts.PassView.{PassView}

@@ -6,7 +6,7 @@ use Rattle.event_queue.specs.declared.event.Event.{Event}
 use Rattle.event_queue.specs.EventMap.{event_at}
 use Rattle.group_word.specs.declared.state.GroupState.{GroupState}
 use Rattle.group_word.specs.State.{state_word}
-use Rattle.cpu_word.specs.Word.{cpu_word}
+use Rattle.shared_words.specs.cpu_word.Word.{cpu_word}
 use Rattle.tree_plan.specs.Paths.{group_at_of}
 use Rattle.walk_rules.specs.Scene.{Group}
 use Rattle.walk_rules.specs.Stages.{forget}

@@ -1,12 +1,13 @@
 -- the world at the end of a run, by its words, its boxes and its passes
-use Rattle.std.proofs.Common.{◌≡◌, ℕ, zero, suc, ◌<◌, List, [], ◌∷◌, length, Some, refl, sym, ap, ◌∙◌}
+use Rattle.std.proofs.Common.{◌≡◌, ℕ, zero, suc, ◌<◌, List, [], ◌∷◌, length, Some, refl, sym, ap}
+use Rattle.std.proofs.Common.{◌∙◌}
 use Rattle.std.proofs.Common.{subst, arith}
 use Rattle.std.specs.Prelude.{map, slice_get, slice_index_or}
 use Rattle.std.proofs.lemmas.List.{ext_get_or, length-map}
 use Rattle.tree_plan.specs.Shape.{Shape}
 use Rattle.walk_rules.specs.Scene.{Group}
 use Rattle.core_world.specs.World.{CpuRecord, World, no_cpu}
-use Rattle.core_state.specs.Kept.{WorldFits, world_of}
+use Rattle.shared_rule.specs.core_state.Kept.{WorldFits, world_of}
 use Rattle.shared_rule.specs.declared.parts.BoxView.{BoxView}
 use Rattle.shared_rule.specs.declared.parts.View.{View}
 use Rattle.shared_rule.specs.Starts.{EndsAs}

@@ -11,3 +11,4 @@ pub mod Together
 pub mod Spellings
 pub mod Queued
 pub mod Finished
+pub use Rattle.shared_rule.proofs as shared_rule

@@ -1,5 +1,6 @@
 -- where timers are queued in a world at rest, by the words that spell it
-use Rattle.std.proofs.Common.{◌≡◌, ◌≢◌, ◌⊎◌, ⊎_elim, ℕ, zero, suc, ◌<◌, ◌≤◌, List, length, Option, Some}
+use Rattle.std.proofs.Common.{◌≡◌, ◌≢◌, ◌⊎◌, ⊎_elim, ℕ, zero, suc, ◌<◌, ◌≤◌, List, length, Option}
+use Rattle.std.proofs.Common.{Some}
 use Rattle.std.proofs.Common.{Bool, false, None, refl, sym, ap, ◌∙◌, subst, inl, inr, arith}
 use Rattle.std.specs.Prelude.{is_some, option_map}
 use Rattle.std.proofs.lemmas.Bool.{eq-eqb, ne_eqb}
@@ -12,7 +13,7 @@ use Rattle.wheel_core.proofs.Ids.{item_holds}
 use Rattle.cpu_bases.specs.CpuBases.{CpuBases, base_of, class_in, found_in}
 use Rattle.cpu_bases.proofs.Keeping.{found_at}
 use Rattle.core_world.specs.World.{World, cpu_of}
-use Rattle.core_state.specs.Kept.{IsHeld, holds, is_queued, noted}
+use Rattle.shared_rule.specs.core_state.Kept.{IsHeld, holds, is_queued, noted}
 use Rattle.shared_words.specs.declared.spot.Spot.{Spot}
 use Rattle.shared_words.specs.Laws.{WaysBack}
 use Rattle.shared_words.specs.Words.{spot_of}

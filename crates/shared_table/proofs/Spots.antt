@@ -3,7 +3,7 @@ use Rattle.std.proofs.Common.{◌≡◌, ℕ, false, true≢false, Option, Some,
 use Rattle.std.proofs.Common.{sym, ap, ◌∙◌}
 use Rattle.std.specs.Prelude.{is_some}
 use Rattle.core_world.specs.World.{World, cpu_of}
-use Rattle.core_state.specs.Kept.{WorldFits, is_queued}
+use Rattle.shared_rule.specs.core_state.Kept.{WorldFits, is_queued}
 use Rattle.shared_words.specs.declared.spot.Spot.{Spot}
 use Rattle.shared_rule.specs.Starts.{spot_in}
 use Rattle.shared_rule.proofs.Starting.{names_below}

@@ -1,7 +1,7 @@
 //! What a CPU's lock guards.
 
 ghost use Rattle.std.specs.Prelude.{◌≡◌};
-ghost use Rattle.core_state.specs.Shown.{shown_cpu};
+ghost use Rattle.shared_rule.specs.core_state.Shown.{shown_cpu};
 ghost use Rattle.shared_table.specs.Begun.{IsFree};
 
 use cpu_bases::Bases;

@@ -9,8 +9,8 @@ ghost use Rattle.shared_table.specs.Readied.{HasNoneBehind};
 ghost use Rattle.std.specs.Prelude.{None};
 
 use crate::cpu_box::CpuBox;
-use core_state::CoreCpu;
 use event_queue::Event;
+use shared_rule::the_core_state::CoreCpu;
 use shared_rule::{BoxOff, BoxPart, Pass, PassOff, Receipts, Run, RunName, Seat, law_seats};
 use std::alloc::Global;
 use tm_base::CpuId;

@@ -8,11 +8,11 @@ ghost use Rattle.shared_rule.specs.Whole.{Spell, cpu_at, layout_of, lock_at, slo
 ghost use Rattle.shared_rule.specs.Whole.{timer_at};
 ghost use Rattle.shared_table.specs.Spelled.{SpelledBelow, SpelledTo};
 
-use core_facts::{law_bounds, law_rest};
-use core_state::Core;
 use cpu_word::pack_cpu;
 use event_queue::pack_event;
 use group_word::{GroupState, pack};
+use shared_rule::the_core_facts::{law_bounds, law_rest};
+use shared_rule::the_core_state::Core;
 use shared_words::{
     Layout, Spot, WORDS_OF_GROUP, WORDS_OF_LINE, law_words_apart, pack_lock, pack_spot,
 };

@@ -8,10 +8,10 @@ ghost use Rattle.shared_rule.specs.Whole.{slot_at};
 ghost use Rattle.shared_table.specs.Endings.{SpellsAtRest, word_in};
 
 use crate::last_words::LastWords;
-use core_state::CoreGroup;
 use event_queue::{Events, unpack_event};
 use group_word::unpack;
 use shared_rule::core_laws;
+use shared_rule::the_core_state::CoreGroup;
 use shared_words::{SharedWord, law_ways_back};
 use tm_base::GroupId;
 

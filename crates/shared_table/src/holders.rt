@@ -1,7 +1,7 @@
 //! Where timers are queued, read off the words.
 
 ghost use Rattle.std.specs.Prelude.{◌≡◌, length, option_map};
-ghost use Rattle.core_state.specs.Kept.{IsHeld};
+ghost use Rattle.shared_rule.specs.core_state.Kept.{IsHeld};
 ghost use Rattle.core_world.specs.World.{World};
 ghost use Rattle.shared_words.specs.Words.{spot_of};
 ghost use Rattle.shared_table.specs.Endings.{SpellsAtRest, cpu_of_spot, word_in};

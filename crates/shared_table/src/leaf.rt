@@ -5,8 +5,8 @@ ghost use Rattle.tree_plan.specs.Paths.{cpu_count_of, group_count_of};
 ghost use Rattle.core_world.specs.World.{World};
 ghost use Rattle.shared_rule.specs.Whole.{leaf_of};
 
-use core_state::CoreGroup;
 use event_queue::Event;
+use shared_rule::the_core_state::CoreGroup;
 use tm_base::CpuId;
 use tree_plan::Tree;
 use walk_rules::law_hierarchy;

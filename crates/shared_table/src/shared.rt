@@ -16,7 +16,7 @@ use crate::cutting::{box_off, pass_off};
 use crate::first_words::layout;
 use crate::leaf::leaf;
 use crate::ready::Ready;
-use core_state::{CoreCpu, CoreGroup, CoreParts, Tally};
+use shared_rule::the_core_state::{CoreCpu, CoreGroup, CoreParts, Tally};
 use shared_rule::{Opening, Pass, Run, RunName, Seat};
 use std::alloc::Global;
 use std::marker::PhantomData;

@@ -6,3 +6,4 @@ pub mod Cancelled
 pub mod Tried
 pub mod Outgoing
 pub mod Visits
+pub use Rattle.shared_rule.proofs as shared_rule

@@ -4,7 +4,7 @@ use Rattle.atomic_table.specs.Seated.{TableId}
 use Rattle.event_queue.specs.declared.event.Event.{Event}
 use Rattle.walk_rules.specs.declared.walk.Walk.{Walk}
 use Rattle.core_world.specs.World.{CpuRecord, World}
-use Rattle.core_state.specs.Status.{CpuStatus}
+use Rattle.shared_rule.specs.core_state.Status.{CpuStatus}
 use Rattle.shared_rule.specs.declared.parts.BoxView.{BoxView}
 use Rattle.shared_rule.specs.declared.parts.Looked.{Looked}
 use Rattle.shared_rule.specs.declared.parts.PassView.{PassView}

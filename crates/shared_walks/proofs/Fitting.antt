@@ -10,7 +10,7 @@ use Rattle.event_queue.specs.EventMap.{FitsWord}
 use Rattle.walk_rules.specs.declared.walk.Walk.{Walk}
 use Rattle.walk_rules.specs.Stages.{best_event, stored_event}
 use Rattle.core_world.specs.World.{World}
-use Rattle.core_facts.specs.Ranges.{WalkInRange}
+use Rattle.shared_rule.specs.core_facts.Ranges.{WalkInRange}
 
 -- what a walk of a CPU stores at a level, where there are few CPUs
 pub stored_fits : (o : World) (cpu : ℕ) (k : Walk) → length o.cpus ≤ 512 → cpu < length o.cpus

@@ -11,7 +11,7 @@ use Rattle.walk_rules.specs.declared.walk.Stage.TheVariants as stages
 use Rattle.walk_rules.specs.Hierarchy.{HasGroup, IsHierarchy, group_on}
 use Rattle.walk_rules.specs.Standing.{FitsStage}
 use Rattle.core_world.specs.World.{World}
-use Rattle.core_state.specs.Kept.{HasLevel}
+use Rattle.shared_rule.specs.core_state.Kept.{HasLevel}
 use Rattle.shared_rule.specs.declared.parts.BoxView.{BoxView}
 use Rattle.shared_rule.specs.Plays.{WalkFits}
 

@@ -4,7 +4,7 @@ ghost use Rattle.std.specs.Prelude.{◌≡◌, ◌-◌, ◌<◌, Some, length};
 ghost use Rattle.tm_base.specs.Children.{of_cpu};
 ghost use Rattle.tree_plan.specs.Paths.{bit_of, cpu_count_of, group_at_of};
 ghost use Rattle.walk_rules.specs.Hierarchy.{at_top, group_on, side};
-ghost use Rattle.core_state.specs.Kept.{HasLevel};
+ghost use Rattle.shared_rule.specs.core_state.Kept.{HasLevel};
 ghost use Rattle.shared_walks.specs.Steps.{lock_place, slot_place, state_place};
 
 use shared_rule::{Run, RunName};

@@ -8,8 +8,8 @@ ghost use Rattle.shared_walks.specs.Steps.{WalkStands, on_part};
 
 use crate::path::{at_top, group_on, side_on};
 use crate::stages::stored_leaf;
-use core_state::CpuStatus;
 use event_queue::pack_event;
+use shared_rule::the_core_state::CpuStatus;
 use shared_rule::{BoxPart, Run, RunName, Stores, law_store};
 use shared_words::SharedWord;
 use walk_rules::{Walk, store_next, stored_event};

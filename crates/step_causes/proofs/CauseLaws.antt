@@ -1,5 +1,6 @@
 -- where a walk stands that takes a lock
-use Rattle.std.proofs.Common.{◌≡◌, inl, inr, ℕ, zero, suc, ◌-◌, ◌<◌, Option, Some, None, refl, sym, ap, ◌∙◌, subst, arith}
+use Rattle.std.proofs.Common.{◌≡◌, inl, inr, ℕ, zero, suc, ◌-◌, ◌<◌, Option, Some, None, refl, sym}
+use Rattle.std.proofs.Common.{ap, ◌∙◌, subst, arith}
 use Rattle.std.specs.Prelude.{◌⊎◌, option_map}
 use Rattle.std.proofs.lemmas.Option.{none-some}
 use Rattle.tree_plan.specs.Paths.{group_at_of}
@@ -8,7 +9,7 @@ use Rattle.walk_rules.specs.declared.walk.Stage.TheVariants as stages
 use Rattle.walk_rules.specs.Standing.{FitsStage, StandsInTree}
 use Rattle.walk_rules.specs.Stages.{forget}
 use Rattle.core_world.specs.World.{World, cpu_of, scene_of}
-use Rattle.core_state.specs.Kept.{HasLevel, WorldFits}
+use Rattle.step_core.specs.core_state.Kept.{HasLevel, WorldFits}
 
 leaf_or : (m : Option ℕ) → ((g : ℕ) × (m ≡ Some g)) ⊎ (m ≡ None)
 leaf_or None = inr refl

@@ -10,8 +10,8 @@ ghost use Rattle.walk_rules.specs.declared.walk.WalkKind.TheVariants as kinds;
 ghost use Rattle.step_causes.specs.Causes.{IsCause};
 
 use crate::causes::{Cause, CpuFact};
-use core_state::{Core, CpuStatus};
 use step_core::may_be_missed;
+use step_core::the_core_state::{Core, CpuStatus};
 use tm_base::{CpuId, Jiffy, TIME_LIMIT};
 use walk_rules::{Walk, WalkKind};
 use wheel_core::TimerBase;

@@ -11,13 +11,13 @@ use Rattle.tree_plan.specs.Shape.{Shape, IsPlanned}
 use Rattle.tree_plan.specs.Paths.{child_count_of, cpu_count_of, group_count_of}
 use Rattle.cpu_bases.specs.CpuBases.{RoomyBases, empty_bases}
 use Rattle.walk_rules.specs.Scene.{Group}
-use Rattle.core_laws.specs.Start.Layer.{StartsLawful}
-use Rattle.core_facts.specs.Levels.{LevelsFit, LevelsStartFit}
-use Rattle.core_facts.specs.Played.{AllPlayed, StartsPlayed}
+use Rattle.core_steps.specs.core_laws.Start.Layer.{StartsLawful}
+use Rattle.core_steps.specs.core_facts.Levels.{LevelsFit, LevelsStartFit}
+use Rattle.core_steps.specs.core_facts.Played.{AllPlayed, StartsPlayed}
 use Rattle.core_world.specs.Lawful.{IsLawful}
 use Rattle.core_world.specs.Start.{start_cpu, start_group, start_of}
 use Rattle.core_world.specs.World.{CpuRecord, no_cpu}
-use Rattle.core_state.specs.Kept.{IsHeld, WorldFits, holds, is_queued, noted, world_of}
+use Rattle.core_steps.specs.core_state.Kept.{IsHeld, WorldFits, holds, is_queued, noted, world_of}
 
 pub one_more_group : (t : Shape) (n : ℕ) (groups : List Group) (x : Group)
     → groups ≡ map (λ g. start_group (child_count_of t g)) (range_with_len 0 n)

@@ -6,11 +6,11 @@ use Rattle.core_world.specs.declared.step.Step.{Step}
 use Rattle.core_world.specs.Lists.{EachEnabled, after_all}
 use Rattle.core_world.specs.Steps.{stepped}
 use Rattle.core_world.specs.World.{World}
-use Rattle.core_laws.specs.Start.Layer.{StartsLawful}
-use Rattle.core_facts.specs.Cover.Runs.{start_with}
-use Rattle.core_facts.specs.Levels.{LevelsStartFit}
-use Rattle.core_facts.specs.Played.{StartsPlayed}
-use Rattle.core_state.specs.Kept.{WorldFits, WorldsStayFit}
+use Rattle.step_core.specs.core_laws.Start.Layer.{StartsLawful}
+use Rattle.step_core.specs.core_facts.Cover.Runs.{start_with}
+use Rattle.step_core.specs.core_facts.Levels.{LevelsStartFit}
+use Rattle.step_core.specs.core_facts.Played.{StartsPlayed}
+use Rattle.step_core.specs.core_state.Kept.{WorldFits, WorldsStayFit}
 use Rattle.step_laws.specs.Reached.{EachReachedFits}
 
 start_fits : StartsLawful → StartsPlayed → LevelsStartFit → (nodes cpus timers : ℕ)

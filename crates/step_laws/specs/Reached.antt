@@ -4,8 +4,8 @@ use Rattle.tm_base.specs.CpuSet.{Cpus}
 use Rattle.tree_plan.specs.Shape.{IsWithinLimits}
 use Rattle.core_world.specs.declared.step.Step.{Step}
 use Rattle.core_world.specs.Lists.{EachEnabled, after_all}
-use Rattle.core_facts.specs.Cover.Runs.{start_with}
-use Rattle.core_state.specs.Kept.{WorldFits}
+use Rattle.step_core.specs.core_facts.Cover.Runs.{start_with}
+use Rattle.step_core.specs.core_state.Kept.{WorldFits}
 
 -- ALL THAT A CORE KEEPS holds of each world that steps reach: on every machine, after every front
 -- of every list of steps from its start on, each enabled where it stands, the world is lawful, its

@@ -4,13 +4,13 @@ ghost use Rattle.std.specs.Prelude.{IfErr, OnOk};
 ghost use Rattle.core_world.specs.Frames.{SameSize};
 ghost use Rattle.core_world.specs.Lawful.{IsLawful};
 ghost use Rattle.core_world.specs.Lists.{IsRun};
-ghost use Rattle.core_facts.specs.Cover.Runs.{EachIsAnswered};
+ghost use Rattle.step_core.specs.core_facts.Cover.Runs.{EachIsAnswered};
 ghost use Rattle.step_laws.specs.Runs.{Stops};
 
 use crate::laws::law_lawful;
-use core_facts::law_answered;
-use core_state::Core;
 use core_world::{Step, law_sizes};
+use step_core::the_core_facts::law_answered;
+use step_core::the_core_state::Core;
 use step_core::{apply, enabled};
 use wheel_core::TimerBase;
 

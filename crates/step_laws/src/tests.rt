@@ -2,12 +2,12 @@ ghost use Rattle.std.specs.Prelude.{◌≡◌, ◌≤◌};
 ghost use Rattle.tm_base.specs.declared.limits.TheConstants.{MOST_NODE_CPUS};
 
 use super::*;
-use core_state::Core;
 use core_world::Step;
 use std::alloc::Global;
 use std::process::Abort;
 use std::test::Fail;
 use step_core::one_node_core;
+use step_core::the_core_state::Core;
 use tm_base::{Class, CpuId, GroupId, NEVER, NoMemory, TimerId};
 use walk_rules::Stage;
 use wheel_core::ListBase;

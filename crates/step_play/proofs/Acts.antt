@@ -21,7 +21,7 @@ use Rattle.core_world.specs.Enabled.{IsFree, MayArm, MayCancel, MayRun}
 use Rattle.core_world.specs.Lists.{EachEnabled}
 use Rattle.core_world.specs.Steps.{with_bases}
 use Rattle.core_world.specs.World.{CpuRecord, World, cpu_of, is_active}
-use Rattle.core_laws.specs.Laws.{StepsStayLawful}
+use Rattle.core_facts.specs.core_laws.Laws.{StepsStayLawful}
 use Rattle.step_play.specs.Rules.Alike.{Plays}
 use Rattle.step_play.specs.Rules.Seen.{InPlay, InRun, Phase, state_of}
 use Rattle.step_play.specs.Rules.StepRules.{armed_by_steps, cancelled_by_steps, drained_by_steps}

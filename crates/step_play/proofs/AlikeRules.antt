@@ -11,7 +11,7 @@ use Rattle.play_laws.proofs.Shape.Alike.{Alike, placed_seen}
 use Rattle.play_laws.proofs.Shape.Shape.{Stage, begun, between, climbed, leaving, looked, looking}
 use Rattle.play_laws.proofs.Shape.Shape.{moving, own, running, taking}
 use Rattle.core_world.specs.World.{World}
-use Rattle.core_laws.specs.Laws.{StepsStayLawful}
+use Rattle.core_facts.specs.core_laws.Laws.{StepsStayLawful}
 use Rattle.step_play.specs.Rules.Alike.{Plays}
 use Rattle.step_play.specs.Rules.Seen.{Phase, cpu_seen, inside, resting, serving, state_of}
 use Rattle.step_play.specs.Rules.StepRules.{armed_by_steps, step_rules}

@@ -20,7 +20,7 @@ use Rattle.core_world.specs.Lists.{EachEnabled, after_all}
 use Rattle.core_world.specs.Lawful.{IsLawful}
 use Rattle.core_world.specs.Steps.{handed_of, stepped, with_bases}
 use Rattle.core_world.specs.World.{CpuRecord, World, cpu_of}
-use Rattle.core_laws.specs.Laws.{StepsStayLawful}
+use Rattle.core_facts.specs.core_laws.Laws.{StepsStayLawful}
 use Rattle.step_play.specs.Rules.StepRules.{hands}
 use Rattle.step_play.proofs.Bases.{drained_last, drained_more, due_last, due_more}
 use Rattle.step_play.proofs.Bases.{handed_base}

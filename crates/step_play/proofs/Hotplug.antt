@@ -26,7 +26,7 @@ use Rattle.core_world.specs.declared.step.Step.TheVariants as steps
 use Rattle.core_world.specs.Steps.{stepped}
 use Rattle.core_world.specs.World as core
 use Rattle.core_world.specs.World.{World, cpu_of}
-use Rattle.core_laws.specs.Laws.{StepsStayLawful}
+use Rattle.core_facts.specs.core_laws.Laws.{StepsStayLawful}
 use Rattle.step_play.specs.Rules.Alike.{Plays, WakesAlike}
 use Rattle.step_play.specs.Rules.Seen.{InPlay, InRun, Phase, cpu_seen, handing, hands_in, resting}
 use Rattle.step_play.specs.Rules.Seen.{state_of}

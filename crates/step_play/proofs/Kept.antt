@@ -10,10 +10,11 @@ use Rattle.tree_plan.specs.Shape.{Shape}
 use Rattle.tree_plan.specs.Paths.{cpu_count_of, level_count_of}
 use Rattle.play_laws.proofs.Answered.Plays.{rules_keep}
 use Rattle.play_laws.proofs.Answered.Settles.{Settles}
-use Rattle.play_laws.proofs.Shape.Shape.{KeptByRules, Stage, begun, between, climbed, looked, looking, moving}
+use Rattle.play_laws.proofs.Shape.Shape.{KeptByRules, Stage, begun, between, climbed, looked}
+use Rattle.play_laws.proofs.Shape.Shape.{looking, moving}
 use Rattle.play_laws.proofs.Shape.Shape.{nth_class, own, taking}
 use Rattle.core_world.specs.World.{World}
-use Rattle.core_laws.specs.Laws.{StepsStayLawful}
+use Rattle.core_facts.specs.core_laws.Laws.{StepsStayLawful}
 use Rattle.step_play.specs.Rules.Seen.{inside, resting, serving, state_of}
 use Rattle.step_play.specs.Rules.StepRules.{step_rules}
 use Rattle.step_play.specs.SamePlay.{Walks}

@@ -16,7 +16,7 @@ use Rattle.core_world.specs.declared.step.Step.TheVariants as steps
 use Rattle.core_world.specs.Frames.{SizesStay}
 use Rattle.core_world.specs.Lists.{IsRun}
 use Rattle.core_world.specs.World.{World}
-use Rattle.core_laws.specs.Laws.{StepsStayLawful}
+use Rattle.core_facts.specs.core_laws.Laws.{StepsStayLawful}
 use Rattle.step_play.specs.Rules.Runs.{RuleRun, RuleRuns, TurnRun, TurnsAreRuns}
 use Rattle.step_play.specs.Rules.Runs as runs
 use Rattle.step_play.specs.Rules.StepRules.{step_rules}

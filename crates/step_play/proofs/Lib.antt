@@ -24,3 +24,5 @@ pub mod Running
 pub mod StageRuns
 pub mod KeptRuns
 pub mod PlayedRuns
+pub use Rattle.core_facts.proofs as core_facts
+pub use Rattle.play_laws.proofs as play_laws

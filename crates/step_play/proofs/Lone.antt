@@ -21,7 +21,7 @@ use Rattle.core_world.specs.Steps.{child_here, here, swapped, walk_made, walked}
 use Rattle.core_world.specs.World.{CpuRecord, World, cpu_of, group_of, moved, reads_at}
 use Rattle.core_world.specs.World.{scene_of, stale_walk}
 use Rattle.core_world.proofs.Moves.{beside, cpu_else}
-use Rattle.core_laws.proofs.Walks.Stands.{stands_in}
+use Rattle.core_facts.proofs.core_laws.Walks.Stands.{stands_in}
 use Rattle.step_play.specs.Rules.Alone.{goes_on, is_handing}
 use Rattle.step_play.specs.Rules.Seen.{InRun, Phase}
 use Rattle.step_play.proofs.Activation.Calm.{handing, run_calm}

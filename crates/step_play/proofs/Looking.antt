@@ -30,7 +30,7 @@ use Rattle.play_laws.proofs.Shape.Shape.{looking}
 use Rattle.play_laws.proofs.Shape.Shape.{running, taking}
 use Rattle.core_world.specs.Enabled.{IsFree}
 use Rattle.core_world.specs.World.{World, cpu_of}
-use Rattle.core_laws.specs.Laws.{StepsStayLawful}
+use Rattle.core_facts.specs.core_laws.Laws.{StepsStayLawful}
 use Rattle.step_play.specs.Rules.Alike.{Plays}
 use Rattle.step_play.specs.Rules.Seen.{InPlay, inside, serving, state_of}
 use Rattle.step_play.specs.Rules.StepRules.{armed_by_steps, can_be_taken, drained_by_steps}

@@ -27,7 +27,7 @@ use Rattle.core_world.specs.Enabled.{MayMove}
 use Rattle.core_world.specs.Lawful.{IsLawful}
 use Rattle.core_world.specs.Steps.{first_moved, moved_with, stepped, with_bases}
 use Rattle.core_world.specs.World.{CpuRecord, World, cpu_of, is_active}
-use Rattle.core_laws.specs.Laws.{StepsStayLawful}
+use Rattle.core_facts.specs.core_laws.Laws.{StepsStayLawful}
 use Rattle.step_play.specs.Rules.Alike.{Plays}
 use Rattle.step_play.specs.Rules.Seen.{InPlay, InRun, resting, state_of}
 use Rattle.step_play.specs.Rules.StepRules.{moved_by_steps}

@@ -25,7 +25,7 @@ use Rattle.play_laws.proofs.Answered.Timers.{queued_low}
 use Rattle.play_laws.proofs.Shape.Alike.{moved_seen}
 use Rattle.play_laws.proofs.Shape.Shape.{KeptByRules, between, leaving, moving}
 use Rattle.core_world.specs.World.{World, cpu_of, is_active}
-use Rattle.core_laws.specs.Laws.{StepsStayLawful}
+use Rattle.core_facts.specs.core_laws.Laws.{StepsStayLawful}
 use Rattle.step_play.specs.Rules.Alike.{GoesAlike, Plays}
 use Rattle.step_play.specs.Rules.Seen.{InPlay, handing, resting, state_of}
 use Rattle.step_play.specs.Rules.StepRules.{armed_by_steps, cancelled_by_steps, come_by_steps}

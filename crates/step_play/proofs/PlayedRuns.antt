@@ -9,8 +9,8 @@ use Rattle.play_laws.proofs.Answered.Scripts.{moments_in, moments_rise, planned_
 use Rattle.core_world.specs.declared.step.Step.TheVariants as steps
 use Rattle.core_world.specs.Frames.{SizesStay}
 use Rattle.core_world.specs.World.{World}
-use Rattle.core_laws.specs.Laws.{StepsStayLawful}
-use Rattle.core_laws.specs.Start.Layer.{StartsLawful}
+use Rattle.core_facts.specs.core_laws.Laws.{StepsStayLawful}
+use Rattle.core_facts.specs.core_laws.Start.Layer.{StartsLawful}
 use Rattle.core_facts.specs.Cover.Runs.{AlwaysAnswered}
 use Rattle.step_play.specs.Rules.Lone.{Reaches}
 use Rattle.step_play.specs.Rules.Runs.{IsReached, TurnsAreRuns}

@@ -17,8 +17,8 @@ use Rattle.play_laws.proofs.Shape.AlikeTurns.{last_seen, spent_seen, turns_alike
 use Rattle.play_laws.proofs.Shape.Shape.{begun, between}
 use Rattle.play_laws.proofs.Shape.ShapeTurns.{turns_kept}
 use Rattle.core_world.specs.World.{World}
-use Rattle.core_laws.specs.Laws.{StepsStayLawful}
-use Rattle.core_laws.specs.Start.Layer.{StartsLawful}
+use Rattle.core_facts.specs.core_laws.Laws.{StepsStayLawful}
+use Rattle.core_facts.specs.core_laws.Start.Layer.{StartsLawful}
 use Rattle.step_play.specs.Rules.Seen.{InPlay, resting, state_of}
 use Rattle.step_play.specs.Rules.StepRules.{step_rules}
 use Rattle.step_play.specs.SamePlay.{IsPlayOfSteps, PlayIsARun, StepsArePlay, Walks, core_start}

@@ -17,7 +17,7 @@ use Rattle.core_world.specs.Frames.{SizesStay}
 use Rattle.core_world.specs.Lists.{IsRun}
 use Rattle.core_world.specs.Steps.{stepped}
 use Rattle.core_world.specs.World.{CpuRecord, World, cpu_of, group_of, is_active, own}
-use Rattle.core_laws.specs.Laws.{StepsStayLawful}
+use Rattle.core_facts.specs.core_laws.Laws.{StepsStayLawful}
 use Rattle.step_play.specs.Rules.Alone.{walked_out}
 use Rattle.step_play.specs.Rules.Lone.{IsLone, IsRunOf}
 use Rattle.step_play.specs.Rules.Runs.{RuleRun}

@@ -31,7 +31,7 @@ use Rattle.core_world.specs.Frames.{SizesStay}
 use Rattle.core_world.specs.Lists.{IsRun}
 use Rattle.core_world.specs.Steps.{stepped}
 use Rattle.core_world.specs.World.{World, cpu_of}
-use Rattle.core_laws.specs.Laws.{StepsStayLawful}
+use Rattle.core_facts.specs.core_laws.Laws.{StepsStayLawful}
 use Rattle.step_play.specs.Rules.Lone.{IsRunOf}
 use Rattle.step_play.specs.Rules.Runs.{RuleRun, RuleRuns}
 use Rattle.step_play.specs.Rules.Runs as runs

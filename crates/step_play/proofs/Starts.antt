@@ -21,7 +21,7 @@ use Rattle.walk_rules.specs.Scene.{Group, no_group}
 use Rattle.tm_script.specs.declared.syntax.Script.{Script}
 use Rattle.tm_script.specs.Grammar.{IsScript}
 use Rattle.play_laws.proofs.Answered.Scripts.{planned_for, tree_for}
-use Rattle.core_laws.specs.Start.Layer.{StartsLawful}
+use Rattle.core_facts.specs.core_laws.Start.Layer.{StartsLawful}
 use Rattle.core_world.specs.Lawful.{IsLawful}
 use Rattle.core_world.specs.Start.{start_cpu, start_group, start_of}
 use Rattle.core_world.specs.World.{CpuRecord, World, cpu_of, group_of, no_cpu}

@@ -16,7 +16,7 @@ use Rattle.core_world.specs.declared.step.Step.TheVariants as steps
 use Rattle.core_world.specs.Enabled.{IsDueAtLeaf, MayEnter, MayHandOn, MayTake}
 use Rattle.core_world.specs.Steps.{stepped, with_walk}
 use Rattle.core_world.specs.World.{CpuRecord, World, cpu_of, group_of, is_active}
-use Rattle.core_laws.specs.Laws.{StepsStayLawful}
+use Rattle.core_facts.specs.core_laws.Laws.{StepsStayLawful}
 use Rattle.step_play.specs.Rules.Alike.{Plays}
 use Rattle.step_play.specs.Rules.Live.{counting, expiry_of, told_by, told_in}
 use Rattle.step_play.specs.Rules.Seen.{InPlay, InRun, WalkFits, handing, inside, resting, serving}

@@ -9,7 +9,7 @@ use Rattle.core_world.specs.Frames.{SizesStay}
 use Rattle.core_world.specs.Lawful.{IsLawful}
 use Rattle.core_world.specs.Steps.{stepped}
 use Rattle.core_world.specs.World.{World, cpu_of}
-use Rattle.core_laws.specs.Laws.{StepsStayLawful}
+use Rattle.core_facts.specs.core_laws.Laws.{StepsStayLawful}
 use Rattle.step_play.specs.Rules.Alone.{goes_on, most_steps, walk_steps, walked_out}
 use Rattle.step_play.specs.Rules.Lone.{IsLone, IsRunOf, IsWalkRun}
 use Rattle.step_play.proofs.Activation.Walking.{goes, stays}

@@ -1,14 +1,14 @@
-use core_state::Core;
 use core_world::Step;
 use job_table::JobTable;
-use shared_table::MOST_MADE;
 use std::alloc::Global;
 use std::process::Abort;
 use std::sync::Wait;
 use std::sync::atomic::{AtomicU64, Ordering};
 use std::test::*;
 use std::thread::Threads;
-use step_laws::{is_settled, run_steps};
+use table_stress::the_core_state::Core;
+use table_stress::the_shared_table::MOST_MADE;
+use table_stress::the_step_laws::{is_settled, run_steps};
 use table_stress::{
     Act, Asked, CPUS, Crew, Draws, Hold, LATEST, Plan, Ran, TIMERS, Tally, Turn, agrees,
     drawn_turns, episode, is_active, is_quiet_at, judged, no_base_behind, run_plan, start,

@@ -8,10 +8,10 @@ use Rattle.std.proofs.lemmas.Option.{none-some, same_Some, slice_get-get_or}
 use Rattle.atomic_table.specs.Seated.{TableId}
 use Rattle.core_world.specs.Covered.{IsSettled}
 use Rattle.core_world.specs.World.{World}
-use Rattle.shared_rule.specs.Starts.{first_pass_of}
-use Rattle.shared_rule.specs.Passes.{HeldPass}
-use Rattle.shared_table.specs.Begun.{begun_pass, begun_passes}
-use Rattle.shared_table.specs.Ended.{AreAllPasses, PassesFrom}
+use Rattle.idle_wakeup.specs.shared_rule.Starts.{first_pass_of}
+use Rattle.idle_wakeup.specs.shared_rule.Passes.{HeldPass}
+use Rattle.shared_rows.specs.shared_table.Begun.{begun_pass, begun_passes}
+use Rattle.shared_rows.specs.shared_table.Ended.{AreAllPasses, PassesFrom}
 use Rattle.table_stress.specs.Quiet.{IsOneOf, IsQuietAt, QuietFrom, StaysQuiet}
 
 module _ (table : TableId) (o : World) where

@@ -13,25 +13,27 @@ use Rattle.core_world.specs.World.{World}
 use Rattle.job_table.specs.declared.jobs.JobCall.{JobCall}
 use Rattle.job_table.specs.declared.jobs.JobReply.{JobReply}
 use Rattle.cpu_bases.specs.CpuBases.{found_in}
-use Rattle.shared_rule.specs.declared.parts.BoxView.{BoxView}
-use Rattle.shared_rule.specs.declared.parts.Did.{Did}
-use Rattle.shared_rule.specs.declared.parts.Look.{Look}
-use Rattle.shared_rule.specs.declared.parts.PassView.{PassView}
-use Rattle.shared_rule.specs.declared.parts.Receipt.{Receipt}
-use Rattle.shared_rule.specs.Plays.{head_pass, seen_pass}
-use Rattle.shared_rule.specs.Rule.{with_journal}
-use Rattle.shared_rule.specs.Parts.{HeldPart, pass_parted, with_guest}
-use Rattle.shared_rule.specs.Passes.{HeldPass, IsPassIn, Seated, knowing, with_pass}
-use Rattle.shared_rule.specs.Passes.{with_receipts_room}
-use Rattle.shared_rule.specs.Timers.{armed_box, armed_pass, cancel_noted, cancelled_box}
-use Rattle.shared_rule.specs.Timers.{cancelled_pass}
-use Rattle.shared_timers.specs.declared.arming.Arming.{Arming}
-use Rattle.shared_timers.specs.Exchanging.{timer_word}
-use Rattle.shared_timers.specs.Queueing.{armed_part, cancelled_part}
-use Rattle.timer_calls.specs.Arms.{HasArmed, HasLeft, IsArmed, IsQueued, NotArmed, met, roomy}
-use Rattle.timer_calls.specs.Cancels.{HasCancelled, HasEnded, HasStayed, IsTakenOut, NotCancelled}
-use Rattle.timer_calls.specs.Looks.{seen_all}
-use Rattle.timer_calls.specs.Rooms.{with_more_room}
+use Rattle.idle_wakeup.specs.shared_rule.declared.parts.BoxView.{BoxView}
+use Rattle.idle_wakeup.specs.shared_rule.declared.parts.Did.{Did}
+use Rattle.idle_wakeup.specs.shared_rule.declared.parts.Look.{Look}
+use Rattle.idle_wakeup.specs.shared_rule.declared.parts.PassView.{PassView}
+use Rattle.idle_wakeup.specs.shared_rule.declared.parts.Receipt.{Receipt}
+use Rattle.idle_wakeup.specs.shared_rule.Plays.{head_pass, seen_pass}
+use Rattle.idle_wakeup.specs.shared_rule.Rule.{with_journal}
+use Rattle.idle_wakeup.specs.shared_rule.Parts.{HeldPart, pass_parted, with_guest}
+use Rattle.idle_wakeup.specs.shared_rule.Passes.{HeldPass, IsPassIn, Seated, knowing, with_pass}
+use Rattle.idle_wakeup.specs.shared_rule.Passes.{with_receipts_room}
+use Rattle.idle_wakeup.specs.shared_rule.Timers.{armed_box, armed_pass, cancel_noted, cancelled_box}
+use Rattle.idle_wakeup.specs.shared_rule.Timers.{cancelled_pass}
+use Rattle.remote_expiry.specs.shared_timers.declared.arming.Arming.{Arming}
+use Rattle.remote_expiry.specs.shared_timers.Exchanging.{timer_word}
+use Rattle.remote_expiry.specs.shared_timers.Queueing.{armed_part, cancelled_part}
+use Rattle.remote_expiry.specs.timer_calls.Arms.{HasArmed, HasLeft, IsArmed, IsQueued, NotArmed}
+use Rattle.remote_expiry.specs.timer_calls.Arms.{met, roomy}
+use Rattle.remote_expiry.specs.timer_calls.Cancels.{HasCancelled, HasEnded, HasStayed, IsTakenOut}
+use Rattle.remote_expiry.specs.timer_calls.Cancels.{NotCancelled}
+use Rattle.remote_expiry.specs.timer_calls.Looks.{seen_all}
+use Rattle.remote_expiry.specs.timer_calls.Rooms.{with_more_room}
 use Rattle.idle_wakeup.specs.declared.idling.IdleAnswer.{IdleAnswer}
 use Rattle.idle_wakeup.specs.declared.idling.IdleAnswer.TheVariants as answers
 use Rattle.idle_wakeup.specs.Calls.{Renews, awake}

@@ -3,8 +3,8 @@ use Rattle.std.specs.Prelude.{◌≡◌, ℕ, suc, ◌-◌, ◌^◌, ◌<◌, �
 use Rattle.atomic_table.specs.Seated.{TableId}
 use Rattle.tm_base.specs.declared.names.TheConstants.{TIME_LIMIT}
 use Rattle.core_world.specs.World.{World}
-use Rattle.shared_rule.specs.declared.parts.PassView.{PassView}
-use Rattle.shared_rule.specs.Passes.{HeldPass, IsPassIn}
+use Rattle.idle_wakeup.specs.shared_rule.declared.parts.PassView.{PassView}
+use Rattle.idle_wakeup.specs.shared_rule.Passes.{HeldPass, IsPassIn}
 use Rattle.remote_expiry.specs.Interrupts.{IsAtRest}
 
 -- QUIET: the pass is that of CPU i of a run with this opening; the CPU isn't inside an interrupt,

@@ -7,14 +7,14 @@ use crate::noted::{are_new_entries, handed, lengths};
 use crate::runs::{LATEST, Plan, Ran, run_plan};
 use crate::tally::Tally;
 use crate::turns::{Act, Turn};
-use core_state::Core;
 use core_world::Step;
+use idle_wakeup::the_core_state::Core;
 use job_table::{Job, JobTable, Jobs, Marker, OneShot, Periodic};
+use shared_rows::the_step_laws::{is_settled, run_steps};
 use shared_rows::{no_base_behind, start};
 use std::alloc::Global;
 use std::sync::Wait;
 use std::thread::Threads;
-use step_laws::{is_settled, run_steps};
 use tm_base::{Class, CpuId, CpuSet, FreeGate, NoMemory};
 use wheel_base::WheelBase;
 

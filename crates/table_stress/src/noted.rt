@@ -1,8 +1,8 @@
 //! Receipts, held against the journals.
 
-use core_state::Core;
 use cpu_bases::{Act, Entry};
-use shared_rule::{Pass, Receipt};
+use idle_wakeup::the_core_state::Core;
+use idle_wakeup::the_shared_rule::{Pass, Receipt};
 use std::alloc::Global;
 use tm_base::{CpuId, NoMemory};
 use wheel_base::WheelBase;

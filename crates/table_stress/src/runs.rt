@@ -3,19 +3,19 @@
 ghost use Rattle.std.specs.Prelude.{◌≡◌, ◌-◌, ◌^◌, ◌≤◌};
 ghost use Rattle.tm_base.specs.declared.names.TheConstants.{TIME_LIMIT};
 ghost use Rattle.core_world.specs.Covered.{IsSettled};
-ghost use Rattle.shared_table.specs.Begun.{begun_passes};
-ghost use Rattle.shared_table.specs.Ended.{HasNoBaseBehind};
-ghost use Rattle.shared_table.specs.declared.ready.TheConstants.{MOST_MADE};
+ghost use Rattle.shared_rows.specs.shared_table.Begun.{begun_passes};
+ghost use Rattle.shared_rows.specs.shared_table.Ended.{HasNoBaseBehind};
+ghost use Rattle.shared_rows.below.shared_table.specs.declared.ready.TheConstants.{MOST_MADE};
 
 use crate::crews::all;
 use crate::gates::Watch;
 use crate::noted::noted;
 use crate::tally::Tally;
 use crate::turns::Turn;
-use core_state::Core;
+use idle_wakeup::the_core_state::Core;
+use idle_wakeup::the_shared_rule::{Pass, Receipt, RunName};
 use job_table::Jobs;
-use shared_rule::{Pass, Receipt, RunName};
-use shared_table::{Ready, Shared};
+use shared_rows::the_shared_table::{Ready, Shared};
 use std::alloc::Global;
 use std::marker::Brand;
 use std::sync::Wait;

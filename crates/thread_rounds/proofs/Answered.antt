@@ -11,10 +11,10 @@ use Rattle.tm_script.specs.declared.syntax.What.{What}
 use Rattle.tm_report.specs.declared.lines.Line.{Line}
 use Rattle.cpu_bases.specs.declared.entry.Entry.{Entry}
 use Rattle.core_world.specs.World.{World, cpu_of}
-use Rattle.shared_rule.specs.declared.parts.PassView.{PassView}
-use Rattle.shared_rule.specs.Passes.{HeldPass, IsPassIn, knowing}
-use Rattle.shared_rule.specs.Shows.{BeginsWith}
-use Rattle.shared_table.specs.declared.ready.TheConstants.{MOST_MADE}
+use Rattle.idle_wakeup.specs.shared_rule.declared.parts.PassView.{PassView}
+use Rattle.idle_wakeup.specs.shared_rule.Passes.{HeldPass, IsPassIn, knowing}
+use Rattle.idle_wakeup.specs.shared_rule.Shows.{BeginsWith}
+use Rattle.idle_wakeup.specs.shared_table.declared.ready.TheConstants.{MOST_MADE}
 use Rattle.play_rules.specs.Interrupts.{cpu_id}
 use Rattle.play_rules.specs.Operations.{refused_line}
 use Rattle.story.specs.Shares.{Standing, TellsBy, TellsDone, fault_of}

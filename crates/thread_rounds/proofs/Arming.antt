@@ -15,21 +15,21 @@ use Rattle.cpu_bases.specs.declared.entry.Act.TheVariants as acts
 use Rattle.cpu_bases.specs.declared.entry.Entry.{Entry}
 use Rattle.cpu_bases.specs.CpuBases.{entry_of, item_queued}
 use Rattle.core_world.specs.World.{World, cpu_of}
-use Rattle.shared_rule.specs.declared.parts.Deed.TheVariants as deeds
-use Rattle.shared_rule.specs.declared.parts.Did.{Did}
-use Rattle.shared_rule.specs.declared.parts.PassView.{PassView}
-use Rattle.shared_rule.specs.declared.parts.Receipt.{Receipt}
-use Rattle.shared_rule.specs.Plays.{Agree, head_pass, seen_pass}
-use Rattle.shared_rule.specs.Rule.{with_journal}
-use Rattle.shared_rule.specs.Parts.{HeldPart, pass_parted}
-use Rattle.shared_rule.specs.Passes.{HeldPass, Seated, knowing}
-use Rattle.shared_rule.specs.Shows.{BeginsWith, receipt_of}
-use Rattle.shared_rule.specs.Timers.{armed_box, armed_pass}
-use Rattle.shared_rule.proofs.Visits.{knows}
-use Rattle.shared_timers.specs.Exchanging.{timer_word}
-use Rattle.shared_timers.specs.Queueing.{armed_part}
-use Rattle.timer_calls.specs.Arms.{HasArmed, IsQueued, MetBy, NotArmed}
-use Rattle.timer_calls.specs.Arms.{arm_fault_of, arming_of, fault_by, met, roomy}
+use Rattle.idle_wakeup.specs.shared_rule.declared.parts.Deed.TheVariants as deeds
+use Rattle.idle_wakeup.specs.shared_rule.declared.parts.Did.{Did}
+use Rattle.idle_wakeup.specs.shared_rule.declared.parts.PassView.{PassView}
+use Rattle.idle_wakeup.specs.shared_rule.declared.parts.Receipt.{Receipt}
+use Rattle.idle_wakeup.specs.shared_rule.Plays.{Agree, head_pass, seen_pass}
+use Rattle.idle_wakeup.specs.shared_rule.Rule.{with_journal}
+use Rattle.idle_wakeup.specs.shared_rule.Parts.{HeldPart, pass_parted}
+use Rattle.idle_wakeup.specs.shared_rule.Passes.{HeldPass, Seated, knowing}
+use Rattle.idle_wakeup.specs.shared_rule.Shows.{BeginsWith, receipt_of}
+use Rattle.idle_wakeup.specs.shared_rule.Timers.{armed_box, armed_pass}
+use Rattle.idle_wakeup.proofs.shared_rule.Visits.{knows}
+use Rattle.remote_expiry.specs.shared_timers.Exchanging.{timer_word}
+use Rattle.remote_expiry.specs.shared_timers.Queueing.{armed_part}
+use Rattle.remote_expiry.specs.timer_calls.Arms.{HasArmed, IsQueued, MetBy, NotArmed}
+use Rattle.remote_expiry.specs.timer_calls.Arms.{arm_fault_of, arming_of, fault_by, met, roomy}
 use Rattle.remote_expiry.proofs.Gaining.{begins_then}
 use Rattle.play_rules.specs.Interrupts.{cpu_id}
 use Rattle.play_rules.specs.Operations.{refused_line}

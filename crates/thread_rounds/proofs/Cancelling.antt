@@ -20,27 +20,28 @@ use Rattle.cpu_bases.specs.declared.entry.Entry.{Entry}
 use Rattle.cpu_bases.specs.CpuBases.{after_cancel, entry_of, found_in}
 use Rattle.cpu_bases.proofs.Keeping.{found_at}
 use Rattle.core_world.specs.World.{World, cpu_of}
-use Rattle.shared_rule.specs.declared.parts.BoxView.{BoxView}
-use Rattle.shared_rule.specs.declared.parts.Deed.TheVariants as deeds
-use Rattle.shared_rule.specs.declared.parts.Did.{Did}
-use Rattle.shared_rule.specs.declared.parts.Look.{Look}
-use Rattle.shared_rule.specs.declared.parts.PassView.{PassView}
-use Rattle.shared_rule.specs.declared.parts.Receipt.{Receipt}
-use Rattle.shared_rule.specs.Plays.{Agree, seen_pass}
-use Rattle.shared_rule.specs.Rule.{with_journal}
-use Rattle.shared_rule.specs.Parts.{HeldPart, pass_parted, with_guest}
-use Rattle.shared_rule.specs.Passes.{HeldPass, IsPassIn, Seated, knowing, with_pass}
-use Rattle.shared_rule.specs.Passes.{with_receipts_room}
-use Rattle.shared_rule.specs.Shows.{BeginsWith, receipt_of}
-use Rattle.shared_rule.specs.Timers.{cancel_noted, noted_at, with_box_bases}
-use Rattle.shared_rule.proofs.Visits.{knows}
-use Rattle.shared_timers.specs.Exchanging.{timer_word}
-use Rattle.shared_timers.specs.Queueing.{cancelled_part}
-use Rattle.timer_calls.specs.Arms.{MetBy, met}
-use Rattle.timer_calls.specs.Cancels.{HasCancelled, HasEnded, IsCancelled, IsNowhere, NotCancelled}
-use Rattle.timer_calls.specs.Cancels.{cancel_fault_by, cancel_fault_of}
-use Rattle.timer_calls.specs.Looks.{seen_all}
-use Rattle.timer_calls.specs.Rooms.{with_more_room}
+use Rattle.idle_wakeup.specs.shared_rule.declared.parts.BoxView.{BoxView}
+use Rattle.idle_wakeup.specs.shared_rule.declared.parts.Deed.TheVariants as deeds
+use Rattle.idle_wakeup.specs.shared_rule.declared.parts.Did.{Did}
+use Rattle.idle_wakeup.specs.shared_rule.declared.parts.Look.{Look}
+use Rattle.idle_wakeup.specs.shared_rule.declared.parts.PassView.{PassView}
+use Rattle.idle_wakeup.specs.shared_rule.declared.parts.Receipt.{Receipt}
+use Rattle.idle_wakeup.specs.shared_rule.Plays.{Agree, seen_pass}
+use Rattle.idle_wakeup.specs.shared_rule.Rule.{with_journal}
+use Rattle.idle_wakeup.specs.shared_rule.Parts.{HeldPart, pass_parted, with_guest}
+use Rattle.idle_wakeup.specs.shared_rule.Passes.{HeldPass, IsPassIn, Seated, knowing, with_pass}
+use Rattle.idle_wakeup.specs.shared_rule.Passes.{with_receipts_room}
+use Rattle.idle_wakeup.specs.shared_rule.Shows.{BeginsWith, receipt_of}
+use Rattle.idle_wakeup.specs.shared_rule.Timers.{cancel_noted, noted_at, with_box_bases}
+use Rattle.idle_wakeup.proofs.shared_rule.Visits.{knows}
+use Rattle.remote_expiry.specs.shared_timers.Exchanging.{timer_word}
+use Rattle.remote_expiry.specs.shared_timers.Queueing.{cancelled_part}
+use Rattle.remote_expiry.specs.timer_calls.Arms.{MetBy, met}
+use Rattle.remote_expiry.specs.timer_calls.Cancels.{HasCancelled, HasEnded, IsCancelled, IsNowhere}
+use Rattle.remote_expiry.specs.timer_calls.Cancels.{NotCancelled}
+use Rattle.remote_expiry.specs.timer_calls.Cancels.{cancel_fault_by, cancel_fault_of}
+use Rattle.remote_expiry.specs.timer_calls.Looks.{seen_all}
+use Rattle.remote_expiry.specs.timer_calls.Rooms.{with_more_room}
 use Rattle.remote_expiry.proofs.Gaining.{begins_then}
 use Rattle.play_rules.specs.Interrupts.{cpu_id, timer_id}
 use Rattle.play_rules.specs.Operations.{refused_line}

@@ -7,17 +7,17 @@ use Rattle.std.proofs.lemmas.Bool.{false≢true}
 use Rattle.std.specs.List.{flat_map, range_with_len}
 use Rattle.atomic_table.specs.Seated.{TableId}
 use Rattle.tm_report.specs.declared.lines.Line.{Line}
-use Rattle.core_facts.specs.Cover.Rest.{EachRests}
+use Rattle.story.specs.core_facts.Cover.Rest.{EachRests}
 use Rattle.core_world.specs.Covered.{IsSettled}
 use Rattle.core_world.specs.World.{World, cpu_of}
-use Rattle.step_play.specs.Rules.Seen.{WalkFits, resting}
+use Rattle.story.specs.step_play.Rules.Seen.{WalkFits, resting}
 use Rattle.play_rules.specs.Interrupts.{Replies}
-use Rattle.shared_rule.specs.declared.parts.PassView.{PassView}
-use Rattle.shared_rule.specs.Passes.{HeldPass, Seated, passes_of}
-use Rattle.shared_rule.specs.Rule.{Each}
-use Rattle.shared_table.specs.Ended.{AreAllPasses, HasNoBaseBehind, PassesFrom}
-use Rattle.shared_table.specs.Endings.{IsEnd}
-use Rattle.shared_table.specs.Joined.{parts_of}
+use Rattle.idle_wakeup.specs.shared_rule.declared.parts.PassView.{PassView}
+use Rattle.idle_wakeup.specs.shared_rule.Passes.{HeldPass, Seated, passes_of}
+use Rattle.idle_wakeup.specs.shared_rule.Rule.{Each}
+use Rattle.idle_wakeup.specs.shared_table.Ended.{AreAllPasses, HasNoBaseBehind, PassesFrom}
+use Rattle.idle_wakeup.specs.shared_table.Endings.{IsEnd}
+use Rattle.idle_wakeup.specs.shared_table.Joined.{parts_of}
 use Rattle.story.specs.Rounds.{HasShare, IsRound, by_journals, standing_at}
 use Rattle.story.specs.Shares.{TellsShare, own_ops}
 use Rattle.story.proofs.Knowing.{share_more}

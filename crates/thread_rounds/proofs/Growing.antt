@@ -9,9 +9,9 @@ use Rattle.cpu_bases.specs.declared.entry.Entry.{Entry}
 use Rattle.cpu_bases.specs.Replay.{replay}
 use Rattle.core_world.specs.Enabled.{first_event}
 use Rattle.core_world.specs.World.{World}
-use Rattle.shared_rule.specs.declared.parts.Did.{Did}
-use Rattle.shared_rule.specs.declared.parts.PassView.{PassView}
-use Rattle.shared_rule.specs.declared.parts.Receipt.{Receipt}
+use Rattle.idle_wakeup.specs.shared_rule.declared.parts.Did.{Did}
+use Rattle.idle_wakeup.specs.shared_rule.declared.parts.PassView.{PassView}
+use Rattle.idle_wakeup.specs.shared_rule.declared.parts.Receipt.{Receipt}
 use Rattle.remote_expiry.proofs.Gaining.{begins, begins_then}
 use Rattle.story.specs.Written.{Written}
 use Rattle.story.proofs.Knowing.{IsKnown}

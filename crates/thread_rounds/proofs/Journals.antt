@@ -12,11 +12,11 @@ use Rattle.cpu_bases.specs.Laws.{HasEnd}
 use Rattle.cpu_bases.specs.Replay.{replay}
 use Rattle.core_world.specs.Enabled.{first_event}
 use Rattle.core_world.specs.World.{World, cpu_of}
-use Rattle.shared_rule.specs.declared.parts.Did.{Did}
-use Rattle.shared_rule.specs.declared.parts.PassView.{PassView}
-use Rattle.shared_rule.specs.declared.parts.Receipt.{Receipt}
-use Rattle.shared_rule.specs.Shows.{DidRight, HasNewEnd, IsShown, Noted, journal_of}
-use Rattle.shared_rule.specs.Whole.{Whole}
+use Rattle.idle_wakeup.specs.shared_rule.declared.parts.Did.{Did}
+use Rattle.idle_wakeup.specs.shared_rule.declared.parts.PassView.{PassView}
+use Rattle.idle_wakeup.specs.shared_rule.declared.parts.Receipt.{Receipt}
+use Rattle.idle_wakeup.specs.shared_rule.Shows.{DidRight, HasNewEnd, IsShown, Noted, journal_of}
+use Rattle.idle_wakeup.specs.shared_rule.Whole.{Whole}
 use Rattle.story.specs.Rounds.{WasFirst, by_journals}
 use Rattle.story.specs.Written.{AreWritten, HasEnded, Stands, WasNowhere, WasQueued, Written}
 use Rattle.story.proofs.Knowing.{IsKnown}

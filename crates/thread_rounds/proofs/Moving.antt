@@ -10,8 +10,8 @@ use Rattle.tm_base.specs.CpuSet.{Cpus}
 use Rattle.tm_report.specs.declared.lines.Line.{Line}
 use Rattle.core_world.specs.World.{World}
 use Rattle.play_rules.specs.Interrupts.{Replies}
-use Rattle.shared_rule.specs.Passes.{HeldPass}
-use Rattle.shared_rule.specs.Rule.{Each}
+use Rattle.idle_wakeup.specs.shared_rule.Passes.{HeldPass}
+use Rattle.idle_wakeup.specs.shared_rule.Rule.{Each}
 use Rattle.story.specs.Shares.{own_ops}
 use Rattle.thread_rounds.specs.Tasks.{BegunSoFar, EndedSoFar, GatheredSoFar, HasEnded, IsBegun}
 use Rattle.thread_rounds.specs.Tasks.{IsBegunAt, IsDoneAt, IsFirstPass, IsKept, IsTaskOf, MayShare}

@@ -13,10 +13,10 @@ use Rattle.tm_base.specs.CpuSet.{Cpus}
 use Rattle.tm_script.specs.declared.syntax.Op.{Op}
 use Rattle.core_world.specs.World.{World, cpu_of}
 use Rattle.play_rules.specs.Interrupts.{Replies}
-use Rattle.shared_rule.specs.Passes.{HeldPass}
-use Rattle.shared_rule.specs.Rule.{Each}
-use Rattle.shared_rule.specs.Starts.{first_pass_of}
-use Rattle.shared_table.specs.Begun.{begun_pass, begun_passes}
+use Rattle.idle_wakeup.specs.shared_rule.Passes.{HeldPass}
+use Rattle.idle_wakeup.specs.shared_rule.Rule.{Each}
+use Rattle.idle_wakeup.specs.shared_rule.Starts.{first_pass_of}
+use Rattle.idle_wakeup.specs.shared_table.Begun.{begun_pass, begun_passes}
 use Rattle.story.specs.Rounds.{standing_at}
 use Rattle.story.specs.Shares.{TellsOps, own_ops}
 use Rattle.thread_rounds.specs.Doing.{HasDone, IsRoundOp, IsShareOp}

@@ -16,10 +16,10 @@ use Rattle.cpu_bases.specs.declared.entry.Entry.{Entry}
 use Rattle.cpu_bases.specs.Replay.{replay}
 use Rattle.core_world.specs.Enabled.{first_event}
 use Rattle.core_world.specs.World.{World, cpu_of}
-use Rattle.shared_rule.specs.declared.parts.PassView.{PassView}
-use Rattle.shared_rule.specs.Passes.{HeldPass, Seated, knowing}
-use Rattle.shared_rule.specs.Shows.{BeginsWith}
-use Rattle.shared_table.specs.declared.ready.TheConstants.{MOST_MADE}
+use Rattle.idle_wakeup.specs.shared_rule.declared.parts.PassView.{PassView}
+use Rattle.idle_wakeup.specs.shared_rule.Passes.{HeldPass, Seated, knowing}
+use Rattle.idle_wakeup.specs.shared_rule.Shows.{BeginsWith}
+use Rattle.idle_wakeup.specs.shared_table.declared.ready.TheConstants.{MOST_MADE}
 use Rattle.idle_wakeup.specs.declared.idling.IdleAnswer.{IdleAnswer}
 use Rattle.idle_wakeup.specs.declared.idling.IdleAnswer.TheVariants as answers
 use Rattle.idle_wakeup.specs.Calls.{Renews, awake, idle_fault_of, known_journal, refusal, spent}

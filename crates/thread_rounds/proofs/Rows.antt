@@ -4,7 +4,7 @@ use Rattle.std.proofs.Common.{ap, subst, ◌∙◌, refl, Some}
 use Rattle.std.specs.Prelude.{slice_get}
 use Rattle.std.specs.List.{flat_map, range_with_len}
 use Rattle.std.proofs.lemmas.List.{length-append}
-use Rattle.shared_rule.specs.Rule.{Each}
+use Rattle.idle_wakeup.specs.shared_rule.Rule.{Each}
 use Rattle.thread_rounds.specs.Tasks.{EachFrom, MovedSoFar}
 
 -- one more at the end

@@ -16,19 +16,19 @@ use Rattle.wheel_core.specs.declared.base.TimerBase as base
 use Rattle.cpu_bases.specs.contracts.bases.Bases as Bases
 use Rattle.cpu_bases.specs.contracts.trio.Trio as Trio
 use Rattle.cpu_bases.specs.contracts.journal.Journal as Journal
-use Rattle.core_parts.specs.contracts.cpu.CoreCpu as CoreCpu
-use Rattle.core_parts.specs.contracts.status.CpuStatus as CpuStatus
-use Rattle.core_parts.specs.contracts.group.CoreGroup as CoreGroup
-use Rattle.core_state.specs.contracts.tally.Tally as Tally
+use Rattle.idle_wakeup.specs.core_parts.contracts.cpu.CoreCpu as CoreCpu
+use Rattle.idle_wakeup.specs.core_parts.contracts.status.CpuStatus as CpuStatus
+use Rattle.idle_wakeup.specs.core_parts.contracts.group.CoreGroup as CoreGroup
+use Rattle.idle_wakeup.specs.core_state.contracts.tally.Tally as Tally
 use Rattle.tree_plan.specs.contracts.hierarchy.Tree as Tree
-use Rattle.shared_rule.specs.declared.run.RunName as name
-use Rattle.shared_rule.specs.contracts.pass.Pass as Pass
-use Rattle.shared_rule.specs.contracts.run.Run as Run
-use Rattle.shared_rule.specs.contracts.box_part.BoxPart as BoxPart
-use Rattle.shared_rule.specs.contracts.box_part.Guest as Guest
-use Rattle.shared_table.specs.contracts.cpu_box.CpuBox as CpuBox
-use Rattle.shared_table.specs.contracts.shared.Rooms as Rooms
-use Rattle.shared_table.specs.contracts.shared.Shared as Shared
+use Rattle.idle_wakeup.specs.shared_rule.declared.run.RunName as name
+use Rattle.idle_wakeup.specs.shared_rule.contracts.pass.Pass as Pass
+use Rattle.idle_wakeup.specs.shared_rule.contracts.run.Run as Run
+use Rattle.idle_wakeup.specs.shared_rule.contracts.box_part.BoxPart as BoxPart
+use Rattle.idle_wakeup.specs.shared_rule.contracts.box_part.Guest as Guest
+use Rattle.idle_wakeup.specs.shared_table.contracts.cpu_box.CpuBox as CpuBox
+use Rattle.idle_wakeup.specs.shared_table.contracts.shared.Rooms as Rooms
+use Rattle.idle_wakeup.specs.shared_table.contracts.shared.Shared as Shared
 
 -- a seat may go there, and the words may be lent
 seat_send : (S V : RattleType) → IsSend S → IsSend (Seat.the_row S V)

@@ -8,11 +8,11 @@ use Rattle.atomic_table.specs.Seated.{TableId}
 use Rattle.tm_script.specs.declared.syntax.Op.{Op}
 use Rattle.tm_report.specs.declared.lines.Line.{Line}
 use Rattle.core_world.specs.World.{World, cpu_of}
-use Rattle.shared_rule.specs.declared.parts.PassView.{PassView}
-use Rattle.shared_rule.specs.Passes.{HeldPass, IsPassIn}
-use Rattle.shared_rule.specs.Starts.{first_pass_of}
-use Rattle.shared_table.specs.Begun.{begun_pass}
-use Rattle.shared_table.specs.declared.ready.TheConstants.{MOST_MADE}
+use Rattle.idle_wakeup.specs.shared_rule.declared.parts.PassView.{PassView}
+use Rattle.idle_wakeup.specs.shared_rule.Passes.{HeldPass, IsPassIn}
+use Rattle.idle_wakeup.specs.shared_rule.Starts.{first_pass_of}
+use Rattle.idle_wakeup.specs.shared_table.Begun.{begun_pass}
+use Rattle.idle_wakeup.specs.shared_table.declared.ready.TheConstants.{MOST_MADE}
 use Rattle.remote_expiry.specs.Interrupts.{IsAtRest, most_walks}
 use Rattle.remote_expiry.proofs.Gaining.{same_pass}
 use Rattle.play_rules.specs.Interrupts.{Replies}

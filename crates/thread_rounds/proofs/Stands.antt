@@ -6,9 +6,9 @@ use Rattle.std.specs.Prelude.{◌==◌, if◌then◌else◌, max, slice_get}
 use Rattle.std.proofs.lemmas.List.{map-append}
 use Rattle.std.proofs.lemmas.Option.{none-some, same_Some}
 use Rattle.std.proofs.Math.Nat.{max-le}
-use Rattle.shared_rule.specs.declared.parts.PassView.{PassView}
-use Rattle.shared_rule.specs.declared.parts.Receipt.{Receipt}
-use Rattle.shared_rule.specs.Shows.{BeginsWith}
+use Rattle.idle_wakeup.specs.shared_rule.declared.parts.PassView.{PassView}
+use Rattle.idle_wakeup.specs.shared_rule.declared.parts.Receipt.{Receipt}
+use Rattle.idle_wakeup.specs.shared_rule.Shows.{BeginsWith}
 use Rattle.remote_expiry.specs.Interrupts.{KnowsOwn}
 use Rattle.remote_expiry.proofs.Gaining.{known_more}
 use Rattle.story.specs.Written.{Written}

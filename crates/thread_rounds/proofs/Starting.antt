@@ -7,8 +7,8 @@ use Rattle.tm_base.specs.declared.limits.TheConstants.{MOST_OPS}
 use Rattle.tm_base.specs.declared.names.TheConstants.{TIME_LIMIT}
 use Rattle.tm_script.specs.declared.syntax.Op.{Op}
 use Rattle.core_world.specs.World.{World, cpu_of}
-use Rattle.step_play.specs.Rules.Seen.{InRun, resting}
-use Rattle.step_play.proofs.Worlds.{no_walk}
+use Rattle.story.specs.step_play.Rules.Seen.{InRun, resting}
+use Rattle.story.proofs.step_play.Worlds.{no_walk}
 use Rattle.thread_rounds.specs.Doing.{IsRoundOp}
 use Rattle.thread_rounds.specs.Tasks.{MayRound}
 

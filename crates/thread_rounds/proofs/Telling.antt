@@ -19,10 +19,10 @@ use Rattle.cpu_bases.specs.declared.entry.Entry.{Entry}
 use Rattle.core_world.specs.World.{World}
 use Rattle.job_table.specs.declared.jobs.JobReply.{JobReply}
 use Rattle.job_table.specs.declared.jobs.JobReply.TheVariants as replies
-use Rattle.shared_rule.specs.declared.parts.Did.{Did}
-use Rattle.shared_rule.specs.declared.parts.PassView.{PassView}
-use Rattle.shared_rule.specs.declared.parts.Receipt.{Receipt}
-use Rattle.shared_rule.specs.Passes.{HeldPass, IsPassIn}
+use Rattle.idle_wakeup.specs.shared_rule.declared.parts.Did.{Did}
+use Rattle.idle_wakeup.specs.shared_rule.declared.parts.PassView.{PassView}
+use Rattle.idle_wakeup.specs.shared_rule.declared.parts.Receipt.{Receipt}
+use Rattle.idle_wakeup.specs.shared_rule.Passes.{HeldPass, IsPassIn}
 use Rattle.remote_expiry.specs.Runs.{Ran, RanReply}
 use Rattle.remote_expiry.specs.Replies as ran
 use Rattle.remote_expiry.specs.Following.{Follows, FollowsArmed, FollowsBy, FollowsOut, FoundOn}

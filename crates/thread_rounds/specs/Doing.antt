@@ -10,12 +10,12 @@ use Rattle.core_world.specs.Enabled.{first_event}
 use Rattle.core_world.specs.World.{World, cpu_of}
 use Rattle.shared_words.specs.declared.spot.Spot.{Spot}
 use Rattle.shared_words.specs.Words.{spot_of}
-use Rattle.shared_rule.specs.declared.parts.Did.{Did}
-use Rattle.shared_rule.specs.declared.parts.Deed.TheVariants as deeds
-use Rattle.shared_rule.specs.declared.parts.PassView.{PassView}
-use Rattle.shared_rule.specs.declared.parts.Receipt.{Receipt}
-use Rattle.shared_rule.specs.Passes.{HeldPass, IsPassIn}
-use Rattle.shared_timers.specs.Exchanging.{timer_word}
+use Rattle.idle_wakeup.specs.shared_rule.declared.parts.Did.{Did}
+use Rattle.idle_wakeup.specs.shared_rule.declared.parts.Deed.TheVariants as deeds
+use Rattle.idle_wakeup.specs.shared_rule.declared.parts.PassView.{PassView}
+use Rattle.idle_wakeup.specs.shared_rule.declared.parts.Receipt.{Receipt}
+use Rattle.idle_wakeup.specs.shared_rule.Passes.{HeldPass, IsPassIn}
+use Rattle.remote_expiry.specs.shared_timers.Exchanging.{timer_word}
 use Rattle.play_rules.specs.Interrupts.{Replies}
 use Rattle.story.specs.Written.{Written, bases_after}
 use Rattle.story.specs.Rounds.{standing_at}

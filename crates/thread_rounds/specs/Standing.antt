@@ -6,12 +6,12 @@ use Rattle.tm_script.specs.declared.syntax.Op.{Op}
 use Rattle.tm_script.specs.declared.syntax.What.{What}
 use Rattle.tm_report.specs.declared.lines.Line.{Line}
 use Rattle.core_world.specs.World.{World, cpu_of}
-use Rattle.shared_rule.specs.declared.parts.Did.{Did}
-use Rattle.shared_rule.specs.declared.parts.PassView.{PassView}
-use Rattle.shared_rule.specs.declared.parts.Receipt.{Receipt}
-use Rattle.shared_rule.specs.Passes.{HeldPass, IsPassIn}
-use Rattle.shared_rule.specs.Shows.{BeginsWith}
-use Rattle.shared_table.specs.declared.ready.TheConstants.{MOST_MADE}
+use Rattle.idle_wakeup.specs.shared_rule.declared.parts.Did.{Did}
+use Rattle.idle_wakeup.specs.shared_rule.declared.parts.PassView.{PassView}
+use Rattle.idle_wakeup.specs.shared_rule.declared.parts.Receipt.{Receipt}
+use Rattle.idle_wakeup.specs.shared_rule.Passes.{HeldPass, IsPassIn}
+use Rattle.idle_wakeup.specs.shared_rule.Shows.{BeginsWith}
+use Rattle.idle_wakeup.specs.shared_table.declared.ready.TheConstants.{MOST_MADE}
 use Rattle.remote_expiry.specs.Interrupts.{KnowsOwn, most_walks}
 use Rattle.play_rules.specs.Interrupts.{Replies}
 use Rattle.story.specs.Shares.{Standing, TellsBy, TellsIfDue, TellsOps, fault_of}

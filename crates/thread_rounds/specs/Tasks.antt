@@ -12,9 +12,9 @@ use Rattle.tm_script.specs.declared.syntax.Op.{Op}
 use Rattle.tm_report.specs.declared.lines.Line.{Line}
 use Rattle.core_world.specs.Covered.{IsSettled}
 use Rattle.core_world.specs.World.{World, cpu_of}
-use Rattle.shared_rule.specs.Passes.{HeldPass}
-use Rattle.shared_rule.specs.Rule.{Each}
-use Rattle.shared_table.specs.Begun.{begun_pass}
+use Rattle.idle_wakeup.specs.shared_rule.Passes.{HeldPass}
+use Rattle.idle_wakeup.specs.shared_rule.Rule.{Each}
+use Rattle.idle_wakeup.specs.shared_table.Begun.{begun_pass}
 use Rattle.play_rules.specs.Interrupts.{Replies}
 use Rattle.story.specs.Shares.{own_ops}
 use Rattle.thread_rounds.specs.Doing.{HasDone, IsRoundOp, IsShareOp}

@@ -9,11 +9,11 @@ ghost use Rattle.thread_rounds.specs.Doing.{IsShareOp};
 ghost use Rattle.thread_rounds.specs.Lines.{cancel_line, idle_line};
 ghost use Rattle.thread_rounds.specs.Standing.{HasAnswered, MayAnswer};
 
+use idle_wakeup::the_shared_rule::{Pass, RunName};
+use idle_wakeup::the_shared_table::Shared;
 use idle_wakeup::{IdleAnswer, go_idle, wake};
-use shared_rule::{Pass, RunName};
-use shared_table::Shared;
+use remote_expiry::the_timer_calls::{arm, cancel};
 use std::sync::Wait;
-use timer_calls::{arm, cancel};
 use tm_base::{Class, CpuId, Gate, Jiffy, NoMemory, OpFault, TimerId};
 use tm_report::Line;
 use tm_script::{Op, What};

@@ -3,16 +3,16 @@
 ghost use Rattle.std.specs.Prelude.{◌≡◌, ◌-◌, ◌^◌, ◌≤◌, ◌++◌, OnOk, map, true};
 ghost use Rattle.tm_base.specs.declared.names.TheConstants.{TIME_LIMIT};
 ghost use Rattle.core_world.specs.World.{cpu_of};
-ghost use Rattle.shared_rule.specs.declared.parts.PassView.{PassView};
-ghost use Rattle.shared_rule.specs.Passes.{IsPassIn};
+ghost use Rattle.idle_wakeup.specs.shared_rule.declared.parts.PassView.{PassView};
+ghost use Rattle.idle_wakeup.specs.shared_rule.Passes.{IsPassIn};
 ghost use Rattle.remote_expiry.specs.Interrupts.{IsAtRest, most_walks};
 ghost use Rattle.thread_rounds.specs.Lines.{ran_line, shown_of};
 ghost use Rattle.thread_rounds.specs.Standing.{HasRun, MayAnswer};
 
+use idle_wakeup::the_shared_rule::{Pass, RunName};
+use idle_wakeup::the_shared_table::Shared;
 use job_table::Jobs;
 use remote_expiry::{Ran, RanReply, Runs, interrupt};
-use shared_rule::{Pass, RunName};
-use shared_table::Shared;
 use std::alloc::Global;
 use std::sync::Wait;
 use tm_base::{CpuId, Gate, Jiffy, NoMemory, OpFault};

@@ -4,15 +4,15 @@ ghost use Rattle.std.specs.Prelude.{◌≡◌, ◌-◌, ◌^◌, ◌<◌, ◌≤
 ghost use Rattle.tm_base.specs.declared.limits.TheConstants.{MOST_OPS};
 ghost use Rattle.tm_base.specs.declared.names.TheConstants.{TIME_LIMIT};
 ghost use Rattle.core_world.specs.World.{cpu_of};
-ghost use Rattle.shared_table.specs.Begun.{begun_pass};
+ghost use Rattle.idle_wakeup.specs.shared_table.Begun.{begun_pass};
 ghost use Rattle.thread_rounds.specs.Doing.{HasDone, IsShareOp};
 ghost use Rattle.thread_rounds.specs.Standing.{HaveAnswered, MayAnswer};
 
 use crate::answers::answer;
 use crate::interrupts::run_if_due;
+use idle_wakeup::the_shared_rule::{Pass, RunName};
+use idle_wakeup::the_shared_table::Shared;
 use job_table::Jobs;
-use shared_rule::{Pass, RunName};
-use shared_table::Shared;
 use std::alloc::Global;
 use std::sync::Wait;
 use tm_base::{Gate, Jiffy, NoMemory};

@@ -5,7 +5,7 @@ ghost use Rattle.core_world.specs.World.{World};
 ghost use Rattle.atomic_table.specs.Seated.{TableId};
 ghost use Rattle.thread_rounds.specs.Tasks.{AreGiven, AreTasks, EachFrom, IsFirstPass, IsGiven};
 
-use shared_rule::Pass;
+use idle_wakeup::the_shared_rule::Pass;
 use std::alloc::Global;
 use tm_base::{CpuSet, NoMemory};
 use tm_script::Op;

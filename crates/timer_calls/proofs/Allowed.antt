@@ -8,18 +8,18 @@ use Rattle.tm_base.specs.declared.faults.OpFault.{OpFault}
 use Rattle.tm_base.specs.declared.faults.OpFault.TheVariants as faults
 use Rattle.cpu_word.specs.declared.state.CpuState.{CpuState}
 use Rattle.core_world.specs.World.{World, cpu_of}
-use Rattle.core_state.specs.Shown.{shown_cpu}
-use Rattle.shared_rule.specs.declared.parts.BoxView.{BoxView}
-use Rattle.shared_rule.specs.declared.parts.PassView.{PassView}
-use Rattle.shared_rule.specs.Plays.{Agree, PartFits}
-use Rattle.shared_rule.specs.TimerLaws.{MayExchangeArm}
-use Rattle.shared_rule.specs.Parts.{HeldPart, without_guest}
-use Rattle.shared_rule.specs.Passes.{HeldPass, IsPassIn, knowing}
+use Rattle.shared_table.specs.core_state.Shown.{shown_cpu}
+use Rattle.shared_table.specs.shared_rule.declared.parts.BoxView.{BoxView}
+use Rattle.shared_table.specs.shared_rule.declared.parts.PassView.{PassView}
+use Rattle.shared_table.specs.shared_rule.Plays.{Agree, PartFits}
+use Rattle.shared_table.specs.shared_rule.TimerLaws.{MayExchangeArm}
+use Rattle.shared_table.specs.shared_rule.Parts.{HeldPart, without_guest}
+use Rattle.shared_table.specs.shared_rule.Passes.{HeldPass, IsPassIn, knowing}
 use Rattle.shared_table.specs.Begun.{IsFree}
 use Rattle.shared_timers.specs.declared.arming.Arming.{Arming}
 use Rattle.timer_calls.specs.Arms.{HasArmed, HasFailed, HasLeft, IsArmable, IsArmed, IsRefused}
 use Rattle.timer_calls.specs.Arms.{MayArmIn, NotArmed, arm_fault_of, fault_by, met}
-use Rattle.shared_rule.proofs.Visits.{knows}
+use Rattle.shared_table.proofs.shared_rule.Visits.{knows}
 
 -- a CPU that isn't refused is online, and active or inside
 bits : (online idle inside : Bool) → None ≡ arm_fault_of online idle inside

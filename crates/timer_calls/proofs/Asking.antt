@@ -9,12 +9,12 @@ use Rattle.tm_base.specs.declared.faults.OpFault.TheVariants as faults
 use Rattle.tm_base.specs.declared.names.CpuId.{CpuId}
 use Rattle.cpu_word.specs.declared.state.CpuState.{CpuState}
 use Rattle.core_world.specs.World.{World, cpu_of}
-use Rattle.core_state.specs.Shown.{shown_cpu}
-use Rattle.shared_rule.specs.declared.parts.PassView.{PassView}
-use Rattle.shared_rule.specs.Plays.{Agree, PartFits}
-use Rattle.shared_rule.specs.Parts.{HeldPart, without_guest}
-use Rattle.shared_rule.specs.Passes.{HeldPass, IsPassIn, knowing}
-use Rattle.shared_rule.proofs.Visits.{knows}
+use Rattle.shared_table.specs.core_state.Shown.{shown_cpu}
+use Rattle.shared_table.specs.shared_rule.declared.parts.PassView.{PassView}
+use Rattle.shared_table.specs.shared_rule.Plays.{Agree, PartFits}
+use Rattle.shared_table.specs.shared_rule.Parts.{HeldPart, without_guest}
+use Rattle.shared_table.specs.shared_rule.Passes.{HeldPass, IsPassIn, knowing}
+use Rattle.shared_table.proofs.shared_rule.Visits.{knows}
 use Rattle.timer_calls.specs.Arms.{IsRefused, met}
 use Rattle.timer_calls.specs.Cancels.{CameTo, HasCancelled, HasFallenShort, HasStayed, IsAsked}
 use Rattle.timer_calls.specs.Cancels.{NotCancelled, cancel_fault_by, cancel_fault_of}

@@ -12,12 +12,12 @@ use Rattle.wheel_core.specs.PlainBase.{NoneBehind, PlainBase}
 use Rattle.cpu_bases.specs.ByClass.{ByClass, of_class}
 use Rattle.cpu_bases.specs.CpuBases.{base_of, most_queued}
 use Rattle.core_world.specs.World.{World}
-use Rattle.shared_rule.specs.declared.parts.BoxView.{BoxView}
-use Rattle.shared_rule.specs.declared.parts.PassView.{PassView}
-use Rattle.shared_rule.specs.Timers.{armed_box, armed_pass}
-use Rattle.shared_rule.specs.Parts.{HeldPart, with_guest, without_guest}
-use Rattle.shared_rule.specs.Passes.{HeldPass, passes_of, receipts_of}
-use Rattle.shared_rule.specs.Passes.{with_receipts_room}
+use Rattle.shared_table.specs.shared_rule.declared.parts.BoxView.{BoxView}
+use Rattle.shared_table.specs.shared_rule.declared.parts.PassView.{PassView}
+use Rattle.shared_table.specs.shared_rule.Timers.{armed_box, armed_pass}
+use Rattle.shared_table.specs.shared_rule.Parts.{HeldPart, with_guest, without_guest}
+use Rattle.shared_table.specs.shared_rule.Passes.{HeldPass, passes_of, receipts_of}
+use Rattle.shared_table.specs.shared_rule.Passes.{with_receipts_room}
 use Rattle.shared_table.specs.Begun.{IsFree}
 use Rattle.shared_timers.specs.declared.arming.Arming.{Arming}
 use Rattle.shared_timers.specs.Entries.{pair_changed}

@@ -8,12 +8,12 @@ use Rattle.tm_base.specs.declared.names.TimerId.{TimerId}
 use Rattle.cpu_bases.specs.CpuBases.{class_in}
 use Rattle.cpu_bases.specs.Laws.{CallKeeps}
 use Rattle.core_world.specs.World.{World}
-use Rattle.shared_rule.specs.declared.parts.PassView.{PassView}
-use Rattle.shared_rule.specs.Plays.{Agree, PartFits}
-use Rattle.shared_rule.specs.Timers.{cancelled_box, cancelled_pass}
-use Rattle.shared_rule.specs.Parts.{HeldPart, pass_parted, with_guest, without_guest}
-use Rattle.shared_rule.specs.Passes.{HeldPass, IsPassIn, passes_of, receipts_of}
-use Rattle.shared_rule.specs.Passes.{with_receipts_room}
+use Rattle.shared_table.specs.shared_rule.declared.parts.PassView.{PassView}
+use Rattle.shared_table.specs.shared_rule.Plays.{Agree, PartFits}
+use Rattle.shared_table.specs.shared_rule.Timers.{cancelled_box, cancelled_pass}
+use Rattle.shared_table.specs.shared_rule.Parts.{HeldPart, pass_parted, with_guest, without_guest}
+use Rattle.shared_table.specs.shared_rule.Passes.{HeldPass, IsPassIn, passes_of, receipts_of}
+use Rattle.shared_table.specs.shared_rule.Passes.{with_receipts_room}
 use Rattle.shared_table.specs.Begun.{IsFree}
 use Rattle.shared_timers.specs.Entries.{pair_changed}
 use Rattle.shared_timers.specs.Queueing.{MayCancel, cancelled_part}

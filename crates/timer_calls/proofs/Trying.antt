@@ -1,13 +1,14 @@
 -- what one try to cancel a timer comes to, and all of them
-use Rattle.std.proofs.Common.{◌≡◌, ℕ, ◌<◌, Bool, true, false, [], ◌∷◌, ◌++◌, Some, length, refl, sym}
+use Rattle.std.proofs.Common.{◌≡◌, ℕ, ◌<◌, Bool, true, false, [], ◌∷◌, ◌++◌, Some, length, refl}
+use Rattle.std.proofs.Common.{sym}
 use Rattle.std.proofs.Common.{ap, ◌∙◌, subst}
 use Rattle.atomic_table.specs.Seated.{TableId}
 use Rattle.core_world.specs.World.{World}
 use Rattle.shared_words.specs.declared.spot.Spot.{Spot}
 use Rattle.shared_words.specs.Words.{spot_of}
-use Rattle.shared_rule.specs.Plays.{seen_pass}
-use Rattle.shared_rule.specs.Parts.{HeldPart}
-use Rattle.shared_rule.specs.Passes.{HeldPass, with_pass}
+use Rattle.shared_table.specs.shared_rule.Plays.{seen_pass}
+use Rattle.shared_table.specs.shared_rule.Parts.{HeldPart}
+use Rattle.shared_table.specs.shared_rule.Passes.{HeldPass, with_pass}
 use Rattle.shared_timers.specs.Exchanging.{timer_word}
 use Rattle.remote_looks.proofs.Looks.{each_more, more_loads}
 use Rattle.timer_calls.specs.Cancels.{FellShort, HasTried, IsElsewhere, IsPartOf, IsTakenOut}

@@ -9,11 +9,12 @@ use Rattle.tm_base.specs.declared.names.TheConstants.{TIME_LIMIT}
 use Rattle.tm_base.specs.declared.names.TimerId.{TimerId}
 use Rattle.cpu_bases.specs.CpuBases.{item_queued}
 use Rattle.core_world.specs.World.{World, cpu_of}
-use Rattle.shared_rule.specs.declared.parts.PassView.{PassView}
-use Rattle.shared_rule.specs.Plays.{Agree, PartFits}
-use Rattle.shared_rule.specs.TimerLaws.{MayExchangeArm}
-use Rattle.shared_rule.specs.Parts.{HeldPart, pass_parted, with_guest}
-use Rattle.shared_rule.specs.Passes.{HeldPass, IsPassIn, knowing, with_pass, with_receipts_room}
+use Rattle.shared_table.specs.shared_rule.declared.parts.PassView.{PassView}
+use Rattle.shared_table.specs.shared_rule.Plays.{Agree, PartFits}
+use Rattle.shared_table.specs.shared_rule.TimerLaws.{MayExchangeArm}
+use Rattle.shared_table.specs.shared_rule.Parts.{HeldPart, pass_parted, with_guest}
+use Rattle.shared_table.specs.shared_rule.Passes.{HeldPass, IsPassIn, knowing, with_pass}
+use Rattle.shared_table.specs.shared_rule.Passes.{with_receipts_room}
 use Rattle.shared_timers.specs.declared.arming.Arming.{Arming}
 use Rattle.shared_timers.specs.Queueing.{FoundQueued, armed_part}
 use Rattle.remote_looks.specs.Rooms.{with_more_room}

@@ -10,12 +10,12 @@ use Rattle.cpu_bases.specs.CpuBases.{class_in}
 use Rattle.core_world.specs.World.{World, cpu_of}
 use Rattle.shared_words.specs.declared.spot.Spot.{Spot}
 use Rattle.shared_words.specs.Words.{spot_of}
-use Rattle.shared_rule.specs.declared.parts.Look.{Look}
-use Rattle.shared_rule.specs.declared.parts.PassView.{PassView}
-use Rattle.shared_rule.specs.Plays.{Agree, PartFits, seen_pass}
-use Rattle.shared_rule.specs.Rule.{Each}
-use Rattle.shared_rule.specs.Parts.{HeldPart, pass_parted, with_guest}
-use Rattle.shared_rule.specs.Passes.{HeldPass, IsPassIn, with_pass, with_receipts_room}
+use Rattle.shared_table.specs.shared_rule.declared.parts.Look.{Look}
+use Rattle.shared_table.specs.shared_rule.declared.parts.PassView.{PassView}
+use Rattle.shared_table.specs.shared_rule.Plays.{Agree, PartFits, seen_pass}
+use Rattle.shared_table.specs.shared_rule.Rule.{Each}
+use Rattle.shared_table.specs.shared_rule.Parts.{HeldPart, pass_parted, with_guest}
+use Rattle.shared_table.specs.shared_rule.Passes.{HeldPass, IsPassIn, with_pass, with_receipts_room}
 use Rattle.shared_timers.specs.Exchanging.{timer_word}
 use Rattle.shared_timers.specs.Queueing.{cancelled_part}
 use Rattle.remote_looks.specs.Looks.{IsPassOf, seen_all}

@@ -3,7 +3,7 @@ use Rattle.std.specs.Prelude.{◌≡◌, ℕ, ◌<◌, Some, length}
 use Rattle.core_world.specs.World.{World}
 use Rattle.shared_words.specs.declared.spot.Spot.{Spot}
 use Rattle.shared_words.specs.Words.{spot_of}
-use Rattle.shared_rule.specs.declared.parts.Look.{Look}
+use Rattle.shared_table.specs.shared_rule.declared.parts.Look.{Look}
 use Rattle.shared_timers.specs.Exchanging.{timer_word}
 pub use Rattle.remote_looks.specs.Looks.{IsPassOf, seen_all}
 

@@ -2,15 +2,15 @@
 
 ghost use Rattle.std.specs.Prelude.{◌≡◌, ◌+◌, ◌<◌, MatchResult, length};
 ghost use Rattle.tm_base.specs.declared.names.TheConstants.{TIME_LIMIT};
-ghost use Rattle.shared_rule.specs.Parts.{HeldPart, without_guest};
-ghost use Rattle.shared_rule.specs.Passes.{IsOfRun};
+ghost use Rattle.shared_table.specs.shared_rule.Parts.{HeldPart, without_guest};
+ghost use Rattle.shared_table.specs.shared_rule.Passes.{IsOfRun};
 ghost use Rattle.shared_table.specs.Begun.{IsFree};
 ghost use Rattle.timer_calls.specs.Arms.{HasArmed, HasFailed, IsArmable, IsArmed, MayArmIn, MetBy};
 ghost use Rattle.timer_calls.specs.Arms.{NotArmed, arm_fault_of, arming_of};
 
 use cpu_word::CpuState;
 use remote_looks::take_room;
-use shared_rule::{BoxPart, Pass, Run, RunName, visit};
+use shared_table::the_shared_rule::{BoxPart, Pass, Run, RunName, visit};
 use shared_table::{CpuBox, Shared};
 use shared_timers::{Arming, arm_with};
 use std::sync::Wait;

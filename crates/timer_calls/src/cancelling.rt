@@ -1,8 +1,8 @@
 //! A CPU's thread cancels a timer.
 
 ghost use Rattle.std.specs.Prelude.{◌≡◌, ◌<◌, MatchResult, length};
-ghost use Rattle.shared_rule.specs.Parts.{HeldPart, without_guest};
-ghost use Rattle.shared_rule.specs.Passes.{IsOfRun};
+ghost use Rattle.shared_table.specs.shared_rule.Parts.{HeldPart, without_guest};
+ghost use Rattle.shared_table.specs.shared_rule.Passes.{IsOfRun};
 ghost use Rattle.shared_table.specs.Begun.{IsFree};
 ghost use Rattle.remote_looks.specs.Looks.{IsPassOf};
 ghost use Rattle.timer_calls.specs.Arms.{MetBy};
@@ -13,7 +13,7 @@ ghost use Rattle.timer_calls.specs.Cancels.{cancel_fault_of, tried_of};
 
 use cpu_word::CpuState;
 use remote_looks::take_room;
-use shared_rule::{BoxPart, Pass, Run, RunName, visit};
+use shared_table::the_shared_rule::{BoxPart, Pass, Run, RunName, visit};
 use shared_table::{CpuBox, Shared};
 use shared_timers::cancel_with;
 use shared_words::unpack_spot;

@@ -1,5 +1,6 @@
 -- the moments of a run, one after the other
-use Rattle.std.proofs.Common.{◌≡◌, ◌≢◌, ℕ, ◌+◌, ◌≤◌, ◌<◌, ◌^◌, List, [], ◌∷◌, ◌++◌, false, None, refl, sym, ap, subst, ◌∙◌, arith, append_assoc, append-nil}
+use Rattle.std.proofs.Common.{◌≡◌, ◌≢◌, ℕ, ◌+◌, ◌≤◌, ◌<◌, ◌^◌, List, [], ◌∷◌, ◌++◌, false, None}
+use Rattle.std.proofs.Common.{refl, sym, ap, subst, ◌∙◌, arith, append_assoc, append-nil}
 use Rattle.std.specs.Prelude.{nat_le}
 use Rattle.std.proofs.lemmas.Bool.{eq-eqb, ne_eqb}
 use Rattle.std.proofs.lemmas.List.Concat.{flat_map-append}
@@ -11,18 +12,20 @@ use Rattle.tm_script.specs.declared.syntax.Script.{Script}
 use Rattle.play_rules.specs.Parts.{Progress, counted}
 use Rattle.play_rules.specs.Interrupts.{Replies}
 use Rattle.play_rules.specs.Jobs.{first_unknown_job}
-use Rattle.play_rules.specs.Moments.{Turn, closing, last_state, moments_after, next_moment, spent_at, turn_lines}
+use Rattle.play_rules.specs.Moments.{Turn, closing, last_state, moments_after, next_moment}
+use Rattle.play_rules.specs.Moments.{spent_at, turn_lines}
 use Rattle.core_world.specs.World.{World}
-use Rattle.core_facts.specs.Cover.Headline.{EachSettled}
-use Rattle.step_play.specs.Rules.Seen.{InRun, resting}
-use Rattle.step_play.specs.Rules.StepRules.{step_rules}
-use Rattle.step_play.specs.SamePlay.{core_start}
-use Rattle.story.specs.Stories.{BrokenFrom, IsTurn, StoryFrom}
+use Rattle.plain_moments.specs.core_facts.Cover.Headline.{EachSettled}
+use Rattle.plain_moments.specs.step_play.Rules.Seen.{InRun, resting}
+use Rattle.plain_moments.specs.step_play.Rules.StepRules.{step_rules}
+use Rattle.plain_moments.specs.step_play.SamePlay.{core_start}
+use Rattle.plain_moments.specs.story.Stories.{BrokenFrom, IsTurn, StoryFrom}
 use Rattle.core_plays.specs.OnCore.{EachIsAnsweredFor}
 use Rattle.play_driver.specs.Outcomes.{work_limit}
 use Rattle.play_driver.specs.declared.outcomes.DriveFault.{DriveFault}
 use Rattle.play_driver.specs.declared.outcomes.DriveFault.TheVariants.{BadJob, NoMemory, WorkSpent}
-use Rattle.tm_driver.specs.Runs.{BreaksRun, BreaksStory, EachRests, EndsRunEarly, RunsOut, RunsToEnd}
+use Rattle.tm_driver.specs.Runs.{BreaksRun, BreaksStory, EachRests, EndsRunEarly, RunsOut}
+use Rattle.tm_driver.specs.Runs.{RunsToEnd}
 use Rattle.tm_driver.specs.Runs.{RunsWhole, TellsMoment, work_of}
 use Rattle.core_plays.proofs.BySteps.{at_rest}
 use Rattle.play_driver.proofs.Turns.{below_test, last_push, spent_more, turn_lines_push, work_more}

@@ -1,5 +1,7 @@
 -- a moment with threads: what may be part of its round, and what is told of it
-use Rattle.std.proofs.Common.{◌≡◌, ℕ, ◌+◌, ◌≤◌, ◌<◌, List, [], ◌∷◌, ◌++◌, Bool, true, false, Option, Some, None, refl, sym, ap, subst, ◌∙◌, arith, append_assoc, append-nil, length, take, get_or, cond}
+use Rattle.std.proofs.Common.{◌≡◌, ℕ, ◌+◌, ◌≤◌, ◌<◌, List, [], ◌∷◌, ◌++◌, Bool, true, false, Option}
+use Rattle.std.proofs.Common.{Some, None, refl, sym, ap, subst, ◌∙◌, arith, append_assoc}
+use Rattle.std.proofs.Common.{append-nil, length, take, get_or, cond}
 use mir.Val.{bool_byte}
 use Rattle.std.specs.Prelude.{All, Err, Ok, OnOk, Result, filter, slice_index_or, ◌==◌, ◌||◌}
 use Rattle.std.specs.List.{list_any, range_with_len}
@@ -22,9 +24,10 @@ use Rattle.play_rules.specs.Moments.{moment, moment_at}
 use Rattle.play_rules.specs.Parts.{Progress, counted}
 use Rattle.play_rules.proofs.Loops.{range_more}
 use Rattle.core_world.specs.World.{World}
-use Rattle.story.specs.Rounds.{IsRound}
-use Rattle.step_play.specs.Rules.StepRules.{step_rules}
-use Rattle.story.specs.Stories.{count_due, covers_of, is_hotplug, is_plain, is_run, ops_of, runs_told}
+use Rattle.plain_moments.specs.story.Rounds.{IsRound}
+use Rattle.plain_moments.specs.step_play.Rules.StepRules.{step_rules}
+use Rattle.plain_moments.specs.story.Stories.{count_due, covers_of, is_hotplug, is_plain, is_run}
+use Rattle.plain_moments.specs.story.Stories.{ops_of, runs_told}
 use Rattle.thread_rounds.specs.Doing.{IsRoundOp, IsTimerThere}
 use Rattle.play_driver.specs.Conditions.{IsOpInRange, IsTimerInRange}
 use Rattle.plain_moments.specs.Plain.{by_cpus}

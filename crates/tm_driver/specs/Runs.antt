@@ -14,11 +14,12 @@ use Rattle.play_rules.specs.Moments.{AfterEach, Turn, last_state, moment_at, spe
 use Rattle.play_rules.specs.Moments.{whole_lines}
 use Rattle.play_rules.specs.Parts.{Gains, Played, Progress, counted}
 use Rattle.core_world.specs.World.{World}
-use Rattle.step_play.specs.Rules.Seen.{InRun, resting}
-use Rattle.step_play.specs.Rules.StepRules.{step_rules}
-use Rattle.step_play.specs.SamePlay.{core_start}
-use Rattle.story.specs.Rounds.{IsRound}
-use Rattle.story.specs.Stories.{IsBrokenOff, IsMoment, IsStory, IsThreaded, count_due, ops_of}
+use Rattle.plain_moments.specs.step_play.Rules.Seen.{InRun, resting}
+use Rattle.plain_moments.specs.step_play.Rules.StepRules.{step_rules}
+use Rattle.plain_moments.specs.step_play.SamePlay.{core_start}
+use Rattle.plain_moments.specs.story.Rounds.{IsRound}
+use Rattle.plain_moments.specs.story.Stories.{IsBrokenOff, IsMoment, IsStory, IsThreaded, count_due}
+use Rattle.plain_moments.specs.story.Stories.{ops_of}
 use Rattle.play_driver.specs.Conditions.{IsMomentInRange}
 use Rattle.core_plays.specs.OnCore.{EachIsAnsweredFor}
 use Rattle.play_driver.specs.Outcomes.{work_limit}

@@ -10,5 +10,6 @@ mod runs;
 pub use core_plays::{
     Summary, deep, next_moment, play, play_moment, run_moment, start_core, summary,
 };
+pub use plain_moments::the_play_laws;
 pub use play_driver::{Counts, DriveFault, having_interrupt, play_on};
 pub use runs::run;

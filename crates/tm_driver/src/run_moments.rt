@@ -9,19 +9,20 @@ ghost use Rattle.tm_base.specs.declared.limits.TheConstants.{SCRIPT_TIME_LIMIT};
 ghost use Rattle.tm_report.specs.Lines.{line_text, report_text};
 ghost use Rattle.play_rules.specs.Machines.{SameBuild};
 ghost use Rattle.play_rules.specs.Parts.{Gains, counted};
-ghost use Rattle.step_play.specs.Rules.Seen.{InRun, resting};
-ghost use Rattle.step_play.specs.Rules.StepRules.{step_rules};
-ghost use Rattle.step_play.specs.SamePlay.{core_start};
-ghost use Rattle.story.specs.Stories.{count_due, covers_of, is_hotplug, is_plain, is_run, ops_of};
-ghost use Rattle.story.specs.Stories.{runs_told};
+ghost use Rattle.plain_moments.specs.step_play.Rules.Seen.{InRun, resting};
+ghost use Rattle.plain_moments.specs.step_play.Rules.StepRules.{step_rules};
+ghost use Rattle.plain_moments.specs.step_play.SamePlay.{core_start};
+ghost use Rattle.plain_moments.specs.story.Stories.{count_due, covers_of, is_hotplug, is_plain};
+ghost use Rattle.plain_moments.specs.story.Stories.{is_run, ops_of};
+ghost use Rattle.plain_moments.specs.story.Stories.{runs_told};
 ghost use Rattle.play_driver.specs.Conditions.{AreOnline, IsPlayable};
 ghost use Rattle.tm_driver.specs.Runs.{EndsRunEarly, IsRunMoment, RunsOut, TellsMoment};
 ghost use Rattle.tm_driver.specs.Runs.{TellsRound, TellsThreaded};
 
-use core_facts::law_each_settled;
 use core_plays::RunPlayer;
 use job_table::Jobs;
 use plain_moments::plain_moment;
+use plain_moments::the_core_facts::law_each_settled;
 use play_driver::{
     DriveFault, Telling, covers, having_interrupt, moment_after, moment_due, still_to_come,
     work_limit,

@@ -4,14 +4,14 @@ ghost use Rattle.std.specs.Prelude.{◌≡◌, ◌≤◌, All, IfErr, IfOk, leng
 ghost use Rattle.tm_base.specs.declared.limits.TheConstants.{MOST_OPS};
 ghost use Rattle.tm_script.specs.Grammar.{IsScript};
 ghost use Rattle.play_rules.specs.Parts.{Gains};
-ghost use Rattle.step_play.specs.Rules.Seen.{InRun, resting};
-ghost use Rattle.step_play.specs.SamePlay.{core_start};
+ghost use Rattle.plain_moments.specs.step_play.Rules.Seen.{InRun, resting};
+ghost use Rattle.plain_moments.specs.step_play.SamePlay.{core_start};
 ghost use Rattle.play_driver.specs.Conditions.{IsPlayable};
 ghost use Rattle.tm_driver.specs.Runs.{BreaksRun, EndsRunEarly, RunsToEnd, RunsWhole};
 
 use crate::run_moments::run_moments;
+use core_plays::the_core_state::Core;
 use core_plays::{RunPlayer, start_core};
-use core_state::Core;
 use job_table::Jobs;
 use play_driver::{DriveFault, Telling, close, first_unknown_job};
 use play_rules::UnknownJob;

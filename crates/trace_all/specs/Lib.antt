@@ -1,1 +1,2 @@
 pub mod All
+pub use Rattle.trace_rules.specs as trace_rules

@@ -19,7 +19,7 @@ use Rattle.core_world.specs.Lists.{EachEnabled, IsRun, after_all}
 use Rattle.core_world.specs.Start.{start_cpu}
 use Rattle.core_world.specs.Steps.{stepped}
 use Rattle.core_world.specs.World.{World}
-use Rattle.core_state.specs.Kept.{WorldFits}
+use Rattle.step_core.specs.core_state.Kept.{WorldFits}
 use Rattle.trace_text.specs.declared.traces.Trace.{Trace}
 use Rattle.trace_text.specs.declared.traces.TraceLine.{TraceLine}
 use Rattle.trace_text.specs.declared.traces.TraceLine.TheVariants as lines

@@ -13,7 +13,7 @@ use Rattle.core_world.specs.Enabled.{Enabled}
 use Rattle.core_world.specs.Lists.{IsRun}
 use Rattle.core_world.specs.Steps.{stepped}
 use Rattle.core_world.specs.World.{World}
-use Rattle.core_facts.specs.Cover.Runs.{start_with}
+use Rattle.step_core.specs.core_facts.Cover.Runs.{start_with}
 use Rattle.trace_text.specs.declared.traces.Trace.{Trace}
 use Rattle.trace_text.specs.declared.traces.TraceLine.{TraceLine}
 use Rattle.trace_text.specs.declared.traces.TraceLine.TheVariants as lines

@@ -5,7 +5,7 @@ use Rattle.coverage.specs.Coverage.{Held, TopWakes, WakesItself, Woken}
 use Rattle.core_world.specs.Covered.{Carried, machine_of}
 use Rattle.core_world.specs.Covered as covers
 use Rattle.core_world.specs.World.{World}
-use Rattle.core_facts.specs.Cover.Headline.{IsWaiting}
+use Rattle.step_core.specs.core_facts.Cover.Headline.{IsWaiting}
 use Rattle.trace_check.specs.declared.reason.Reason.{Reason}
 use Rattle.trace_check.specs.declared.reason.Reason.TheVariants as reasons
 

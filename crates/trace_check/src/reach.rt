@@ -9,8 +9,8 @@ ghost use Rattle.core_world.specs.Covered.{live_expiry, machine_of};
 ghost use Rattle.core_world.specs.World.{group_of};
 ghost use Rattle.trace_check.specs.Told.{IsReach};
 
-use core_state::Core;
 use event_queue::Event;
+use step_core::the_core_state::Core;
 use tm_base::{CpuId, GroupId, Jiffy};
 use wheel_core::TimerBase;
 

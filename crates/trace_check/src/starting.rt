@@ -5,10 +5,10 @@ ghost use Rattle.cpu_bases.specs.CpuBases.{empty_bases};
 ghost use Rattle.trace_text.specs.Texts.{IsTrace};
 ghost use Rattle.trace_check.specs.Answers.{start_for};
 
-use core_state::Core;
 use cpu_bases::Bases;
 use std::alloc::Global;
 use step_core::new_core;
+use step_core::the_core_state::Core;
 use tm_base::NoMemory;
 use trace_text::Trace;
 use tree_plan::plan;

@@ -8,8 +8,8 @@ use Rattle.walk_rules.specs.declared.walk.Stage.{Stage}
 use Rattle.walk_rules.specs.declared.walk.Stage.TheVariants as stages
 use Rattle.walk_rules.specs.Queues.{group_under}
 use Rattle.walk_rules.specs.Standing.{FitsStage}
-use Rattle.core_facts.specs.Places.{PlacesFit, StandsAtGroup}
-use Rattle.core_state.specs.Kept.{HasLevel}
+use Rattle.step_causes.specs.core_facts.Places.{PlacesFit, StandsAtGroup}
+use Rattle.step_causes.specs.core_state.Kept.{HasLevel}
 use Rattle.core_world.specs.World.{World, cpu_of}
 use Rattle.trace_explain.specs.Walks.{level_named}
 

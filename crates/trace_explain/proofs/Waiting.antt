@@ -11,8 +11,8 @@ use Rattle.tm_base.specs.declared.names.Class.TheVariants.{Pinned, Global, Defer
 use Rattle.wheel_core.specs.declared.item.Item.{Item}
 use Rattle.wheel_core.specs.PlainBase.{item_of}
 use Rattle.cpu_bases.specs.CpuBases.{CpuBases, base_of, found_or}
-use Rattle.core_facts.specs.Cover.Once.{IsOnce, IsQueuedAt}
-use Rattle.core_state.specs.Kept.{is_queued}
+use Rattle.step_causes.specs.core_facts.Cover.Once.{IsOnce, IsQueuedAt}
+use Rattle.step_causes.specs.core_state.Kept.{is_queued}
 use Rattle.core_world.specs.World.{World, cpu_of}
 use Rattle.trace_check.specs.declared.reason.Reason.{Reason}
 use Rattle.trace_check.specs.Reasons.{HasNoReason, IsAsked, IsReason}

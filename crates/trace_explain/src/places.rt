@@ -5,8 +5,8 @@ ghost use Rattle.core_world.specs.World.{cpu_of};
 ghost use Rattle.trace_explain.specs.Walks.{group_name, level_named, spot_text};
 
 use crate::pieces::{push_after, push_words};
-use core_facts::law_place;
-use core_state::Core;
+use step_causes::the_core_facts::law_place;
+use step_causes::the_core_state::Core;
 use text_words::push_number;
 use tm_base::{CpuId, GroupId, NoMemory};
 use walk_rules::{Stage, Walk};

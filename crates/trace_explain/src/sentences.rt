@@ -13,8 +13,8 @@ use crate::pieces::{
     push_two_class,
 };
 use crate::walks::push_walk;
-use core_state::Core;
 use core_world::Step;
+use step_causes::the_core_state::Core;
 use tm_base::{Class, CpuId, Jiffy, NoMemory, TimerId};
 use wheel_core::TimerBase;
 

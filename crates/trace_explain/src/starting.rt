@@ -5,10 +5,10 @@ ghost use Rattle.cpu_bases.specs.CpuBases.{empty_bases};
 ghost use Rattle.trace_text.specs.Texts.{IsTrace};
 ghost use Rattle.trace_check.specs.Answers.{start_for};
 
-use core_state::Core;
 use cpu_bases::Bases;
 use std::alloc::Global;
-use step_core::new_core;
+use step_causes::the_core_state::Core;
+use step_causes::the_step_core::new_core;
 use tm_base::NoMemory;
 use trace_check::Trace;
 use tree_plan::plan;

@@ -1,5 +1,6 @@
 -- each step of a lawful world fits
-use Rattle.std.proofs.Common.{◌≡◌, ◌≢◌, ℕ, ◌<◌, Bool, true, false, List, [], ◌∷◌, length, Some, refl, sym, ap, ◌∙◌, subst, arith, inl, inr}
+use Rattle.std.proofs.Common.{◌≡◌, ◌≢◌, ℕ, ◌<◌, Bool, true, false, List, [], ◌∷◌, length, Some}
+use Rattle.std.proofs.Common.{refl, sym, ap, ◌∙◌, subst, arith, inl, inr}
 use Rattle.std.specs.Prelude.{unwrap_or}
 use Rattle.tm_base.specs.declared.names.CpuId.{CpuId}
 use Rattle.walk_rules.specs.declared.walk.Walk.{Walk}
@@ -16,13 +17,14 @@ use Rattle.core_world.specs.Lawful.{IsLawful}
 use Rattle.core_world.specs.Lists.{EachEnabled}
 use Rattle.core_world.specs.Steps.{here, stepped, swapped, walk_made, walked}
 use Rattle.core_world.specs.World.{World, cpu_of, group_of}
-use Rattle.core_laws.specs.Laws.{StepsStayLawful}
+use Rattle.core_facts.specs.core_laws.Laws.{StepsStayLawful}
 use Rattle.core_facts.specs.Exchanges.{Exchanges}
 use Rattle.core_facts.specs.Places.{EachPlaceFits}
 use Rattle.core_facts.specs.Reach.{EachKeeps}
 use Rattle.trace_lines.specs.declared.events.Place.{Place}
 use Rattle.trace_seen.specs.Words.{follows}
-use Rattle.trace_laws.specs.Alarms.{ExchangesAt, LineFollows, RunFits, StepFits, WordsFit, line_of_exchange, shown}
+use Rattle.trace_laws.specs.Alarms.{ExchangesAt, LineFollows, RunFits, StepFits, WordsFit}
+use Rattle.trace_laws.specs.Alarms.{line_of_exchange, shown}
 use Rattle.trace_laws.proofs.Words.{Lawful, joined_follows, left_follows, some_shown}
 
 -- ---- what no exchange changes

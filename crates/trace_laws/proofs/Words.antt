@@ -1,19 +1,24 @@
 -- lawful words, and exchanges that follow
-use Rattle.std.proofs.Common.{◌≡◌, ◌≢◌, ℕ, zero, suc, ◌^◌, ◌<◌, Bool, true, false, true≢false, Option, Some, None, refl, sym, ap, ◌∙◌, subst, arith, inl, inr}
+use Rattle.std.proofs.Common.{◌≡◌, ◌≢◌, ℕ, zero, suc, ◌^◌, ◌<◌, Bool, true, false, true≢false}
+use Rattle.std.proofs.Common.{Option, Some, None, refl, sym, ap, ◌∙◌, subst, arith, inl, inr}
 use Rattle.std.specs.Prelude.{◌==◌, ◌&&◌, is_some, nat_lt}
 use Rattle.std.specs.Int.{bit_at}
-use Rattle.std.proofs.lemmas.Bool.{cases_Bool, cases_eq, cases_lt, cond-true, cond-false, eq-eqb, eqb-true, lt-ltb}
+use Rattle.std.proofs.lemmas.Bool.{cases_Bool, cases_eq, cases_lt, cond-true, cond-false, eq-eqb}
+use Rattle.std.proofs.lemmas.Bool.{eqb-true, lt-ltb}
 use Rattle.std.proofs.lemmas.Nat.Bits.{bit_at_above, bit_at-lt, same_from_bits}
 use Rattle.group_word.specs.Group.{GroupLaw, IsActive}
-use Rattle.group_word.specs.State.{activated_state, migrator_bits, migrator_without, swapped_state, without_child}
+use Rattle.group_word.specs.State.{activated_state, migrator_bits, migrator_without, swapped_state}
+use Rattle.group_word.specs.State.{without_child}
 use Rattle.group_word.specs.declared.state.GroupState.{GroupState}
 use Rattle.group_word.proofs.Children.{law_none}
-use Rattle.core_laws.proofs.Edges.Sets.{joined_law, left_gone, left_keeps, left_law, left_small, left_was, set_small}
+use Rattle.core_facts.proofs.core_laws.Edges.Sets.{joined_law, left_gone, left_keeps, left_law}
+use Rattle.core_facts.proofs.core_laws.Edges.Sets.{left_small, left_was, set_small}
 use Rattle.walk_rules.specs.Scene.{Group}
 use Rattle.walk_rules.specs.Stages.{joined_by, left_by}
 use Rattle.trace_lines.specs.declared.events.Place.{Place}
 use Rattle.trace_lines.specs.declared.events.Exchange.{Exchange}
-use Rattle.trace_seen.specs.Words.{exchanged, follows, follows_by, named_by, same_number, same_state, state_led, state_of, word_after}
+use Rattle.trace_seen.specs.Words.{exchanged, follows, follows_by, named_by, same_number}
+use Rattle.trace_seen.specs.Words.{same_state, state_led, state_of, word_after}
 use Rattle.trace_laws.specs.Alarms.{line_of_exchange, shown}
 
 -- ---- a lawful word

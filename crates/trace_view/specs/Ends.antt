@@ -6,9 +6,9 @@ use Rattle.std.specs.Io.KnownBytes.{Appends}
 use Rattle.text_words.specs.Words.{lines_of}
 use Rattle.tm_io.specs.Seen.{SinkSeen, SourceSeen, SourceFailed}
 use Rattle.tm_io.specs.Sources.{TakesAll, TakesCount}
-use Rattle.trace_rules.specs.declared.judge.Verdict.{Verdict}
-use Rattle.trace_rules.specs.declared.judge.Verdict.TheVariants.{Fits, Broken, NoTrace}
-use Rattle.trace_rules.specs.Judge.{judged, start}
+use Rattle.trace_all.specs.trace_rules.declared.judge.Verdict.{Verdict}
+use Rattle.trace_all.specs.trace_rules.declared.judge.Verdict.TheVariants.{Fits, Broken, NoTrace}
+use Rattle.trace_all.specs.trace_rules.Judge.{judged, start}
 use Rattle.trace_view.specs.declared.commands.Reply.{Reply}
 use Rattle.trace_view.specs.declared.commands.Reply.TheVariants.{Usage, BrokenSource, LongSource}
 use Rattle.trace_view.specs.declared.commands.Reply.TheVariants.{Judged}

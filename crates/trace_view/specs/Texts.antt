@@ -13,7 +13,7 @@ use Rattle.trace_seen.specs.declared.rules.Rule.TheVariants.{Group, Tree, Node, 
 use Rattle.trace_seen.specs.declared.rules.Rule.TheVariants.{Order, Cpu, Event, Remote, Wakeup}
 use Rattle.trace_seen.specs.declared.rules.Rule.TheVariants.{Rest, Told}
 use Rattle.trace_seen.specs.declared.rules.Rule.TheVariants.{Timer}
-use Rattle.trace_rules.specs.declared.judge.Tally.{Tally}
+use Rattle.trace_all.specs.trace_rules.declared.judge.Tally.{Tally}
 use Rattle.trace_told.specs.declared.told.Answers.{Answers}
 use Rattle.trace_seen.specs.declared.whom.Whom.{Whom}
 use Rattle.trace_runs.specs.declared.runs.Runs.{Runs}
@@ -21,9 +21,9 @@ use Rattle.trace_runs.specs.declared.differences.Differences.{Differences}
 use Rattle.trace_timers.specs.declared.tallies.TimerTally.{TimerTally}
 use Rattle.trace_view.specs.declared.statuses.TheConstants.{FITS, MISFIT, NO_TRACE}
 use Rattle.trace_view.specs.declared.texts.TheConstants.{POINTER_DIGITS}
-use Rattle.trace_rules.specs.declared.judge.Misfit.{Misfit}
-use Rattle.trace_rules.specs.declared.judge.Verdict.{Verdict}
-use Rattle.trace_rules.specs.declared.judge.Verdict.TheVariants.{Fits, Broken, NoTrace}
+use Rattle.trace_all.specs.trace_rules.declared.judge.Misfit.{Misfit}
+use Rattle.trace_all.specs.trace_rules.declared.judge.Verdict.{Verdict}
+use Rattle.trace_all.specs.trace_rules.declared.judge.Verdict.TheVariants.{Fits, Broken, NoTrace}
 
 -- the text where the words are no command
 abbrev pub usage_line : List ℕ

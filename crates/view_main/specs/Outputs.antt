@@ -8,13 +8,13 @@ use Rattle.tm_script.specs.declared.faults.ScriptFault.{ScriptFault}
 use Rattle.trace_text.specs.declared.traces.Trace.{Trace}
 use Rattle.trace_text.specs.Faults.{trace_fault}
 use Rattle.trace_text.specs.Texts.{Spells}
-use Rattle.trace_check.specs.declared.verdict.Verdict.{Verdict}
-use Rattle.trace_check.specs.declared.verdict.Verdict.TheVariants as verdicts
-use Rattle.trace_check.specs.Answers.{start_for}
+use Rattle.trace_explain.specs.trace_check.declared.verdict.Verdict.{Verdict}
+use Rattle.trace_explain.specs.trace_check.declared.verdict.Verdict.TheVariants as verdicts
+use Rattle.trace_explain.specs.trace_check.Answers.{start_for}
 use Rattle.trace_explain.specs.Explained.{IsExplained}
 use Rattle.text_words.specs.Words.{lines_of}
-use Rattle.trace_rules.specs.Judge.{start}
-use Rattle.trace_all.specs.All.{all_of}
+use Rattle.trace_view.specs.trace_rules.Judge.{start}
+use Rattle.trace_view.specs.trace_all.All.{all_of}
 use Rattle.trace_view.specs.Texts.{all_status, all_text}
 use Rattle.trace_view.specs.declared.statuses.TheConstants.{FITS, MISFIT, NO_TRACE}
 use Rattle.text_chart.specs.Texts.{window_text}

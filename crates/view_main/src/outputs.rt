@@ -14,9 +14,9 @@ use std::alloc::Global;
 use text_chart::text_chart;
 use tm_base::NoMemory;
 use tm_report::Line;
-use trace_all::check_all;
-use trace_check::{ReadTrace, Trace, Verdict, read_trace};
 use trace_explain::explain;
+use trace_explain::the_trace_check::{ReadTrace, Trace, Verdict, read_trace};
+use trace_view::the_trace_all::check_all;
 use trace_view::{FITS, MISFIT, NO_TRACE, all_status, print_all};
 
 /// A text, and the status where all of it is written.

@@ -9,18 +9,20 @@ use Rattle.tree_plan.specs.Paths.{group_at_of}
 use Rattle.walk_rules.specs.declared.walk.WalkKind.TheVariants as kinds
 use Rattle.walk_rules.specs.declared.walk.Stage.TheVariants as stages
 use Rattle.walk_rules.specs.Stages.{begun_where}
-use Rattle.shared_rule.specs.declared.parts.BoxView.{BoxView}
-use Rattle.shared_rule.specs.declared.parts.PassView.{PassView}
-use Rattle.shared_rule.specs.Whole.{no_looks}
-use Rattle.shared_rule.specs.Rule.{renewed}
-use Rattle.shared_rule.specs.Plays.{head_pass, woken_box, woken_pass}
-use Rattle.shared_rule.specs.Parts.{HeldPart, HasGuest, pass_parted, with_guest, without_guest}
-use Rattle.shared_rule.specs.Passes.{HeldPass, IsPassIn, Seated, passes_of, seated_of}
-use Rattle.shared_rule.specs.Passes.{walks_of, with_pass}
+use Rattle.shared_cpus.specs.shared_rule.declared.parts.BoxView.{BoxView}
+use Rattle.shared_cpus.specs.shared_rule.declared.parts.PassView.{PassView}
+use Rattle.shared_cpus.specs.shared_rule.Whole.{no_looks}
+use Rattle.shared_cpus.specs.shared_rule.Rule.{renewed}
+use Rattle.shared_cpus.specs.shared_rule.Plays.{head_pass, woken_box, woken_pass}
+use Rattle.shared_cpus.specs.shared_rule.Parts.{HeldPart, HasGuest, pass_parted, with_guest}
+use Rattle.shared_cpus.specs.shared_rule.Parts.{without_guest}
+use Rattle.shared_cpus.specs.shared_rule.Passes.{HeldPass, IsPassIn, Seated, passes_of, seated_of}
+use Rattle.shared_cpus.specs.shared_rule.Passes.{walks_of, with_pass}
 use Rattle.shared_walks.specs.Steps.{on_part}
 use Rattle.shared_cpus.specs.Conditions.{CanWake}
 use Rattle.shared_cpus.specs.Pairs.{box_by, by_pair, of_box}
-use Rattle.walk_active.specs.Activated.{activated_box, activated_part, activated_pass, ignored_where}
+use Rattle.walk_active.specs.Activated.{activated_box, activated_part, activated_pass}
+use Rattle.walk_active.specs.Activated.{ignored_where}
 use Rattle.walk_active.specs.Climbing.{Climbs, arrived, arrived_box, leaf_left}
 use Rattle.walk_active.proofs.Rising.{is_climbing, no_walk}
 

@@ -16,12 +16,13 @@ use Rattle.walk_rules.specs.Standing.{FitsStage, is_leaving}
 use Rattle.walk_rules.specs.Stages.{at_stage, higher, mark_next, up_next}
 use Rattle.core_world.specs.World.{World}
 use Rattle.shared_words.specs.Exchanges.{shows_migrator}
-use Rattle.shared_rule.specs.declared.parts.BoxView.{BoxView}
-use Rattle.shared_rule.specs.declared.parts.Looked.{Looked}
-use Rattle.shared_rule.specs.Whole.{no_looks}
-use Rattle.shared_rule.specs.Plays.{PartFits, WalkFits, bound_walk, by_walk, marked_walk}
-use Rattle.shared_rule.specs.Plays.{marks_more, own_marked_walk, up_walk}
-use Rattle.shared_rule.specs.Parts.{HeldPart}
+use Rattle.shared_cpus.specs.shared_rule.declared.parts.BoxView.{BoxView}
+use Rattle.shared_cpus.specs.shared_rule.declared.parts.Looked.{Looked}
+use Rattle.shared_cpus.specs.shared_rule.Whole.{no_looks}
+use Rattle.shared_cpus.specs.shared_rule.Plays.{PartFits, WalkFits, bound_walk, by_walk}
+use Rattle.shared_cpus.specs.shared_rule.Plays.{marked_walk}
+use Rattle.shared_cpus.specs.shared_rule.Plays.{marks_more, own_marked_walk, up_walk}
+use Rattle.shared_cpus.specs.shared_rule.Parts.{HeldPart}
 use Rattle.shared_walks.specs.Steps.{on_part}
 use Rattle.shared_walks.specs.Walks.{GoesOn, HasStepped, StepOf, is_under_way}
 use Rattle.walk_active.specs.Climbing.{Climbs, HasClimbed, left_at, leaf_left}

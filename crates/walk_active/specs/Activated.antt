@@ -6,12 +6,12 @@ use Rattle.event_queue.specs.declared.event.Event.{Event}
 use Rattle.event_queue.specs.EventMap.{as_ignored}
 use Rattle.tree_plan.specs.Paths.{group_at_of}
 use Rattle.core_world.specs.World.{CpuRecord}
-use Rattle.shared_rule.specs.declared.parts.BoxView.{BoxView}
-use Rattle.shared_rule.specs.declared.parts.PassView.{PassView}
-use Rattle.shared_rule.specs.Whole.{no_looks}
-use Rattle.shared_rule.specs.Plays.{woken_pass}
-use Rattle.shared_rule.specs.Parts.{HeldPart, without_guest}
-use Rattle.shared_rule.specs.Passes.{HeldPass, IsOfRun, IsPassIn}
+use Rattle.shared_cpus.specs.shared_rule.declared.parts.BoxView.{BoxView}
+use Rattle.shared_cpus.specs.shared_rule.declared.parts.PassView.{PassView}
+use Rattle.shared_cpus.specs.shared_rule.Whole.{no_looks}
+use Rattle.shared_cpus.specs.shared_rule.Plays.{woken_pass}
+use Rattle.shared_cpus.specs.shared_rule.Parts.{HeldPart, without_guest}
+use Rattle.shared_cpus.specs.shared_rule.Passes.{HeldPass, IsOfRun, IsPassIn}
 use Rattle.shared_walks.specs.Steps.{on_part}
 
 -- THE CPU, awake: it isn't idle, has nothing to be woken for, and no walk is under way

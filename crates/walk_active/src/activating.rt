@@ -2,12 +2,12 @@
 
 ghost use Rattle.std.specs.Prelude.{◌≡◌, ◌^◌, ◌<◌, suc, true};
 ghost use Rattle.core_world.specs.World.{is_active};
-ghost use Rattle.shared_rule.specs.Passes.{walks_of, with_pass};
+ghost use Rattle.shared_cpus.specs.shared_rule.Passes.{walks_of, with_pass};
 ghost use Rattle.walk_active.specs.Activated.{IsOwnPass, activated_part, activated_pass};
 
 use crate::climbing::climb;
+use shared_cpus::the_shared_rule::{Pass, RunName, bring, part_off};
 use shared_cpus::wake_step;
-use shared_rule::{Pass, RunName, bring, part_off};
 use shared_table::{CpuBox, Shared};
 use std::sync::Wait;
 use tm_base::Gate;

@@ -1,10 +1,10 @@
 //! The machines whose walks are timed, and the turns of their CPUs.
 
-use core_state::Core;
 use core_world::Step;
 use std::alloc::Global;
-use step_laws::run_steps;
 use tm_base::{Class, CpuId, CpuSet, NoMemory, TimerId};
+use walk_rows::the_core_state::Core;
+use walk_rows::the_step_laws::run_steps;
 use walk_rows::{Crew, Plan, Turn, start};
 use wheel_base::WheelBase;
 

@@ -1,12 +1,12 @@
 //! The same walks on a core that one lock guards.
 
-use core_state::Core;
 use core_world::Step;
 use std::sync::{Mutex, Wait};
 use std::thread;
 use std::thread::Threads;
-use step_core::{apply, enabled};
 use tm_base::CpuId;
+use walk_rows::the_core_state::Core;
+use walk_rows::the_step_core::{apply, enabled};
 use walk_rows::{Crew, Plan, Turn};
 use wheel_base::WheelBase;
 

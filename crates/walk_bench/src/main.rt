@@ -9,14 +9,14 @@ mod locked;
 
 use crate::cases::{CASES, Case, before, crews, machine, pairs};
 use crate::locked::take_locked;
-use core_state::Core;
 use std::alloc::Global;
 use std::env;
 use std::sync::{Mutex, Wait};
 use std::thread::Threads;
 use std::time::{Clock, Instant};
-use step_laws::is_settled;
 use tm_base::{FreeGate, NoMemory};
+use walk_rows::the_core_state::Core;
+use walk_rows::the_step_laws::is_settled;
 use walk_rows::{Plan, Ran, no_base_behind, run_plan};
 use wheel_base::WheelBase;
 

@@ -12,12 +12,12 @@ use Rattle.walk_rules.specs.declared.walk.Stage.TheVariants as stages
 use Rattle.walk_rules.specs.Hierarchy.{HasGroup}
 use Rattle.walk_rules.specs.Standing.{FitsStage}
 use Rattle.walk_rules.specs.Stages.{leaf_event}
-use Rattle.core_facts.specs.Told.{SaysOf}
+use Rattle.shared_cpus.specs.core_facts.Told.{SaysOf}
 use Rattle.core_world.specs.World.{World}
-use Rattle.shared_rule.specs.declared.parts.BoxView.{BoxView}
-use Rattle.shared_rule.specs.declared.parts.Looked.{Looked}
-use Rattle.shared_rule.specs.Plays.{PartFits, WalkFits}
-use Rattle.shared_rule.specs.Parts.{HeldPart}
+use Rattle.shared_cpus.specs.shared_rule.declared.parts.BoxView.{BoxView}
+use Rattle.shared_cpus.specs.shared_rule.declared.parts.Looked.{Looked}
+use Rattle.shared_cpus.specs.shared_rule.Plays.{PartFits, WalkFits}
+use Rattle.shared_cpus.specs.shared_rule.Parts.{HeldPart}
 use Rattle.shared_walks.specs.Walks.{HasStepped, StepOf, is_under_way}
 use Rattle.walk_inactive.specs.Ends.{leaf_of, told_leaf}
 use Rattle.walk_inactive.specs.Looks.{FindsFirst, HasLooked}

@@ -11,14 +11,18 @@ use Rattle.walk_rules.specs.Stages.{at_stage, free_group_next, freed_next, highe
 use Rattle.walk_rules.specs.Stages.{see_child_next, up_next}
 use Rattle.shared_words.specs.Exchanges.{shows_migrator}
 use Rattle.core_world.specs.World.{World}
-use Rattle.shared_rule.specs.declared.parts.BoxView.{BoxView}
-use Rattle.shared_rule.specs.Plays.{bound_walk, by_walk, child_freed_walk, child_locked_walk}
-use Rattle.shared_rule.specs.Plays.{child_read_walk, child_sight, group_freed_walk, taken_lock}
-use Rattle.shared_rule.specs.Plays.{locked_walk, marked_walk, marks_more, own_marked_box}
-use Rattle.shared_rule.specs.Plays.{own_read_walk, read_walk, reading, scan_sight, stored_box}
-use Rattle.shared_rule.specs.Plays.{group_sight, own_marked_walk, stored_walk, swap_box}
-use Rattle.shared_rule.specs.Plays.{risen_box, swapped_walk, top_sight, trying, up_walk}
-use Rattle.shared_rule.specs.Parts.{HeldPart}
+use Rattle.shared_cpus.specs.shared_rule.declared.parts.BoxView.{BoxView}
+use Rattle.shared_cpus.specs.shared_rule.Plays.{bound_walk, by_walk, child_freed_walk}
+use Rattle.shared_cpus.specs.shared_rule.Plays.{child_locked_walk}
+use Rattle.shared_cpus.specs.shared_rule.Plays.{child_read_walk, child_sight, group_freed_walk}
+use Rattle.shared_cpus.specs.shared_rule.Plays.{taken_lock}
+use Rattle.shared_cpus.specs.shared_rule.Plays.{locked_walk, marked_walk, marks_more}
+use Rattle.shared_cpus.specs.shared_rule.Plays.{own_marked_box}
+use Rattle.shared_cpus.specs.shared_rule.Plays.{own_read_walk, read_walk, reading, scan_sight}
+use Rattle.shared_cpus.specs.shared_rule.Plays.{stored_box}
+use Rattle.shared_cpus.specs.shared_rule.Plays.{group_sight, own_marked_walk, stored_walk, swap_box}
+use Rattle.shared_cpus.specs.shared_rule.Plays.{risen_box, swapped_walk, top_sight, trying, up_walk}
+use Rattle.shared_cpus.specs.shared_rule.Parts.{HeldPart}
 use Rattle.walk_inactive.specs.Frames.{IsFramed, IsSameErrand, box_with}
 use Rattle.shared_walks.specs.Steps.{LockTried, group_seen, lock_place, on_part, state_place}
 use Rattle.shared_walks.specs.Steps.{top_seen}

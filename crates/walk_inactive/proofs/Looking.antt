@@ -16,7 +16,7 @@ use Rattle.walk_rules.specs.Stages.{first_stage, freed_next, free_group_next, hi
 use Rattle.walk_rules.specs.Stages.{see_child_next}
 use Rattle.core_world.specs.World.{World}
 use Rattle.shared_words.specs.Exchanges.{shows_migrator}
-use Rattle.shared_rule.specs.declared.parts.Look.{Look}
+use Rattle.shared_cpus.specs.shared_rule.declared.parts.Look.{Look}
 use Rattle.shared_walks.specs.Steps.{slot_place, state_place}
 use Rattle.walk_inactive.specs.Looks.{HasLooked, group_looks, reads_slots, slot_looks}
 use Rattle.walk_inactive.specs.Ways.{HasClosed, HasPassed, HasReadSlots, HasSeen, LooksAt}

@@ -5,12 +5,14 @@ use Rattle.std.specs.Prelude.{option_map}
 use Rattle.atomic_table.specs.Seated.{TableId}
 use Rattle.walk_rules.specs.declared.walk.WalkKind.TheVariants as kinds
 use Rattle.core_world.specs.Enabled.{first_event}
-use Rattle.shared_rule.specs.declared.parts.PassView.{PassView}
-use Rattle.shared_rule.specs.Plays.{head_pass}
-use Rattle.shared_rule.specs.Rule.{renewed}
-use Rattle.shared_rule.specs.Parts.{HasGuest, HeldPart, pass_parted, with_guest, without_guest}
-use Rattle.shared_rule.specs.Passes.{HeldPass, IsPassIn, Seated, passes_of, seated_of, walks_of}
-use Rattle.shared_rule.specs.Passes.{with_pass}
+use Rattle.shared_cpus.specs.shared_rule.declared.parts.PassView.{PassView}
+use Rattle.shared_cpus.specs.shared_rule.Plays.{head_pass}
+use Rattle.shared_cpus.specs.shared_rule.Rule.{renewed}
+use Rattle.shared_cpus.specs.shared_rule.Parts.{HasGuest, HeldPart, pass_parted, with_guest}
+use Rattle.shared_cpus.specs.shared_rule.Parts.{without_guest}
+use Rattle.shared_cpus.specs.shared_rule.Passes.{HeldPass, IsPassIn, Seated, passes_of, seated_of}
+use Rattle.shared_cpus.specs.shared_rule.Passes.{walks_of}
+use Rattle.shared_cpus.specs.shared_rule.Passes.{with_pass}
 use Rattle.shared_cpus.specs.Conditions.{CanIdle}
 use Rattle.shared_table.specs.Begun.{IsFree}
 use Rattle.shared_table.specs.Readied.{HasNoneBehind}

@@ -14,13 +14,13 @@ use Rattle.walk_rules.specs.Stages.{started}
 use Rattle.walk_rules.specs.Standing.{Tells, is_leaving}
 use Rattle.walk_rules.specs.Stages.{begun_where}
 use Rattle.core_world.specs.World.{CpuRecord}
-use Rattle.shared_rule.specs.declared.parts.BoxView.{BoxView}
-use Rattle.shared_rule.specs.declared.parts.Looked.{Looked}
-use Rattle.shared_rule.specs.Whole.{no_looks}
-use Rattle.shared_rule.specs.declared.parts.PassView.{PassView}
-use Rattle.shared_rule.specs.Plays.{head_pass}
-use Rattle.shared_rule.specs.Turns.{idled, idled_box, idled_pass}
-use Rattle.shared_rule.specs.Parts.{HeldPart}
+use Rattle.shared_cpus.specs.shared_rule.declared.parts.BoxView.{BoxView}
+use Rattle.shared_cpus.specs.shared_rule.declared.parts.Looked.{Looked}
+use Rattle.shared_cpus.specs.shared_rule.Whole.{no_looks}
+use Rattle.shared_cpus.specs.shared_rule.declared.parts.PassView.{PassView}
+use Rattle.shared_cpus.specs.shared_rule.Plays.{head_pass}
+use Rattle.shared_cpus.specs.shared_rule.Turns.{idled, idled_box, idled_pass}
+use Rattle.shared_cpus.specs.shared_rule.Parts.{HeldPart}
 use Rattle.shared_cpus.specs.Conditions.{CanFinish, CanIdle, HasPassFor}
 use Rattle.shared_cpus.specs.Pairs.{HasOwn, box_by, by_pair, of_box}
 use Rattle.shared_cpus.specs.Steps.{ended, ended_as}

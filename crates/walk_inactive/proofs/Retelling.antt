@@ -8,15 +8,16 @@ use Rattle.walk_rules.specs.declared.walk.WalkKind.{WalkKind}
 use Rattle.walk_rules.specs.declared.walk.WalkKind.TheVariants as kinds
 use Rattle.walk_rules.specs.declared.walk.Stage.TheVariants as stages
 use Rattle.core_world.specs.World.{CpuRecord}
-use Rattle.core_state.specs.Shown.{as_cpu}
-use Rattle.shared_rule.specs.declared.parts.BoxView.{BoxView}
-use Rattle.shared_rule.specs.declared.parts.Deed.TheVariants as deeds
-use Rattle.shared_rule.specs.declared.parts.PassView.{PassView}
-use Rattle.shared_rule.specs.Plays.{head_pass}
-use Rattle.shared_rule.specs.Turns.{carried, carried_box, carried_pass, marks_without, retold_box}
-use Rattle.shared_rule.specs.Turns.{retold_pass}
-use Rattle.shared_rule.specs.Turns as turns
-use Rattle.shared_rule.specs.Parts.{HeldPart}
+use Rattle.shared_cpus.specs.core_state.Shown.{as_cpu}
+use Rattle.shared_cpus.specs.shared_rule.declared.parts.BoxView.{BoxView}
+use Rattle.shared_cpus.specs.shared_rule.declared.parts.Deed.TheVariants as deeds
+use Rattle.shared_cpus.specs.shared_rule.declared.parts.PassView.{PassView}
+use Rattle.shared_cpus.specs.shared_rule.Plays.{head_pass}
+use Rattle.shared_cpus.specs.shared_rule.Turns.{carried, carried_box, carried_pass, marks_without}
+use Rattle.shared_cpus.specs.shared_rule.Turns.{retold_box}
+use Rattle.shared_cpus.specs.shared_rule.Turns.{retold_pass}
+use Rattle.shared_cpus.specs.shared_rule.Turns as turns
+use Rattle.shared_cpus.specs.shared_rule.Parts.{HeldPart}
 use Rattle.shared_cpus.specs.Conditions.{CanCarry, CanFinish, CanRetell, HasPassFor}
 use Rattle.shared_cpus.specs.Pairs.{HasOwn, by_pair, of_box}
 use Rattle.shared_cpus.specs.Steps.{ended}

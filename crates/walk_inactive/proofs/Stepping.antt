@@ -13,15 +13,19 @@ use Rattle.walk_rules.specs.Stages.{freed_next, read_next, scan_next, see_child_
 use Rattle.walk_rules.specs.Stages.{see_group_next, store_next, swap_next}
 use Rattle.core_world.specs.World.{World}
 use Rattle.shared_words.specs.Exchanges.{shows_migrator}
-use Rattle.shared_rule.specs.declared.parts.BoxView.{BoxView}
-use Rattle.shared_rule.specs.declared.parts.Look.{Look}
-use Rattle.shared_rule.specs.declared.parts.Looked.{Looked}
-use Rattle.shared_rule.specs.Plays.{bound_walk, by_walk, child_freed_walk, child_locked_walk}
-use Rattle.shared_rule.specs.Plays.{child_read_walk, child_sight, group_freed_walk, taken_lock}
-use Rattle.shared_rule.specs.Plays.{locked_walk, own_read_walk, read_walk, reading, scan_sight}
-use Rattle.shared_rule.specs.Plays.{WalkFits, group_sight, slot_number, stored_box, stored_walk}
-use Rattle.shared_rule.specs.Plays.{swap_box, top_sight}
-use Rattle.shared_rule.specs.Parts.{HeldPart}
+use Rattle.shared_cpus.specs.shared_rule.declared.parts.BoxView.{BoxView}
+use Rattle.shared_cpus.specs.shared_rule.declared.parts.Look.{Look}
+use Rattle.shared_cpus.specs.shared_rule.declared.parts.Looked.{Looked}
+use Rattle.shared_cpus.specs.shared_rule.Plays.{bound_walk, by_walk, child_freed_walk}
+use Rattle.shared_cpus.specs.shared_rule.Plays.{child_locked_walk}
+use Rattle.shared_cpus.specs.shared_rule.Plays.{child_read_walk, child_sight, group_freed_walk}
+use Rattle.shared_cpus.specs.shared_rule.Plays.{taken_lock}
+use Rattle.shared_cpus.specs.shared_rule.Plays.{locked_walk, own_read_walk, read_walk, reading}
+use Rattle.shared_cpus.specs.shared_rule.Plays.{scan_sight}
+use Rattle.shared_cpus.specs.shared_rule.Plays.{WalkFits, group_sight, slot_number, stored_box}
+use Rattle.shared_cpus.specs.shared_rule.Plays.{stored_walk}
+use Rattle.shared_cpus.specs.shared_rule.Plays.{swap_box, top_sight}
+use Rattle.shared_cpus.specs.shared_rule.Parts.{HeldPart}
 use Rattle.walk_inactive.specs.Frames.{IsFramed, box_with}
 use Rattle.shared_walks.specs.Steps.{group_seen, on_part, top_seen}
 use Rattle.shared_walks.specs.Walks.{HasReadChild, StepOf, is_under_way}

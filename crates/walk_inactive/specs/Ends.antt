@@ -8,13 +8,13 @@ use Rattle.walk_rules.specs.declared.walk.WalkKind.{WalkKind}
 use Rattle.walk_rules.specs.declared.walk.WalkKind.TheVariants as kinds
 use Rattle.walk_rules.specs.Stages.{leaf_event}
 use Rattle.core_world.specs.World.{CpuRecord}
-use Rattle.core_state.specs.Shown.{as_cpu}
-use Rattle.shared_rule.specs.declared.parts.BoxView.{BoxView}
-use Rattle.shared_rule.specs.declared.parts.Deed.TheVariants as deeds
-use Rattle.shared_rule.specs.declared.parts.PassView.{PassView}
-use Rattle.shared_rule.specs.Plays.{head_pass}
-use Rattle.shared_rule.specs.Turns.{marks_without}
-use Rattle.shared_rule.specs.Parts.{HeldPart}
+use Rattle.shared_cpus.specs.core_state.Shown.{as_cpu}
+use Rattle.shared_cpus.specs.shared_rule.declared.parts.BoxView.{BoxView}
+use Rattle.shared_cpus.specs.shared_rule.declared.parts.Deed.TheVariants as deeds
+use Rattle.shared_cpus.specs.shared_rule.declared.parts.PassView.{PassView}
+use Rattle.shared_cpus.specs.shared_rule.Plays.{head_pass}
+use Rattle.shared_cpus.specs.shared_rule.Turns.{marks_without}
+use Rattle.shared_cpus.specs.shared_rule.Parts.{HeldPart}
 use Rattle.walk_inactive.specs.Looks.{FindsFirst}
 
 -- the leaf of a box's CPU, where it has one

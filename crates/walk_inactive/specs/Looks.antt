@@ -10,7 +10,7 @@ use Rattle.walk_rules.specs.Hierarchy.{at_top}
 use Rattle.walk_rules.specs.Stages.{first_of, is_remote}
 use Rattle.core_world.specs.World.{World}
 use Rattle.shared_words.specs.Exchanges.{shows_migrator}
-use Rattle.shared_rule.specs.declared.parts.Look.{Look}
+use Rattle.shared_cpus.specs.shared_rule.declared.parts.Look.{Look}
 use Rattle.shared_walks.specs.Steps.{slot_place, state_place}
 
 -- the loads of the words of the groups on a CPU's path, one a level, from a level on

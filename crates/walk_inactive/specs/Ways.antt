@@ -12,10 +12,10 @@ use Rattle.walk_rules.specs.Hierarchy.{HasGroup}
 use Rattle.walk_rules.specs.Standing.{Tells}
 use Rattle.core_world.specs.World.{World}
 use Rattle.shared_words.specs.Exchanges.{shows_migrator}
-use Rattle.shared_rule.specs.declared.parts.Look.{Look}
-use Rattle.shared_rule.specs.Plays.{PartFits}
-use Rattle.shared_rule.specs.Whole.{no_looks}
-use Rattle.shared_rule.specs.Parts.{HeldPart}
+use Rattle.shared_cpus.specs.shared_rule.declared.parts.Look.{Look}
+use Rattle.shared_cpus.specs.shared_rule.Plays.{PartFits}
+use Rattle.shared_cpus.specs.shared_rule.Whole.{no_looks}
+use Rattle.shared_cpus.specs.shared_rule.Parts.{HeldPart}
 use Rattle.walk_inactive.specs.Frames.{IsSameErrand, box_with}
 use Rattle.shared_walks.specs.Steps.{on_part}
 use Rattle.shared_walks.specs.Walks.{StepOf, is_under_way}

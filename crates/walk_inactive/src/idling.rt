@@ -3,15 +3,15 @@
 ghost use Rattle.std.specs.Prelude.{◌≡◌, ◌+◌, ◌^◌, ◌<◌, suc, true, false};
 ghost use Rattle.walk_rules.specs.declared.walk.WalkKind.TheVariants as kinds;
 ghost use Rattle.core_world.specs.Enabled.{first_event};
-ghost use Rattle.shared_rule.specs.declared.parts.PassView.{PassView};
-ghost use Rattle.shared_rule.specs.Parts.{without_guest};
-ghost use Rattle.shared_rule.specs.Passes.{IsOfRun, IsPassIn, walks_of, with_pass};
+ghost use Rattle.shared_cpus.specs.shared_rule.declared.parts.PassView.{PassView};
+ghost use Rattle.shared_cpus.specs.shared_rule.Parts.{without_guest};
+ghost use Rattle.shared_cpus.specs.shared_rule.Passes.{IsOfRun, IsPassIn, walks_of, with_pass};
 ghost use Rattle.shared_cpus.specs.Conditions.{CanIdle};
 ghost use Rattle.walk_inactive.specs.Ends.{HasTold, HasWalked, at_rest, gone_idle, rested};
 
 use crate::telling::tell;
+use shared_cpus::the_shared_rule::{BoxPart, Pass, Run, RunName, bring, part_off};
 use shared_cpus::{finish_step, idle_step};
-use shared_rule::{BoxPart, Pass, Run, RunName, bring, part_off};
 use shared_table::{CpuBox, Shared};
 use std::sync::Wait;
 use tm_base::{Gate, Jiffy};

@@ -10,3 +10,6 @@ mod telling;
 
 pub use carrying::carry;
 pub use idling::deactivate;
+pub use shared_cpus as the_shared_cpus;
+pub use shared_cpus::the_shared_rule;
+pub use shared_table as the_shared_table;

@@ -11,25 +11,30 @@ use Rattle.walk_rules.specs.declared.walk.Stage.{Stage}
 use Rattle.walk_rules.specs.declared.walk.Stage.TheVariants as stages
 use Rattle.core_world.specs.Enabled.{first_event}
 use Rattle.core_world.specs.World.{CpuRecord, World}
-use Rattle.shared_rule.specs.declared.parts.BoxView.{BoxView}
-use Rattle.shared_rule.specs.declared.parts.PassView.{PassView}
-use Rattle.shared_rule.specs.Rule.{Each, renewed, with_journal}
-use Rattle.shared_rule.specs.Plays.{Agree, by_walk, child_freed_walk, child_locked_walk}
-use Rattle.shared_rule.specs.Plays.{child_read_walk, child_sight, group_freed_walk, head_pass}
-use Rattle.shared_rule.specs.Plays.{locked_walk, marked_walk, own_marked_box, risen_box}
-use Rattle.shared_rule.specs.Plays.{own_read_walk, read_walk, reading, scan_sight, stored_box}
-use Rattle.shared_rule.specs.Plays.{swap_box, taken_lock, trying, woken_box, woken_pass}
-use Rattle.shared_rule.specs.Turns.{finish_of, finished_box, idled_box, idled_pass, rested_pass}
-use Rattle.shared_rule.specs.Parts.{HasGuest, HeldPart, pass_parted, with_guest, without_guest}
-use Rattle.shared_rule.specs.Passes.{HeldPass, IsPassIn, Seated, passes_of, seated_of}
-use Rattle.shared_cpus.specs.Conditions.{CanIdle, CanWake}
-use Rattle.shared_cpus.specs.Pairs.{HasOwn, box_by, by_pair, of_box}
-use Rattle.shared_table.specs.Begun.{IsFree}
-use Rattle.shared_table.specs.Ended.{IsPassAt}
-use Rattle.shared_table.specs.Readied.{HasNoneBehind}
-use Rattle.shared_walks.specs.Steps.{LockTried, group_seen, lock_place, on_part, state_place}
-use Rattle.shared_walks.specs.Steps.{top_seen}
-use Rattle.shared_walks.specs.Walks.{HasReadChild, StepOf}
+use Rattle.idle_wakeup.specs.shared_rule.declared.parts.BoxView.{BoxView}
+use Rattle.idle_wakeup.specs.shared_rule.declared.parts.PassView.{PassView}
+use Rattle.idle_wakeup.specs.shared_rule.Rule.{Each, renewed, with_journal}
+use Rattle.idle_wakeup.specs.shared_rule.Plays.{Agree, by_walk, child_freed_walk, child_locked_walk}
+use Rattle.idle_wakeup.specs.shared_rule.Plays.{child_read_walk, child_sight, group_freed_walk}
+use Rattle.idle_wakeup.specs.shared_rule.Plays.{head_pass}
+use Rattle.idle_wakeup.specs.shared_rule.Plays.{locked_walk, marked_walk, own_marked_box, risen_box}
+use Rattle.idle_wakeup.specs.shared_rule.Plays.{own_read_walk, read_walk, reading, scan_sight}
+use Rattle.idle_wakeup.specs.shared_rule.Plays.{stored_box}
+use Rattle.idle_wakeup.specs.shared_rule.Plays.{swap_box, taken_lock, trying, woken_box, woken_pass}
+use Rattle.idle_wakeup.specs.shared_rule.Turns.{finish_of, finished_box, idled_box, idled_pass}
+use Rattle.idle_wakeup.specs.shared_rule.Turns.{rested_pass}
+use Rattle.idle_wakeup.specs.shared_rule.Parts.{HasGuest, HeldPart, pass_parted, with_guest}
+use Rattle.idle_wakeup.specs.shared_rule.Parts.{without_guest}
+use Rattle.idle_wakeup.specs.shared_rule.Passes.{HeldPass, IsPassIn, Seated, passes_of, seated_of}
+use Rattle.idle_wakeup.specs.shared_cpus.Conditions.{CanIdle, CanWake}
+use Rattle.idle_wakeup.specs.shared_cpus.Pairs.{HasOwn, box_by, by_pair, of_box}
+use Rattle.shared_rows.specs.shared_table.Begun.{IsFree}
+use Rattle.shared_rows.specs.shared_table.Ended.{IsPassAt}
+use Rattle.shared_rows.specs.shared_table.Readied.{HasNoneBehind}
+use Rattle.idle_wakeup.specs.shared_walks.Steps.{LockTried, group_seen, lock_place, on_part}
+use Rattle.idle_wakeup.specs.shared_walks.Steps.{state_place}
+use Rattle.idle_wakeup.specs.shared_walks.Steps.{top_seen}
+use Rattle.idle_wakeup.specs.shared_walks.Walks.{HasReadChild, StepOf}
 use Rattle.shared_rows.specs.Looks.{StaysAt}
 use Rattle.walk_rows.specs.Driven.{DrivenOn, IsDriven}
 use Rattle.walk_rows.specs.Standing.{IsOneOf}

@@ -3,9 +3,9 @@ use Rattle.std.proofs.Common.{◌≡◌, ℕ, ◌+◌, ◌≤◌, List, ◌++◌
 use Rattle.std.proofs.Common.{arith}
 use Rattle.std.proofs.lemmas.List.{length-append, length-drop, length-take-le}
 use Rattle.atomic_table.specs.Seated.{TableId}
-use Rattle.shared_rule.specs.Passes.{HeldPass}
-use Rattle.shared_table.specs.Ended.{PassesFrom}
-use Rattle.shared_table.proofs.Passes.{cut_back, cut_front, put_together}
+use Rattle.idle_wakeup.specs.shared_rule.Passes.{HeldPass}
+use Rattle.shared_rows.specs.shared_table.Ended.{PassesFrom}
+use Rattle.shared_rows.proofs.shared_table.Passes.{cut_back, cut_front, put_together}
 
 module _ (table : TableId) (k cut most : ℕ) (ps : List HeldPass) (each : PassesFrom table k ps)
     (few : k + length ps ≤ most) (low : cut ≤ length ps) (front back : List HeldPass)

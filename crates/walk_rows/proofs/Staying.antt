@@ -1,15 +1,16 @@
 -- a CPU's turn leaves its pass where it was
-use Rattle.std.proofs.Common.{◌≡◌, ℕ, ◌+◌, ◌<◌, ◌≤◌, List, length, get_or, set, Result, Ok, Err, refl}
+use Rattle.std.proofs.Common.{◌≡◌, ℕ, ◌+◌, ◌<◌, ◌≤◌, List, length, get_or, set, Result, Ok, Err}
+use Rattle.std.proofs.Common.{refl}
 use Rattle.std.proofs.Common.{arith, ap, ◌∙◌}
 use Rattle.std.specs.Prelude.{IfOk, OnErr, OnOk, option_map}
 use Rattle.std.proofs.lemmas.Option.{slice_get-get_or}
 use Rattle.atomic_table.specs.Seated.{TableId}
 use Rattle.tm_base.specs.declared.faults.OpFault.{OpFault}
 use Rattle.core_world.specs.World.{World}
-use Rattle.shared_rule.specs.declared.parts.PassView.{PassView}
-use Rattle.shared_rule.specs.Passes.{HeldPass, Seated, knowing, with_pass}
-use Rattle.shared_table.specs.Ended.{IsPassAt, PassesFrom}
-use Rattle.shared_table.proofs.Passes.{one_changed, one_of}
+use Rattle.idle_wakeup.specs.shared_rule.declared.parts.PassView.{PassView}
+use Rattle.idle_wakeup.specs.shared_rule.Passes.{HeldPass, Seated, knowing, with_pass}
+use Rattle.shared_rows.specs.shared_table.Ended.{IsPassAt, PassesFrom}
+use Rattle.shared_rows.proofs.shared_table.Passes.{one_changed, one_of}
 use Rattle.shared_rows.specs.Looks.{StaysAt}
 use Rattle.idle_wakeup.specs.declared.idling.IdleAnswer.{IdleAnswer}
 use Rattle.idle_wakeup.specs.declared.idling.IdleAnswer.TheVariants as answers

@@ -1,8 +1,8 @@
 -- the part of a CPU whose steps are made one call at a time (no public clause cites these)
 use Rattle.std.specs.Prelude.{◌≡◌, ℕ, [], ◌∷◌, false}
-use Rattle.shared_rule.specs.declared.parts.PassView.{PassView}
-use Rattle.shared_rule.specs.Parts.{HeldPart}
-use Rattle.shared_table.specs.Readied.{HasNoneBehind}
+use Rattle.idle_wakeup.specs.shared_rule.declared.parts.PassView.{PassView}
+use Rattle.idle_wakeup.specs.shared_rule.Parts.{HeldPart}
+use Rattle.shared_rows.specs.shared_table.Readied.{HasNoneBehind}
 
 -- the part is that of this CPU, outside an interrupt; its own pass is brought, and none of its
 -- bases is behind

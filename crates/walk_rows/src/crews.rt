@@ -2,14 +2,14 @@
 
 ghost use Rattle.std.specs.Prelude.{◌≡◌, ◌+◌, ◌≤◌, IfOk, length};
 ghost use Rattle.std.specs.Thread.{IsSend, IsSync};
-ghost use Rattle.shared_table.specs.Ended.{PassesFrom};
+ghost use Rattle.shared_rows.specs.shared_table.Ended.{PassesFrom};
 
 use crate::gates::Watch;
 use crate::runs::{Crew, Plan};
 use crate::tally::Tally;
 use crate::turns::take_rounds;
-use shared_rule::{Pass, RunName};
-use shared_table::Shared;
+use idle_wakeup::the_shared_rule::{Pass, RunName};
+use shared_rows::the_shared_table::Shared;
 use std::sync::Wait;
 use std::thread;
 use std::thread::Threads;

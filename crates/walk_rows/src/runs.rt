@@ -2,15 +2,15 @@
 
 ghost use Rattle.std.specs.Prelude.{◌≡◌, length};
 ghost use Rattle.core_world.specs.Covered.{IsSettled};
-ghost use Rattle.shared_table.specs.Ended.{AreAllPasses, HasNoBaseBehind};
+ghost use Rattle.shared_rows.specs.shared_table.Ended.{AreAllPasses, HasNoBaseBehind};
 
 use crate::crews::all;
 use crate::gates::Watch;
 use crate::tally::Tally;
 use crate::turns::Turn;
-use core_state::Core;
-use shared_rule::{Pass, RunName};
-use shared_table::{Ready, Shared};
+use idle_wakeup::the_core_state::Core;
+use idle_wakeup::the_shared_rule::{Pass, RunName};
+use shared_rows::the_shared_table::{Ready, Shared};
 use std::alloc::Global;
 use std::marker::Brand;
 use std::sync::Wait;

@@ -1,7 +1,8 @@
 use crate::by_steps::{Stepped, run_by_steps};
 use crate::{Crew, Draws, Hold, Plan, Ran, Tally, Turn, Turnstile, Watch, agrees, run_plan};
-use core_state::Core;
 use core_world::Step;
+use idle_wakeup::the_core_state::Core;
+use shared_rows::the_step_laws::{is_settled, run_steps};
 use shared_rows::{facts_of, no_base_behind, start};
 use std::alloc::Global;
 use std::process::Abort;
@@ -9,7 +10,6 @@ use std::sync::Wait;
 use std::sync::atomic::{AtomicU64, Ordering};
 use std::test::*;
 use std::thread::Threads;
-use step_laws::{is_settled, run_steps};
 use tm_base::{Class, CpuId, CpuSet, FreeGate, GroupId, NEVER, NoMemory, Point, TimerId};
 use wheel_base::WheelBase;
 

@@ -2,15 +2,15 @@
 
 ghost use Rattle.std.specs.Prelude.{◌≡◌, ◌+◌, ◌≤◌, length};
 ghost use Rattle.shared_rows.specs.Looks.{StaysAt};
-ghost use Rattle.shared_table.specs.Ended.{PassesFrom};
+ghost use Rattle.shared_rows.specs.shared_table.Ended.{PassesFrom};
 ghost use Rattle.walk_rows.specs.Standing.{IsOneOf};
 
 use crate::gates::Watch;
 use crate::runs::Plan;
 use crate::tally::Tally;
+use idle_wakeup::the_shared_rule::{Pass, RunName};
 use idle_wakeup::{IdleAnswer, go_idle, wake};
-use shared_rule::{Pass, RunName};
-use shared_table::Shared;
+use shared_rows::the_shared_table::Shared;
 use std::sync::Wait;
 use tm_base::{CpuId, Gate, Jiffy, OpFault};
 use wheel_core::TimerBase;

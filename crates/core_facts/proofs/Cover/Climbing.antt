@@ -10,7 +10,7 @@ use Rattle.event_queue.specs.EventMap.{Counts, event_at}
 use Rattle.tm_base.specs.Children.{of_group}
 use Rattle.tree_plan.specs.Shape.{Shape}
 use Rattle.tree_plan.specs.Paths.{bit_of, child_towards, group_at_of, group_count_of, parent_of}
-use Rattle.coverage.specs.Coverage.{HasEvent, Told, WakesBy}
+use Rattle.core_world.specs.coverage.Coverage.{HasEvent, Told, WakesBy}
 use Rattle.walk_rules.specs.Hierarchy.{at_top, side}
 use Rattle.walk_rules.specs.Queues.{HasTold}
 use Rattle.core_world.specs.Covered.{Covered, at_idle_top, by_role, live_expiry, machine_of}

@@ -10,7 +10,7 @@ use Rattle.wheel_core.specs.declared.item.Item.{Item}
 use Rattle.wheel_core.specs.PlainBase.{least}
 use Rattle.wheel_core.proofs.Leasts.{least_below, least_none}
 use Rattle.cpu_bases.specs.CpuBases.{base_of, events_of}
-use Rattle.coverage.specs.Coverage.{HasEvent, Told}
+use Rattle.core_world.specs.coverage.Coverage.{HasEvent, Told}
 use Rattle.walk_rules.specs.declared.walk.Walk.{Walk}
 use Rattle.walk_rules.specs.Stages.{is_remote}
 use Rattle.core_world.specs.Covered.{Covered, by_interrupt, by_walk, machine_of}

@@ -3,14 +3,14 @@ use Rattle.std.proofs.Common.{◌≡◌, ◌⊎◌, inl, inr, ℕ, zero, suc, �
 use Rattle.std.proofs.Common.{Option, Some, None, refl, sym, ap, ◌∙◌, subst, arith}
 use Rattle.std.specs.Prelude.{◌&&◌, is_some, option_and_then, option_map, if◌then◌else◌}
 use Rattle.std.proofs.lemmas.Option.{none-some}
-use Rattle.group_word.specs.Group.{GroupLaw, IsActive}
+use Rattle.walk_rules.specs.group_word.Group.{GroupLaw, IsActive}
 use Rattle.tm_base.specs.declared.names.Child.{Child}
 use Rattle.tm_base.specs.declared.names.Child.TheVariants as sorts
 use Rattle.tm_base.specs.Children.{of_group}
 use Rattle.tree_plan.specs.Shape.{Shape}
 use Rattle.tree_plan.specs.Paths.{bit_of, child_at, child_towards, group_at_of, group_count_of}
 use Rattle.tree_plan.specs.Paths.{parent_of}
-use Rattle.coverage.specs.Coverage.{to_cpu, to_group}
+use Rattle.core_world.specs.coverage.Coverage.{to_cpu, to_group}
 use Rattle.walk_rules.specs.declared.walk.Walk.{Walk}
 use Rattle.walk_rules.specs.Clearing.{IsSeenTo, Side, StandsUnder, after, before, clears_at}
 use Rattle.walk_rules.specs.Clearing.{clears_by, side_of_exchange, swapping}

@@ -4,7 +4,7 @@ use Rattle.std.specs.Prelude.{◌&&◌, not, option_and_then, option_map}
 use Rattle.std.proofs.lemmas.Option.{none-some}
 use Rattle.tm_base.specs.declared.names.Child.{Child}
 use Rattle.tree_plan.specs.Paths.{child_towards, group_at_of}
-use Rattle.coverage.specs.Coverage.{WakesBy}
+use Rattle.core_world.specs.coverage.Coverage.{WakesBy}
 use Rattle.walk_rules.specs.declared.walk.Walk.{Walk}
 use Rattle.walk_rules.specs.Clearing.{IsSeenTo}
 use Rattle.walk_rules.specs.Edges.{StandsAt, StandsBelow, edge_of}

@@ -5,7 +5,7 @@ use Rattle.std.specs.Prelude.{◌&&◌, not, is_some, option_map, Contains}
 use Rattle.std.specs.Int.{bit_at}
 use Rattle.std.proofs.lemmas.Bool.{and_parts, cases_Bool, cases_eq}
 use Rattle.std.proofs.lemmas.Option.{none-some, same_Some}
-use Rattle.group_word.specs.Group.{GroupLaw, IsActive}
+use Rattle.walk_rules.specs.group_word.Group.{GroupLaw, IsActive}
 use Rattle.tm_base.specs.declared.names.Class.{Class}
 use Rattle.tm_base.specs.declared.names.Class.TheVariants.{Deferrable, Global, Pinned}
 use Rattle.tm_base.specs.declared.names.Child.{Child}
@@ -14,7 +14,7 @@ use Rattle.wheel_core.specs.declared.item.Item.{Item}
 use Rattle.wheel_core.specs.PlainBase.{least}
 use Rattle.cpu_bases.specs.CpuBases.{base_of}
 use Rattle.tree_plan.specs.Paths.{IsBelow, bit_of, group_at_of, parent_of}
-use Rattle.coverage.specs.Coverage.{IsAnsweredFor, Leads, TopWakes, to_cpu, to_group}
+use Rattle.core_world.specs.coverage.Coverage.{IsAnsweredFor, Leads, TopWakes, to_cpu, to_group}
 use Rattle.walk_rules.specs.Locks.{HoldsBy}
 use Rattle.walk_rules.specs.Queues.{HasTold}
 use Rattle.walk_rules.specs.Scene.{HasBit, is_on}
@@ -28,7 +28,8 @@ use Rattle.core_facts.specs.Cover.Rest.{SomeWakes}
 use Rattle.core_facts.proofs.Cover.Climbing.{in_place, parent_next}
 use Rattle.core_facts.proofs.Cover.Covering.{first_below}
 use Rattle.core_facts.proofs.Cover.Leading.{leads, some_of}
-use Rattle.core_facts.proofs.Cover.Resting.{none_at, none_below, none_cares, none_carries, none_sees_to}
+use Rattle.core_facts.proofs.Cover.Resting.{none_at, none_below, none_cares, none_carries}
+use Rattle.core_facts.proofs.Cover.Resting.{none_sees_to}
 use Rattle.core_facts.proofs.Cover.Resting.{woken_by}
 use Rattle.core_facts.proofs.Cover.Settling.{each_settled}
 

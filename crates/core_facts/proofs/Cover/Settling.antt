@@ -2,7 +2,7 @@
 use Rattle.std.proofs.Common.{inl, inr, ℕ, true≢false, sym, ◌∙◌, arith}
 use Rattle.std.proofs.lemmas.Option.{none-some}
 use Rattle.cpu_bases.specs.CpuBases.{events_of}
-use Rattle.coverage.specs.Coverage.{IsAnsweredFor}
+use Rattle.core_world.specs.coverage.Coverage.{IsAnsweredFor}
 use Rattle.walk_rules.specs.Hierarchy.{side}
 use Rattle.core_world.specs.Covered.{Carried, Covered, IsSettled, at_idle_top, by_interrupt}
 use Rattle.core_world.specs.Covered.{by_role, by_walk, on_the_way, machine_of}

@@ -3,7 +3,7 @@ use Rattle.std.specs.Prelude.{◌≡◌, ◌⊎◌, ℕ, true, Contains}
 use Rattle.tm_base.specs.declared.names.Class.TheVariants.{Global}
 use Rattle.wheel_core.specs.declared.item.Item.{Item}
 use Rattle.cpu_bases.specs.CpuBases.{base_of, events_of}
-use Rattle.coverage.specs.Coverage.{Held, IsAnsweredFor, Woken}
+use Rattle.core_world.specs.coverage.Coverage.{Held, IsAnsweredFor, Woken}
 use Rattle.core_world.specs.Covered.{Covered, IsSettled, machine_of}
 use Rattle.core_world.specs.Lawful.{IsLawful}
 use Rattle.core_world.specs.World.{World, cpu_of}

@@ -9,7 +9,7 @@ use Rattle.tm_base.specs.Children.{of_group}
 use Rattle.wheel_core.specs.declared.item.Item.{Item}
 use Rattle.cpu_bases.specs.CpuBases.{base_of}
 use Rattle.tree_plan.specs.Paths.{IsBelow, parent_of}
-use Rattle.coverage.specs.Coverage.{Leads, WakesBy}
+use Rattle.core_world.specs.coverage.Coverage.{Leads, WakesBy}
 use Rattle.walk_rules.specs.Queues.{HasTold}
 use Rattle.walk_rules.specs.Scene.{HasBit, is_on}
 use Rattle.core_world.specs.Covered.{IsSettled, machine_of}

@@ -4,7 +4,7 @@ use Rattle.std.specs.Prelude.{◌⊎◌, ℕ, ◌≤◌, ◌^◌, List, take}
 use Rattle.tm_base.specs.CpuSet.{Cpus}
 use Rattle.wheel_core.specs.declared.item.Item.{Item}
 use Rattle.tree_plan.specs.Shape.{IsWithinLimits, tree_of}
-use Rattle.coverage.specs.Coverage.{Held, Woken}
+use Rattle.core_world.specs.coverage.Coverage.{Held, Woken}
 use Rattle.core_world.specs.declared.step.Step.{Step}
 use Rattle.core_world.specs.Covered.{Covered, IsSettled, machine_of}
 use Rattle.core_world.specs.Lawful.{IsLawful}

@@ -11,7 +11,7 @@ use Rattle.cpu_bases.specs.CpuBases.{events_of}
 use Rattle.tree_plan.specs.Shape.{Shape, levels_for, levels_from, tree_of}
 use Rattle.walk_rules.specs.declared.walk.Walk.{Walk}
 use Rattle.walk_rules.specs.declared.walk.Stage.TheVariants as stages
-use Rattle.coverage.specs.Coverage.{Held, Woken}
+use Rattle.core_world.specs.coverage.Coverage.{Held, Woken}
 use Rattle.core_world.specs.declared.step.Step.{Step}
 use Rattle.core_world.specs.declared.step.Step.TheVariants as steps
 use Rattle.core_world.specs.Covered.{Carried, Covered, machine_of}

@@ -26,9 +26,9 @@ use Rattle.core_world.specs.Lawful.{IsLawful}
 use Rattle.core_world.specs.Steps.{finished, here, swapped, walk_made, walked}
 use Rattle.core_world.specs.World.{CpuRecord, World, cpu_of, moved, scene_of}
 use Rattle.core_world.proofs.Moves.{cpu_same}
-use Rattle.core_laws.proofs.Walks.Fits.{goes_on as above_of}
-use Rattle.core_laws.proofs.Walks.Stands.{stage_fits, stands_in}
-use Rattle.core_laws.specs.Laws.{StepsStayLawful}
+use Rattle.core_steps.proofs.core_laws.Walks.Fits.{goes_on as above_of}
+use Rattle.core_steps.proofs.core_laws.Walks.Stands.{stage_fits, stands_in}
+use Rattle.core_steps.specs.core_laws.Laws.{StepsStayLawful}
 use Rattle.step_play.specs.Rules.Alone.{goes_on, is_handing, most_steps, walked_out}
 use Rattle.step_play.proofs.Activation.Walking.{onwards, walks_out}
 use Rattle.step_play.specs.Rules.Lone.{IsLone}

@@ -17,7 +17,7 @@ use Rattle.walk_rules.specs.Stages.{after_sight, at_stage, child_next, first_loc
 use Rattle.walk_rules.specs.Stages.{first_sight, first_stage, free_group_next, freed_next, higher}
 use Rattle.walk_rules.specs.Stages.{mark_next, read_next, scan_next, see_child_next, see_group_next}
 use Rattle.walk_rules.specs.Stages.{started, store_next, swap_next, up_next}
-use Rattle.core_laws.specs.Laws.{StepsStayLawful}
+use Rattle.core_steps.specs.core_laws.Laws.{StepsStayLawful}
 use Rattle.core_world.specs.declared.step.Step.TheVariants as steps
 use Rattle.core_world.specs.Lawful.{IsLawful}
 use Rattle.core_world.specs.Steps.{child_here, child_on, finished, here, swapped}

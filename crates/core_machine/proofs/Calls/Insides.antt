@@ -8,7 +8,7 @@ use Rattle.walk_rules.specs.declared.walk.WalkKind.{WalkKind}
 use Rattle.walk_rules.specs.declared.walk.WalkKind.TheVariants as kinds
 use Rattle.walk_rules.specs.declared.walk.Stage.TheVariants as stages
 use Rattle.play_rules.specs.Interrupts.{cpu_id}
-use Rattle.core_laws.specs.Laws.{StepsStayLawful}
+use Rattle.core_steps.specs.core_laws.Laws.{StepsStayLawful}
 use Rattle.core_world.specs.declared.step.Step.TheVariants as steps
 use Rattle.core_world.specs.Enabled.{MayRelease}
 use Rattle.core_world.specs.Steps.{begins, marker_of, stepped, with_walk}

@@ -15,7 +15,7 @@ use Rattle.play_rules.specs.Phases.{IsUp, after_offline}
 use Rattle.play_rules.specs.Play.{successor}
 use Rattle.play_rules.specs.State.{Cpu, State, cpu_at, cpu_count, new_cpu}
 use Rattle.play_rules.specs.Timers.{controller}
-use Rattle.core_laws.specs.Laws.{StepsStayLawful}
+use Rattle.core_steps.specs.core_laws.Laws.{StepsStayLawful}
 use Rattle.core_world.specs.declared.step.Step.TheVariants as steps
 use Rattle.core_world.specs.Enabled.{MayComeOnline, MayGoOffline, MayHandOn, MayIdle, MayWake}
 use Rattle.core_world.specs.Steps.{begins, begins_with, with_walk}

@@ -19,13 +19,13 @@ use Rattle.coverage.specs.Coverage.{Held, IsAnsweredFor, Leads, TopWakes, to_cpu
 use Rattle.play_rules.specs.Covers.{led_from, led_to, lowest_active_group, waker_by}
 use Rattle.play_rules.specs.Covers.{wakes_by}
 use Rattle.play_rules.specs.State.{cpu_at}
-use Rattle.play_laws.proofs.Answered.Ranges.{found_some, found_there}
+use Rattle.step_play.proofs.play_laws.Answered.Ranges.{found_some, found_there}
 use Rattle.walk_rules.specs.Hierarchy.{side}
 use Rattle.core_world.specs.Covered.{IsSettled, kept_wakeup, live_expiry, machine_of}
 use Rattle.core_world.specs.Lawful.{IsLawful}
 use Rattle.core_world.specs.Wakeups.{is_undisturbed}
 use Rattle.core_world.specs.World.{CpuRecord, World, cpu_of, group_of}
-use Rattle.core_facts.proofs.Cover.Settling.{first_settled}
+use Rattle.step_play.proofs.core_facts.Cover.Settling.{first_settled}
 use Rattle.step_play.specs.Rules.Live.{counting, expiry_of, live}
 use Rattle.step_play.specs.Rules.Seen.{state_of}
 use Rattle.step_play.specs.Rules.StepRules.{event_at_top, time_at_top}
@@ -34,7 +34,8 @@ use Rattle.core_machine.proofs.Views.Seen.{idle_seen, online_seen, wakeup_seen}
 use Rattle.core_machine.specs.declared.answers.cover.Cover.{Cover}
 use Rattle.core_machine.specs.declared.answers.cover.Cover.TheVariants as covers
 use Rattle.core_machine.specs.Covers.Answers.{IsHeldBy, IsWokenBy, first_global_of}
-use Rattle.core_machine.specs.Covers.Choice.{by_migrator, by_wakeup, choice_above, choice_for, choice_of}
+use Rattle.core_machine.specs.Covers.Choice.{by_migrator, by_wakeup, choice_above, choice_for}
+use Rattle.core_machine.specs.Covers.Choice.{choice_of}
 use Rattle.core_machine.specs.Covers.Choice.{choice_where, first_wheel, waits}
 use Rattle.core_machine.proofs.Covers.Leading.{led_step}
 use Rattle.core_machine.proofs.Covers.Lowest.{lowest_at, lowest_none}

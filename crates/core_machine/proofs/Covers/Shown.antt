@@ -6,14 +6,15 @@ use Rattle.std.proofs.lemmas.Bool.{cases_Bool, cond-false, cond-true}
 use Rattle.std.proofs.lemmas.Option.{none-some}
 use Rattle.tm_report.specs.declared.lines.ShownCover.TheVariants as lines
 use Rattle.play_rules.specs.Covers as plain
-use Rattle.play_laws.proofs.Answered.Ranges.{found_there}
+use Rattle.step_play.proofs.play_laws.Answered.Ranges.{found_there}
 use Rattle.core_world.specs.World.{World, cpu_of}
 use Rattle.step_play.specs.Rules.Seen.{state_of}
 use Rattle.step_play.specs.Rules.StepRules as steps
 use Rattle.step_play.proofs.Queues.Sights.{cpus_seen}
 use Rattle.core_machine.proofs.Views.Seen.{wakeup_seen}
 use Rattle.core_machine.specs.declared.answers.cover.Cover.{Cover}
-use Rattle.core_machine.specs.Covers.Choice.{by_migrator, by_wakeup, choice_above, choice_for, choice_of}
+use Rattle.core_machine.specs.Covers.Choice.{by_migrator, by_wakeup, choice_above, choice_for}
+use Rattle.core_machine.specs.Covers.Choice.{choice_of}
 use Rattle.core_machine.specs.Covers.Choice.{choice_where, first_wheel, shown}
 
 module _ (w : World) where

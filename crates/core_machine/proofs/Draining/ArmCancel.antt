@@ -17,7 +17,7 @@ use Rattle.core_world.specs.declared.step.Step.{Step}
 use Rattle.core_world.specs.declared.step.Step.TheVariants as steps
 use Rattle.core_world.specs.Steps.{stepped}
 use Rattle.core_world.specs.World.{World, cpu_of}
-use Rattle.core_laws.specs.Laws.{StepsStayLawful}
+use Rattle.core_steps.specs.core_laws.Laws.{StepsStayLawful}
 use Rattle.step_play.specs.Rules.Seen.{InPlay, InRun, resting, state_of}
 use Rattle.step_play.specs.Rules.StepRules.{armed_by_steps, cancelled_by_steps, step_rules}
 use Rattle.step_play.proofs.Acts.{arm_is, arm_plays, arm_stays, cancel_is, cancel_plays}

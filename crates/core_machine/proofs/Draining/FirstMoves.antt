@@ -15,8 +15,8 @@ use Rattle.core_world.specs.declared.step.Step.TheVariants as steps
 use Rattle.core_world.specs.Enabled.{MayMove}
 use Rattle.core_world.specs.Steps.{first_moved, stepped}
 use Rattle.core_world.specs.World.{World, cpu_of, is_active}
-use Rattle.core_laws.specs.Laws.{StepsStayLawful}
-use Rattle.core_state.specs.Moves.{wheel_in, wheel_moved}
+use Rattle.core_steps.specs.core_laws.Laws.{StepsStayLawful}
+use Rattle.core_steps.specs.core_state.Moves.{wheel_in, wheel_moved}
 use Rattle.step_play.specs.Rules.Seen.{InPlay, InRun, resting}
 use Rattle.step_play.specs.Rules.StepRules.{moved_by_steps, step_rules}
 use Rattle.step_play.proofs.Hotplug.{runs}

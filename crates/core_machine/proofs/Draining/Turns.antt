@@ -16,7 +16,7 @@ use Rattle.core_world.specs.Lists.{after_all}
 use Rattle.core_world.specs.Lawful.{IsLawful}
 use Rattle.core_world.specs.Steps.{stepped, with_bases}
 use Rattle.core_world.specs.World.{CpuRecord, World, cpu_of}
-use Rattle.core_laws.specs.Laws.{StepsStayLawful}
+use Rattle.core_steps.specs.core_laws.Laws.{StepsStayLawful}
 use Rattle.step_play.specs.Rules.StepRules.{drained_by_steps, hands, items_due, step_rules}
 use Rattle.step_play.proofs.Bases.{due_last, due_more}
 use Rattle.step_play.proofs.Drains.{Rebases, base_after, free_after, hand_is, is_due, left}

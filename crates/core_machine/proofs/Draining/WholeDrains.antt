@@ -6,7 +6,7 @@ use Rattle.tm_base.specs.declared.names.Class.{Class}
 use Rattle.play_rules.specs.Machines.{IsTimerOf, Same, SameOnline}
 use Rattle.play_rules.specs.Phases.{FitsSome, MayDrain, StaysFit}
 use Rattle.core_world.specs.World.{World}
-use Rattle.core_laws.specs.Laws.{StepsStayLawful}
+use Rattle.core_steps.specs.core_laws.Laws.{StepsStayLawful}
 use Rattle.step_play.specs.Rules.Seen.{InPlay, InRun}
 use Rattle.step_play.specs.Rules.StepRules.{drained_by_steps, items_due, step_rules}
 use Rattle.step_play.proofs.Acts as acts

@@ -11,7 +11,7 @@ use Rattle.tree_plan.specs.Paths.{is_placed_in}
 use Rattle.play_rules.specs.Play.{next_interrupt}
 use Rattle.play_rules.specs.State.{all_cpus, cpu_at, is_active}
 use Rattle.play_rules.specs.Timers.{controller}
-use Rattle.play_laws.proofs.Answered.Ranges.{found_there}
+use Rattle.step_play.proofs.play_laws.Answered.Ranges.{found_there}
 use Rattle.core_world.specs.World.{World, cpu_of}
 use Rattle.step_play.specs.Rules.Seen.{state_of}
 use Rattle.step_play.proofs.Queues.Sights.{cpus_seen}

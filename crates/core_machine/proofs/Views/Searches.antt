@@ -9,7 +9,7 @@ use Rattle.std.proofs.lemmas.List.Folds.{find-append}
 use Rattle.std.proofs.lemmas.List.Sums.{fold-append}
 use Rattle.play_rules.specs.State.{all_cpus}
 use Rattle.play_rules.proofs.Loops.{range_more}
-use Rattle.play_laws.proofs.Answered.Ranges.{found_there}
+use Rattle.step_play.proofs.play_laws.Answered.Ranges.{found_there}
 use Rattle.core_world.specs.World.{World}
 use Rattle.step_play.specs.Rules.Seen.{state_of}
 use Rattle.step_play.proofs.Queues.Ranges.{all_pass, any_at, any_from, found}

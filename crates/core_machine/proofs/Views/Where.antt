@@ -9,10 +9,11 @@ use Rattle.tm_base.specs.declared.names.Class.TheVariants.{Pinned, Global, Defer
 use Rattle.cpu_bases.specs.CpuBases.{base_of, class_in, found_in}
 use Rattle.play_rules.specs.declared.asks.Queued.{Queued}
 use Rattle.play_rules.specs.State.{Cpu}
-use Rattle.play_rules.specs.Timers.{bases_at, count_on, holder_of, queued_as, queued_at, where_queued}
+use Rattle.play_rules.specs.Timers.{bases_at, count_on, holder_of, queued_as, queued_at}
+use Rattle.play_rules.specs.Timers.{where_queued}
 use Rattle.core_world.specs.Lawful.{IsLawful}
 use Rattle.core_world.specs.World.{World, cpu_of}
-use Rattle.core_state.specs.Kept.{is_queued}
+use Rattle.core_steps.specs.core_state.Kept.{is_queued}
 use Rattle.step_play.specs.Rules.Seen.{state_of}
 use Rattle.step_play.proofs.Queues.Sights.{seen_at}
 use Rattle.core_machine.proofs.Views.Searches.{find_here, find_none}

@@ -19,8 +19,8 @@ use Rattle.core_world.specs.Lawful.{IsLawful}
 use Rattle.core_world.specs.Steps.{walked, with_walk}
 use Rattle.core_world.specs.World.{CpuRecord, World, cpu_of, group_of, moved}
 use Rattle.core_facts.proofs.Cover.Climbing.{parent_next}
-use Rattle.core_laws.proofs.Edges.Facts.{through_group}
-use Rattle.core_laws.specs.Laws.{StepsStayLawful}
+use Rattle.core_facts.proofs.core_laws.Edges.Facts.{through_group}
+use Rattle.core_facts.specs.core_laws.Laws.{StepsStayLawful}
 use Rattle.step_play.specs.Rules.Live.{live, told_by}
 use Rattle.step_play.proofs.Activation.Alongside.{Alongside, alongside, now_walks, role}
 use Rattle.step_play.proofs.Activation.Ascents.{Arrived, AtUp, active_tells, from_on, number_of}

@@ -8,7 +8,7 @@ use Rattle.walk_rules.specs.Scene.{Group}
 use Rattle.walk_rules.specs.Stages.{with_mark}
 use Rattle.core_world.specs.World.{CpuRecord, World, group_of, moved}
 use Rattle.core_world.proofs.Moves.{moved_laws}
-use Rattle.core_laws.proofs.Events.Slots.{marked_was, slot_else}
+use Rattle.core_facts.proofs.core_laws.Events.Slots.{marked_was, slot_else}
 use Rattle.step_play.specs.Rules.Live.{counting, live}
 use Rattle.step_play.proofs.Activation.Firsts.{counted}
 

@@ -21,15 +21,16 @@ use Rattle.core_world.specs.Lawful.{IsLawful}
 use Rattle.core_world.specs.Steps.{walk_made, walked, with_walk}
 use Rattle.core_world.specs.World.{CpuRecord, World, cpu_of, group_of, moved}
 use Rattle.core_world.proofs.Moves.{moved_laws}
-use Rattle.core_laws.proofs.Edges.Facts.{own_child}
-use Rattle.core_laws.specs.Laws.{StepsStayLawful}
+use Rattle.core_facts.proofs.core_laws.Edges.Facts.{own_child}
+use Rattle.core_facts.specs.core_laws.Laws.{StepsStayLawful}
 use Rattle.step_play.specs.Rules.Live.{Exact, expiry_of, told_by, told_in}
 use Rattle.step_play.proofs.Activation.Alongside.{Alongside, alongside, now_walks, role}
 use Rattle.step_play.proofs.Activation.Ascents.{Arrived, AtMark, AtUp, from_on, none_above, none_of}
 use Rattle.step_play.proofs.Activation.Ascents.{number_of, or_same, or_some, some_is, some_of}
 use Rattle.step_play.proofs.Activation.Made.{Made, as_it_was, more_made, same_made}
 use Rattle.step_play.proofs.Activation.Marking.{mark_dead, mark_else}
-use Rattle.step_play.proofs.Activation.Touches.{ExactAt, ExactBut, touch_slot, touch_told, touch_word}
+use Rattle.step_play.proofs.Activation.Touches.{ExactAt, ExactBut, touch_slot, touch_told}
+use Rattle.step_play.proofs.Activation.Touches.{touch_word}
 use Rattle.step_play.proofs.Activation.Touches.{word_told}
 use Rattle.step_play.proofs.Activation.Walking.{onwards}
 

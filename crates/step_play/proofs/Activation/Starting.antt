@@ -24,7 +24,7 @@ use Rattle.core_world.specs.World.{CpuRecord, World, cpu_of, group_of, own}
 use Rattle.core_world.proofs.Moves.{cpu_else, cpu_same, moved_laws}
 use Rattle.core_world.proofs.Quiet.{own_group}
 use Rattle.core_facts.proofs.Cover.Climbing.{parent_next}
-use Rattle.core_laws.specs.Laws.{StepsStayLawful}
+use Rattle.core_facts.specs.core_laws.Laws.{StepsStayLawful}
 use Rattle.step_play.specs.Rules.Alone.{goes_on, is_handing, most_steps, walked_out}
 use Rattle.step_play.specs.Rules.Live.{Exact, told_in}
 use Rattle.step_play.proofs.Activation.Alongside.{Alongside}

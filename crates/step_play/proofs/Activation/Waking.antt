@@ -13,7 +13,7 @@ use Rattle.core_world.specs.declared.step.Step.TheVariants as steps
 use Rattle.core_world.specs.Enabled.{MayComeOnline, MayWake}
 use Rattle.core_world.specs.Steps.{begins, with_walk}
 use Rattle.core_world.specs.World.{CpuRecord, World, cpu_of, is_active}
-use Rattle.core_laws.specs.Laws.{StepsStayLawful}
+use Rattle.core_facts.specs.core_laws.Laws.{StepsStayLawful}
 use Rattle.play_rules.specs.Hierarchy.{come_online, woken}
 use Rattle.step_play.specs.Rules.Alike.{ComesAlike, Plays, WakesAlike}
 use Rattle.step_play.specs.Rules.Seen.{InPlay, Phase, cpu_seen, resting, state_of}

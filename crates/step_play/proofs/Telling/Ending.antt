@@ -14,7 +14,7 @@ use Rattle.walk_rules.specs.Hierarchy.{HasGroup, at_top, side}
 use Rattle.walk_rules.specs.Scene.{Group}
 use Rattle.walk_rules.specs.Stages.{forget}
 use Rattle.walk_rules.specs.Standing.{FlagsAt, is_leaving}
-use Rattle.core_laws.specs.Laws.{StepsStayLawful}
+use Rattle.core_facts.specs.core_laws.Laws.{StepsStayLawful}
 use Rattle.core_world.specs.Lawful.{IsLawful}
 use Rattle.core_world.specs.Steps.{finished, here, with_walk}
 use Rattle.core_world.specs.Wakeups.{WalkTimes, is_past_store, next_for}
@@ -27,7 +27,8 @@ use Rattle.step_play.proofs.Telling.Running.{HasEnded, step_is}
 use Rattle.step_play.proofs.Telling.Slots.{leaf_time, least_live}
 use Rattle.step_play.proofs.Telling.Standing.{seen}
 use Rattle.step_play.proofs.Telling.Staying.{lawful_after, walk_is}
-use Rattle.step_play.proofs.Telling.Telling.{Fields, IsFound, IsLeft, Open, Stays, Tells, is_under_way}
+use Rattle.step_play.proofs.Telling.Telling.{Fields, IsFound, IsLeft, Open, Stays, Tells}
+use Rattle.step_play.proofs.Telling.Telling.{is_under_way}
 use Rattle.step_play.proofs.Telling.Telling.{left_levels, looks}
 use Rattle.step_play.proofs.Telling.Telling.Open.{lower, upper}
 

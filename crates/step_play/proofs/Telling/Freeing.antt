@@ -18,19 +18,21 @@ use Rattle.walk_rules.specs.Scene.{Group}
 use Rattle.walk_rules.specs.Stages.{at_stage, first_stage, free_group_next, freed_next, higher}
 use Rattle.walk_rules.specs.Stages.{is_remote, with_lock}
 use Rattle.walk_rules.specs.Standing.{is_leaving}
-use Rattle.core_laws.specs.Laws.{StepsStayLawful}
+use Rattle.core_facts.specs.core_laws.Laws.{StepsStayLawful}
 use Rattle.core_world.specs.Lawful.{IsLawful}
 use Rattle.core_world.specs.Steps.{child_here, here, walked, with_walk}
 use Rattle.core_world.specs.Wakeups.{is_past_store}
 use Rattle.core_world.specs.World.{World, cpu_of, group_of}
-use Rattle.core_laws.proofs.Edges.Facts.{through_group}
+use Rattle.core_facts.proofs.core_laws.Edges.Facts.{through_group}
 use Rattle.step_play.specs.Rules.Live.{told_by}
 use Rattle.step_play.proofs.Activation.Touches.{ExactAt, touch_none, word_told}
 use Rattle.step_play.proofs.Telling.Slots.{least_live}
 use Rattle.step_play.proofs.Telling.Looking.{calm}
 use Rattle.step_play.proofs.Telling.Standing.{fits, sees_on, there}
-use Rattle.step_play.proofs.Telling.Staying.{IsSame, edges_at, events_same, fields_at, framed, further}
-use Rattle.step_play.proofs.Telling.Staying.{lawful_after, migrator_same, stepping, words_at, words_same}
+use Rattle.step_play.proofs.Telling.Staying.{IsSame, edges_at, events_same, fields_at, framed}
+use Rattle.step_play.proofs.Telling.Staying.{further}
+use Rattle.step_play.proofs.Telling.Staying.{lawful_after, migrator_same, stepping, words_at}
+use Rattle.step_play.proofs.Telling.Staying.{words_same}
 use Rattle.step_play.proofs.Telling.Telling.{Begun, Fields, IsFound, IsFurther, Open, Tells}
 use Rattle.step_play.proofs.Telling.Telling.{Words, is_under_way, left_levels, looks, place}
 use Rattle.step_play.proofs.Telling.Telling.Open.{lower, upper}

@@ -11,7 +11,7 @@ use Rattle.play_rules.specs.Hierarchy as play
 use Rattle.play_rules.specs.Hierarchy.{idled, next_of}
 use Rattle.walk_rules.specs.declared.walk.WalkKind.TheVariants as kinds
 use Rattle.walk_rules.specs.declared.walk.Stage.TheVariants as stages
-use Rattle.core_laws.specs.Laws.{StepsStayLawful}
+use Rattle.core_facts.specs.core_laws.Laws.{StepsStayLawful}
 use Rattle.core_world.specs.declared.step.Step.TheVariants as steps
 use Rattle.core_world.specs.Enabled.{MayIdle}
 use Rattle.core_world.specs.Steps.{begins}

@@ -12,7 +12,7 @@ use Rattle.play_rules.specs.Hierarchy.{next_of, told_again}
 use Rattle.walk_rules.specs.declared.walk.WalkKind.{WalkKind}
 use Rattle.walk_rules.specs.declared.walk.WalkKind.TheVariants as kinds
 use Rattle.walk_rules.specs.declared.walk.Stage.TheVariants as stages
-use Rattle.core_laws.specs.Laws.{StepsStayLawful}
+use Rattle.core_facts.specs.core_laws.Laws.{StepsStayLawful}
 use Rattle.core_world.specs.declared.step.Step.TheVariants as steps
 use Rattle.core_world.specs.Enabled.{MayCarry}
 use Rattle.core_world.specs.Steps.{begins, marker_of, stepped, with_walk}
@@ -23,7 +23,8 @@ use Rattle.step_play.specs.Rules.Seen.{InPlay, InRun, inside, serving, state_of}
 use Rattle.step_play.specs.Rules.StepRules.{let_go_by_steps}
 use Rattle.step_play.proofs.Activation.Seeing.{cpus_seen, seen_at, with_same}
 use Rattle.step_play.proofs.Telling.Ending.{IsDone}
-use Rattle.step_play.proofs.Telling.Playing.{done, made_once, no_walk, seen_kept, stays_in_play, told_is}
+use Rattle.step_play.proofs.Telling.Playing.{done, made_once, no_walk, seen_kept, stays_in_play}
+use Rattle.step_play.proofs.Telling.Playing.{told_is}
 use Rattle.step_play.proofs.Telling.Seeing.{IsMade}
 
 -- who may carry

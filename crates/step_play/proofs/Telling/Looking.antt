@@ -12,7 +12,7 @@ use Rattle.walk_rules.specs.Hierarchy.{at_top, group_on}
 use Rattle.walk_rules.specs.Scene.{Group}
 use Rattle.walk_rules.specs.Stages.{after_sight, at_stage, child_next, first_of, first_sight}
 use Rattle.walk_rules.specs.Stages.{read_next, see_child_next, sooner_event, with_lock}
-use Rattle.core_laws.specs.Laws.{StepsStayLawful}
+use Rattle.core_facts.specs.core_laws.Laws.{StepsStayLawful}
 use Rattle.core_world.specs.Enabled.{MayGoOn}
 use Rattle.core_world.specs.Lawful.{IsLawful}
 use Rattle.core_world.specs.Steps.{child_here, child_on, here, walked}
@@ -20,7 +20,8 @@ use Rattle.walk_rules.specs.Standing.{FitsStage}
 use Rattle.step_play.specs.Rules.Live.{first, first_in}
 use Rattle.core_world.specs.World.{World, group_of}
 use Rattle.step_play.proofs.Telling.Slots.{first_all, first_more, first_upto, least_live}
-use Rattle.step_play.proofs.Telling.Standing.{child_free, child_is, child_off, eight, fits, group_free}
+use Rattle.step_play.proofs.Telling.Standing.{child_free, child_is, child_off, eight, fits}
+use Rattle.step_play.proofs.Telling.Standing.{group_free}
 use Rattle.step_play.proofs.Telling.Standing.{sees_on, there, under}
 use Rattle.step_play.proofs.Telling.Staying.{IsSame, IsWithin, events_same, fields_at, further}
 use Rattle.step_play.proofs.Telling.Staying.{lawful_after, migrator_same, stays, stepping}

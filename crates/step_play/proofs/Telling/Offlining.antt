@@ -18,7 +18,7 @@ use Rattle.walk_rules.specs.declared.walk.WalkKind.TheVariants as kinds
 use Rattle.walk_rules.specs.declared.walk.Stage.TheVariants as stages
 use Rattle.walk_rules.specs.Hierarchy.{HasGroup}
 use Rattle.walk_rules.specs.Stages.{at_stage}
-use Rattle.core_laws.specs.Laws.{StepsStayLawful}
+use Rattle.core_facts.specs.core_laws.Laws.{StepsStayLawful}
 use Rattle.core_world.specs.declared.step.Step.TheVariants as steps
 use Rattle.core_world.specs.Enabled.{MayGoOffline}
 use Rattle.core_world.specs.Steps.{begins_with}
@@ -26,7 +26,8 @@ use Rattle.core_world.specs.World.{CpuRecord, World, cpu_of, own}
 use Rattle.step_play.specs.Rules.Alike.{GoesAlike, OfflinesAlike, Plays}
 use Rattle.step_play.specs.Rules.Alone.{goes_on, walked_out}
 use Rattle.step_play.specs.Rules.Live.{told_by}
-use Rattle.step_play.specs.Rules.Seen.{InPlay, Phase, WalkFits, handing, hands_in, is_inside, marker_in}
+use Rattle.step_play.specs.Rules.Seen.{InPlay, Phase, WalkFits, handing, hands_in, is_inside}
+use Rattle.step_play.specs.Rules.Seen.{marker_in}
 use Rattle.step_play.specs.Rules.Seen.{resting, state_of}
 use Rattle.step_play.specs.Rules.StepRules.{is_waiting}
 use Rattle.step_play.specs.Queues.AtRest.{AtRest}

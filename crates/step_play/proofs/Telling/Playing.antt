@@ -22,7 +22,7 @@ use Rattle.walk_rules.specs.declared.walk.WalkKind.{WalkKind}
 use Rattle.walk_rules.specs.declared.walk.WalkKind.TheVariants as kinds
 use Rattle.walk_rules.specs.declared.walk.Stage.{Stage}
 use Rattle.walk_rules.specs.declared.walk.Stage.TheVariants as stages
-use Rattle.core_laws.specs.Laws.{StepsStayLawful}
+use Rattle.core_facts.specs.core_laws.Laws.{StepsStayLawful}
 use Rattle.core_world.specs.Lawful.{IsLawful}
 use Rattle.core_world.specs.Steps.{finished}
 use Rattle.walk_rules.specs.Stages.{begun_where}
@@ -31,9 +31,11 @@ use Rattle.walk_rules.specs.Stages.{is_remote}
 use Rattle.core_world.specs.World.{CpuRecord, World, cpu_of, group_of, own}
 use Rattle.step_play.specs.Rules.Alone.{walked_out}
 use Rattle.step_play.specs.Rules.Live.{told_by, told_in}
-use Rattle.step_play.specs.Rules.Seen.{InPlay, Phase, WalkFits, hands_in, is_inside, marker_in, state_of}
+use Rattle.step_play.specs.Rules.Seen.{InPlay, Phase, WalkFits, hands_in, is_inside, marker_in}
+use Rattle.step_play.specs.Rules.Seen.{state_of}
 use Rattle.step_play.specs.Queues.AtRest.{AtRest}
-use Rattle.step_play.proofs.Activation.Seeing.{cpus_seen, groups_seen, rule_at, rule_count, with_count}
+use Rattle.step_play.proofs.Activation.Seeing.{cpus_seen, groups_seen, rule_at, rule_count}
+use Rattle.step_play.proofs.Activation.Seeing.{with_count}
 use Rattle.step_play.proofs.Activation.Seeing.{with_else, with_same}
 use Rattle.step_play.proofs.Telling.Ending.{IsDone, is_done}
 use Rattle.step_play.proofs.Telling.Seeing.{IsMade, duty_is, keeps, rests, seen, seen_programmed}

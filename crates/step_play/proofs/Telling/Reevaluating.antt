@@ -13,7 +13,7 @@ use Rattle.play_rules.specs.Hierarchy.{next_of, reevaluated, told_again}
 use Rattle.play_rules.specs.Play.{ended}
 use Rattle.walk_rules.specs.declared.walk.WalkKind.TheVariants as kinds
 use Rattle.walk_rules.specs.declared.walk.Stage.TheVariants as stages
-use Rattle.core_laws.specs.Laws.{StepsStayLawful}
+use Rattle.core_facts.specs.core_laws.Laws.{StepsStayLawful}
 use Rattle.core_world.specs.declared.step.Step.TheVariants as steps
 use Rattle.core_world.specs.Enabled.{IsFree, MarksNobody, MayLeave, MayReeval}
 use Rattle.core_world.specs.Steps.{begins, stepped, with_walk}

@@ -22,7 +22,7 @@ use Rattle.play_rules.specs.Hierarchy.{child_active, gives_up, inactive_child, i
 use Rattle.play_rules.specs.Hierarchy.{lowest_active_child, rested_migrator, towards}
 use Rattle.walk_rules.specs.Hierarchy.{side}
 use Rattle.walk_rules.specs.Scene.{is_on}
-use Rattle.core_laws.proofs.Edges.Sets.{left_gone}
+use Rattle.core_facts.proofs.core_laws.Edges.Sets.{left_gone}
 use Rattle.core_world.specs.World.{World, group_of, scene_of}
 use Rattle.step_play.specs.Queues.AtRest.{AtRest}
 use Rattle.step_play.proofs.Queues.Active.{on_set, set_on}

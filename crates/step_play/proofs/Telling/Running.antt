@@ -11,14 +11,15 @@ use Rattle.walk_rules.specs.declared.walk.Stage.{Stage}
 use Rattle.walk_rules.specs.declared.walk.Stage.TheVariants as stages
 use Rattle.walk_rules.specs.Hierarchy.{HasGroup}
 use Rattle.walk_rules.specs.Stages.{at_stage, forget}
-use Rattle.core_laws.specs.Laws.{StepsStayLawful}
+use Rattle.core_facts.specs.core_laws.Laws.{StepsStayLawful}
 use Rattle.core_world.specs.Steps.{finished, walk_made, walked}
 use Rattle.core_world.specs.World.{CpuRecord, World, cpu_of, group_of, own}
 use Rattle.core_world.proofs.Moves.{cpu_same}
 use Rattle.step_play.specs.Rules.Alone.{goes_on, is_handing, most_steps, walk_steps, walked_out}
 use Rattle.step_play.proofs.Activation.Walking.{goes, onwards, stays, walks_out}
 use Rattle.step_play.proofs.Telling.Freeing.{free_child, free_group}
-use Rattle.step_play.proofs.Telling.Looking.{child, find, lock_child, lock_group, read, scan, see_child}
+use Rattle.step_play.proofs.Telling.Looking.{child, find, lock_child, lock_group, read, scan}
+use Rattle.step_play.proofs.Telling.Looking.{see_child}
 use Rattle.step_play.proofs.Telling.Looking.{see_group}
 use Rattle.step_play.proofs.Telling.Standing.{fits, seen}
 use Rattle.step_play.proofs.Telling.Staying.{walk_is}

@@ -16,8 +16,8 @@ use Rattle.walk_rules.specs.Stages.{forget}
 use Rattle.walk_rules.specs.Standing.{FitsStage}
 use Rattle.core_world.specs.Steps.{child_here, child_on, here}
 use Rattle.core_world.specs.World.{World, group_of, scene_of}
-use Rattle.core_laws.specs.Walks.Fit.{WalksFit}
-use Rattle.core_laws.proofs.Walks.Stands.{stage_fits, stands_in}
+use Rattle.core_facts.specs.core_laws.Walks.Fit.{WalksFit}
+use Rattle.core_facts.proofs.core_laws.Walks.Stands.{stage_fits, stands_in}
 use Rattle.step_play.proofs.Telling.Telling.{Sees, Tells, is_under_way}
 use Rattle.step_play.proofs.Telling.Staying.{stepping, below_at, migrator_same, walk_is}
 

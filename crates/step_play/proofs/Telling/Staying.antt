@@ -13,7 +13,7 @@ use Rattle.core_world.specs.declared.step.Step.TheVariants as steps
 use Rattle.core_world.specs.Enabled.{MayGoOn, MayWalk}
 use Rattle.core_world.specs.Lawful.{IsLawful}
 use Rattle.core_world.specs.Steps.{walk_made, walked, with_walk}
-use Rattle.core_laws.specs.Laws.{StepsStayLawful}
+use Rattle.core_facts.specs.core_laws.Laws.{StepsStayLawful}
 use Rattle.core_world.specs.Wakeups.{is_past_store}
 use Rattle.core_world.specs.World.{CpuRecord, World, cpu_of, group_of, moved, stale_walk}
 use Rattle.core_world.specs.Frames.{MovedLaws}

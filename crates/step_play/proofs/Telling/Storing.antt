@@ -18,15 +18,16 @@ use Rattle.walk_rules.specs.Hierarchy.{group_on, side}
 use Rattle.walk_rules.specs.Scene.{Group}
 use Rattle.walk_rules.specs.Stages.{at_stage, best_event, stored_event, with_event}
 use Rattle.walk_rules.specs.Standing.{is_leaving}
-use Rattle.core_laws.specs.Laws.{StepsStayLawful}
+use Rattle.core_facts.specs.core_laws.Laws.{StepsStayLawful}
 use Rattle.core_world.specs.Lawful.{IsLawful}
 use Rattle.core_world.specs.Steps.{here, walked, with_walk}
 use Rattle.core_world.specs.World.{CpuRecord, World, cpu_of, group_of}
 use Rattle.core_world.proofs.Moves.{moved_laws}
-use Rattle.core_laws.proofs.Edges.Facts.{group_edge, own_child, own_edge, through_group}
+use Rattle.core_facts.proofs.core_laws.Edges.Facts.{group_edge, own_child, own_edge, through_group}
 use Rattle.step_play.specs.Rules.Live.{counting, first, first_in, live, told_by, told_of}
 use Rattle.step_play.proofs.Activation.Firsts.{best_first, counting_first}
-use Rattle.step_play.proofs.Activation.Touches.{ExactAt, slot_stays, tells, tells_else, touch_slot_told}
+use Rattle.step_play.proofs.Activation.Touches.{ExactAt, slot_stays, tells, tells_else}
+use Rattle.step_play.proofs.Activation.Touches.{touch_slot_told}
 use Rattle.step_play.proofs.Activation.Touches.{touch_told}
 use Rattle.step_play.proofs.Telling.Slots.{least_live}
 use Rattle.step_play.proofs.Telling.Standing.{eight, sees_on, there, under}

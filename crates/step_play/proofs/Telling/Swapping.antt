@@ -14,14 +14,15 @@ use Rattle.walk_rules.specs.Hierarchy.{group_on, side}
 use Rattle.walk_rules.specs.Scene.{Group}
 use Rattle.walk_rules.specs.Stages.{at_stage, first_lock, left_by}
 use Rattle.walk_rules.specs.Standing.{is_leaving}
-use Rattle.core_laws.specs.Laws.{StepsStayLawful}
+use Rattle.core_facts.specs.core_laws.Laws.{StepsStayLawful}
 use Rattle.core_world.specs.Lawful.{IsLawful}
 use Rattle.core_world.specs.Steps.{here, swapped, walked, with_walk}
 use Rattle.core_world.specs.Wakeups.{is_past_store}
 use Rattle.core_world.specs.World.{CpuRecord, World, cpu_of, group_of}
 use Rattle.core_world.proofs.Moves.{moved_laws}
 use Rattle.step_play.specs.Rules.Live.{first, told_of}
-use Rattle.step_play.proofs.Activation.Touches.{ExactAt, group_else, same_live, touch_word, word_told}
+use Rattle.step_play.proofs.Activation.Touches.{ExactAt, group_else, same_live, touch_word}
+use Rattle.step_play.proofs.Activation.Touches.{word_told}
 use Rattle.step_play.proofs.Telling.Standing.{fits, there, under}
 use Rattle.step_play.proofs.Telling.Staying.{below_at, edges_at, fields_at, framed, further}
 use Rattle.step_play.proofs.Telling.Staying.{lawful_after}

@@ -7,7 +7,7 @@ use Rattle.tree_plan.specs.Shape.{cut, runs_of, numbered}
 use Rattle.tree_plan.specs.Paths.{groups_of, children_of, parent_of, bit_in, bit_of, group_at_of}
 use Rattle.tree_plan.specs.Paths.{child_towards}
 use Rattle.wheel_core.specs.WheelExpiry.{wheel_expiry_of, wheel_level_of}
-use Rattle.coverage.specs.Coverage.{Told, Woken}
+use Rattle.core_world.specs.coverage.Coverage.{Told, Woken}
 use Rattle.core_world.specs.Covered.{kept_wakeup, machine_of}
 use Rattle.core_world.specs.Covered as ways
 use Rattle.core_world.specs.World.{cpu_of}

@@ -3,8 +3,9 @@ use Rattle.std.specs.Prelude.{IfSome, option_map}
 use Rattle.std.proofs.lemmas.Result.{err_from_is_err_and}
 use Rattle.wheel_core.specs.declared.item.Item.{Item}
 use Rattle.wheel_core.specs.PlainBase.{NoneBehind}
-use Rattle.cpu_bases.specs.CpuBases.{CpuBases, RoomyBases, base_of, class_in, item_queued, moved_in}
-use Rattle.cpu_bases.specs.CpuBases.{moved_out, oldest_in}
+use Rattle.core_world.specs.cpu_bases.CpuBases.{CpuBases, RoomyBases, base_of, class_in}
+use Rattle.core_world.specs.cpu_bases.CpuBases.{item_queued, moved_in}
+use Rattle.core_world.specs.cpu_bases.CpuBases.{moved_out, oldest_in}
 use Rattle.core_world.specs.Steps.{with_bases}
 use Rattle.core_parts.specs.Moves.{taken_in, wheel_in}
 use Rattle.core_parts.specs.Status.{record_of}

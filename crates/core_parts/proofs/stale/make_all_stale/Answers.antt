@@ -1,7 +1,7 @@
 use Rattle.std.proofs.Common.{◌≡◌, ℕ, ◌+◌, ◌<◌, ◌≤◌, ◌∙◌, List, ap, arith, get_or, length}
 use Rattle.std.proofs.Common.{length-set, refl, sym}
 use Rattle.std.specs.Prelude.{slice_index_or, slice_set}
-use Rattle.tree_plan.specs.Shape.{Shape}
+use Rattle.core_world.specs.tree_plan.Shape.{Shape}
 use Rattle.core_world.specs.World.{CpuRecord, no_cpu, stale}
 use Rattle.core_parts.proofs.Readings.{each_below, one_more, the_rest}
 use Rattle.core_parts.proofs.Under.{untouched}

@@ -1,8 +1,8 @@
 use Rattle.std.proofs.Common.{sym, ap, ◌∙◌, subst}
 use Rattle.tree_plan.specs.Shape.{Shape}
 use Rattle.core_world.specs.Start.{start_of}
-use Rattle.step_play.specs.Rules.Seen.{InPlay, resting}
-use Rattle.step_play.proofs.Starts.{core_starts}
+use Rattle.core_machine.specs.step_play.Rules.Seen.{InPlay, resting}
+use Rattle.core_machine.proofs.step_play.Starts.{core_starts}
 use Rattle.core_plays.proofs.starting.start_core.Goals as goal
 
 pub returns-clause-in_play : goal.returns-clause-in_play

@@ -1,7 +1,7 @@
 use Rattle.hotplug.proofs.Heirs.{moved_more, moved_none}
 use Rattle.hotplug.proofs.Over.{over_none, over_then}
 use Rattle.std.proofs.Common.{refl}
-use Rattle.step_play.proofs.Reached.{onwards}
+use Rattle.core_machine.proofs.step_play.Reached.{onwards}
 use Rattle.hotplug.proofs.Runs.{stays}
 use Rattle.hotplug.proofs.dead.move_all.Goals as goal
 

@@ -1,7 +1,7 @@
-use Rattle.step_play.specs.Rules.StepRules.{step_rules}
+use Rattle.core_machine.specs.step_play.Rules.StepRules.{step_rules}
 use Rattle.hotplug.specs.Afterwards.{SomeMoved}
 use Rattle.hotplug.specs.Frames.{MayMoveAll}
-use Rattle.step_play.specs.Rules.Lone.{Reaches}
+use Rattle.core_machine.specs.step_play.Rules.Lone.{Reaches}
 use Rattle.hotplug.specs.Settled.{MovedTimes}
 use Rattle.hotplug.proofs.dead.move_all.Given as goal
 

@@ -1,7 +1,7 @@
 use Rattle.hotplug.proofs.Heirs.{heir_activates, heir_all, heir_moved, heir_part, heir_ready}
 use Rattle.hotplug.proofs.Heirs.{none_dead, none_moves}
 use Rattle.hotplug.proofs.Over.{at_err}
-use Rattle.step_play.proofs.Reached.{onwards}
+use Rattle.core_machine.proofs.step_play.Reached.{onwards}
 use Rattle.hotplug.proofs.dead.move_dead.Goals as goal
 
 pub returns-in_default-clause-none_left : goal.returns-in_default-clause-none_left

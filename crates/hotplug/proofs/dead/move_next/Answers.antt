@@ -1,5 +1,5 @@
 use Rattle.std.proofs.Common.{◌+◌, ap, subst, sym, ◌∙◌}
-use Rattle.step_play.specs.Rules.StepRules.{step_rules}
+use Rattle.core_machine.specs.step_play.Rules.StepRules.{step_rules}
 use Rattle.core_world.specs.World.{World}
 use Rattle.hotplug.specs.Afterwards.{SomeMoved, StillQueued}
 use Rattle.hotplug.specs.Frames.{MayMoveAll}

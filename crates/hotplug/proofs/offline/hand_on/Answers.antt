@@ -1,5 +1,5 @@
 use Rattle.std.proofs.Common.{[], ◌∷◌}
-use Rattle.step_play.proofs.Reached.{onwards}
+use Rattle.core_machine.proofs.step_play.Reached.{onwards}
 use Rattle.hotplug.proofs.offline.hand_on.Goals as goal
 
 pub returns-clause-run : goal.returns-clause-run

@@ -1,7 +1,7 @@
 use Rattle.std.proofs.Common.{refl, sym, ◌∙◌}
 use Rattle.hotplug.proofs.Leaving.{leaves_alone, leaves_to}
 use Rattle.hotplug.proofs.Leaving.{leaves_bases, leaves_low, leaves_settled, leaves_waits}
-use Rattle.step_play.proofs.Reached.{by_walk, onwards}
+use Rattle.core_machine.proofs.step_play.Reached.{by_walk, onwards}
 use Rattle.hotplug.proofs.offline.leave.Goals as goal
 
 pub hands_on-requires : goal.hands_on-requires

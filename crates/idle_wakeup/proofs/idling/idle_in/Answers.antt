@@ -1,8 +1,8 @@
 use Rattle.std.proofs.Common.{◌∙◌, ap, subst, sym, suc, ◌<◌, ◌^◌, arith}
 use Rattle.cpu_word.specs.declared.state.CpuState.{CpuState}
 use Rattle.core_world.specs.World.{World}
-use Rattle.shared_rule.specs.Parts.{HeldPart}
-use Rattle.shared_rule.specs.Passes.{HeldPass}
+use Rattle.walk_active.specs.shared_rule.Parts.{HeldPart}
+use Rattle.walk_active.specs.shared_rule.Passes.{HeldPass}
 use Rattle.walk_active.specs.Activated.{IsOwnPass}
 use Rattle.idle_wakeup.specs.Calls.{Renews, idle_fault_of}
 use Rattle.idle_wakeup.specs.Resting.{IsBoxAnswer}

@@ -1,8 +1,8 @@
 use Rattle.std.proofs.Common.{◌∙◌, ap, refl, subst, sym}
-use Rattle.shared_rule.specs.Plays.{Agree, PartFits}
-use Rattle.shared_rule.specs.Parts.{HeldPart, without_guest}
-use Rattle.shared_rule.specs.Passes.{knowing, with_pass}
-use Rattle.shared_table.specs.Begun.{IsFree}
+use Rattle.walk_active.specs.shared_rule.Plays.{Agree, PartFits}
+use Rattle.walk_active.specs.shared_rule.Parts.{HeldPart, without_guest}
+use Rattle.walk_active.specs.shared_rule.Passes.{knowing, with_pass}
+use Rattle.walk_active.specs.shared_table.Begun.{IsFree}
 use Rattle.idle_wakeup.proofs.meeting.meet_own.Goals as goal
 
 pub visit-requires-clause-own : goal.visit-requires-clause-own

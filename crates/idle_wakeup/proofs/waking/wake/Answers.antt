@@ -1,5 +1,5 @@
 use Rattle.std.proofs.Common.{◌∙◌, ap, sym}
-use Rattle.shared_rule.specs.Parts.{HeldPart}
+use Rattle.walk_active.specs.shared_rule.Parts.{HeldPart}
 use Rattle.idle_wakeup.proofs.Meetings as meetings
 use Rattle.idle_wakeup.proofs.waking.wake.Goals as goal
 

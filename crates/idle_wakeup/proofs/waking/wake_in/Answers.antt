@@ -1,7 +1,7 @@
 use Rattle.std.proofs.Common.{◌∙◌, ap, subst, sym, suc, ◌<◌, ◌^◌}
 use Rattle.cpu_word.specs.declared.state.CpuState.{CpuState}
-use Rattle.shared_rule.specs.Parts.{HeldPart}
-use Rattle.shared_rule.specs.Passes.{with_pass}
+use Rattle.walk_active.specs.shared_rule.Parts.{HeldPart}
+use Rattle.walk_active.specs.shared_rule.Passes.{with_pass}
 use Rattle.walk_active.specs.Activated.{IsOwnPass, activated_pass}
 use Rattle.idle_wakeup.specs.Calls.{Renews, awake, wake_fault_of}
 use Rattle.idle_wakeup.proofs.Meetings as meetings

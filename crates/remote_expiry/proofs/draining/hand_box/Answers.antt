@@ -1,10 +1,10 @@
 use Rattle.std.proofs.Common.{◌∙◌, ◌≤◌, [], ap, length, subst, sym}
 use Rattle.std.proofs.lemmas.Result.{err_from_is_err_and}
 use Rattle.cpu_bases.specs.CpuBases.{base_of}
-use Rattle.shared_rule.specs.declared.parts.BoxView.{BoxView}
-use Rattle.shared_rule.specs.Parts.{HeldPart}
-use Rattle.shared_rule.specs.Passes.{HeldPass}
-use Rattle.shared_table.specs.Readied.{HasNoneBehind}
+use Rattle.walk_inactive.specs.shared_rule.declared.parts.BoxView.{BoxView}
+use Rattle.walk_inactive.specs.shared_rule.Parts.{HeldPart}
+use Rattle.walk_inactive.specs.shared_rule.Passes.{HeldPass}
+use Rattle.walk_inactive.specs.shared_table.Readied.{HasNoneBehind}
 use Rattle.remote_parts.specs.Handing.{HasHanded}
 use Rattle.remote_parts.specs.Pieces.{Piece}
 use Rattle.remote_parts.proofs.OwnDrains.{err_as, handed, may_run_own, room_alone}

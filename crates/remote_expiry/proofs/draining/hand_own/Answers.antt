@@ -1,5 +1,5 @@
 use Rattle.std.proofs.Common.{◌<◌, ◌∙◌, ap, length, subst, sym}
-use Rattle.shared_rule.specs.Parts.{HeldPart}
+use Rattle.walk_inactive.specs.shared_rule.Parts.{HeldPart}
 use Rattle.remote_expiry.proofs.draining.hand_own.Goals as goal
 
 pub lock-guard-requires : goal.lock-guard-requires

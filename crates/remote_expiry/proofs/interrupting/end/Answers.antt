@@ -1,5 +1,5 @@
 use Rattle.std.proofs.Common.{◌<◌, length, sym, ap, ◌∙◌, subst}
-use Rattle.shared_rule.specs.Parts.{HeldPart}
+use Rattle.walk_inactive.specs.shared_rule.Parts.{HeldPart}
 use Rattle.remote_expiry.proofs.interrupting.end.Goals as goal
 
 pub lock-guard-requires : goal.lock-guard-requires

@@ -1,5 +1,5 @@
 use Rattle.std.proofs.Common.{sym, ap, ◌∙◌}
-use Rattle.shared_rule.specs.Parts.{HeldPart}
+use Rattle.walk_inactive.specs.shared_rule.Parts.{HeldPart}
 use Rattle.remote_expiry.proofs.interrupting.end_box.Goals as goal
 
 pub end_part-requires-clause-own : goal.end_part-requires-clause-own

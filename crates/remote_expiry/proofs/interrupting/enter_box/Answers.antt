@@ -1,5 +1,5 @@
 use Rattle.std.proofs.Common.{sym, ap, ◌∙◌}
-use Rattle.shared_rule.specs.Parts.{HeldPart}
+use Rattle.walk_inactive.specs.shared_rule.Parts.{HeldPart}
 use Rattle.remote_expiry.proofs.interrupting.enter_box.Goals as goal
 
 pub enter_part-requires-clause-own : goal.enter_part-requires-clause-own

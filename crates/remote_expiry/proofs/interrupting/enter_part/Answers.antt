@@ -1,9 +1,9 @@
 use Rattle.std.proofs.Common.{refl, sym, ap, ◌∙◌, subst}
-use Rattle.shared_rule.specs.Parts.{HeldPart}
-use Rattle.shared_rule.specs.Passes.{HeldPass}
-use Rattle.shared_rule.specs.Turns.{entered_box, entered_pass}
-use Rattle.shared_cpus.specs.Conditions.{CanEnter}
-use Rattle.shared_cpus.specs.Pairs.{by_pair, of_box}
+use Rattle.walk_inactive.specs.shared_rule.Parts.{HeldPart}
+use Rattle.walk_inactive.specs.shared_rule.Passes.{HeldPass}
+use Rattle.walk_inactive.specs.shared_rule.Turns.{entered_box, entered_pass}
+use Rattle.walk_inactive.specs.shared_cpus.Conditions.{CanEnter}
+use Rattle.walk_inactive.specs.shared_cpus.Pairs.{by_pair, of_box}
 use Rattle.remote_parts.proofs.Closing.{agree_of, box_by_step, can_enter, free_with, guest_by}
 use Rattle.remote_parts.proofs.Closing.{online_by, parted_by}
 use Rattle.remote_expiry.proofs.Closing.{entered, fault_by}

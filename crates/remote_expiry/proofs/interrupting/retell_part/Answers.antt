@@ -2,12 +2,12 @@ use Rattle.std.proofs.Common.{sym, ap, ◌∙◌, subst}
 use Rattle.std.proofs.Common.{arith, true≢false}
 use Rattle.cpu_bases.specs.CpuBases.{CpuBases}
 use Rattle.walk_rules.specs.declared.walk.WalkKind.TheVariants as kinds
-use Rattle.shared_rule.specs.declared.parts.BoxView.{BoxView}
-use Rattle.shared_rule.specs.Plays.{head_pass}
-use Rattle.shared_rule.specs.Parts.{HeldPart, pass_parted}
-use Rattle.shared_rule.specs.Passes.{HeldPass, passes_of}
-use Rattle.shared_cpus.specs.Conditions.{CanRetell}
-use Rattle.shared_table.specs.Readied.{HasNoneBehind}
+use Rattle.walk_inactive.specs.shared_rule.declared.parts.BoxView.{BoxView}
+use Rattle.walk_inactive.specs.shared_rule.Plays.{head_pass}
+use Rattle.walk_inactive.specs.shared_rule.Parts.{HeldPart, pass_parted}
+use Rattle.walk_inactive.specs.shared_rule.Passes.{HeldPass, passes_of}
+use Rattle.walk_inactive.specs.shared_cpus.Conditions.{CanRetell}
+use Rattle.walk_inactive.specs.shared_table.Readied.{HasNoneBehind}
 use Rattle.walk_inactive.specs.Ends.{HasWalked, reevaluated, retells_with, retold}
 use Rattle.remote_parts.proofs.Closing.{agree_of, can_retell, free_with, online_in}
 use Rattle.remote_expiry.proofs.Closing.{retells, told_anew}

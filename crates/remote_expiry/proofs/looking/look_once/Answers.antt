@@ -2,7 +2,7 @@ use Rattle.std.proofs.Common.{◌<◌, ◌∙◌, [], ap, arith, length, refl, s
 use Rattle.std.proofs.lemmas.Result.{err_from_is_err_and}
 use Rattle.tree_plan.specs.Paths.{is_placed_in}
 use Rattle.core_world.specs.World.{World}
-use Rattle.shared_rule.specs.Slots.{IsGrouped}
+use Rattle.walk_inactive.specs.shared_rule.Slots.{IsGrouped}
 use Rattle.remote_parts.proofs.OwnDrains.{err_as}
 use Rattle.remote_parts.proofs.Served.{still_at_work}
 use Rattle.remote_expiry.specs.Trying.{BreaksRound, IsRound}

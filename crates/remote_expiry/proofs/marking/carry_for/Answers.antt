@@ -1,12 +1,12 @@
 use Rattle.std.proofs.Common.{sym, ap, ◌∙◌, subst}
 use Rattle.std.proofs.Common.{arith, true≢false}
-use Rattle.shared_rule.specs.declared.parts.BoxView.{BoxView}
-use Rattle.shared_rule.specs.Plays.{head_pass}
-use Rattle.shared_rule.specs.Parts.{HeldPart, pass_parted}
-use Rattle.shared_rule.specs.Passes.{HeldPass, passes_of}
+use Rattle.walk_inactive.specs.shared_rule.declared.parts.BoxView.{BoxView}
+use Rattle.walk_inactive.specs.shared_rule.Plays.{head_pass}
+use Rattle.walk_inactive.specs.shared_rule.Parts.{HeldPart, pass_parted}
+use Rattle.walk_inactive.specs.shared_rule.Passes.{HeldPass, passes_of}
 use Rattle.cpu_bases.specs.CpuBases.{CpuBases}
-use Rattle.shared_cpus.specs.Conditions.{CanCarry}
-use Rattle.shared_table.specs.Readied.{HasNoneBehind}
+use Rattle.walk_inactive.specs.shared_cpus.Conditions.{CanCarry}
+use Rattle.walk_inactive.specs.shared_table.Readied.{HasNoneBehind}
 use Rattle.walk_inactive.specs.Ends.{HasCarried, has_carried, retells_with}
 use Rattle.remote_parts.proofs.Closing.{agree_of, can_carry, free_with}
 use Rattle.remote_expiry.proofs.Closing.{carries}

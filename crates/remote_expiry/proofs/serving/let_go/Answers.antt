@@ -1,5 +1,5 @@
 use Rattle.std.proofs.Common.{[], ◌∷◌, sym, ap, ◌∙◌, subst}
-use Rattle.shared_rule.specs.Parts.{HeldPart}
+use Rattle.walk_inactive.specs.shared_rule.Parts.{HeldPart}
 use Rattle.remote_parts.specs.Tries.{AtWork, HasLetGo}
 use Rattle.remote_expiry.proofs.serving.let_go.Goals as goal
 

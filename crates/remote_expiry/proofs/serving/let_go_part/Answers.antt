@@ -1,8 +1,8 @@
 use Rattle.std.proofs.Common.{[], ◌∷◌, inl, inr, refl, sym, ap, ◌∙◌, subst}
-use Rattle.core_state.specs.Shown.{shown_cpu}
+use Rattle.walk_inactive.specs.core_state.Shown.{shown_cpu}
 use Rattle.cpu_word.specs.declared.state.CpuState.{CpuState}
-use Rattle.shared_rule.specs.Parts.{HeldPart}
-use Rattle.shared_table.specs.Begun.{IsFree}
+use Rattle.walk_inactive.specs.shared_rule.Parts.{HeldPart}
+use Rattle.walk_inactive.specs.shared_table.Begun.{IsFree}
 use Rattle.remote_parts.specs.Tries.{AtWork}
 use Rattle.remote_parts.proofs.Taking.{awake_by_line, awake_by_rest, let_go_carried}
 use Rattle.remote_parts.proofs.Taking.{let_go_released, looked_work}

@@ -1,7 +1,7 @@
 use Rattle.std.proofs.Common.{◌+◌, ◌∷◌, ap, ◌∙◌, subst, arith}
 use Rattle.std.specs.FinSet.{empty}
 use Rattle.tm_base.specs.CpuSet.{Cpus}
-use Rattle.shared_rule.specs.Passes.{HeldPass}
+use Rattle.shared_cpus.specs.shared_rule.Passes.{HeldPass}
 use Rattle.remote_looks.specs.Sights.{ShowsNothing, slot_looks, state_look}
 use Rattle.remote_looks.proofs.Sighted.{nothing_more, still_run_all}
 use Rattle.remote_looks.proofs.looking.needs_remote.Goals as goal

@@ -1,5 +1,5 @@
 use Rattle.std.proofs.Common.{◌≡◌}
-use Rattle.shared_rule.specs.Passes.{IsOfRun}
+use Rattle.shared_cpus.specs.shared_rule.Passes.{IsOfRun}
 use Rattle.remote_looks.specs.Sights.{NothingBelow}
 use Rattle.remote_looks.proofs.looking.needs_remote.Given as goal
 

@@ -3,8 +3,8 @@ use Rattle.std.specs.Prelude.{is_some, not}
 use Rattle.cpu_word.specs.declared.state.CpuState.{CpuState}
 use Rattle.tree_plan.specs.Paths.{group_at_of}
 use Rattle.core_world.specs.World.{World}
-use Rattle.shared_rule.specs.declared.parts.BoxView.{BoxView}
-use Rattle.shared_rule.specs.Parts.{HeldPart}
+use Rattle.shared_cpus.specs.shared_rule.declared.parts.BoxView.{BoxView}
+use Rattle.shared_cpus.specs.shared_rule.Parts.{HeldPart}
 use Rattle.remote_looks.proofs.Marked.{due_event, due_there, has_some_group, unmarked}
 use Rattle.remote_looks.proofs.marks.is_takable.Goals as goal
 

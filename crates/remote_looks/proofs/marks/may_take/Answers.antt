@@ -1,9 +1,9 @@
 use Rattle.std.proofs.Common.{sym, ap, ◌∙◌, subst}
-use Rattle.shared_rule.specs.Rule.{Each}
-use Rattle.shared_rule.specs.Plays.{Agree}
-use Rattle.shared_rule.specs.Parts.{HeldPart, pass_parted}
-use Rattle.shared_rule.specs.Passes.{HeldPass, passes_of}
-use Rattle.shared_rule.proofs.Visits as visits
+use Rattle.shared_cpus.specs.shared_rule.Rule.{Each}
+use Rattle.shared_cpus.specs.shared_rule.Plays.{Agree}
+use Rattle.shared_cpus.specs.shared_rule.Parts.{HeldPart, pass_parted}
+use Rattle.shared_cpus.specs.shared_rule.Passes.{HeldPass, passes_of}
+use Rattle.shared_cpus.proofs.shared_rule.Visits as visits
 use Rattle.remote_looks.specs.Marks.{IsNoticed}
 use Rattle.remote_looks.proofs.Marked.{noticed_guest}
 use Rattle.remote_looks.proofs.marks.may_take.Goals as goal

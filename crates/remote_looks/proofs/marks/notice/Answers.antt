@@ -2,8 +2,8 @@ use Rattle.std.proofs.Common.{sym, ap, ◌∙◌, subst}
 use Rattle.tree_plan.specs.Paths.{group_at_of}
 use Rattle.walk_rules.specs.Hierarchy.{HasGroup}
 use Rattle.core_world.specs.World.{World}
-use Rattle.shared_rule.specs.declared.parts.BoxView.{BoxView}
-use Rattle.shared_rule.specs.Parts.{HeldPart}
+use Rattle.shared_cpus.specs.shared_rule.declared.parts.BoxView.{BoxView}
+use Rattle.shared_cpus.specs.shared_rule.Parts.{HeldPart}
 use Rattle.shared_cpus.specs.Pairs.{HasOne, cpu_place}
 use Rattle.remote_looks.proofs.Marked.{box_after, has_group, one_after}
 use Rattle.remote_looks.proofs.marks.notice.Goals as goal

@@ -1,5 +1,5 @@
 use Rattle.std.proofs.Common.{Some, None, sym, ◌∙◌, arith}
-use Rattle.core_state.proofs.Paths.{side_above, side_at_leaf}
+use Rattle.shared_cpus.proofs.core_state.Paths.{side_above, side_at_leaf}
 use Rattle.remote_looks.proofs.path.side_in.Goals as goal
 
 pub returns-then-level-eq0 : goal.returns-then-level-eq0

@@ -1,4 +1,4 @@
-use Rattle.shared_rule.specs.Passes.{IsOfRun}
+use Rattle.shared_cpus.specs.shared_rule.Passes.{IsOfRun}
 use Rattle.remote_looks.specs.Sights.{HasSeenSlots}
 use Rattle.remote_looks.proofs.slots.see_events.Given as goal
 

@@ -1,6 +1,6 @@
 use Rattle.std.proofs.Common.{ap, sym}
 use Rattle.std.specs.Prelude.{vec_capacity}
-use Rattle.shared_rule.specs.Passes.{HeldPass}
+use Rattle.shared_timers.specs.shared_rule.Passes.{HeldPass}
 use Rattle.remote_parts.proofs.Parting.{all_timers, few_out, may_each, off_is, off_pass, off_whole}
 use Rattle.remote_parts.proofs.Parting.{still_there}
 use Rattle.remote_parts.proofs.draining.hand_all.Goals as goal

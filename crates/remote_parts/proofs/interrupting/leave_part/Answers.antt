@@ -1,8 +1,8 @@
 use Rattle.std.proofs.Common.{refl, sym, ap, ◌∙◌, subst}
-use Rattle.shared_rule.specs.Parts.{HeldPart}
-use Rattle.shared_rule.specs.Turns.{outside_box, outside_pass}
-use Rattle.shared_cpus.specs.Conditions.{CanLeave}
-use Rattle.shared_cpus.specs.Pairs.{by_pair, of_box}
+use Rattle.shared_timers.specs.shared_rule.Parts.{HeldPart}
+use Rattle.shared_timers.specs.shared_rule.Turns.{outside_box, outside_pass}
+use Rattle.remote_looks.specs.shared_cpus.Conditions.{CanLeave}
+use Rattle.remote_looks.specs.shared_cpus.Pairs.{by_pair, of_box}
 use Rattle.remote_parts.proofs.Closing.{agree_of, box_by_step, can_leave, free_with, guest_by, left}
 use Rattle.remote_parts.proofs.Closing.{online_in, parted_by}
 use Rattle.remote_parts.proofs.interrupting.leave_part.Goals as goal

@@ -1,10 +1,10 @@
 use Rattle.std.proofs.Common.{Some, refl, sym, ap, ◌∙◌, subst}
-use Rattle.shared_rule.specs.declared.parts.BoxView.{BoxView}
-use Rattle.shared_rule.specs.declared.parts.PassView.{PassView}
-use Rattle.shared_rule.specs.Parts.{HeldPart}
-use Rattle.shared_rule.specs.Turns.{taken_box, taken_pass}
-use Rattle.shared_cpus.specs.Conditions.{CanTake}
-use Rattle.shared_cpus.specs.Pairs.{by_pair}
+use Rattle.shared_timers.specs.shared_rule.declared.parts.BoxView.{BoxView}
+use Rattle.shared_timers.specs.shared_rule.declared.parts.PassView.{PassView}
+use Rattle.shared_timers.specs.shared_rule.Parts.{HeldPart}
+use Rattle.shared_timers.specs.shared_rule.Turns.{taken_box, taken_pass}
+use Rattle.remote_looks.specs.shared_cpus.Conditions.{CanTake}
+use Rattle.remote_looks.specs.shared_cpus.Pairs.{by_pair}
 use Rattle.tree_plan.specs.Paths.{is_placed_in}
 use Rattle.remote_parts.proofs.Closing.{agree_of, box_by_step, can_take, free_with, guest_by}
 use Rattle.remote_parts.proofs.Closing.{parted_by}

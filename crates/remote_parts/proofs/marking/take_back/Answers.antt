@@ -1,8 +1,8 @@
 use Rattle.std.proofs.Common.{refl, sym, ap, subst}
-use Rattle.shared_rule.specs.Parts.{HeldPart}
-use Rattle.shared_rule.specs.Turns.{released_box, released_pass}
-use Rattle.shared_cpus.specs.Conditions.{CanRelease}
-use Rattle.shared_cpus.specs.Pairs.{by_pair}
+use Rattle.shared_timers.specs.shared_rule.Parts.{HeldPart}
+use Rattle.shared_timers.specs.shared_rule.Turns.{released_box, released_pass}
+use Rattle.remote_looks.specs.shared_cpus.Conditions.{CanRelease}
+use Rattle.remote_looks.specs.shared_cpus.Pairs.{by_pair}
 use Rattle.remote_parts.proofs.Closing.{agree_of, box_by_step, can_release, free_with, guest_by}
 use Rattle.remote_parts.proofs.Closing.{parted_by}
 use Rattle.remote_parts.proofs.Trials.{taken_back}

@@ -3,10 +3,10 @@ use Rattle.std.proofs.lemmas.Result.{err_from_is_err_and}
 use Rattle.tm_base.specs.declared.names.Class.TheVariants.{Global}
 use Rattle.tree_plan.specs.Paths.{is_placed_in}
 use Rattle.walk_rules.specs.Hierarchy.{HasGroup}
-use Rattle.shared_rule.specs.declared.parts.BoxView.{BoxView}
-use Rattle.shared_rule.specs.Parts.{HeldPart}
-use Rattle.shared_rule.specs.Passes.{HeldPass}
-use Rattle.shared_rule.specs.Plays.{PartFits}
+use Rattle.shared_timers.specs.shared_rule.declared.parts.BoxView.{BoxView}
+use Rattle.shared_timers.specs.shared_rule.Parts.{HeldPart}
+use Rattle.shared_timers.specs.shared_rule.Passes.{HeldPass}
+use Rattle.shared_timers.specs.shared_rule.Plays.{PartFits}
 use Rattle.remote_looks.specs.Marks.{IsTakable}
 use Rattle.remote_parts.specs.Pieces.{HandsOut, Piece}
 use Rattle.remote_parts.specs.Tries.{HasLeft, HasMarked, TakesOrLeaves}

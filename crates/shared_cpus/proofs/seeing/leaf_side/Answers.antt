@@ -1,5 +1,5 @@
 use Rattle.std.proofs.Common.{refl, sym, ◌∙◌}
-use Rattle.core_state.proofs.Paths.{side_at_leaf, unplaced_bit}
+use Rattle.shared_rule.proofs.core_state.Paths.{side_at_leaf, unplaced_bit}
 use Rattle.shared_cpus.proofs.seeing.leaf_side.Goals as goal
 
 pub returns-then-is_placed-clause-side : goal.returns-then-is_placed-clause-side

@@ -3,7 +3,7 @@ use Rattle.std.proofs.lemmas.Option.{same_Some}
 use Rattle.walk_rules.specs.declared.walk.Walk.{Walk}
 use Rattle.walk_rules.specs.declared.walk.WalkKind.{WalkKind}
 use Rattle.walk_rules.specs.declared.walk.WalkKind.TheVariants as kinds
-use Rattle.core_state.specs.Shown.{as_cpu}
+use Rattle.shared_rule.specs.core_state.Shown.{as_cpu}
 use Rattle.shared_cpus.specs.Conditions.{HasPassFor}
 use Rattle.shared_cpus.proofs.Finished.{no_activation}
 use Rattle.shared_cpus.proofs.stepping.finish_step.Goals as goal

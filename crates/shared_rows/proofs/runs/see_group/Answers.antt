@@ -1,5 +1,5 @@
 use Rattle.shared_words.specs.Layout.{index_of}
-use Rattle.shared_rule.specs.Whole.{layout_of, state_at}
+use Rattle.shared_table.specs.shared_rule.Whole.{layout_of, state_at}
 use Rattle.shared_rows.proofs.Looks.{run_stays, seen_stays}
 use Rattle.shared_rows.proofs.runs.see_group.Goals as goal
 

@@ -1,4 +1,4 @@
-use Rattle.shared_rule.specs.Passes.{IsOfRun}
+use Rattle.shared_table.specs.shared_rule.Passes.{IsOfRun}
 use Rattle.shared_rows.specs.Looks.{StaysAt}
 use Rattle.shared_rows.proofs.runs.see_groups.Given as goal
 

@@ -1,6 +1,6 @@
 use Rattle.shared_words.specs.Layout.{index_of}
 use Rattle.shared_words.specs.declared.layout.SharedWord.TheVariants.{Timer}
-use Rattle.shared_rule.specs.Whole.{layout_of}
+use Rattle.shared_table.specs.shared_rule.Whole.{layout_of}
 use Rattle.shared_rows.proofs.Looks.{run_stays, seen_stays}
 use Rattle.shared_rows.proofs.runs.see_timer.Goals as goal
 

@@ -4,7 +4,7 @@ use Rattle.event_queue.specs.declared.event.Event.{Event}
 use Rattle.cpu_bases.specs.CpuBases.{CpuBases}
 use Rattle.walk_rules.specs.Stages.{forget}
 use Rattle.core_world.specs.World.{CpuRecord, World, cpu_of}
-use Rattle.core_state.specs.Status.{CpuStatus, record_of}
+use Rattle.shared_rule.specs.core_state.Status.{CpuStatus, record_of}
 use Rattle.shared_rule.specs.declared.parts.BoxView.{BoxView}
 use Rattle.shared_rule.specs.Rule.{Me, first_box, seat_of, without_box}
 use Rattle.shared_rule.specs.Parts.{HeldPart, box_held}

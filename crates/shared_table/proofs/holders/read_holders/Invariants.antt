@@ -1,6 +1,6 @@
 use Rattle.std.proofs.Common.{◌≡◌, ℕ, ◌<◌, length}
 use Rattle.std.specs.Prelude.{option_map}
-use Rattle.core_state.specs.Kept.{noted}
+use Rattle.shared_rule.specs.core_state.Kept.{noted}
 use Rattle.shared_words.specs.Words.{spot_of}
 use Rattle.shared_rule.specs.Whole.{timer_at}
 use Rattle.shared_table.specs.Endings.{cpu_of_spot, word_in}

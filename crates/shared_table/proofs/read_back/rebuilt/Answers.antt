@@ -1,6 +1,6 @@
 use Rattle.std.proofs.Common.{length, sym, subst, ◌∙◌}
 use Rattle.core_world.specs.World.{World}
-use Rattle.core_state.specs.Kept.{IsHeld, WorldFits}
+use Rattle.shared_rule.specs.core_state.Kept.{IsHeld, WorldFits}
 use Rattle.shared_table.proofs.Finished.{fits, same_world}
 use Rattle.shared_table.proofs.read_back.rebuilt.Goals as goal
 

@@ -3,7 +3,7 @@ use Rattle.core_world.specs.Covered.{IsSettled}
 use Rattle.atomic_table.specs.Seated.{TableId}
 use Rattle.core_world.specs.World.{World}
 use Rattle.core_world.specs.Frames.{IsSized}
-use Rattle.core_state.specs.Kept.{world_of}
+use Rattle.shared_rule.specs.core_state.Kept.{world_of}
 use Rattle.shared_words.specs.Layout.{count_of}
 use Rattle.shared_rule.specs.Whole.{layout_of}
 use Rattle.shared_rule.specs.Rule.{Me, seat_of}

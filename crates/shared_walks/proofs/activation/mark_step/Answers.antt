@@ -9,7 +9,7 @@ use Rattle.walk_rules.specs.declared.walk.Stage.TheVariants as stages
 use Rattle.walk_rules.specs.Hierarchy.{side}
 use Rattle.walk_rules.specs.Stages.{mark_next}
 use Rattle.core_world.specs.World.{World}
-use Rattle.core_state.specs.Kept.{HasLevel}
+use Rattle.shared_rule.specs.core_state.Kept.{HasLevel}
 use Rattle.shared_words.specs.Layout.{index_of}
 use Rattle.shared_rule.specs.declared.parts.BoxView.{BoxView}
 use Rattle.shared_rule.specs.Plays as plays

@@ -1,5 +1,5 @@
 use Rattle.std.proofs.Common.{sym, ◌∙◌}
-use Rattle.core_state.proofs.Paths.{unplaced_bit}
+use Rattle.shared_rule.proofs.core_state.Paths.{unplaced_bit}
 use Rattle.shared_walks.proofs.path.cpu_side.Goals as goal
 
 pub returns-else-is_placed : goal.returns-else-is_placed

@@ -1,5 +1,5 @@
 use Rattle.std.proofs.Common.{Some, None, sym, ◌∙◌, arith}
-use Rattle.core_state.proofs.Paths.{side_above, side_at_leaf}
+use Rattle.shared_rule.proofs.core_state.Paths.{side_above, side_at_leaf}
 use Rattle.shared_walks.proofs.path.side_in.Goals as goal
 
 pub returns-then-level-eq0-clause-side : goal.returns-then-level-eq0-clause-side

@@ -1,6 +1,6 @@
 use Rattle.std.proofs.Common.{ap, subst, ◌∙◌}
 use Rattle.core_world.specs.World.{World}
-use Rattle.shared_table.specs.Begun.{begun_passes}
+use Rattle.idle_wakeup.specs.shared_table.Begun.{begun_passes}
 use Rattle.thread_rounds.specs.Tasks.{MayRound, Plan}
 use Rattle.thread_rounds.proofs.rounds.round_over.Goals as goal
 

@@ -1,7 +1,7 @@
 use Rattle.std.proofs.Common.{◌+◌, ◌<◌, arith, length, sym, ap, ◌∙◌, subst}
 use Rattle.std.specs.Prelude.{MatchResult}
 use Rattle.tm_base.specs.declared.names.TheConstants.{TIME_LIMIT}
-use Rattle.shared_rule.specs.Parts.{HeldPart, without_guest}
+use Rattle.shared_table.specs.shared_rule.Parts.{HeldPart, without_guest}
 use Rattle.timer_calls.specs.Arms.{HasArmed, NotArmed, arming_of}
 use Rattle.timer_calls.proofs.arming.arm.Goals as goal
 

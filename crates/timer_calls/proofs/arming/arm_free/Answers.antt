@@ -1,7 +1,7 @@
 use Rattle.std.proofs.Common.{sym, ap, ◌∙◌, subst}
 use Rattle.std.specs.Prelude.{MatchResult}
-use Rattle.shared_rule.specs.Parts.{HeldPart, with_guest}
-use Rattle.shared_rule.specs.Passes.{HeldPass, passes_of}
+use Rattle.shared_table.specs.shared_rule.Parts.{HeldPart, with_guest}
+use Rattle.shared_table.specs.shared_rule.Passes.{HeldPass, passes_of}
 use Rattle.shared_timers.specs.Queueing.{ArmedWith, FoundWith, MayArm}
 use Rattle.timer_calls.specs.Arms.{with_entry_room}
 use Rattle.timer_calls.proofs.Free.{done_after, free_after, free_as, may_arm}

@@ -1,6 +1,6 @@
 use Rattle.std.proofs.Common.{sym, ap, ◌∙◌, subst}
 use Rattle.std.specs.Prelude.{MatchResult}
-use Rattle.shared_rule.specs.Parts.{HeldPart, without_guest}
+use Rattle.shared_table.specs.shared_rule.Parts.{HeldPart, without_guest}
 use Rattle.timer_calls.specs.Arms.{HasArmed, MetBy, NotArmed}
 use Rattle.timer_calls.proofs.arming.arm_in.Goals as goal
 

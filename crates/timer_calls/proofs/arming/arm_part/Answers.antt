@@ -1,11 +1,11 @@
 use Rattle.std.proofs.Common.{refl, sym, ap, ◌∙◌, subst}
 use Rattle.std.specs.Prelude.{MatchResult}
-use Rattle.shared_rule.specs.Parts.{HeldPart, without_guest}
-use Rattle.shared_rule.specs.Passes.{HeldPass, knowing}
+use Rattle.shared_table.specs.shared_rule.Parts.{HeldPart, without_guest}
+use Rattle.shared_table.specs.shared_rule.Passes.{HeldPass, knowing}
 use Rattle.shared_table.specs.Begun.{IsFree}
 use Rattle.timer_calls.specs.Arms.{HasFailed, IsArmed}
 use Rattle.timer_calls.proofs.Allowed.{by_pass, finish, may_arm_in, not_armed}
-use Rattle.shared_rule.proofs.Visits.{knows}
+use Rattle.shared_table.proofs.shared_rule.Visits.{knows}
 use Rattle.timer_calls.proofs.arming.arm_part.Goals as goal
 
 pub arm_free-requires-clause-run : goal.arm_free-requires-clause-run

@@ -1,5 +1,5 @@
 use Rattle.std.proofs.Common.{sym, ap, ◌∙◌, subst}
-use Rattle.shared_rule.specs.Parts.{HeldPart, without_guest}
+use Rattle.shared_table.specs.shared_rule.Parts.{HeldPart, without_guest}
 use Rattle.timer_calls.specs.Cancels.{IsAsked}
 use Rattle.timer_calls.proofs.cancelling.ask_box.Goals as goal
 

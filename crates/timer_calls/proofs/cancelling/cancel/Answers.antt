@@ -1,7 +1,7 @@
 use Rattle.std.proofs.Common.{sym, subst}
 use Rattle.tm_base.specs.declared.faults.OpFault.{OpFault}
 use Rattle.std.specs.Prelude.{Option}
-use Rattle.shared_rule.specs.Passes.{HeldPass}
+use Rattle.shared_table.specs.shared_rule.Passes.{HeldPass}
 use Rattle.remote_looks.specs.Looks.{IsPassOf}
 use Rattle.timer_calls.specs.Cancels.{IsAsked}
 use Rattle.timer_calls.proofs.Asking.{finish, refused}

@@ -1,5 +1,5 @@
 use Rattle.std.proofs.Common.{◌≡◌, ap, ◌∙◌, subst}
-use Rattle.shared_rule.specs.Parts.{HeldPart}
+use Rattle.shared_table.specs.shared_rule.Parts.{HeldPart}
 use Rattle.timer_calls.specs.Cancels.{IsPartOf}
 use Rattle.timer_calls.proofs.cancelling.cancel_at.Goals as goal
 

@@ -1,6 +1,6 @@
 use Rattle.std.proofs.Common.{◌≡◌, subst}
 use Rattle.std.specs.Prelude.{MatchResult}
-use Rattle.shared_rule.specs.Parts.{HeldPart}
+use Rattle.shared_table.specs.shared_rule.Parts.{HeldPart}
 use Rattle.timer_calls.specs.Cancels.{IsPartOf, TookOut}
 use Rattle.timer_calls.proofs.cancelling.cancel_box.Goals as goal
 

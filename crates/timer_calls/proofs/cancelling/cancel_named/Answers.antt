@@ -1,5 +1,5 @@
 use Rattle.std.proofs.Common.{[], refl, subst, sym}
-use Rattle.shared_rule.specs.Passes.{HeldPass}
+use Rattle.shared_table.specs.shared_rule.Passes.{HeldPass}
 use Rattle.remote_looks.proofs.Looks.{no_loads, still_of}
 use Rattle.timer_calls.specs.Cancels.{HasTried, IsCancelled, IsElsewhere, IsNowhere}
 use Rattle.timer_calls.proofs.Trying.{short_more}

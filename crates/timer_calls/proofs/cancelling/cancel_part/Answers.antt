@@ -3,9 +3,9 @@ use Rattle.std.specs.Prelude.{is_some, not}
 use Rattle.std.proofs.lemmas.Result.{err_from_is_err_and}
 use Rattle.cpu_bases.specs.CpuBases.{CpuBases, class_in}
 use Rattle.cpu_bases.specs.Laws.{CallKeeps}
-use Rattle.shared_rule.specs.declared.parts.BoxView.{BoxView}
-use Rattle.shared_rule.specs.Parts.{HeldPart, with_guest, without_guest}
-use Rattle.shared_rule.specs.Passes.{HeldPass, passes_of}
+use Rattle.shared_table.specs.shared_rule.declared.parts.BoxView.{BoxView}
+use Rattle.shared_table.specs.shared_rule.Parts.{HeldPart, with_guest, without_guest}
+use Rattle.shared_table.specs.shared_rule.Passes.{HeldPass, passes_of}
 use Rattle.shared_timers.specs.Queueing.{MayCancel, cancelled_part}
 use Rattle.remote_looks.specs.Rooms.{with_more_room}
 use Rattle.timer_calls.proofs.Free.{free_as}

@@ -2,7 +2,7 @@ use Rattle.std.proofs.Common.{◌∙◌, rules, sym, tests}
 use Rattle.std.proofs.lemmas.Iterator.{YieldsList-from_slice}
 use Rattle.std.proofs.lemmas.Iterator.Search.{any_from_yields_List}
 use Rattle.tm_script.specs.declared.syntax.Op.{Op}
-use Rattle.story.specs.Stories.{is_hotplug}
+use Rattle.plain_moments.specs.story.Stories.{is_hotplug}
 use Rattle.tm_driver.proofs.Threaded.{not_plain, some_ops}
 use Rattle.tm_driver.proofs.run_moments.is_plain.Goals as goal
 

@@ -2,10 +2,11 @@ use Rattle.std.proofs.Common.{rules, arith, ap, subst, length}
 use Rattle.std.proofs.lemmas.Result.{err_from_is_err_and}
 use Rattle.play_rules.proofs.Plays.{gains_then}
 use Rattle.core_world.specs.World.{World}
-use Rattle.step_play.specs.SamePlay.{core_start}
+use Rattle.plain_moments.specs.step_play.SamePlay.{core_start}
 use Rattle.play_driver.specs.Outcomes.{work_limit}
 use Rattle.tm_driver.specs.Runs.{IsRunMoment}
-use Rattle.play_driver.proofs.Scripts.{after_in_range, after_rise, from_said, rise_from, said_by_end}
+use Rattle.play_driver.proofs.Scripts.{after_in_range, after_rise, from_said, rise_from}
+use Rattle.play_driver.proofs.Scripts.{said_by_end}
 use Rattle.tm_driver.proofs.StoryTurns.{SoFar, all_done, breaks_off, nothing_yet, one_more}
 use Rattle.tm_driver.proofs.run_moments.run_moments.Goals as goal
 

@@ -1,8 +1,8 @@
 use Rattle.std.proofs.Common.{◌-◌, ◌≤◌, length}
 use Rattle.std.specs.Prelude.{All}
 use Rattle.play_rules.specs.Parts.{Gains}
-use Rattle.step_play.specs.Rules.Seen.{InRun, resting}
-use Rattle.step_play.specs.SamePlay.{core_start}
+use Rattle.plain_moments.specs.step_play.Rules.Seen.{InRun, resting}
+use Rattle.plain_moments.specs.step_play.SamePlay.{core_start}
 use Rattle.play_driver.specs.Conditions.{Rise}
 use Rattle.play_driver.specs.Outcomes.{work_limit}
 use Rattle.tm_driver.specs.Runs.{IsRunMoment}

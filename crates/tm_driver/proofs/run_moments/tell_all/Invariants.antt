@@ -1,7 +1,7 @@
 use Rattle.std.proofs.Common.{◌≡◌, ◌+◌, ◌++◌, take}
 use Rattle.tm_report.specs.Lines.{report_text}
 use Rattle.play_rules.specs.Parts.{Gains, counted}
-use Rattle.story.specs.Stories.{runs_told}
+use Rattle.plain_moments.specs.story.Stories.{runs_told}
 use Rattle.tm_driver.proofs.run_moments.tell_all.Given as goal
 
 abbrev pub invariant-loop-line : goal.invariant-loop-line

@@ -4,8 +4,8 @@ use Rattle.std.specs.Option.{option_copied}
 use Rattle.tm_report.specs.declared.lines.Line.{Line}
 use Rattle.tm_script.specs.declared.syntax.Op.{Op}
 use Rattle.core_world.specs.World.{World, cpu_of}
-use Rattle.story.specs.Rounds.{IsRound}
-use Rattle.story.specs.Stories.{count_due, ops_of}
+use Rattle.plain_moments.specs.story.Rounds.{IsRound}
+use Rattle.plain_moments.specs.story.Stories.{count_due, ops_of}
 use Rattle.tm_driver.proofs.Threaded.{few_ops, ops_in_range, round_ops}
 use Rattle.tm_driver.proofs.run_moments.threaded_moment.Goals as goal
 

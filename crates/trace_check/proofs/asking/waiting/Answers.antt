@@ -4,7 +4,7 @@ use Rattle.tm_base.specs.declared.names.Class.TheVariants.{Global}
 use Rattle.wheel_core.specs.PlainBase.{item_of}
 use Rattle.cpu_bases.specs.CpuBases.{base_of}
 use Rattle.core_world.specs.World.{cpu_of}
-use Rattle.core_state.specs.Status.{CpuStatus}
+use Rattle.step_core.specs.core_state.Status.{CpuStatus}
 use Rattle.trace_check.proofs.AskLaws.{asked, not_asked}
 use Rattle.trace_check.proofs.asking.waiting.Goals as goal
 

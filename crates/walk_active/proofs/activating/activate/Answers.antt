@@ -1,9 +1,9 @@
 use Rattle.std.proofs.Common.{◌∙◌, false, ap, sym, subst, refl}
 use Rattle.std.specs.Prelude.{◌&&◌, not}
 use Rattle.core_world.specs.World.{is_active}
-use Rattle.shared_rule.specs.Plays.{woken_box, woken_pass}
-use Rattle.shared_rule.specs.Parts.{HasGuest, HeldPart, pass_parted, without_guest}
-use Rattle.shared_rule.specs.Passes.{HeldPass, with_pass}
+use Rattle.shared_cpus.specs.shared_rule.Plays.{woken_box, woken_pass}
+use Rattle.shared_cpus.specs.shared_rule.Parts.{HasGuest, HeldPart, pass_parted, without_guest}
+use Rattle.shared_cpus.specs.shared_rule.Passes.{HeldPass, with_pass}
 use Rattle.shared_cpus.specs.Conditions.{CanWake}
 use Rattle.shared_cpus.specs.Pairs.{by_pair, of_box}
 use Rattle.shared_table.specs.Begun.{IsFree}

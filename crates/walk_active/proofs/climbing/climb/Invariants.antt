@@ -1,5 +1,5 @@
 use Rattle.std.proofs.Common.{◌≡◌}
-use Rattle.shared_rule.specs.Whole.{no_looks}
+use Rattle.shared_cpus.specs.shared_rule.Whole.{no_looks}
 use Rattle.walk_active.specs.Climbing.{Climbs, arrived, steps_left}
 use Rattle.walk_active.proofs.climbing.climb.Given as goal
 

@@ -1,8 +1,8 @@
 use Rattle.std.proofs.Common.{◌+◌, ◌<◌, ap, sym, ◌∙◌, subst}
 use Rattle.walk_rules.specs.declared.walk.WalkKind.TheVariants as kinds
 use Rattle.core_world.specs.Enabled.{first_event}
-use Rattle.shared_rule.specs.Parts.{HasGuest, HeldPart, pass_parted, without_guest}
-use Rattle.shared_rule.specs.Passes.{with_pass}
+use Rattle.shared_cpus.specs.shared_rule.Parts.{HasGuest, HeldPart, pass_parted, without_guest}
+use Rattle.shared_cpus.specs.shared_rule.Passes.{with_pass}
 use Rattle.shared_cpus.specs.Conditions.{CanIdle}
 use Rattle.shared_table.specs.Begun.{IsFree}
 use Rattle.walk_inactive.specs.Ends.{HasTold, HasWalked, at_rest, gone_idle, rested}

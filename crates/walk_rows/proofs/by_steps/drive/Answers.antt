@@ -1,6 +1,6 @@
 use Rattle.std.proofs.Common.{ap, sym, ◌∙◌, subst}
-use Rattle.shared_rule.specs.Parts.{HeldPart}
-use Rattle.shared_table.specs.Ended.{IsPassAt}
+use Rattle.idle_wakeup.specs.shared_rule.Parts.{HeldPart}
+use Rattle.shared_rows.specs.shared_table.Ended.{IsPassAt}
 use Rattle.walk_rows.proofs.Driving.{at_own, stays_at}
 use Rattle.walk_rows.proofs.by_steps.drive.Goals as goal
 

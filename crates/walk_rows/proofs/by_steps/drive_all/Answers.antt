@@ -1,5 +1,5 @@
 use Rattle.std.proofs.Common.{arith, ◌≡◌, ◌≤◌, ◌+◌, length, sym, subst}
-use Rattle.shared_table.specs.Ended.{PassesFrom}
+use Rattle.shared_rows.specs.shared_table.Ended.{PassesFrom}
 use Rattle.walk_rows.proofs.Halves as halves
 use Rattle.walk_rows.proofs.by_steps.drive_all.Goals as goal
 

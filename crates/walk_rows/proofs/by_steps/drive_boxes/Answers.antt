@@ -1,8 +1,8 @@
 use Rattle.std.proofs.Common.{ap, sym, ◌∙◌, subst}
-use Rattle.shared_rule.specs.Parts.{HeldPart}
-use Rattle.shared_rule.specs.Passes.{HeldPass}
-use Rattle.shared_table.specs.Begun.{IsFree}
-use Rattle.shared_table.specs.Ended.{IsPassAt}
+use Rattle.idle_wakeup.specs.shared_rule.Parts.{HeldPart}
+use Rattle.idle_wakeup.specs.shared_rule.Passes.{HeldPass}
+use Rattle.shared_rows.specs.shared_table.Begun.{IsFree}
+use Rattle.shared_rows.specs.shared_table.Ended.{IsPassAt}
 use Rattle.walk_rows.proofs.Driving.{at_home, brought_in, guest, is_free, parted}
 use Rattle.walk_rows.proofs.by_steps.drive_boxes.Goals as goal
 

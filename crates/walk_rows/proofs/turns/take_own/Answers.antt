@@ -1,5 +1,5 @@
 use Rattle.std.proofs.Common.{sym, subst}
-use Rattle.shared_table.specs.Ended.{IsPassAt}
+use Rattle.shared_rows.specs.shared_table.Ended.{IsPassAt}
 use Rattle.walk_rows.proofs.turns.take_own.Goals as goal
 use Rattle.walk_rows.proofs.turns.take_own.Goals.{in-Rest, in-Wake}
 

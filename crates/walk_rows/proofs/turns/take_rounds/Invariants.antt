@@ -1,5 +1,5 @@
 use Rattle.std.proofs.Common.{◌≡◌, length}
-use Rattle.shared_table.specs.Ended.{PassesFrom}
+use Rattle.shared_rows.specs.shared_table.Ended.{PassesFrom}
 use Rattle.walk_rows.proofs.turns.take_rounds.Given as goal
 
 abbrev pub invariant-loop : goal.invariant-loop

@@ -5,7 +5,7 @@ use Rattle.std.proofs.lemmas.Result.{err_from_is_err_and}
 use Rattle.tm_base.specs.declared.names.Class.{Class}
 use Rattle.wheel_core.specs.PlainBase.{NoneBehind}
 use Rattle.cpu_bases.specs.CpuBases.{CpuBases, armed, base_of, class_in, item_queued}
-use Rattle.core_world.specs.World.{CpuRecord, World, cpu_of}
+use Rattle.core_parts.specs.core_world.World.{CpuRecord, World, cpu_of}
 use Rattle.core_state.specs.Kept.{IsKept}
 use Rattle.core_state.proofs.TimerSteps.{arm_kept, done_is, on_err, read_bases, unchanged}
 use Rattle.core_state.proofs.machine.Core.arm.Goals as goal

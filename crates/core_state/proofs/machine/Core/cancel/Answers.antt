@@ -2,7 +2,7 @@ use Rattle.std.proofs.Common.{◌<◌, None, arith, length, length-set, refl, su
 use Rattle.std.specs.Prelude.{slice_set}
 use Rattle.std.proofs.lemmas.Result.{err_from_is_err_and}
 use Rattle.cpu_bases.specs.CpuBases.{cancelled}
-use Rattle.core_world.specs.World.{World}
+use Rattle.core_parts.specs.core_world.World.{World}
 use Rattle.core_state.specs.Kept.{IsKept}
 use Rattle.core_state.proofs.TimerSteps.{cancel_kept, cancel_low, done_is, on_err, unchanged}
 use Rattle.core_state.proofs.machine.Core.cancel.Goals as goal

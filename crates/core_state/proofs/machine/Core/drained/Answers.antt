@@ -1,7 +1,7 @@
 use Rattle.std.proofs.Common.{◌<◌, arith, length, refl, subst, sym, ◌∙◌}
 use Rattle.std.proofs.lemmas.Result.{err_from_is_err_and}
 use Rattle.cpu_bases.specs.CpuBases.{handed_out}
-use Rattle.core_world.specs.World.{World}
+use Rattle.core_parts.specs.core_world.World.{World}
 use Rattle.core_state.specs.Kept.{IsKept}
 use Rattle.core_state.proofs.TimerSteps.{done_is, on_err, tick_kept, unchanged}
 use Rattle.core_state.proofs.machine.Core.drained.Goals as goal

@@ -2,8 +2,8 @@ use Rattle.std.proofs.Common.{◌<◌, None, arith, length, length-set, refl, su
 use Rattle.std.specs.Prelude.{slice_set}
 use Rattle.std.proofs.lemmas.Result.{err_from_is_err_and}
 use Rattle.cpu_bases.specs.CpuBases.{class_in}
-use Rattle.core_world.specs.Steps.{handed_of}
-use Rattle.core_world.specs.World.{World}
+use Rattle.core_parts.specs.core_world.Steps.{handed_of}
+use Rattle.core_parts.specs.core_world.World.{World}
 use Rattle.core_state.specs.Kept.{IsKept}
 use Rattle.core_state.proofs.TimerSteps.{done_is, hand_kept, hand_low, on_err, unchanged}
 use Rattle.core_state.proofs.machine.Core.hand.Goals as goal

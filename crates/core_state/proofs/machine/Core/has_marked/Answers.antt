@@ -1,6 +1,6 @@
 use Rattle.std.proofs.Common.{subst, inl, inr}
 use Rattle.std.proofs.lemmas.Bool.{cases_Bool}
-use Rattle.core_world.specs.World.{World}
+use Rattle.core_parts.specs.core_world.World.{World}
 use Rattle.core_state.specs.Tally.{IsTallied}
 use Rattle.core_state.proofs.Tallies.{count_is_none, marks_none, marks_some}
 use Rattle.core_state.proofs.machine.Core.has_marked.Goals as goal

@@ -1,7 +1,7 @@
 use Rattle.std.proofs.Common.{◌<◌, ◌≡◌, ap, arith, length, subst, sym, true, ◌∙◌}
 use Rattle.tree_plan.specs.Paths.{IsBelow}
-use Rattle.core_world.specs.World.{World}
-use Rattle.core_world.proofs.Moves.{stale_if_length}
+use Rattle.core_parts.specs.core_world.World.{World}
+use Rattle.core_parts.proofs.core_world.Moves.{stale_if_length}
 use Rattle.core_state.proofs.Making.{made, made_kept}
 use Rattle.core_state.proofs.machine.Core.make.Goals as goal
 

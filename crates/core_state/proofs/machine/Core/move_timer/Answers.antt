@@ -3,7 +3,7 @@ use Rattle.std.proofs.Common.{◌∙◌}
 use Rattle.std.proofs.lemmas.Result.{err_from_is_err_and}
 use Rattle.std.specs.Prelude.{option_map}
 use Rattle.std.proofs.lemmas.Option.{same_Some}
-use Rattle.core_world.specs.World.{CpuRecord, World, cpu_of}
+use Rattle.core_parts.specs.core_world.World.{CpuRecord, World, cpu_of}
 use Rattle.core_state.specs.Kept.{IsHeld, IsKept, world_of}
 use Rattle.core_parts.specs.Moves.{MayTakeIn}
 use Rattle.core_state.proofs.Holders.{note_low}

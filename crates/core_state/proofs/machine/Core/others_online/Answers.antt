@@ -1,7 +1,7 @@
 use Rattle.std.proofs.Common.{ap, subst, ◌∙◌}
 use Rattle.std.specs.Prelude.{◌&&◌}
 use Rattle.tree_plan.specs.Paths.{is_placed_in}
-use Rattle.core_world.specs.World.{World}
+use Rattle.core_parts.specs.core_world.World.{World}
 use Rattle.core_state.specs.Tally.{IsTallied}
 use Rattle.core_state.proofs.Tallies.{others_none, others_some}
 use Rattle.core_state.proofs.machine.Core.others_online.Goals as goal

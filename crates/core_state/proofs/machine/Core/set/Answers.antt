@@ -1,5 +1,5 @@
 use Rattle.std.proofs.Common.{◌<◌, arith, length, subst, sym}
-use Rattle.core_world.specs.World.{World}
+use Rattle.core_parts.specs.core_world.World.{World}
 use Rattle.core_parts.specs.Status.{with_status}
 use Rattle.core_state.proofs.Changes.{set_kept, written}
 use Rattle.core_state.proofs.machine.Core.set.Goals as goal
