@@ -24,9 +24,9 @@ use Rattle.core_plays.specs.OnCore.{EachIsAnsweredFor}
 use Rattle.play_driver.specs.Outcomes.{work_limit}
 use Rattle.play_driver.specs.declared.outcomes.DriveFault.{DriveFault}
 use Rattle.play_driver.specs.declared.outcomes.DriveFault.TheVariants.{BadJob, NoMemory, WorkSpent}
-use Rattle.tm_driver.specs.Runs.{BreaksRun, BreaksStory, EachRests, EndsRunEarly, RunsOut}
-use Rattle.tm_driver.specs.Runs.{RunsToEnd}
-use Rattle.tm_driver.specs.Runs.{RunsWhole, TellsMoment, work_of}
+use Rattle.run_parts.specs.Runs.{BreaksRun, BreaksStory, EachRests, EndsRunEarly, RunsOut}
+use Rattle.run_parts.specs.Runs.{RunsToEnd}
+use Rattle.run_parts.specs.Runs.{RunsWhole, TellsMoment, work_of}
 use Rattle.core_plays.proofs.BySteps.{at_rest}
 use Rattle.play_driver.proofs.Turns.{below_test, last_push, spent_more, turn_lines_push, work_more}
 

@@ -31,7 +31,7 @@ use Rattle.plain_moments.specs.story.Stories.{ops_of, runs_told}
 use Rattle.thread_rounds.specs.Doing.{IsRoundOp, IsTimerThere}
 use Rattle.play_driver.specs.Conditions.{IsOpInRange, IsTimerInRange}
 use Rattle.plain_moments.specs.Plain.{by_cpus}
-use Rattle.tm_driver.specs.Runs.{IsRunMoment, TellsMoment, TellsThreaded}
+use Rattle.run_parts.specs.Runs.{IsRunMoment, TellsMoment, TellsThreaded}
 use Rattle.play_driver.specs.PartLeaves.{Tells}
 use Rattle.play_driver.proofs.Turns.{below_test}
 

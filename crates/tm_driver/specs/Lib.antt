@@ -1,2 +1,2 @@
 pub mod Plays
-pub mod Runs
+pub use Rattle.run_parts.specs.Runs

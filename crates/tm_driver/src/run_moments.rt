@@ -16,8 +16,8 @@ ghost use Rattle.plain_moments.specs.story.Stories.{count_due, covers_of, is_hot
 ghost use Rattle.plain_moments.specs.story.Stories.{is_run, ops_of};
 ghost use Rattle.plain_moments.specs.story.Stories.{runs_told};
 ghost use Rattle.play_driver.specs.Conditions.{AreOnline, IsPlayable};
-ghost use Rattle.tm_driver.specs.Runs.{EndsRunEarly, IsRunMoment, RunsOut, TellsMoment};
-ghost use Rattle.tm_driver.specs.Runs.{TellsRound, TellsThreaded};
+ghost use Rattle.run_parts.specs.Runs.{EndsRunEarly, IsRunMoment, RunsOut, TellsMoment};
+ghost use Rattle.run_parts.specs.Runs.{TellsRound, TellsThreaded};
 
 use core_plays::RunPlayer;
 use job_table::Jobs;

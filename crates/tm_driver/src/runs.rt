@@ -7,7 +7,7 @@ ghost use Rattle.play_rules.specs.Parts.{Gains};
 ghost use Rattle.plain_moments.specs.step_play.Rules.Seen.{InRun, resting};
 ghost use Rattle.plain_moments.specs.step_play.SamePlay.{core_start};
 ghost use Rattle.play_driver.specs.Conditions.{IsPlayable};
-ghost use Rattle.tm_driver.specs.Runs.{BreaksRun, EndsRunEarly, RunsToEnd, RunsWhole};
+ghost use Rattle.run_parts.specs.Runs.{BreaksRun, EndsRunEarly, RunsToEnd, RunsWhole};
 
 use crate::run_moments::run_moments;
 use core_plays::the_core_state::Core;

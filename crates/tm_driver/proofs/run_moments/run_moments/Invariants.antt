@@ -5,7 +5,7 @@ use Rattle.plain_moments.specs.step_play.Rules.Seen.{InRun, resting}
 use Rattle.plain_moments.specs.step_play.SamePlay.{core_start}
 use Rattle.play_driver.specs.Conditions.{Rise}
 use Rattle.play_driver.specs.Outcomes.{work_limit}
-use Rattle.tm_driver.specs.Runs.{IsRunMoment}
+use Rattle.run_parts.specs.Runs.{IsRunMoment}
 use Rattle.tm_driver.proofs.StoryTurns.{SoFar}
 use Rattle.tm_driver.proofs.run_moments.run_moments.Given as goal
 

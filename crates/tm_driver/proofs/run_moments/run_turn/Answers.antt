@@ -7,7 +7,7 @@ use Rattle.core_world.specs.World.{World}
 use Rattle.play_rules.specs.Machines.{SameBuild}
 use Rattle.plain_moments.specs.step_play.Rules.StepRules.{step_rules}
 use Rattle.plain_moments.specs.story.Stories.{is_hotplug, is_plain}
-use Rattle.tm_driver.specs.Runs.{IsRunMoment, TellsMoment}
+use Rattle.run_parts.specs.Runs.{IsRunMoment, TellsMoment}
 use Rattle.play_driver.proofs.Scripts.{due_in_range}
 use Rattle.tm_driver.proofs.Threaded.{stays_out, told_by_threads, told_plainly}
 use Rattle.tm_driver.proofs.run_moments.run_turn.Goals as goal

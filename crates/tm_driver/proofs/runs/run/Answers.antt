@@ -3,7 +3,7 @@ use Rattle.std.proofs.lemmas.Result.{err_from_is_err_and}
 use Rattle.std.proofs.lemmas.List.{length-replicate}
 use Rattle.core_plays.proofs.Playable.{playable}
 use Rattle.play_driver.proofs.Parts.{as_before}
-use Rattle.tm_driver.specs.Runs.{BreaksRun, RunsToEnd}
+use Rattle.run_parts.specs.Runs.{BreaksRun, RunsToEnd}
 use Rattle.tm_driver.proofs.StoryTurns.{broken, to_end}
 use Rattle.tm_driver.proofs.runs.run.Goals as goal
 
