@@ -1,2 +1,1 @@
-mod StoryTurns
 mod Threaded

@@ -1,153 +1,33 @@
 //! The moments of a run.
 
-ghost use Rattle.std.specs.Prelude.{◌≡◌, ◌<◌, ◌≤◌, ◌+◌, ◌++◌, All, IfErr, IfOk, OnOk};
-ghost use Rattle.std.specs.Prelude.{[], ◌∷◌, false, length};
+ghost use Rattle.std.specs.Prelude.{◌≡◌, ◌<◌, ◌≤◌, All, IfErr, IfOk, false, length};
 ghost use Rattle.std.specs.List.{list_any};
 ghost use Rattle.std.specs.Option.{ForSome, option_copied};
-ghost use Rattle.tm_base.specs.declared.limits.TheConstants.{CPU_SET_SIZE, MOST_OPS};
-ghost use Rattle.tm_base.specs.declared.limits.TheConstants.{SCRIPT_TIME_LIMIT};
-ghost use Rattle.tm_report.specs.Lines.{line_text, report_text};
+ghost use Rattle.tm_base.specs.declared.limits.TheConstants.{MOST_OPS, SCRIPT_TIME_LIMIT};
 ghost use Rattle.play_rules.specs.Machines.{SameBuild};
-ghost use Rattle.play_rules.specs.Parts.{Gains, counted};
-ghost use Rattle.plain_moments.specs.step_play.Rules.Seen.{InRun, resting};
-ghost use Rattle.plain_moments.specs.step_play.Rules.StepRules.{step_rules};
-ghost use Rattle.plain_moments.specs.step_play.SamePlay.{core_start};
-ghost use Rattle.plain_moments.specs.story.Stories.{count_due, covers_of, is_hotplug, is_plain};
-ghost use Rattle.plain_moments.specs.story.Stories.{is_run, ops_of};
-ghost use Rattle.plain_moments.specs.story.Stories.{runs_told};
+ghost use Rattle.play_rules.specs.Parts.{Gains};
+ghost use Rattle.run_parts.specs.step_play.Rules.Seen.{InRun, resting};
+ghost use Rattle.run_parts.specs.step_play.Rules.StepRules.{step_rules};
+ghost use Rattle.run_parts.specs.step_play.SamePlay.{core_start};
+ghost use Rattle.run_parts.specs.story.Stories.{is_hotplug, ops_of};
 ghost use Rattle.play_driver.specs.Conditions.{AreOnline, IsPlayable};
 ghost use Rattle.run_parts.specs.Runs.{EndsRunEarly, IsRunMoment, RunsOut, TellsMoment};
-ghost use Rattle.run_parts.specs.Runs.{TellsRound, TellsThreaded};
+ghost use Rattle.run_parts.specs.Runs.{TellsThreaded};
 
-use core_plays::RunPlayer;
 use job_table::Jobs;
-use plain_moments::plain_moment;
-use plain_moments::the_core_facts::law_each_settled;
-use play_driver::{
-    DriveFault, Telling, covers, having_interrupt, moment_after, moment_due, still_to_come,
-    work_limit,
+use play_driver::{DriveFault, Telling, moment_due, still_to_come, work_limit};
+use run_parts::{
+    RunPlayer, come_to, count_due, cpu_count, is_plain, law_each_settled, moment_after, ops_of,
+    plain_moment, tell_round,
 };
-use play_rules::PlayMachine;
 use std::alloc::Global;
 use std::sync::Wait;
 use std::thread::Threads;
 use thread_rounds::round;
-use tm_base::{CpuId, CpuSet, Gate, Jiffy, NoMemory};
-use tm_report::{Line, Report};
-use tm_script::{Moment, Op, Script, What};
+use tm_base::{CpuSet, Gate, Jiffy, NoMemory};
+use tm_report::Report;
+use tm_script::{Moment, Script};
 use wheel_base::WheelBase;
-
-/// Whether an operation takes a CPU offline or online.
-fn is_hotplug(op: &Op) -> bool
-    ensures { result ≡ is_hotplug op.now.what }
-{
-    matches!(op.what, What::Offline | What::Online)
-}
-
-/// How many of so many CPUs are due an interrupt.
-fn count_due(cpus: u16, due: &CpuSet) -> u16
-    requires { cpus ≤ CPU_SET_SIZE }
-    ensures count { result ≡ count_due cpus due.now }
-    ensures few { result ≤ cpus }
-{
-    let mut count = 0;
-    for cpu in 0..cpus {
-        count += u16::from(due.has(CpuId(cpu)));
-    }
-    count
-}
-
-/// Whether a moment is played without threads: it has an operation that takes a CPU offline or
-/// online, or no operation and at most one interrupt.
-fn is_plain(cpus: u16, due: &CpuSet, ops: &[Op]) -> bool
-    requires { cpus ≤ CPU_SET_SIZE }
-    ensures { result ≡ is_plain cpus due.now ops.now }
-{
-    if ops.iter().any(|op| is_hotplug(op)) {
-        return true;
-    }
-    ops.is_empty() && count_due(cpus, due) <= 1
-}
-
-/// The operations that the script has for a moment.
-fn ops_of(m: Option<&Moment>) -> &[Op]
-    ensures { result.now ≡ ops_of (option_copied m.entry) }
-{
-    match m {
-        Some(moment) => moment.ops.as_slice(),
-        None => &[],
-    }
-}
-
-/// Whether a line tells of a timer that ran.
-fn is_run(line: &Line) -> bool
-    ensures { result ≡ is_run line.now }
-{
-    matches!(line, Line::Run { .. })
-}
-
-/// Tells a line of a round, and counts it where it tells of a timer that ran.
-fn tell_one(line: &Line, telling: &mut Telling<Report>) -> Result<(), NoMemory>
-    ensures text { OnOk result (telling.new.text ≡ telling.old.text ++ line_text line.now) }
-    ensures work { OnOk result
-        (telling.new.work ≡ counted (telling.old.work + runs_told (line.now ∷ []))) }
-    ensures gains { Gains telling.old.text telling.new.text }
-{
-    telling.count_all(u32::from(is_run(line)));
-    telling.tell(line)
-}
-
-/// Tells the lines of a round, and counts the timers that ran.
-fn tell_all(lines: &[Line], telling: &mut Telling<Report>) -> Result<(), NoMemory>
-    ensures text { OnOk result (telling.new.text ≡ telling.old.text ++ report_text lines.now) }
-    ensures work { OnOk result
-        (counted telling.new.work ≡ counted (telling.old.work + runs_told lines.now)) }
-    ensures gains { Gains telling.old.text telling.new.text }
-{
-    for line in lines {
-        tell_one(line, telling)?;
-    }
-    Ok(())
-}
-
-/// Who answers for each idle CPU that has a global timer, in a moment of the script.
-fn told_covers(
-    player: &RunPlayer<WheelBase>,
-    m: Option<&Moment>,
-    telling: &mut Telling<Report>,
-) -> Result<(), NoMemory>
-    requires fit { InRun resting player.now }
-    ensures text { OnOk result (telling.new.text ≡
-        telling.old.text ++ report_text (covers_of (option_copied m.entry) player.now)) }
-    ensures work { OnOk result (counted telling.new.work ≡ counted telling.old.work) }
-    ensures gains { Gains telling.old.text telling.new.text }
-{
-    match m {
-        Some(_) => covers(player, telling),
-        None => Ok(()),
-    }
-}
-
-/// Tells of a round with so many interrupts, which left the core as it is: its lines, and who
-/// answers in the moment.
-fn tell_round(
-    player: &RunPlayer<WheelBase>,
-    interrupts: u16,
-    lines: &[Line],
-    m: Option<&Moment>,
-    telling: &mut Telling<Report>,
-) -> Result<(), NoMemory>
-    requires fit { InRun resting player.now }
-    ensures tells { OnOk result
-        (TellsRound interrupts (option_copied m.entry) player.now lines.now
-        telling.old telling.new) }
-    ensures gains { Gains telling.old.text telling.new.text }
-{
-    telling.count_all(1 + u32::from(interrupts));
-    tell_all(lines, telling)?;
-    told_covers(player, m, telling)?;
-    Ok(())
-}
 
 /// A moment with threads, of which the CPUs that have an interrupt are known.
 fn threaded_moment<J: Jobs + Sync, G: Gate + Sync, R: Threads + Wait + Sync>(
@@ -173,7 +53,7 @@ fn threaded_moment<J: Jobs + Sync, G: Gate + Sync, R: Threads + Wait + Sync>(
     ensures fit { IfOk result (InRun resting) }
     ensures gains { Gains telling.old.text telling.new.text }
 {
-    let count = count_due(player.cpus(), due);
+    let count = count_due(cpu_count(&player), due);
     let (core, lines) = round(rt, alloc, player.into_core(), due, ops_of(m), jobs, gate)?;
     let player = RunPlayer::new(alloc, core);
     let told = tell_round(&player, count, lines.as_slice(), m, telling);
@@ -209,10 +89,9 @@ fn run_turn<J: Jobs + Sync, G: Gate + Sync, R: Threads + Wait + Sync>(
     ensures fit { IfOk result (InRun resting) }
     ensures gains { Gains telling.old.text telling.new.text }
 {
-    player.set_clock(now);
-    let due = having_interrupt(&player);
+    let due = come_to(&mut player, now);
     let m = moment_due(left, now);
-    if is_plain(player.cpus(), &due, ops_of(m)) {
+    if is_plain(cpu_count(&player), &due, ops_of(m)) {
         return match plain_moment(alloc, &mut player, jobs, &due, m, telling) {
             Ok(()) => Ok(player),
             Err(refused) => {

@@ -4,17 +4,16 @@ ghost use Rattle.std.specs.Prelude.{◌≡◌, ◌≤◌, All, IfErr, IfOk, leng
 ghost use Rattle.tm_base.specs.declared.limits.TheConstants.{MOST_OPS};
 ghost use Rattle.tm_script.specs.Grammar.{IsScript};
 ghost use Rattle.play_rules.specs.Parts.{Gains};
-ghost use Rattle.plain_moments.specs.step_play.Rules.Seen.{InRun, resting};
-ghost use Rattle.plain_moments.specs.step_play.SamePlay.{core_start};
+ghost use Rattle.run_parts.specs.step_play.Rules.Seen.{InRun, resting};
+ghost use Rattle.run_parts.specs.step_play.SamePlay.{core_start};
 ghost use Rattle.play_driver.specs.Conditions.{IsPlayable};
 ghost use Rattle.run_parts.specs.Runs.{BreaksRun, EndsRunEarly, RunsToEnd, RunsWhole};
 
 use crate::run_moments::run_moments;
-use core_plays::the_core_state::Core;
-use core_plays::{RunPlayer, start_core};
 use job_table::Jobs;
-use play_driver::{DriveFault, Telling, close, first_unknown_job};
+use play_driver::{DriveFault, Telling, first_unknown_job};
 use play_rules::UnknownJob;
+use run_parts::{Core, RunPlayer, close, started};
 use std::alloc::Global;
 use std::mem;
 use std::sync::Wait;
@@ -23,16 +22,6 @@ use tm_base::{Gate, NoMemory};
 use tm_report::Report;
 use tm_script::Script;
 use wheel_base::WheelBase;
-
-/// The core at the start of a script, which is to run it.
-fn started(alloc: Global, script: &Script) -> Result<RunPlayer<WheelBase>, NoMemory>
-    requires { IsScript script.now }
-    ensures start { IfOk result (λ player. player ≡ core_start script.now) }
-    ensures in_run { IfOk result (InRun resting) }
-{
-    let core = start_core(alloc, script)?;
-    Ok(RunPlayer::new(alloc, core))
-}
 
 /// The moments of a script, and what is left at its end.
 fn run_known<J: Jobs + Sync, G: Gate + Sync, R: Threads + Wait + Sync>(

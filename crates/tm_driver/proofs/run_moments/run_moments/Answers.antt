@@ -2,12 +2,12 @@ use Rattle.std.proofs.Common.{rules, arith, ap, subst, length}
 use Rattle.std.proofs.lemmas.Result.{err_from_is_err_and}
 use Rattle.play_rules.proofs.Plays.{gains_then}
 use Rattle.core_world.specs.World.{World}
-use Rattle.plain_moments.specs.step_play.SamePlay.{core_start}
+use Rattle.run_parts.specs.step_play.SamePlay.{core_start}
 use Rattle.play_driver.specs.Outcomes.{work_limit}
 use Rattle.run_parts.specs.Runs.{IsRunMoment}
 use Rattle.play_driver.proofs.Scripts.{after_in_range, after_rise, from_said, rise_from}
 use Rattle.play_driver.proofs.Scripts.{said_by_end}
-use Rattle.tm_driver.proofs.StoryTurns.{SoFar, all_done, breaks_off, nothing_yet, one_more}
+use Rattle.run_parts.proofs.StoryTurns.{SoFar, all_done, breaks_off, nothing_yet, one_more}
 use Rattle.tm_driver.proofs.run_moments.run_moments.Goals as goal
 
 pub loop-now-init : goal.loop-now-init

@@ -1,12 +1,12 @@
 use Rattle.std.proofs.Common.{◌-◌, ◌≤◌, length}
 use Rattle.std.specs.Prelude.{All}
 use Rattle.play_rules.specs.Parts.{Gains}
-use Rattle.plain_moments.specs.step_play.Rules.Seen.{InRun, resting}
-use Rattle.plain_moments.specs.step_play.SamePlay.{core_start}
+use Rattle.run_parts.specs.step_play.Rules.Seen.{InRun, resting}
+use Rattle.run_parts.specs.step_play.SamePlay.{core_start}
 use Rattle.play_driver.specs.Conditions.{Rise}
 use Rattle.play_driver.specs.Outcomes.{work_limit}
 use Rattle.run_parts.specs.Runs.{IsRunMoment}
-use Rattle.tm_driver.proofs.StoryTurns.{SoFar}
+use Rattle.run_parts.proofs.StoryTurns.{SoFar}
 use Rattle.tm_driver.proofs.run_moments.run_moments.Given as goal
 
 abbrev pub invariant-loop-now : goal.invariant-loop-now

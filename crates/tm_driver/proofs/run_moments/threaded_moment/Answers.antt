@@ -4,8 +4,8 @@ use Rattle.std.specs.Option.{option_copied}
 use Rattle.tm_report.specs.declared.lines.Line.{Line}
 use Rattle.tm_script.specs.declared.syntax.Op.{Op}
 use Rattle.core_world.specs.World.{World, cpu_of}
-use Rattle.plain_moments.specs.story.Rounds.{IsRound}
-use Rattle.plain_moments.specs.story.Stories.{count_due, ops_of}
+use Rattle.run_parts.specs.story.Rounds.{IsRound}
+use Rattle.run_parts.specs.story.Stories.{count_due, ops_of}
 use Rattle.tm_driver.proofs.Threaded.{few_ops, ops_in_range, round_ops}
 use Rattle.tm_driver.proofs.run_moments.threaded_moment.Goals as goal
 
@@ -36,7 +36,7 @@ returns-in-Ok-clause-tells g c =
     subst (λ (ls : List Line). IsRound jobs c.args.player due (ops_of m) core ls) (sym c.as_slice.ensures.value) round in
     c.in-Ok.ensures.tells jobs due c.args.player
     (subst (λ (w : World). IsRound jobs c.args.player due (ops_of m) w c.as_slice.result.now) (sym c.new-player.ensures) told)
-    (c.count_due-count.ensures.count ∙ ap (λ n. count_due n due) c.cpus.ensures.count)
+    (c.count_due-count.ensures.count ∙ ap (λ n. count_due n due) c.cpu_count.ensures.count)
 
 pub returns-in_err-core-clause-tells : goal.returns-in_err-core-clause-tells
 returns-in_err-core-clause-tells g c =

@@ -1,10 +1,10 @@
 use Rattle.std.proofs.Common.{◌*◌, ◌∙◌, rules, refl, sym, ap, subst, ℕ, List, length, take}
 use Rattle.std.proofs.lemmas.Result.{err_from_is_err_and}
 use Rattle.std.proofs.lemmas.List.{length-replicate}
-use Rattle.core_plays.proofs.Playable.{playable}
+use Rattle.run_parts.proofs.core_plays.Playable.{playable}
 use Rattle.play_driver.proofs.Parts.{as_before}
 use Rattle.run_parts.specs.Runs.{BreaksRun, RunsToEnd}
-use Rattle.tm_driver.proofs.StoryTurns.{broken, to_end}
+use Rattle.run_parts.proofs.StoryTurns.{broken, to_end}
 use Rattle.tm_driver.proofs.runs.run.Goals as goal
 
 pub run_known-ran-requires-clause-playable : goal.run_known-ran-requires-clause-playable

@@ -1,6 +1,6 @@
 use Rattle.std.proofs.lemmas.Result.{err_from_is_err_and}
 use Rattle.play_rules.proofs.Plays.{gains_then}
-use Rattle.tm_driver.proofs.StoryTurns.{whole_told}
+use Rattle.run_parts.proofs.StoryTurns.{whole_told}
 use Rattle.tm_driver.proofs.runs.run_known.Goals as goal
 
 pub returns-in_err-player-clause-whole : goal.returns-in_err-player-clause-whole

@@ -2,7 +2,7 @@ use Rattle.std.proofs.Common.{◌≡◌, ◌+◌, ◌++◌, take}
 use Rattle.tm_report.specs.Lines.{report_text}
 use Rattle.play_rules.specs.Parts.{Gains, counted}
 use Rattle.plain_moments.specs.story.Stories.{runs_told}
-use Rattle.tm_driver.proofs.run_moments.tell_all.Given as goal
+use Rattle.run_parts.proofs.telling.tell_all.Given as goal
 
 abbrev pub invariant-loop-line : goal.invariant-loop-line
 invariant-loop-line l = record {

@@ -1,8 +1,8 @@
 use Rattle.std.proofs.Common.{◌+◌, ◌∙◌, ap, sym}
 use mir.Val.{bool_byte}
 use Rattle.play_rules.specs.Parts.{counted}
-use Rattle.tm_driver.proofs.Threaded.{on_ok, one_run_of}
-use Rattle.tm_driver.proofs.run_moments.tell_one.Goals as goal
+use Rattle.run_parts.proofs.RoundTold.{on_ok, one_run_of}
+use Rattle.run_parts.proofs.telling.tell_one.Goals as goal
 
 pub returns-clause-work : goal.returns-clause-work
 returns-clause-work c =

@@ -2,8 +2,8 @@ use Rattle.std.proofs.Common.{◌+◌, ◌∙◌, ap, subst}
 use Rattle.std.specs.Option.{option_copied}
 use Rattle.play_rules.specs.Parts.{Gains, counted}
 use Rattle.play_rules.proofs.Plays.{gains_then}
-use Rattle.tm_driver.proofs.Threaded.{tells_round}
-use Rattle.tm_driver.proofs.run_moments.tell_round.Goals as goal
+use Rattle.run_parts.proofs.RoundTold.{tells_round}
+use Rattle.run_parts.proofs.telling.tell_round.Goals as goal
 
 pub returns-in_err-told_covers-clause-gains : goal.returns-in_err-told_covers-clause-gains
 returns-in_err-told_covers-clause-gains c =

@@ -3,8 +3,8 @@ use Rattle.std.proofs.lemmas.Iterator.{YieldsList-from_slice}
 use Rattle.std.proofs.lemmas.Iterator.Search.{any_from_yields_List}
 use Rattle.tm_script.specs.declared.syntax.Op.{Op}
 use Rattle.plain_moments.specs.story.Stories.{is_hotplug}
-use Rattle.tm_driver.proofs.Threaded.{not_plain, some_ops}
-use Rattle.tm_driver.proofs.run_moments.is_plain.Goals as goal
+use Rattle.run_parts.proofs.Plain.{not_plain, some_ops}
+use Rattle.run_parts.proofs.turns.is_plain.Goals as goal
 
 pub returns-else-is_empty : goal.returns-else-is_empty
 returns-else-is_empty c =

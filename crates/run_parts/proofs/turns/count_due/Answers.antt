@@ -1,8 +1,8 @@
 use Rattle.std.proofs.Common.{◌+◌, ◌∙◌, ap, arith}
 use mir.Val.{bool_byte}
 use Rattle.std.specs.FinSet as set
-use Rattle.tm_driver.proofs.Threaded.{bit_le, one_due}
-use Rattle.tm_driver.proofs.run_moments.count_due.Goals as goal
+use Rattle.run_parts.proofs.Plain.{bit_le, one_due}
+use Rattle.run_parts.proofs.turns.count_due.Goals as goal
 
 pub loop-cpu-preserved : goal.loop-cpu-preserved
 loop-cpu-preserved c =
