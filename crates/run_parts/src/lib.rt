@@ -8,6 +8,7 @@
 mod telling;
 mod turns;
 
+pub use core_plays as the_core_plays;
 pub use core_plays::the_core_state::Core;
 pub use core_plays::{
     RunPlayer, Summary, deep, next_moment, play, play_moment, run_moment, start_core, summary,

@@ -2,11 +2,11 @@
 //! the bytes that it writes.
 #![tactic(auto)]
 
-pub mod day_text;
 mod program;
 mod replies;
 
 pub use program::run_program;
+pub use program_replies::day_text;
 pub use program_texts as the_program_texts;
 pub use program_texts::{
     DONE, JOB_UNKNOWN, MOST_NUMBER, NO_MEMORY, READ_FAULT, SCRIPT_REFUSED, Status, TOO_LONG,

@@ -5,12 +5,12 @@ ghost use Rattle.tm_io.specs.Seen.{SourceFailed, SourceUnbroken};
 ghost use Rattle.program_texts.specs.Words.{Reads, command_of};
 ghost use Rattle.program_texts.specs.Ends.{Breaks};
 ghost use Rattle.program_texts.specs.Statuses.{IsEither, IsStatus};
-ghost use Rattle.script_main.specs.Statuses.{IsShortDay, SaysDone, SaysJobUnknown, SaysNoMemory};
-ghost use Rattle.script_main.specs.Statuses.{SaysTraceRefused, SaysWorksRefused, SaysReadFault};
-ghost use Rattle.script_main.specs.Statuses.{SaysRefused, SaysTooLong, SaysUsage, SaysWorkSpent};
-ghost use Rattle.script_main.specs.Statuses.{SaysWriteFault};
-ghost use Rattle.script_main.specs.Causes.{IsFine, IsJobUnknown, IsRefused, IsTooLong};
-ghost use Rattle.script_main.specs.Causes.{IsTraceRefused, IsWorkSpent, IsWorksRefused};
+ghost use Rattle.program_replies.specs.Statuses.{IsShortDay, SaysDone, SaysJobUnknown, SaysNoMemory};
+ghost use Rattle.program_replies.specs.Statuses.{SaysTraceRefused, SaysWorksRefused, SaysReadFault};
+ghost use Rattle.program_replies.specs.Statuses.{SaysRefused, SaysTooLong, SaysUsage, SaysWorkSpent};
+ghost use Rattle.program_replies.specs.Statuses.{SaysWriteFault};
+ghost use Rattle.program_replies.specs.Causes.{IsFine, IsJobUnknown, IsRefused, IsTooLong};
+ghost use Rattle.program_replies.specs.Causes.{IsTraceRefused, IsWorkSpent, IsWorksRefused};
 
 use crate::replies::reply_to;
 use job_table::Jobs;

@@ -1,104 +1,29 @@
 //! How the program comes to what it is about to write.
 
-ghost use Rattle.std.specs.Prelude.{◌≡◌, ℕ, None, IfOk, OnErr};
-ghost use Rattle.play_rules.specs.Interrupts.{Replies};
+ghost use Rattle.std.specs.Prelude.{◌≡◌, None, IfOk, OnErr};
 ghost use Rattle.tm_base.specs.declared.limits.TheConstants.{MOST_BYTES};
 ghost use Rattle.tm_io.specs.Seen.{SourceUnbroken};
 ghost use Rattle.tm_io.specs.Sources.{TakesUpTo};
 ghost use Rattle.tm_script.specs.Grammar.{IsScript};
-ghost use Rattle.trace_text.specs.Texts.{IsTrace};
-ghost use Rattle.work_script.specs.Grammar.{IsWorkScript};
 ghost use Rattle.program_texts.specs.Inputs.{IsInput};
 ghost use Rattle.program_texts.specs.Words.{IsRecipe, Reads, form_of, recipe_in};
 ghost use Rattle.program_texts.specs.Brought.{script_by};
-ghost use Rattle.script_main.specs.Replies.{IsReply, IsReplyOf, IsReplyTo};
-ghost use Rattle.script_main.specs.Statuses.{HasRead};
-ghost use Rattle.script_main.specs.Steps.{IsReplyToBytes};
+ghost use Rattle.program_replies.specs.Replies.{IsReply, IsReplyOf, IsReplyTo};
+ghost use Rattle.program_replies.specs.Statuses.{HasRead};
+ghost use Rattle.program_replies.specs.Steps.{IsReplyToBytes};
 
-use crate::day_text::print_day;
-use delayed_work::{WorksFault, play_works};
 use job_table::Jobs;
-use program_texts::tree_text::print_tree;
+use program_replies::{check_trace, draw_tree, play_deep, play_delayed, play_script, sum_up};
 use program_texts::{Command, Form, Input, Recipe, Reply, read_command, read_input};
 use std::alloc::Global;
 use std::sync::Wait;
 use std::thread::Threads;
 use tm_base::{Gate, MOST_BYTES, NoMemory};
-use tm_driver::the_play_laws::law_work;
-use tm_driver::{DriveFault, deep, play, run, summary};
+use tm_driver::{DriveFault, run};
 use tm_generate::generate;
 use tm_io::{ReadFault, Source, read_all};
 use tm_report::Report;
 use tm_script::{ReadScript, Script, print_script};
-use trace_check::check;
-use trace_text::Trace;
-use tree_plan::plan;
-use work_script::WorkScript;
-
-/// Plays a script.
-fn play_script<J: Jobs>(alloc: Global, script: &Script, jobs: &J) -> Result<Reply, NoMemory>
-    requires { IsScript script.now }
-    ensures { IfOk result
-        (IsReplyTo (J.replies jobs.now) (J.count jobs.now) Command.Play
-        (Input.Script script.now)) }
-{
-    law_work();
-    let mut report = Report::new(alloc);
-    match play(alloc, script, jobs, &mut report) {
-        Ok(core) => {
-            drop(core);
-            Ok(Reply::Played(report))
-        }
-        Err(DriveFault::BadJob { line, job }) => Ok(Reply::JobUnknown { line, job }),
-        Err(DriveFault::WorkSpent { count }) => Ok(Reply::WorkSpent { count }),
-        Err(DriveFault::NoMemory) => Err(NoMemory),
-    }
-}
-
-/// Plays a script under one broadcast device.
-fn play_deep<J: Jobs>(alloc: Global, script: &Script, jobs: &J) -> Result<Reply, NoMemory>
-    requires { IsScript script.now }
-    ensures { IfOk result
-        (IsReplyTo (J.replies jobs.now) (J.count jobs.now) Command.Deep
-        (Input.Script script.now)) }
-{
-    law_work();
-    let mut report = Report::new(alloc);
-    match deep(alloc, script, jobs, &mut report) {
-        Ok(()) => Ok(Reply::Played(report)),
-        Err(DriveFault::BadJob { line, job }) => Ok(Reply::JobUnknown { line, job }),
-        Err(DriveFault::WorkSpent { count }) => Ok(Reply::WorkSpent { count }),
-        Err(DriveFault::NoMemory) => Err(NoMemory),
-    }
-}
-
-/// Plays a script, and sums up what that came to.
-fn sum_up<J: Jobs>(alloc: Global, script: &Script, jobs: &J) -> Result<Reply, NoMemory>
-    requires { IsScript script.now }
-    ensures { (recipe : Recipe) → IfOk result
-        (IsReplyTo (J.replies jobs.now) (J.count jobs.now) (Command.Day recipe)
-        (Input.Script script.now)) }
-{
-    law_work();
-    match summary(alloc, script, jobs) {
-        Ok(numbers) => Ok(Reply::Made(print_day(alloc, &numbers)?)),
-        Err(DriveFault::BadJob { line, job }) => Ok(Reply::JobUnknown { line, job }),
-        Err(DriveFault::WorkSpent { count }) => Ok(Reply::WorkSpent { count }),
-        Err(DriveFault::NoMemory) => Err(NoMemory),
-    }
-}
-
-/// Draws the tree of a script's machine.
-fn draw_tree(alloc: Global, script: &Script) -> Result<Reply, NoMemory>
-    requires { IsScript script.now }
-    ensures { (jobs : Replies) (table : ℕ) → IfOk result
-        (IsReplyTo jobs table Command.Tree (Input.Script script.now)) }
-{
-    let tree = plan(alloc, script.nodes, script.cpus, &script.isolated)?;
-    let text = print_tree(alloc, &tree);
-    drop(tree);
-    Ok(Reply::Made(text?))
-}
 
 /// Runs a script by threads.
 fn run_script<J: Jobs + Sync, G: Gate + Sync, R: Threads + Wait + Sync>(
@@ -147,31 +72,6 @@ fn reply_to_script<J: Jobs + Sync, G: Gate + Sync, R: Threads + Wait + Sync>(
         Command::Day(_) => sum_up(alloc, script, jobs),
         Command::Check | Command::Works => unreachable!(),
         Command::Deep => play_deep(alloc, script, jobs),
-    }
-}
-
-/// Tells whether a trace is a run, and what it asks.
-fn check_trace(alloc: Global, trace: &Trace) -> Result<Reply, NoMemory>
-    requires { IsTrace trace.now }
-    ensures { (jobs : Replies) (table : ℕ) → IfOk result
-        (IsReplyTo jobs table Command.Check (Input.Trace trace.now)) }
-{
-    let mut report = Report::new(alloc);
-    check(alloc, trace, &mut report)?;
-    Ok(Reply::Played(report))
-}
-
-/// Plays a script of works.
-fn play_delayed<J: Jobs>(alloc: Global, works: &WorkScript, jobs: &J) -> Result<Reply, NoMemory>
-    requires { IsWorkScript works.now }
-    ensures { IfOk result
-        (IsReplyTo (J.replies jobs.now) (J.count jobs.now) Command.Works (Input.Works works.now)) }
-{
-    match play_works(alloc, works, jobs) {
-        Ok(text) => Ok(Reply::Made(text)),
-        Err(WorksFault::BadJob { line, job }) => Ok(Reply::JobUnknown { line, job }),
-        Err(WorksFault::WorkSpent { count }) => Ok(Reply::WorkSpent { count }),
-        Err(WorksFault::NoMemory) => Err(NoMemory),
     }
 }
 

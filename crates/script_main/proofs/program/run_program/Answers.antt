@@ -6,12 +6,12 @@ use Rattle.program_texts.specs.declared.statuses.TheConstants.{DONE, SCRIPT_REFU
 use Rattle.program_texts.specs.declared.statuses.TheConstants.{READ_FAULT, WRITE_FAULT, NO_MEMORY}
 use Rattle.program_texts.specs.declared.statuses.TheConstants.{WORK_SPENT, TOO_LONG, JOB_UNKNOWN}
 use Rattle.program_texts.specs.declared.statuses.TheConstants.{TRACE_REFUSED, WORKS_REFUSED}
-use Rattle.script_main.proofs.Apart.{apart}
-use Rattle.script_main.proofs.Endings.{day_ends, says_done, says_no_memory, says_write_fault}
-use Rattle.script_main.proofs.Endings.{says_work_spent, says_job_unknown, says_read_fault}
-use Rattle.script_main.proofs.Endings.{says_refused, says_too_long, says_usage, usage_exactly}
-use Rattle.script_main.proofs.Exactly.{refused_exactly, job_exactly, work_exactly, fine_ends}
-use Rattle.script_main.proofs.Exactly.{fine_done}
+use Rattle.program_replies.proofs.Apart.{apart}
+use Rattle.program_replies.proofs.Endings.{day_ends, says_done, says_no_memory, says_write_fault}
+use Rattle.program_replies.proofs.Endings.{says_work_spent, says_job_unknown, says_read_fault}
+use Rattle.program_replies.proofs.Endings.{says_refused, says_too_long, says_usage, usage_exactly}
+use Rattle.program_replies.proofs.Exactly.{refused_exactly, job_exactly, work_exactly, fine_ends}
+use Rattle.program_replies.proofs.Exactly.{fine_done}
 use Rattle.script_main.proofs.program.run_program.Goals as goal
 
 pub returns-in-Ok-clause-done : goal.returns-in-Ok-clause-done

@@ -4,8 +4,8 @@ use Rattle.program_texts.specs.declared.commands.Command.{Command}
 use Rattle.program_texts.specs.declared.inputs.Input.TheVariants as inputs
 use Rattle.program_texts.specs.Brought.{script_by}
 use Rattle.program_texts.proofs.Told.{on_err, takes_none}
-use Rattle.script_main.specs.Replies.{IsReplyBy, IsReplyTo, IsReply}
-use Rattle.script_main.proofs.Replying.{to_recipe}
+use Rattle.program_replies.specs.Replies.{IsReplyBy, IsReplyTo, IsReply}
+use Rattle.program_replies.proofs.Replying.{to_recipe}
 use Rattle.script_main.proofs.replies.reply_to.Goals as goal
 
 pub returns-in-Some-recipe-clause-reply : goal.returns-in-Some-recipe-clause-reply

@@ -2,9 +2,9 @@ use Rattle.std.proofs.Common.{subst}
 use Rattle.std.proofs.lemmas.Result.{IfOk-weaker}
 use Rattle.program_texts.specs.declared.inputs.Form.{Form}
 use Rattle.program_texts.specs.Inputs.{IsOnlyInputOf, SpellsInput}
-use Rattle.script_main.specs.Replies.{IsReplyTo}
-use Rattle.script_main.specs.Steps.{IsReplyToBytes}
-use Rattle.script_main.proofs.Replying.{to_bytes}
+use Rattle.program_replies.specs.Replies.{IsReplyTo}
+use Rattle.program_replies.specs.Steps.{IsReplyToBytes}
+use Rattle.program_replies.proofs.Replying.{to_bytes}
 use Rattle.script_main.proofs.replies.reply_to_bytes.Goals as goal
 
 pub returns-in-Ok : goal.returns-in-Ok

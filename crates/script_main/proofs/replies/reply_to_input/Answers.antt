@@ -6,7 +6,7 @@ use Rattle.program_texts.specs.declared.inputs.Input.TheVariants as inputs
 use Rattle.program_texts.specs.Inputs.{IsInput}
 use Rattle.program_texts.specs.Words.{form_of}
 use Rattle.program_texts.proofs.Forms.{checks, script_input, trace_input, works, works_input}
-use Rattle.script_main.specs.Replies.{IsReplyTo}
+use Rattle.program_replies.specs.Replies.{IsReplyTo}
 use Rattle.script_main.proofs.replies.reply_to_input.Goals as goal
 
 pub reply_to_script-requires-clause-grammar : goal.reply_to_script-requires-clause-grammar

@@ -2,7 +2,7 @@ use Rattle.std.proofs.Common.{sym, subst}
 use Rattle.std.specs.Prelude.{IfOk}
 use Rattle.program_texts.specs.declared.commands.Command.{Command}
 use Rattle.program_texts.specs.declared.inputs.Input.TheVariants as inputs
-use Rattle.script_main.specs.Replies.{IsReplyTo}
+use Rattle.program_replies.specs.Replies.{IsReplyTo}
 use Rattle.script_main.proofs.replies.reply_to_script.Goals as goal
 
 pub returns-in-Tree : goal.returns-in-Tree

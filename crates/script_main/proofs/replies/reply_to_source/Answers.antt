@@ -3,9 +3,9 @@ use Rattle.std.proofs.lemmas.Result.{IfOk-weaker}
 use Rattle.tm_base.specs.declared.limits.TheConstants.{MOST_BYTES}
 use Rattle.tm_io.specs.Sources.{TakesAll}
 use Rattle.program_texts.proofs.Told.{on_err, takes_up}
-use Rattle.script_main.specs.Replies.{IsReplyOf}
-use Rattle.script_main.specs.Steps.{IsReplyToBytes}
-use Rattle.script_main.proofs.Replying.{to_source}
+use Rattle.program_replies.specs.Replies.{IsReplyOf}
+use Rattle.program_replies.specs.Steps.{IsReplyToBytes}
+use Rattle.program_replies.proofs.Replying.{to_source}
 use Rattle.script_main.proofs.replies.reply_to_source.Goals as goal
 
 pub returns-in-Ok-clause-reply : goal.returns-in-Ok-clause-reply

@@ -11,9 +11,9 @@ use Rattle.play_rules.specs.Jobs.{first_unknown_job}
 use Rattle.play_rules.specs.Parts.{counted}
 use Rattle.play_rules.specs.Play.{play_text, play_spent}
 use Rattle.play_driver.specs.Outcomes.{work_limit}
-use Rattle.tm_driver.specs.Plays.{CanPlay, LawsHold, deep_lines, deep_text, summary_of}
-use Rattle.tm_driver.specs.Plays.{without_device}
-use Rattle.tm_driver.specs.Runs.{BreaksStory, RunsToEnd}
+use Rattle.run_parts.specs.core_plays.Deep.{deep_lines, deep_text, without_device}
+use Rattle.run_parts.specs.core_plays.Plays.{CanPlay, LawsHold, summary_of}
+use Rattle.run_parts.specs.Runs.{BreaksStory, RunsToEnd}
 use Rattle.trace_check.specs.Answers.{IsCheckText}
 use Rattle.work_script.specs.declared.syntax.WorkScript.{WorkScript}
 use Rattle.delayed_work.specs.Play.{CanPlayWorks, first_unknown_work_job, works_spent, works_text}
@@ -24,7 +24,7 @@ use Rattle.program_texts.specs.declared.inputs.Input.{Input}
 use Rattle.program_texts.specs.declared.inputs.Input.TheVariants as inputs
 use Rattle.program_texts.specs.TreeText.Trees.{tree_text}
 use Rattle.program_texts.specs.Inputs.{OfScript, OfTrace, OfWorks}
-use Rattle.script_main.specs.DayText.Days.{day_text}
+use Rattle.program_replies.specs.DayText.Days.{day_text}
 
 -- every job that the input has run is in the table; a trace has none run
 abbrev pub KnowsJobs : (table : ℕ) → Input → Type 0

@@ -13,7 +13,7 @@ use Rattle.program_texts.specs.declared.replies.Reply.TheVariants.{Refused, JobU
 use Rattle.program_texts.specs.declared.replies.Reply.TheVariants.{Played, Made}
 use Rattle.program_texts.specs.Words.{command_of, form_of, HasJobsRun}
 use Rattle.program_texts.specs.Brought.{Brings, IsReader, ReadsNone}
-use Rattle.script_main.specs.Scripts.{IsOutput, LacksJob, SpendsBy}
+use Rattle.program_replies.specs.Scripts.{IsOutput, LacksJob, SpendsBy}
 
 -- THE REPLY TO AN INPUT, by the command
 abbrev pub IsReplyTo : Replies → (table : ℕ) → Command → Input → Reply → Type 0

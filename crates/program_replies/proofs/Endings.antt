@@ -1,4 +1,4 @@
--- what each status says, by the reply and by how writing it went
+-- for crates above: what each status says, by the reply and by how writing it went
 use Rattle.std.proofs.Common.{◌≡◌, ℕ, List, Option, Some, None, refl, sym, ◌∙◌, ap, subst, inl, inr}
 use Rattle.std.proofs.Common.{length, lit<, ◌<◌, ◌≤◌, ◌+◌, ◌*◌, arith}
 use Rattle.std.proofs.lemmas.Option.{same_Some}
@@ -35,14 +35,14 @@ use Rattle.program_texts.proofs.Refusals.{is_refusal, no_break, no_want, no_done
 use Rattle.program_texts.proofs.Refusals.{never_write_fault, never_no_memory, broken_output}
 use Rattle.program_texts.proofs.Refusals.{own_of_broken, never_broken_done}
 use Rattle.program_texts.proofs.Written.{by_end, either, no_change}
-use Rattle.script_main.specs.Scripts.{EndsLate, IsOutput, LacksJob, SpendsBy, SpendsWork}
-use Rattle.script_main.specs.Replies.{IsReply, IsReplyBy, RepliesToInput}
-use Rattle.script_main.specs.Statuses.{HasInput, SaysDone, SaysJobUnknown, SaysNoMemory}
-use Rattle.script_main.specs.Statuses.{SaysReadFault, SaysRefusedAs, SaysTooLong, SaysUsage}
-use Rattle.script_main.specs.Statuses.{SaysWorkSpent, IsShortDay, SaysWriteFault}
-use Rattle.script_main.specs.Statuses.{WritesNothing, WritesReplyFront}
-use Rattle.script_main.proofs.Apart.{apart, fault_written, long_written, no_usage, usage_written}
-use Rattle.script_main.proofs.OneText.{front_of_none}
+use Rattle.program_replies.specs.Scripts.{EndsLate, IsOutput, LacksJob, SpendsBy, SpendsWork}
+use Rattle.program_replies.specs.Replies.{IsReply, IsReplyBy, RepliesToInput}
+use Rattle.program_replies.specs.Statuses.{HasInput, SaysDone, SaysJobUnknown, SaysNoMemory}
+use Rattle.program_replies.specs.Statuses.{SaysReadFault, SaysRefusedAs, SaysTooLong, SaysUsage}
+use Rattle.program_replies.specs.Statuses.{SaysWorkSpent, IsShortDay, SaysWriteFault}
+use Rattle.program_replies.specs.Statuses.{WritesNothing, WritesReplyFront}
+use Rattle.program_replies.proofs.Apart.{apart, fault_written, long_written, no_usage, usage_written}
+use Rattle.program_replies.proofs.OneText.{front_of_none}
 
 -- ---- what a reply with its own status rests on
 

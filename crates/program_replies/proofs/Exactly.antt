@@ -1,4 +1,4 @@
--- which status comes, by its cause
+-- for crates above: which status comes, by its cause
 use Rattle.std.proofs.Common.{◌≡◌, ◌≢◌, ℕ, List, Option, Some, None, refl, sym, ◌∙◌, subst, inl}
 use Rattle.std.proofs.Common.{inr}
 use Rattle.std.specs.Prelude.{◌⊎◌, String}
@@ -24,12 +24,12 @@ use Rattle.program_texts.specs.Replies.{reply_text}
 use Rattle.program_texts.specs.Ends.{Breaks, EndsAs, EndsWith}
 use Rattle.program_texts.proofs.Told.{all_known, not_many, refuses}
 use Rattle.program_texts.proofs.Written.{either, out_ends, out_whole}
-use Rattle.script_main.specs.Replies.{IsReplyBy, IsReplyTo, RepliesToInput}
-use Rattle.script_main.specs.Causes.{Asks, HasText, IsFine, IsInputBy, IsJobUnknown, IsRefusedAs}
-use Rattle.script_main.specs.Causes.{IsWorkSpent}
-use Rattle.script_main.proofs.Endings.{Ended}
-use Rattle.script_main.proofs.Known.{ends_know, never_spends, not_both, out_knows, out_plays}
-use Rattle.script_main.proofs.Known.{spent_knows}
+use Rattle.program_replies.specs.Replies.{IsReplyBy, IsReplyTo, RepliesToInput}
+use Rattle.program_replies.specs.Causes.{Asks, HasText, IsFine, IsInputBy, IsJobUnknown, IsRefusedAs}
+use Rattle.program_replies.specs.Causes.{IsWorkSpent}
+use Rattle.program_replies.proofs.Endings.{Ended}
+use Rattle.program_replies.proofs.Known.{ends_know, never_spends, not_both, out_knows, out_plays}
+use Rattle.program_replies.proofs.Known.{spent_knows}
 
 -- ---- the input that is asked for is the one that is replied to
 

@@ -2,12 +2,12 @@
 
 ghost use Rattle.std.specs.Prelude.{◌≡◌, map, IfOk};
 ghost use Rattle.program_texts.specs.Entries.{entry_line};
-ghost use Rattle.script_main.specs.DayText.Days.{day_lines, day_text};
+ghost use Rattle.program_replies.specs.DayText.Days.{day_lines, day_text};
 
 use program_texts::{Entry, push_entries};
+use run_parts::the_core_plays::Summary;
 use std::alloc::Global;
 use tm_base::NoMemory;
-use tm_driver::Summary;
 
 /// The numbers of a summary, in the order of their lines.
 fn entries(summary: &Summary) -> [Entry; 11]

@@ -14,7 +14,7 @@ use Rattle.program_texts.specs.Inputs.{SpellsInput}
 use Rattle.program_texts.specs.Words.{command_of, form_of, recipe_in, Reads, ReadsAs, HasJobsRun}
 use Rattle.program_texts.specs.Words.{IsPlayer}
 use Rattle.program_texts.specs.Brought.{script_by}
-use Rattle.script_main.specs.Scripts.{EndsBy, KnowsJobs, spent_by}
+use Rattle.program_replies.specs.Scripts.{EndsBy, KnowsJobs, spent_by}
 
 -- the source has these bytes left, and they are few enough
 pub record HasFew (left : Option (List ℕ)) (bytes : List ℕ) : Type 0 where

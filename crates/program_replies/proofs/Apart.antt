@@ -1,4 +1,4 @@
--- two statuses that differ, and a reply that isn't usage
+-- for crates above: two statuses that differ, and a reply that isn't usage
 use Rattle.std.proofs.Common.{◌≡◌, ℕ, Bool, true, false, refl, sym, ◌∙◌, ap}
 use Rattle.std.specs.Prelude.{◌==◌}
 use Rattle.program_texts.specs.declared.inputs.Form.{Form}

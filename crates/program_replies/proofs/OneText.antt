@@ -28,11 +28,11 @@ use Rattle.program_texts.specs.Replies.{reply_text}
 use Rattle.program_texts.proofs.Told.{not_many, few_known, first_fault, none_spelled, not_both_ways}
 use Rattle.program_texts.proofs.Told.{one_input}
 use Rattle.program_texts.proofs.Forms.{plays_alone}
-use Rattle.script_main.proofs.CheckTexts.{FrontIsWhole, check_whole, front_apart, same_is_whole}
-use Rattle.script_main.specs.Scripts.{IsOutput, LacksJob, SpendsWork}
-use Rattle.script_main.specs.Replies.{IsReply, IsReplyBy, IsReplyOf, IsReplyTo, RepliesToInput}
-use Rattle.script_main.specs.Statuses.{IsAllOfNone, IsOneDue}
-use Rattle.script_main.proofs.Known.{not_both, out_knows, out_plays, spends_alone}
+use Rattle.program_replies.proofs.CheckTexts.{FrontIsWhole, check_whole, front_apart, same_is_whole}
+use Rattle.program_replies.specs.Scripts.{IsOutput, LacksJob, SpendsWork}
+use Rattle.program_replies.specs.Replies.{IsReply, IsReplyBy, IsReplyOf, IsReplyTo, RepliesToInput}
+use Rattle.program_replies.specs.Statuses.{IsAllOfNone, IsOneDue}
+use Rattle.program_replies.proofs.Known.{not_both, out_knows, out_plays, spends_alone}
 
 -- ---- one text of an input
 

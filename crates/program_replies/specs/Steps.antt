@@ -7,7 +7,7 @@ use Rattle.program_texts.specs.declared.replies.Reply.{Reply}
 use Rattle.program_texts.specs.declared.replies.Reply.TheVariants.{Refused}
 use Rattle.program_texts.specs.Inputs.{IsInputRefusalOf, IsOnlyInputOf, SpellsInput}
 use Rattle.program_texts.specs.Words.{form_of}
-use Rattle.script_main.specs.Replies.{IsReplyTo}
+use Rattle.program_replies.specs.Replies.{IsReplyTo}
 
 -- the bytes spell an input of the command's form, and the reply is that to the input
 pub record RepliesToSpelled (jobs : Replies) (table : ℕ) (command : Command) (bytes : List ℕ)

@@ -1,4 +1,4 @@
--- a reply to an input, to bytes and to a source is one to the words
+-- for crates above: a reply to an input, to bytes and to a source is one to the words
 use Rattle.std.proofs.Common.{◌≡◌, ℕ, List, Option, Some, None, refl, sym, subst}
 use Rattle.tm_base.specs.declared.limits.TheConstants.{MOST_BYTES}
 use Rattle.tm_io.specs.Seen.{SourceSeen, SourceUnbroken}
@@ -15,8 +15,8 @@ use Rattle.program_texts.specs.declared.replies.Reply.TheVariants.{Played, Made}
 use Rattle.program_texts.specs.Inputs.{IsOnlyInputOf, SpellsInput}
 use Rattle.program_texts.specs.Words.{form_of, recipe_in}
 use Rattle.program_texts.specs.Brought.{BringsBy, script_by}
-use Rattle.script_main.specs.Replies.{IsReplyOf, IsReplyTo, RepliesToInput}
-use Rattle.script_main.specs.Steps.{IsReplyToBytes, RepliesToSpelled}
+use Rattle.program_replies.specs.Replies.{IsReplyOf, IsReplyTo, RepliesToInput}
+use Rattle.program_replies.specs.Steps.{IsReplyToBytes, RepliesToSpelled}
 
 module _ (jobs : Replies) (table : ℕ) (command : Command) where
   -- to an input that some bytes spell

@@ -9,8 +9,8 @@ use Rattle.program_texts.specs.declared.commands.Command.TheVariants as commands
 use Rattle.program_texts.specs.declared.inputs.Input.{Input}
 use Rattle.program_texts.specs.declared.inputs.Input.TheVariants as inputs
 use Rattle.program_texts.specs.Words.{HasJobsRun, IsPlayer}
-use Rattle.script_main.specs.Scripts.{CanEnd, EndsBy, IsOutput, KnowsJobs, LacksJob, SpendsBy}
-use Rattle.script_main.specs.Scripts.{SpendsWork}
+use Rattle.program_replies.specs.Scripts.{CanEnd, EndsBy, IsOutput, KnowsJobs, LacksJob, SpendsBy}
+use Rattle.program_replies.specs.Scripts.{SpendsWork}
 
 -- a job that the table hasn't isn't known
 pub not_both : (table : ℕ) (input : Input) (line job : ℕ) → LacksJob table input line job

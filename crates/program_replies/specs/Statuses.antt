@@ -22,8 +22,8 @@ use Rattle.program_texts.specs.Texts.{job_unknown_text, work_spent_text}
 use Rattle.program_texts.specs.Brought.{Brings, ReadsNone}
 use Rattle.program_texts.specs.Replies.{reply_text}
 use Rattle.program_texts.specs.Ends.{SinkSound, Writes, WritesAll, WritesFront}
-use Rattle.script_main.specs.Scripts.{IsOutput, LacksJob, SpendsBy}
-use Rattle.script_main.specs.Replies.{IsReply}
+use Rattle.program_replies.specs.Scripts.{IsOutput, LacksJob, SpendsBy}
+use Rattle.program_replies.specs.Replies.{IsReply}
 
 -- the words name a command, it has this input, and the source didn't fail
 pub record HasInput (words : List (String Global)) (s t : SourceSeen) (command : Command)
