@@ -19,12 +19,7 @@ use Rattle.remote_parts.specs.declared.runs.Ran.{Ran}
 use Rattle.walk_inactive.specs.shared_table.declared.ready.TheConstants.{MOST_MADE}
 use Rattle.remote_parts.specs.Following.{Follows, RunsOfSome}
 use Rattle.remote_parts.specs.Looks.{LooksFrom}
-pub use Rattle.remote_parts.specs.Interrupts.{HasTicked, KnowsOwn, own_walk, walks_by}
-
--- the most walks that an interrupt begins: one for each CPU that it tries on three levels, and its
--- own re-evaluation
-abbrev pub most_walks : ℕ
-most_walks = 1537
+pub use Rattle.remote_parts.specs.Interrupts.{HasTicked, KnowsOwn, most_walks, own_walk, walks_by}
 
 -- what a pass has gained in an interrupt, whatever it answers: receipts and deeds at the ends; its
 -- CPU is as idle as before and outside again, no mark is left, and just these walks were begun,

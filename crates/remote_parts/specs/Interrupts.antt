@@ -33,3 +33,8 @@ walks_by (deeds.Released cpu ∷ rest) = walks_by rest
 -- and that of the CPU itself at its end: an idle one tells its next event anew
 abbrev pub own_walk : (idle : Bool) → ℕ
 own_walk idle = if idle then 1 else 0
+
+-- the most walks that an interrupt begins: one for each CPU that it tries on three levels, and its
+-- own re-evaluation
+abbrev pub most_walks : ℕ
+most_walks = 1537

@@ -1,4 +1,2 @@
-pub mod Doing
-pub mod Standing
-pub mod Lines
-pub mod Tasks
+pub mod UnderWay
+pub use Rattle.round_parts.specs.Doing as Doing

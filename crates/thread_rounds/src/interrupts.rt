@@ -1,63 +1,23 @@
 //! What a CPU's thread tells of the CPU's interrupt.
 
-ghost use Rattle.std.specs.Prelude.{◌≡◌, ◌-◌, ◌^◌, ◌≤◌, ◌++◌, OnOk, map, true};
+ghost use Rattle.std.specs.Prelude.{◌≡◌, ◌-◌, ◌^◌, ◌≤◌, OnOk, true};
 ghost use Rattle.tm_base.specs.declared.names.TheConstants.{TIME_LIMIT};
 ghost use Rattle.core_world.specs.World.{cpu_of};
-ghost use Rattle.idle_wakeup.specs.shared_rule.declared.parts.PassView.{PassView};
-ghost use Rattle.idle_wakeup.specs.shared_rule.Passes.{IsPassIn};
+ghost use Rattle.round_parts.specs.shared_rule.declared.parts.PassView.{PassView};
+ghost use Rattle.round_parts.specs.shared_rule.Passes.{IsPassIn};
 ghost use Rattle.remote_expiry.specs.Interrupts.{IsAtRest, most_walks};
-ghost use Rattle.thread_rounds.specs.Lines.{ran_line, shown_of};
-ghost use Rattle.thread_rounds.specs.Standing.{HasRun, MayAnswer};
+ghost use Rattle.round_parts.specs.Standing.{HasRun, MayAnswer};
 
-use idle_wakeup::the_shared_rule::{Pass, RunName};
-use idle_wakeup::the_shared_table::Shared;
 use job_table::Jobs;
-use remote_expiry::{Ran, RanReply, Runs, interrupt};
+use remote_expiry::{Runs, interrupt};
+use round_parts::tell_runs;
+use round_parts::the_shared_rule::{Pass, RunName};
+use round_parts::the_shared_table::Shared;
 use std::alloc::Global;
 use std::sync::Wait;
-use tm_base::{CpuId, Gate, Jiffy, NoMemory, OpFault};
-use tm_report::{Line, ShownReply};
+use tm_base::{Gate, Jiffy, NoMemory, OpFault};
+use tm_report::Line;
 use wheel_core::TimerBase;
-
-/// What a line shows of what became of a timer.
-fn shown_of(reply: RanReply) -> ShownReply
-    ensures { result ≡ shown_of reply }
-{
-    match reply {
-        RanReply::Done => ShownReply::Done,
-        RanReply::Mark(mark) => ShownReply::Mark(mark),
-        RanReply::Again { class, wheel } => ShownReply::Again { class, wheel },
-        RanReply::Skip { cpu } => ShownReply::Skip { cpu },
-    }
-}
-
-/// The line of a timer that was run by a CPU.
-fn ran_line(now: Jiffy, runner: CpuId, ran: Ran) -> Line
-    ensures { result ≡ ran_line now runner ran }
-{
-    Line::Run {
-        now,
-        runner,
-        timer: ran.timer,
-        home: ran.home,
-        wheel: ran.wheel,
-        reply: shown_of(ran.reply),
-    }
-}
-
-/// A line for each timer that was run, in order.
-fn tell_runs(runs: &Runs, now: Jiffy, runner: CpuId, lines: &mut Vec<Line>) -> Result<(), NoMemory>
-    ensures { OnOk result
-        (lines.new.items ≡ lines.old.items ++ map (ran_line now runner) runs.now.runs) }
-{
-    for i in 0..runs.len() {
-        let Some(ran) = runs.get(i) else {
-            unreachable!();
-        };
-        lines.push(ran_line(now, runner, *ran))?;
-    }
-    Ok(())
-}
 
 /// The interrupt of the CPU, and its lines.
 fn run_due<N: RunName, B: TimerBase, J: Jobs, G: Gate, R: Wait>(

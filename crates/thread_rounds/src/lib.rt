@@ -2,11 +2,9 @@
 //! words that the threads share.
 #![tactic(auto)]
 
-mod answers;
 mod interrupts;
 mod rounds;
 mod shares;
-mod tasks;
 mod threads;
 
 pub use rounds::round;

@@ -5,65 +5,27 @@ ghost use Rattle.std.specs.FinSet.{contains};
 ghost use Rattle.tm_base.specs.declared.limits.TheConstants.{MOST_OPS};
 ghost use Rattle.tm_base.specs.declared.names.TheConstants.{TIME_LIMIT};
 ghost use Rattle.core_world.specs.World.{cpu_of};
-ghost use Rattle.story.specs.step_play.Rules.Seen.{InRun, resting};
-ghost use Rattle.idle_wakeup.specs.shared_table.Begun.{begun_passes};
-ghost use Rattle.story.specs.Rounds.{IsRound};
-ghost use Rattle.thread_rounds.specs.Doing.{IsRoundOp};
-ghost use Rattle.thread_rounds.specs.Tasks.{AreAllDone, AreGathered, AreTasks, MayRound};
+ghost use Rattle.round_parts.specs.story.step_play.Rules.Seen.{InRun, resting};
+ghost use Rattle.round_parts.specs.shared_table.Begun.{begun_passes};
+ghost use Rattle.round_parts.specs.story.Rounds.{IsRound};
+ghost use Rattle.round_parts.specs.Doing.{IsRoundOp};
+ghost use Rattle.round_parts.specs.Progress.{AreAllDone, MayRound};
 
-use crate::shares::Share;
-use crate::tasks::{Task, first_tasks, give_all};
 use crate::threads::do_all;
-use idle_wakeup::the_core_state::Core;
-use idle_wakeup::the_shared_rule::{Pass, RunName};
-use idle_wakeup::the_shared_table::{Ready, Shared};
 use job_table::Jobs;
+use round_parts::the_core_facts::law_rest;
+use round_parts::the_core_state::Core;
+use round_parts::the_shared_rule::{Pass, RunName};
+use round_parts::the_shared_table::{Ready, Shared};
+use round_parts::{gather, tasks_of};
 use std::alloc::Global;
 use std::marker::Brand;
 use std::sync::Wait;
 use std::thread::Threads;
-use story::the_core_facts::law_rest;
 use tm_base::{CpuSet, Gate, Jiffy, NoMemory};
 use tm_report::Line;
 use tm_script::Op;
 use wheel_base::WheelBase;
-
-/// What each CPU has to do, in the order of the CPUs.
-fn tasks_of<N: RunName>(
-    alloc: Global,
-    passes: Vec<Pass>,
-    due: &CpuSet,
-    ops: &[Op],
-) -> Result<Vec<Task>, NoMemory>
-    requires passes { passes.items ≡ begun_passes N.table N.opening 0 }
-    requires ops { All (IsRoundOp (length N.opening.cpus) N.opening.timers) ops.now }
-    ensures { IfOk result (λ v. AreTasks N.table N.opening
-        (record { due = due.now; ops = ops.now }) (length N.opening.cpus) v.items) }
-{
-    let mut tasks = first_tasks(alloc, passes, due)?;
-    give_all(&mut tasks, ops)?;
-    Ok(tasks)
-}
-
-/// The passes and the lines of all shares, in the order of their CPUs, where memory was enough for
-/// each of them.
-fn gather(alloc: Global, shares: Vec<Share>) -> Result<(Vec<Pass>, Vec<Line>), NoMemory>
-    ensures { IfOk result (λ r. AreGathered shares.items r.0.items r.1.items) }
-{
-    let mut passes = Vec::with_capacity(alloc, shares.len())?;
-    let mut lines = Vec::new(alloc);
-    for share in shares {
-        let Share {
-            pass,
-            lines: mut told,
-            ended,
-        } = share;
-        ended?;
-        passes.push(pass)?;
-        lines.append(&mut told)?;
-    }
-    Ok((passes, lines))
-}
 
 /// What all CPUs do in a round, on the words of a run that has begun: the passes and the lines
 /// that they leave.

@@ -4,54 +4,20 @@ ghost use Rattle.std.specs.Prelude.{◌≡◌, ◌-◌, ◌^◌, ◌<◌, ◌≤
 ghost use Rattle.tm_base.specs.declared.limits.TheConstants.{MOST_OPS};
 ghost use Rattle.tm_base.specs.declared.names.TheConstants.{TIME_LIMIT};
 ghost use Rattle.core_world.specs.World.{cpu_of};
-ghost use Rattle.idle_wakeup.specs.shared_table.Begun.{begun_pass};
-ghost use Rattle.thread_rounds.specs.Doing.{HasDone, IsShareOp};
-ghost use Rattle.thread_rounds.specs.Standing.{HaveAnswered, MayAnswer};
+ghost use Rattle.round_parts.specs.shared_table.Begun.{begun_pass};
+ghost use Rattle.round_parts.specs.Doing.{HasDone, IsShareOp};
 
-use crate::answers::answer;
 use crate::interrupts::run_if_due;
-use idle_wakeup::the_shared_rule::{Pass, RunName};
-use idle_wakeup::the_shared_table::Shared;
 use job_table::Jobs;
+use round_parts::the_shared_rule::{Pass, RunName};
+use round_parts::the_shared_table::Shared;
+use round_parts::{Share, answer_all};
 use std::alloc::Global;
 use std::sync::Wait;
 use tm_base::{Gate, Jiffy, NoMemory};
 use tm_report::Line;
 use tm_script::Op;
 use wheel_core::TimerBase;
-
-/// What a CPU's thread gives back: its pass, the lines that it tells, and whether memory was
-/// enough.
-#[derive(Drop)]
-pub(crate) struct Share {
-    pub(crate) pass: Pass,
-    pub(crate) lines: Vec<Line>,
-    pub(crate) ended: Result<(), NoMemory>,
-}
-
-/// The CPU's own operations in line order, each with its line.
-fn answer_all<N: RunName, B: TimerBase, G: Gate, R: Wait>(
-    rt: &R,
-    shared: &Shared<N, B>,
-    pass: &mut Pass,
-    now: Jiffy,
-    ops: &[Op],
-    gate: &G,
-    lines: &mut Vec<Line>,
-) -> Result<(), NoMemory>
-    requires may { MayAnswer N.table N.opening (length ops.now) pass.old }
-    requires now { now ≡ N.opening.clock }
-    requires in_time { now ≤ TIME_LIMIT - 2 ^ 32 }
-    requires ops { All (IsShareOp pass.old.cpu N.opening.timers) ops.now }
-    ensures { OnOk result (HaveAnswered N.table N.opening now ops.now pass.old pass.new
-        lines.old.items lines.new.items) }
-{
-    for op in ops {
-        let line = answer(rt, shared, pass, now, *op, gate)?;
-        lines.push(line)?;
-    }
-    Ok(())
-}
 
 /// The CPU's interrupt, where it is due one, and then its own operations.
 fn tell_share<N: RunName, B: TimerBase, J: Jobs, G: Gate, R: Wait>(

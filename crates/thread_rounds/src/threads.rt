@@ -4,15 +4,15 @@ ghost use Rattle.std.specs.Prelude.{◌≡◌, ◌-◌, ◌^◌, ◌≤◌, [], 
 ghost use Rattle.std.specs.Thread.{IsSend, IsSync};
 ghost use Rattle.tm_base.specs.declared.names.TheConstants.{TIME_LIMIT};
 ghost use Rattle.play_rules.specs.Interrupts.{Replies};
-ghost use Rattle.idle_wakeup.specs.shared_rule.Rule.{Each};
-ghost use Rattle.thread_rounds.specs.Tasks.{AllBegun, AllDone, AllEnded, IsBegun, IsDone, IsKept};
-ghost use Rattle.thread_rounds.specs.Tasks.{MayShare};
+ghost use Rattle.round_parts.specs.shared_rule.Rule.{Each};
+ghost use Rattle.round_parts.specs.Progress.{AllDone, IsDone, MayShare};
+ghost use Rattle.thread_rounds.specs.UnderWay.{AllBegun, AllEnded, IsBegun, IsKept};
 
-use crate::shares::{Share, do_share};
-use crate::tasks::Task;
-use idle_wakeup::the_shared_rule::RunName;
-use idle_wakeup::the_shared_table::Shared;
+use crate::shares::do_share;
 use job_table::Jobs;
+use round_parts::the_shared_rule::RunName;
+use round_parts::the_shared_table::Shared;
+use round_parts::{Share, Task};
 use std::alloc::Global;
 use std::marker::PhantomData;
 use std::snapshot::Snapshot;

@@ -1,8 +1,8 @@
 use Rattle.std.proofs.Common.{◌≡◌, ◌++◌, List, Ok, ap, map, subst, true}
 use Rattle.remote_expiry.specs.Runs.{Ran, RoomyRuns}
 use Rattle.remote_expiry.specs.Interrupts.{Tells}
-use Rattle.thread_rounds.specs.Lines.{ran_line}
-use Rattle.thread_rounds.specs.Standing.{HasRun}
+use Rattle.round_parts.specs.Lines.{ran_line}
+use Rattle.round_parts.specs.Standing.{HasRun}
 use Rattle.thread_rounds.proofs.Telling.{interrupt_told, on_ok}
 use Rattle.thread_rounds.proofs.interrupts.run_due.Goals as goal
 

@@ -1,5 +1,5 @@
 use Rattle.std.proofs.Common.{Bool, subst, sym}
-use Rattle.thread_rounds.specs.Standing.{HasRun}
+use Rattle.round_parts.specs.Standing.{HasRun}
 use Rattle.thread_rounds.proofs.Telling.{none_told}
 use Rattle.thread_rounds.proofs.interrupts.run_if_due.Goals as goal
 

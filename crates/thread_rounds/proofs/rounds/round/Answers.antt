@@ -1,4 +1,4 @@
-use Rattle.thread_rounds.proofs.Starting.{may_round}
+use Rattle.round_parts.proofs.Starting.{may_round}
 use Rattle.thread_rounds.proofs.rounds.round.Goals as goal
 
 pub round_over-requires-clause-may : goal.round_over-requires-clause-may

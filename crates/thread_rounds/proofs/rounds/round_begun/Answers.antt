@@ -1,5 +1,5 @@
-use Rattle.thread_rounds.specs.Tasks.{Plan}
-use Rattle.thread_rounds.proofs.Closing.{all_passes, each_did, is_round}
+use Rattle.round_parts.specs.Tasks.{Plan}
+use Rattle.round_parts.proofs.Closing.{all_passes, each_did, is_round}
 use Rattle.thread_rounds.proofs.rounds.round_begun.Goals as goal
 
 pub finish-requires : goal.finish-requires

@@ -1,7 +1,8 @@
 use Rattle.std.proofs.Common.{ap, subst, ◌∙◌}
 use Rattle.core_world.specs.World.{World}
-use Rattle.idle_wakeup.specs.shared_table.Begun.{begun_passes}
-use Rattle.thread_rounds.specs.Tasks.{MayRound, Plan}
+use Rattle.round_parts.specs.shared_table.Begun.{begun_passes}
+use Rattle.round_parts.specs.Tasks.{Plan}
+use Rattle.round_parts.specs.Progress.{MayRound}
 use Rattle.thread_rounds.proofs.rounds.round_over.Goals as goal
 
 pub begin-requires-clause-table : goal.begin-requires-clause-table

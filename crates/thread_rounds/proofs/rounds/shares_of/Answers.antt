@@ -1,7 +1,7 @@
 use Rattle.std.proofs.Common.{◌∙◌}
 use Rattle.std.proofs.lemmas.Result.{IfOk-weaker}
-use Rattle.thread_rounds.specs.Tasks.{Plan}
-use Rattle.thread_rounds.proofs.Parting.{all_may}
+use Rattle.round_parts.specs.Tasks.{Plan}
+use Rattle.round_parts.proofs.Parting.{all_may}
 use Rattle.thread_rounds.proofs.rounds.shares_of.Goals as goal
 
 pub do_all-requires-clause-may : goal.do_all-requires-clause-may

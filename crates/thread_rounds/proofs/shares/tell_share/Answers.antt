@@ -1,8 +1,8 @@
 use Rattle.std.proofs.Common.{◌+◌, List, length, subst, arith}
 use Rattle.tm_report.specs.declared.lines.Line.{Line}
 use Rattle.remote_expiry.specs.Interrupts.{most_walks}
-use Rattle.thread_rounds.specs.Doing.{HasDone}
-use Rattle.thread_rounds.specs.Standing.{HasRun, HaveAnswered}
+use Rattle.round_parts.specs.Doing.{HasDone}
+use Rattle.round_parts.specs.Standing.{HasRun, HaveAnswered}
 use Rattle.thread_rounds.proofs.Sharing.{may_answer, may_begin, share_done}
 use Rattle.thread_rounds.proofs.Telling.{on_ok}
 use Rattle.thread_rounds.proofs.shares.tell_share.Goals as goal

@@ -1,8 +1,11 @@
 use Rattle.std.proofs.Common.{[], ap, arith, length, refl}
 use Rattle.std.proofs.lemmas.Result.{err_from_is_err_and}
-use Rattle.thread_rounds.specs.Tasks.{IsBegunAt, IsTaskOf, MayShare}
-use Rattle.thread_rounds.proofs.Moving.{begun_one, each_first}
-use Rattle.thread_rounds.proofs.Rows.{none_moved}
+use Rattle.round_parts.specs.Tasks.{IsTaskOf}
+use Rattle.round_parts.specs.Progress.{MayShare}
+use Rattle.thread_rounds.specs.UnderWay.{IsBegunAt}
+use Rattle.round_parts.proofs.Moving.{each_first}
+use Rattle.thread_rounds.proofs.Beginning.{begun_one}
+use Rattle.round_parts.proofs.Rows.{none_moved}
 use Rattle.thread_rounds.proofs.threads.begin_all.Goals as goal
 
 pub begin-requires-clause-may : goal.begin-requires-clause-may

@@ -1,4 +1,4 @@
-use Rattle.thread_rounds.specs.Tasks.{BegunSoFar}
+use Rattle.thread_rounds.specs.UnderWay.{BegunSoFar}
 use Rattle.thread_rounds.proofs.threads.begin_all.Given as goal
 
 abbrev pub invariant-loop-task : goal.invariant-loop-task

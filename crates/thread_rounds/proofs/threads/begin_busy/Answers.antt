@@ -1,7 +1,7 @@
 use Rattle.std.proofs.Common.{refl}
 use Rattle.std.proofs.Crossing.{crosses}
 use denote.Param.Send.{sendable}
-use Rattle.thread_rounds.proofs.Sends.{pass_send, shared_sync}
+use Rattle.round_parts.proofs.Sends.{pass_send, shared_sync}
 use Rattle.thread_rounds.proofs.threads.begin_busy.Goals as goal
 
 pub spawn_with-requires-send-F : goal.spawn_with-requires-send-F

@@ -1,8 +1,9 @@
 use Rattle.std.proofs.Common.{[], arith, refl}
 use Rattle.std.proofs.lemmas.Result.{err_from_is_err_and}
-use Rattle.thread_rounds.specs.Tasks.{IsBegunAt, IsDoneAt}
-use Rattle.thread_rounds.proofs.Moving.{ended_one}
-use Rattle.thread_rounds.proofs.Rows.{none_moved}
+use Rattle.round_parts.specs.Progress.{IsDoneAt}
+use Rattle.thread_rounds.specs.UnderWay.{IsBegunAt}
+use Rattle.thread_rounds.proofs.Beginning.{ended_one}
+use Rattle.round_parts.proofs.Rows.{none_moved}
 use Rattle.thread_rounds.proofs.threads.end_all.Goals as goal
 
 pub loop-one-preserved : goal.loop-one-preserved

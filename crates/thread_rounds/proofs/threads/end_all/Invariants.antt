@@ -1,4 +1,4 @@
-use Rattle.thread_rounds.specs.Tasks.{EndedSoFar}
+use Rattle.thread_rounds.specs.UnderWay.{EndedSoFar}
 use Rattle.thread_rounds.proofs.threads.end_all.Given as goal
 
 abbrev pub invariant-loop-one : goal.invariant-loop-one

@@ -1,6 +1,6 @@
 use Rattle.std.proofs.Common.{subst, sym}
-use Rattle.thread_rounds.specs.Doing.{HasDone}
-use Rattle.thread_rounds.proofs.Parting.{none_done}
+use Rattle.round_parts.specs.Doing.{HasDone}
+use Rattle.round_parts.proofs.Parting.{none_done}
 use Rattle.thread_rounds.proofs.threads.idle_share.Goals as goal
 
 pub returns : goal.returns

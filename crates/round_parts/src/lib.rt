@@ -1,0 +1,16 @@
+//! What a round of threads needs beside the interrupts of its CPUs: what each CPU has to do, what
+//! it answers to its lines of the script, the lines of what an interrupt ran, and what all shares
+//! leave.
+#![tactic(auto)]
+
+mod answers;
+mod runs;
+mod shares;
+mod tasks;
+
+pub use answers::answer_all;
+pub use idle_wakeup::{the_core_state, the_shared_rule, the_shared_table};
+pub use runs::tell_runs;
+pub use shares::{Share, gather};
+pub use story::the_core_facts;
+pub use tasks::{Task, tasks_of};
