@@ -2,8 +2,7 @@
 
 use core_world::Step;
 use std::alloc::Global;
-use step_laws::the_core_state::Core;
-use step_laws::the_step_core::{apply, enabled};
+use step_laws::{Core, apply, enabled};
 use tm_base::{Class, CpuId, NoMemory, TimerId};
 use walk_rules::Stage;
 use wheel_base::WheelBase;

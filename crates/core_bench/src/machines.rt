@@ -7,8 +7,7 @@ ghost use Rattle.wheel_base.specs.Wheels.{no_base};
 
 use cpu_bases::Bases;
 use std::alloc::Global;
-use step_laws::the_core_state::Core;
-use step_laws::the_step_core::new_core;
+use step_laws::{Core, new_core};
 use tm_base::{CpuSet, MOST_NODE_CPUS, MOST_NODES, NoMemory};
 use tree_plan::plan;
 use wheel_base::WheelBase;

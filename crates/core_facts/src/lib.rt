@@ -20,17 +20,16 @@ ghost use Rattle.core_facts.specs.Stepping.{EachStageLawful};
 ghost use Rattle.core_facts.specs.Told.{EachHasToldOwn};
 ghost use Rattle.core_facts.specs.Walkers.{EachWalkerIs};
 
-pub use core_laws as the_core_laws;
-pub use core_laws::law_step;
+pub use core_laws::{law_start, law_step};
 use core_world::{law_quiet, law_sizes};
 pub use cover_laws::{
     law_always_answered, law_answered, law_cover, law_covered, law_each_settled, law_next_moment,
     law_once, law_rest, law_rest_events,
 };
 use cpu_bases::{law_bases, law_calls};
-pub use event_queue as the_event_queue;
+pub use event_queue::{Event, Events};
 use tree_plan::{law_cuts, law_paths};
-pub use walk_rules as the_walk_rules;
+pub use walk_rules::{Walk, law_hierarchy};
 pub use worked_rows::{
     row_carried_alone, row_early_read_breaks, row_forgotten_event, row_lost_exchange,
     row_settled_cover, row_stale_exchange_breaks, row_stale_run,

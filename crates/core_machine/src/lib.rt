@@ -11,8 +11,7 @@ pub mod timers;
 pub mod turns;
 pub mod walks;
 
-pub use core_steps::{the_core_laws, the_core_state};
+pub use core_steps::{Core, law_step};
 pub use player::{Player, RunPlayer};
 pub use settled::law_settled_in_run;
-pub use step_play as the_step_play;
-pub use step_play::the_play_laws;
+pub use step_play::law_steps_are_play;

@@ -3,7 +3,7 @@
 ghost use Rattle.std.specs.Prelude.{◌≡◌, ◌<◌};
 ghost use Rattle.tm_base.specs.declared.limits.TheConstants.{SCRIPT_TIME_LIMIT};
 
-use core_steps::the_core_state::Core;
+use core_steps::Core;
 use std::alloc::Global;
 use std::marker::Model;
 use wheel_core::TimerBase;

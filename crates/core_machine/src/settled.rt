@@ -2,7 +2,7 @@
 
 ghost use Rattle.core_machine.specs.Settled.{SettledIsInRun};
 
-use step_play::the_core_facts::law_rest;
+use step_play::law_rest;
 
 /// A lawful core of a planned tree that is settled, with nothing behind a base's clock, is in a
 /// run: so is what threads leave after a moment, though its events needn't be exact.

@@ -4,7 +4,7 @@ ghost use Rattle.std.specs.Prelude.{◌≡◌, ℕ, ◌+◌, ◌-◌, ◌<◌, �
 ghost use Rattle.std.specs.Option.{option_map_or};
 ghost use Rattle.core_world.specs.tree_plan.Paths.{IsBelow, cpu_count_of, group_at_of};
 
-use core_world::the_tree_plan::{Tree, law_below, law_levels, law_paths};
+use core_world::{Tree, law_below, law_levels, law_paths};
 use tm_base::{CpuId, GroupId};
 
 /// Whether the path of a CPU has another group than this one at a level.

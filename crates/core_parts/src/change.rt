@@ -1,6 +1,6 @@
 //! What a step of a walk makes of a group.
 
-use core_world::the_event_queue::Event;
+use core_world::Event;
 
 /// A load, store or exchange of a group's words.
 #[derive(Clone, Copy)]

@@ -11,7 +11,7 @@ ghost use Rattle.core_world.specs.walk_rules.Ranges.{IsInRange};
 
 use crate::stale::is_reading;
 use crate::status::CpuStatus;
-use core_world::the_cpu_bases::{Bases, NextEvents, law_bases};
+use core_world::{Bases, NextEvents, law_bases};
 use std::marker::Model;
 use tm_base::NEVER;
 use wheel_core::TimerBase;

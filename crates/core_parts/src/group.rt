@@ -11,8 +11,7 @@ ghost use Rattle.core_parts.specs.Changes.{ChangeFits, changed};
 ghost use Rattle.core_world.specs.walk_rules.Ranges.{EventFits};
 
 use crate::change::GroupChange;
-use core_world::the_event_queue::{Event, Events};
-use core_world::the_group_word::{GroupState, activated, swapped};
+use core_world::{Event, Events, GroupState, activated, swapped};
 use std::marker::Model;
 
 /// One group: which children are active, which of them is the migrator, whose walk has the lock,

@@ -13,7 +13,7 @@ mod status;
 mod timers;
 
 pub use change::GroupChange;
-pub use core_world as the_core_world;
+pub use core_world::law_sizes;
 pub use cpu::CoreCpu;
 pub use group::CoreGroup;
 pub use moving::move_between;

@@ -10,8 +10,7 @@ ghost use Rattle.core_world.specs.walk_rules.Ranges.{IsInRange, WalkRanges};
 use crate::below::{behind_below, first_below};
 use crate::cpu::CoreCpu;
 use crate::status::CpuStatus;
-use core_world::the_tree_plan::{Tree, law_paths};
-use core_world::the_walk_rules::{Stage, Walk};
+use core_world::{Stage, Tree, Walk, law_paths};
 use tm_base::{CpuId, GroupId};
 use wheel_core::TimerBase;
 

@@ -1,6 +1,6 @@
 //! What a CPU is besides its timers.
 
-use core_world::the_walk_rules::Walk;
+use core_world::Walk;
 use tm_base::Jiffy;
 
 /// The word and the walk of a CPU.

@@ -18,7 +18,7 @@ use Rattle.play_rules.specs.Moments.{Turn, closing, finished, last_state, turn_l
 use Rattle.play_rules.specs.Parts.{counted}
 use Rattle.play_rules.specs.Play.{plain_rules, play_start, play_turns}
 use Rattle.play_rules.specs.State.{Cpu, cpu_at, new_cpu}
-use Rattle.core_machine.proofs.play_laws.Shape.AlikeTurns.{closing_alike, lines_seen}
+use Rattle.play_laws.proofs.Shape.AlikeTurns.{closing_alike, lines_seen}
 use Rattle.core_world.specs.World.{CpuRecord, World, cpu_of, no_cpu}
 use Rattle.tree_plan.specs.Shape.{tree_of}
 use Rattle.tree_plan.specs.Paths.{cpu_count_of}

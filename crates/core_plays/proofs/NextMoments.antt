@@ -30,16 +30,16 @@ use Rattle.play_rules.specs.Moments.{turns}
 use Rattle.play_rules.specs.Play.{at_clock, next_interrupt, plain_rules, play_turns}
 use Rattle.play_rules.specs.State.{State, all_cpus, cpu_at, cpu_count, start}
 use Rattle.play_rules.specs.State.{is_active as is_active_in}
-use Rattle.core_machine.proofs.play_laws.Answered.Ranges.{any_here, in_range, least_below}
-use Rattle.core_machine.proofs.play_laws.Answered.Plays.{rules_keep}
-use Rattle.core_machine.proofs.play_laws.Answered.Scripts.{moments_in, moments_rise, planned_for}
-use Rattle.core_machine.proofs.play_laws.Answered.Scripts.{tree_for}
-use Rattle.core_machine.proofs.play_laws.Answered.Settles.{Begun, Settles, due_online}
-use Rattle.core_machine.proofs.play_laws.Answered.Starts.{start_kept}
-use Rattle.core_machine.proofs.play_laws.Shape.Shape.{KeptByRules, Stage}
-use Rattle.core_machine.proofs.play_laws.Shape.ShapeTurns.{IsMomentIn, Playing, Rise, after_in}
-use Rattle.core_machine.proofs.play_laws.Shape.ShapeTurns.{after_rise}
-use Rattle.core_machine.proofs.play_laws.Shape.ShapeTurns.{moment_kept, next_is}
+use Rattle.play_laws.proofs.Answered.Ranges.{any_here, in_range, least_below}
+use Rattle.play_laws.proofs.Answered.Plays.{rules_keep}
+use Rattle.play_laws.proofs.Answered.Scripts.{moments_in, moments_rise, planned_for}
+use Rattle.play_laws.proofs.Answered.Scripts.{tree_for}
+use Rattle.play_laws.proofs.Answered.Settles.{Begun, Settles, due_online}
+use Rattle.play_laws.proofs.Answered.Starts.{start_kept}
+use Rattle.play_laws.proofs.Shape.Shape.{KeptByRules, Stage}
+use Rattle.play_laws.proofs.Shape.ShapeTurns.{IsMomentIn, Playing, Rise, after_in}
+use Rattle.play_laws.proofs.Shape.ShapeTurns.{after_rise}
+use Rattle.play_laws.proofs.Shape.ShapeTurns.{moment_kept, next_is}
 use Rattle.core_world.specs.Covered.{IsSettled}
 use Rattle.core_world.specs.Lawful.{IsLawful}
 use Rattle.core_world.specs.World.{World, cpu_of, is_active, no_cpu}

@@ -6,13 +6,13 @@ use Rattle.play_rules.specs.Interrupts.{Replies}
 use Rattle.play_rules.specs.Jobs.{first_unknown_job}
 use Rattle.play_rules.specs.Moments.{last_state, whole_lines}
 use Rattle.play_rules.specs.Parts.{counted}
-use Rattle.core_machine.specs.play_laws.Jiffies.Jiffies.{EachHasEnded, InItsJiffy}
-use Rattle.core_machine.specs.play_laws.Answered.Settled.{EachAnswered}
-use Rattle.core_machine.specs.play_laws.Told.Covers.{EachCoverIn}
-use Rattle.core_machine.specs.play_laws.Told.Journals.{TellSameUpTo, is_hand_out}
-use Rattle.core_machine.specs.play_laws.Told.Left.{LeftIn}
-use Rattle.core_machine.specs.play_laws.Told.Runs.{LinesAlternate}
-use Rattle.core_machine.specs.play_laws.Work.Course.{ComesToItsEnd, times_of}
+use Rattle.play_laws.specs.Jiffies.Jiffies.{EachHasEnded, InItsJiffy}
+use Rattle.play_laws.specs.Answered.Settled.{EachAnswered}
+use Rattle.play_laws.specs.Told.Covers.{EachCoverIn}
+use Rattle.play_laws.specs.Told.Journals.{TellSameUpTo, is_hand_out}
+use Rattle.play_laws.specs.Told.Left.{LeftIn}
+use Rattle.play_laws.specs.Told.Runs.{LinesAlternate}
+use Rattle.play_laws.specs.Work.Course.{ComesToItsEnd, times_of}
 use Rattle.play_rules.specs.Play.{AfterEachMoment, plain_rules, play_spent, play_start, play_text}
 use Rattle.play_rules.specs.Play.{play_turns}
 use Rattle.play_rules.specs.Tallies.{no_lines, tallied_all}

@@ -6,7 +6,7 @@ ghost use Rattle.core_plays.specs.Deep.{BreaksDeep, DeepToEnd};
 
 use crate::plays::{law_plays, started};
 use crate::sleeping::deep_on;
-use core_machine::the_step_play::law_steps_are_play;
+use core_machine::law_steps_are_play;
 use job_table::Jobs;
 use play_driver::DriveFault;
 use std::alloc::Global;

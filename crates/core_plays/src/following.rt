@@ -7,10 +7,9 @@ ghost use Rattle.core_world.specs.Covered.{IsSettled};
 ghost use Rattle.core_machine.specs.step_play.Rules.StepRules.{step_rules};
 ghost use Rattle.core_plays.specs.Following.{IsNextOfPlay, PassesNone, moments_past};
 
+use core_machine::law_steps_are_play;
 use core_machine::readings::next_interrupt;
-use core_machine::the_step_play::law_steps_are_play;
-use step_core::the_core_facts::law_next_moment;
-use step_core::the_core_state::Core;
+use step_core::{Core, law_next_moment};
 use tm_base::Jiffy;
 use tm_script::{Moment, Script};
 use wheel_core::TimerBase;

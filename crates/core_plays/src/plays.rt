@@ -16,17 +16,15 @@ ghost use Rattle.core_plays.specs.Plays.{PlaysToEnd, Summarizes, summary_with};
 
 use crate::numbers::Summary;
 use crate::starting::start_core;
-use core_machine::the_play_laws::{
+use core_machine::{Player, RunPlayer, law_steps_are_play};
+use job_table::Jobs;
+use play_driver::{Counts, DriveFault, moment_by_itself, play_on, play_unheard};
+use play_laws::{
     law_covers, law_each_answered, law_each_runs, law_ends, law_in_its_jiffy, law_left, law_lines,
     law_moments,
 };
-use core_machine::the_step_play::law_steps_are_play;
-use core_machine::{Player, RunPlayer};
-use job_table::Jobs;
-use play_driver::{Counts, DriveFault, moment_by_itself, play_on, play_unheard};
 use std::alloc::Global;
-use step_core::the_core_facts::law_each_settled;
-use step_core::the_core_state::Core;
+use step_core::{Core, law_each_settled};
 use tm_base::{CpuSet, Jiffy, NoMemory};
 use tm_report::Report;
 use tm_script::Script;

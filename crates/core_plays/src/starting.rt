@@ -10,9 +10,7 @@ ghost use Rattle.core_plays.specs.OnCore.{HasMachineOf};
 
 use cpu_bases::Bases;
 use std::alloc::Global;
-use step_core::new_core;
-use step_core::the_core_laws::law_start;
-use step_core::the_core_state::Core;
+use step_core::{Core, law_start, new_core};
 use tm_base::NoMemory;
 use tm_script::Script;
 use tree_plan::plan;

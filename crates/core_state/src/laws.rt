@@ -4,7 +4,7 @@
 ghost use Rattle.core_state.specs.Kept.{WorldsStayFit};
 
 use core_facts::{law_height, law_replay, law_step};
-use core_parts::the_core_world::law_sizes;
+use core_parts::law_sizes;
 
 /// No step leaves what a core relies on.
 pub(crate) fn law_fits()

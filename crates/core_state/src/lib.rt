@@ -13,8 +13,11 @@ mod shown;
 mod tally;
 mod tree;
 
-pub use core_facts as the_core_facts;
-pub use core_facts::the_core_laws;
+pub use core_facts::{
+    law_answered, law_bounds, law_covered, law_each_settled, law_frame, law_height, law_lock,
+    law_mark, law_next_moment, law_once, law_once_a_level, law_own_event, law_place, law_replay,
+    law_rest, law_start, law_step, law_walker,
+};
 pub use core_parts::{CoreCpu, CoreGroup, CpuStatus, GroupChange};
 pub use machine::Core;
 pub use parts::CoreParts;

@@ -10,8 +10,7 @@ ghost use Rattle.core_state.specs.Shown.{as_cpu, shown_cpu};
 
 use crate::machine::Core;
 use crate::shown::cpu_number;
-use core_facts::the_event_queue::Events;
-use core_facts::the_walk_rules::Walk;
+use core_facts::{Events, Walk};
 use cpu_bases::Bases;
 use cpu_word::CpuState;
 use tm_base::{CpuId, GroupId, Jiffy, TimerId};

@@ -10,6 +10,9 @@ mod locking;
 mod steps;
 mod telling;
 
-pub use core_state as the_core_state;
-pub use core_state::{the_core_facts, the_core_laws};
+pub use core_state::{
+    Core, CoreCpu, CoreGroup, CoreParts, CpuStatus, Tally, law_answered, law_covered,
+    law_each_settled, law_height, law_next_moment, law_once, law_place, law_replay, law_start,
+    law_step,
+};
 pub use steps::apply;

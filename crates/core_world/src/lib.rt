@@ -6,8 +6,10 @@
 mod laws;
 mod step;
 
-pub use cpu_bases as the_cpu_bases;
+pub use cpu_bases::{Bases, NextEvents, law_bases};
 pub use laws::{law_moved, law_quiet, law_sizes};
 pub use step::Step;
-pub use walk_rules as the_walk_rules;
-pub use walk_rules::{the_event_queue, the_group_word, the_tree_plan};
+pub use walk_rules::{
+    Event, Events, GroupState, Stage, Tree, Walk, activated, law_below, law_levels, law_paths,
+    swapped,
+};

@@ -1,7 +1,6 @@
 ghost use Rattle.job_table.specs.Standard.{one_shot_reply};
 
-use core_plays::the_core_machine::{Player, RunPlayer};
-use core_plays::{deep, play, play_moment, run_moment, start_core};
+use core_plays::{Player, RunPlayer, deep, play, play_moment, run_moment, start_core};
 use job_table::{Job, JobCall, JobReply, JobTable, OneShot};
 use play_driver::having_interrupt;
 use std::alloc::{AllocError, Global};

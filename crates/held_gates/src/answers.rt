@@ -3,8 +3,7 @@
 ghost use Rattle.std.specs.Prelude.{◌<◌, length};
 
 use core_machine::answers::{Cover, cover_of};
-use step_laws::the_core_state::Core;
-use step_laws::{is_settled, law_settled};
+use step_laws::{Core, is_settled, law_settled};
 use tm_base::{CpuId, NEVER};
 use wheel_core::TimerBase;
 

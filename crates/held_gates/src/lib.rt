@@ -9,5 +9,4 @@ mod meetings;
 pub use answers::is_answered;
 pub use calls::{ByPoints, HeldCall, MOST_LOOKS, Place};
 pub use meetings::Meeting;
-pub use step_laws as the_step_laws;
-pub use step_laws::the_core_state;
+pub use step_laws::{Core, is_settled, run_steps};

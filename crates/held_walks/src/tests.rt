@@ -1,7 +1,5 @@
 use core_world::Step;
-use held_gates::the_core_state::Core;
-use held_gates::the_step_laws::{is_settled, run_steps};
-use held_gates::{HeldCall, Place};
+use held_gates::{Core, HeldCall, Place, is_settled, run_steps};
 use std::alloc::Global;
 use std::sync::Wait;
 use std::test::Fail;

@@ -5,7 +5,7 @@ ghost use Rattle.core_machine.specs.step_play.Rules.StepRules.{made_active};
 ghost use Rattle.hotplug.specs.Frames.{Activated, MayActivate};
 ghost use Rattle.core_machine.specs.step_play.Rules.Lone.{Reaches};
 
-use core_machine::the_core_state::Core;
+use core_machine::Core;
 use core_machine::walks::wake;
 use tm_base::CpuId;
 use wheel_core::TimerBase;

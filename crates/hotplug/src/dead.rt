@@ -12,9 +12,8 @@ ghost use Rattle.hotplug.specs.Settled.{MovedTimes};
 
 use crate::activation::make_active;
 use core_machine::readings::controller;
-use core_machine::the_core_laws::law_step;
-use core_machine::the_core_state::Core;
 use core_machine::timers::first_timer;
+use core_machine::{Core, law_step};
 use tm_base::{CpuId, NoMemory};
 use wheel_core::TimerBase;
 

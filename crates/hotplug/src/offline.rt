@@ -11,8 +11,8 @@ ghost use Rattle.core_machine.specs.step_play.Rules.Lone.{Reaches};
 ghost use Rattle.hotplug.specs.Settled.{AllWhole, gone_whole, heir_at, offline_fault};
 
 use crate::activation::make_active;
+use core_machine::Core;
 use core_machine::readings::hands_on;
-use core_machine::the_core_state::Core;
 use core_machine::walks::make;
 use core_world::Step;
 use tm_base::{CpuId, OpFault};

@@ -7,7 +7,7 @@ ghost use Rattle.core_machine.specs.step_play.Rules.Lone.{Reaches};
 ghost use Rattle.hotplug.specs.Afterwards.{HasCome};
 ghost use Rattle.hotplug.specs.Settled.{AllWhole, online_fault};
 
-use core_machine::the_core_state::Core;
+use core_machine::Core;
 use core_machine::walks::come_online;
 use tm_base::{CpuId, OpFault};
 use wheel_core::TimerBase;

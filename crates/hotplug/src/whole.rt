@@ -4,7 +4,7 @@ ghost use Rattle.std.specs.Prelude.{◌↔◌, ◌<◌, length, IsTrue};
 ghost use Rattle.core_world.specs.World.{cpu_of};
 ghost use Rattle.hotplug.specs.Settled.{AllWhole, IsWhole};
 
-use core_machine::the_core_state::Core;
+use core_machine::Core;
 use tm_base::{Class, CpuId};
 use wheel_core::TimerBase;
 

@@ -12,8 +12,7 @@ use crate::meeting::meet_own;
 use cpu_word::CpuState;
 use std::sync::Wait;
 use tm_base::{Gate, Jiffy, OpFault};
-use walk_active::the_shared_rule::{Pass, RunName};
-use walk_active::the_shared_table::{CpuBox, MOST_MADE, Shared};
+use walk_active::{CpuBox, MOST_MADE, Pass, RunName, Shared};
 use walk_inactive::deactivate;
 use wheel_core::TimerBase;
 

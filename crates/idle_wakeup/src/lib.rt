@@ -9,5 +9,6 @@ mod waking;
 pub use idling::{IdleAnswer, go_idle};
 pub use waking::wake;
 pub use walk_active::{
-    the_core_state, the_shared_cpus, the_shared_rule, the_shared_table, the_shared_walks,
+    BoxPart, Core, Pass, Ready, Receipt, Run, RunName, Shared, bring, idle_step, part_off,
+    rest_step, wake_step, walk_step,
 };

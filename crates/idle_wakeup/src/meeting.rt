@@ -7,8 +7,7 @@ ghost use Rattle.walk_active.specs.shared_rule.Parts.{without_guest};
 ghost use Rattle.walk_active.specs.shared_rule.Passes.{IsPassIn, knowing, with_pass};
 ghost use Rattle.walk_active.specs.Activated.{IsOwnPass};
 
-use walk_active::the_shared_rule::{Pass, Run, RunName, visit};
-use walk_active::the_shared_table::CpuBox;
+use walk_active::{CpuBox, Pass, Run, RunName, visit};
 use wheel_core::TimerBase;
 
 /// A pass goes into the box of its CPU and off again, and so the two agree, and the pass has the

@@ -9,9 +9,7 @@ use crate::meeting::meet_own;
 use cpu_word::CpuState;
 use std::sync::Wait;
 use tm_base::{Gate, OpFault};
-use walk_active::activate;
-use walk_active::the_shared_rule::{Pass, RunName};
-use walk_active::the_shared_table::{CpuBox, MOST_MADE, Shared};
+use walk_active::{CpuBox, MOST_MADE, Pass, RunName, Shared, activate};
 use wheel_core::TimerBase;
 
 /// Why a CPU that shows this, and with whose pass so many walks were begun, can't wake.

@@ -6,8 +6,7 @@ use crate::cases::Case;
 use crate::machines::{CPUS, EACH, Load};
 use core_world::Step;
 use std::alloc::Global;
-use table_stress::the_core_state::Core;
-use table_stress::the_step_core::{apply, enabled};
+use table_stress::{Core, apply, enabled};
 use tm_base::{Class, CpuId, NoMemory, TimerId};
 use wheel_base::WheelBase;
 

@@ -2,9 +2,7 @@
 
 use core_world::Step;
 use std::alloc::Global;
-use table_stress::start;
-use table_stress::the_core_state::Core;
-use table_stress::the_step_laws::run_steps;
+use table_stress::{Core, run_steps, start};
 use tm_base::{Class, CpuId, CpuSet, NoMemory, TimerId};
 use wheel_base::WheelBase;
 

@@ -20,9 +20,9 @@ use std::env;
 use std::sync::Wait;
 use std::thread::Threads;
 use std::time::{Clock, Instant};
-use table_stress::the_core_state::Core;
-use table_stress::the_step_laws::{is_settled, run_steps};
-use table_stress::{Crew, LATEST, Plan, Ran, no_base_behind, run_plan};
+use table_stress::{
+    Core, Crew, LATEST, Plan, Ran, is_settled, no_base_behind, run_plan, run_steps,
+};
 use tm_base::{FreeGate, NoMemory};
 use wheel_base::WheelBase;
 

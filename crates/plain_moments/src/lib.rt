@@ -7,4 +7,4 @@
 mod moments;
 
 pub use moments::plain_moment;
-pub use story::{the_core_facts, the_play_laws};
+pub use story::{law_each_settled, law_work};

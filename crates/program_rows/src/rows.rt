@@ -1,7 +1,7 @@
 //! Worked rows of the whole program: words and input, and the status and text that they come to.
 //! They were worked out from the rules before the program was, and none is its own output.
 
-use script_main::the_program_texts::{
+use script_main::{
     DONE, JOB_UNKNOWN, SCRIPT_REFUSED, TRACE_REFUSED, USAGE, WORK_SPENT, WORKS_REFUSED,
 };
 

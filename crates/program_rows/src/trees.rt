@@ -1,4 +1,4 @@
-use script_main::the_program_texts::tree_text::print_tree;
+use script_main::tree_text::print_tree;
 use std::test::Fail;
 use tm_base::CpuSet;
 use tree_plan::plan;

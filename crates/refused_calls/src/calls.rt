@@ -10,13 +10,8 @@ ghost use Rattle.shared_rows.specs.shared_table.Ended.{AreAllPasses, HasNoBaseBe
 
 use crate::cores::likeness;
 use job_table::{Job, JobTable, Jobs, OneShot};
-use remote_expiry::the_timer_calls::arm;
-use remote_expiry::{Runs, interrupt};
-use shared_rows::no_base_behind;
-use shared_rows::the_core_state::Core;
-use shared_rows::the_shared_rule::{Pass, RunName};
-use shared_rows::the_shared_table::{Ready, Shared};
-use shared_rows::the_step_laws::is_settled;
+use remote_expiry::{Runs, arm, interrupt};
+use shared_rows::{Core, Pass, Ready, RunName, Shared, is_settled, no_base_behind};
 use std::alloc::Global;
 use std::marker::Brand;
 use std::sync::Wait;

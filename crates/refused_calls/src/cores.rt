@@ -1,7 +1,7 @@
 //! The core of the calls, and what two cores have in common.
 
 use core_world::Step;
-use shared_rows::the_core_state::Core;
+use shared_rows::Core;
 use std::alloc::Global;
 use tm_base::{Class, CpuId, CpuSet, GroupId, NoMemory, TimerId};
 use wheel_base::WheelBase;

@@ -11,8 +11,7 @@ use remote_parts::{Runs, hand_all, room_for};
 use std::alloc::Global;
 use std::sync::Wait;
 use tm_base::{Class, Jiffy, NoMemory};
-use walk_inactive::the_shared_rule::{Pass, Run, RunName};
-use walk_inactive::the_shared_table::{CpuBox, Shared};
+use walk_inactive::{CpuBox, Pass, Run, RunName, Shared};
 use wheel_core::{Item, TimerBase};
 
 /// All due timers of a class go out of the box of the pass's CPU, with room for all that comes.

@@ -18,10 +18,9 @@ use remote_parts::{Runs, leave_part};
 use std::alloc::Global;
 use std::sync::Wait;
 use tm_base::{Class, Gate, Jiffy, NoMemory, OpFault};
-use walk_inactive::carry;
-use walk_inactive::the_shared_cpus::enter_step;
-use walk_inactive::the_shared_rule::{BoxPart, Pass, Run, RunName, bring, part_off};
-use walk_inactive::the_shared_table::{CpuBox, MOST_MADE, Shared};
+use walk_inactive::{
+    BoxPart, CpuBox, MOST_MADE, Pass, Run, RunName, Shared, bring, carry, enter_step, part_off,
+};
 use wheel_core::TimerBase;
 
 /// Why a CPU that shows this, and with whose pass so many walks were begun, has no interrupt.

@@ -11,8 +11,7 @@ use remote_parts::{Ran, RanReply, Runs};
 use std::sync::Wait;
 use timer_calls::arm;
 use tm_base::{Class, CpuId, Jiffy, NoMemory, OpFault, TimerId};
-use walk_inactive::the_shared_rule::{Pass, RunName};
-use walk_inactive::the_shared_table::Shared;
+use walk_inactive::{Pass, RunName, Shared};
 use wheel_core::{Item, TimerBase};
 
 /// The CPU on which a timer was found queued that was to be armed.

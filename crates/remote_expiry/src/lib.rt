@@ -11,4 +11,4 @@ mod serving;
 
 pub use interrupting::interrupt;
 pub use remote_parts::{Ran, RanReply, Runs};
-pub use timer_calls as the_timer_calls;
+pub use timer_calls::{arm, cancel};

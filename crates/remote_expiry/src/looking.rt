@@ -8,14 +8,12 @@ ghost use Rattle.remote_expiry.specs.Trying.{BreaksRound, HasClimbed, HasRounds,
 
 use crate::serving::serve;
 use job_table::Jobs;
-use remote_parts::Runs;
-use remote_parts::the_remote_looks::{Look, look};
+use remote_parts::{Look, Runs, look};
 use std::alloc::Global;
 use std::sync::Wait;
 use tm_base::{CPU_SET_SIZE, CpuSet, Gate, Jiffy, NoMemory};
 use tree_plan::{law_cuts, law_paths};
-use walk_inactive::the_shared_rule::{Pass, Run, RunName};
-use walk_inactive::the_shared_table::Shared;
+use walk_inactive::{Pass, Run, RunName, Shared};
 use wheel_core::TimerBase;
 
 /// One round more than there may be CPUs.

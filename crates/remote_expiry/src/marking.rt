@@ -7,9 +7,7 @@ ghost use Rattle.remote_parts.specs.Tries.{AtWork, HasUnmarked};
 
 use std::sync::Wait;
 use tm_base::{Gate, Point};
-use walk_inactive::carry;
-use walk_inactive::the_shared_rule::{BoxPart, Pass, RunName, bring, part_off};
-use walk_inactive::the_shared_table::Shared;
+use walk_inactive::{BoxPart, Pass, RunName, Shared, bring, carry, part_off};
 use wheel_core::TimerBase;
 
 /// The CPU of the pass carries the next event of that of the part, which still sleeps, upwards, and

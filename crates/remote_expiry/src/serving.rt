@@ -13,13 +13,11 @@ ghost use Rattle.remote_parts.specs.Tries.{TakesOrLeaves};
 use crate::jobs::run_all;
 use crate::marking::carry_for;
 use job_table::Jobs;
-use remote_parts::the_remote_looks::may_take;
-use remote_parts::{Runs, take_back, take_part};
+use remote_parts::{Runs, may_take, take_back, take_part};
 use std::alloc::Global;
 use std::sync::Wait;
 use tm_base::{CpuId, Gate, Jiffy, NoMemory};
-use walk_inactive::the_shared_rule::{BoxPart, Pass, Run, RunName};
-use walk_inactive::the_shared_table::{CpuBox, Shared};
+use walk_inactive::{BoxPart, CpuBox, Pass, Run, RunName, Shared};
 use wheel_core::{Item, TimerBase};
 
 /// The CPU of the pass marks that of the box, where that may be, and takes all that is due out of

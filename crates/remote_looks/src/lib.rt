@@ -13,5 +13,5 @@ mod slots;
 pub use looking::{look, needs_remote};
 pub use marks::may_take;
 pub use room::{make_room, take_room};
-pub use shared_cpus as the_shared_cpus;
+pub use shared_cpus::{leave_step, release_step, take_step};
 pub use sight::Look;

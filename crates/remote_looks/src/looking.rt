@@ -9,7 +9,7 @@ use crate::path::{group_at, side_on};
 use crate::sight::Look;
 use crate::slots::see_events;
 use group_word::{looks, unpack};
-use shared_cpus::the_shared_rule::{Pass, Run, RunName};
+use shared_cpus::{Pass, Run, RunName};
 use tm_base::{CpuSet, Jiffy};
 use wheel_core::TimerBase;
 

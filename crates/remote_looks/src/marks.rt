@@ -12,8 +12,7 @@ ghost use Rattle.remote_looks.specs.Marks.{HasNoticed, IsNoticed, IsTakable};
 
 use crate::path::group_at;
 use event_queue::Event;
-use shared_cpus::the_shared_rule::{BoxPart, Pass, Run, RunName, bring, part_off};
-use shared_cpus::{see_cpu, see_leaf};
+use shared_cpus::{BoxPart, Pass, Run, RunName, bring, part_off, see_cpu, see_leaf};
 use tm_base::Jiffy;
 use wheel_core::TimerBase;
 

@@ -5,7 +5,7 @@ ghost use Rattle.tm_base.specs.Children.{of_cpu};
 ghost use Rattle.tree_plan.specs.Paths.{bit_of, cpu_count_of, group_at_of};
 ghost use Rattle.walk_rules.specs.Hierarchy.{side};
 
-use shared_cpus::the_shared_rule::{Run, RunName};
+use shared_cpus::{Run, RunName};
 use tm_base::{CpuId, GroupId};
 use tree_plan::{Tree, law_edges, law_paths};
 use wheel_core::TimerBase;

@@ -4,7 +4,7 @@ ghost use Rattle.std.specs.Prelude.{◌≡◌, OnErr, OnOk};
 ghost use Rattle.shared_cpus.specs.shared_rule.Passes.{with_receipts_room};
 ghost use Rattle.remote_looks.specs.Rooms.{drain_entries, with_more_room};
 
-use shared_cpus::the_shared_rule::{BoxPart, Pass, RunName};
+use shared_cpus::{BoxPart, Pass, RunName};
 use tm_base::{Class, NoMemory};
 use wheel_core::TimerBase;
 

@@ -5,7 +5,7 @@ ghost use Rattle.shared_cpus.specs.shared_rule.Passes.{IsOfRun};
 ghost use Rattle.remote_looks.specs.Sights.{HasSeenSlot, HasSeenSlots};
 
 use event_queue::{Events, unpack_event};
-use shared_cpus::the_shared_rule::{Pass, Run, RunName};
+use shared_cpus::{Pass, Run, RunName};
 use tm_base::GroupId;
 use wheel_core::TimerBase;
 

@@ -17,8 +17,7 @@ ghost use Rattle.remote_parts.specs.Pieces.{but_for_bases};
 
 use crate::runs::Runs;
 use remote_looks::make_room;
-use shared_timers::drain_step;
-use shared_timers::the_shared_rule::{BoxPart, Pass, Run, RunName, bring, part_off};
+use shared_timers::{BoxPart, Pass, Run, RunName, bring, drain_step, part_off};
 use tm_base::{Class, Jiffy, NoMemory};
 use wheel_core::{Item, TimerBase};
 

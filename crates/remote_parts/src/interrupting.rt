@@ -4,8 +4,8 @@ ghost use Rattle.std.specs.Prelude.{◌≡◌, [], false};
 ghost use Rattle.shared_timers.specs.shared_rule.Free.{IsFree};
 ghost use Rattle.remote_parts.specs.Tries.{AtWork, HasClosed};
 
-use remote_looks::the_shared_cpus::leave_step;
-use shared_timers::the_shared_rule::{BoxPart, Pass, Run, RunName, bring, part_off};
+use remote_looks::leave_step;
+use shared_timers::{BoxPart, Pass, Run, RunName, bring, part_off};
 use wheel_core::TimerBase;
 
 /// An awake CPU leaves its interrupt, with its own pass.

@@ -12,6 +12,6 @@ mod serving;
 pub use draining::{hand_all, room_for};
 pub use interrupting::leave_part;
 pub use marking::{mark, take_back};
-pub use remote_looks as the_remote_looks;
+pub use remote_looks::{Look, look, may_take};
 pub use runs::{Ran, RanReply, Runs};
 pub use serving::take_part;

@@ -7,8 +7,8 @@ ghost use Rattle.shared_timers.specs.shared_rule.Free.{IsFree};
 ghost use Rattle.remote_looks.specs.Marks.{IsTakable};
 ghost use Rattle.remote_parts.specs.Tries.{AtWork, HasMarked, HasUnmarked, KeepsBases};
 
-use remote_looks::the_shared_cpus::{release_step, take_step};
-use shared_timers::the_shared_rule::{BoxPart, Pass, Run, RunName, bring, part_off};
+use remote_looks::{release_step, take_step};
+use shared_timers::{BoxPart, Pass, Run, RunName, bring, part_off};
 use wheel_core::TimerBase;
 
 /// The CPU of the pass marks that of the part, which is due (`tmigr_handle_remote_cpu`).

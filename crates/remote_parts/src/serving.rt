@@ -11,7 +11,7 @@ use crate::draining::{hand_all, room_for};
 use crate::marking::mark;
 use crate::runs::Runs;
 use remote_looks::may_take;
-use shared_timers::the_shared_rule::{BoxPart, Pass, Run, RunName};
+use shared_timers::{BoxPart, Pass, Run, RunName};
 use tm_base::{Class, Gate, Jiffy, NoMemory, Point};
 use wheel_core::{Item, TimerBase};
 

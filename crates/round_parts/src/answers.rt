@@ -10,9 +10,7 @@ ghost use Rattle.round_parts.specs.Doing.{IsShareOp};
 ghost use Rattle.round_parts.specs.Lines.{cancel_line, idle_line};
 ghost use Rattle.round_parts.specs.Standing.{HasAnswered, HaveAnswered, MayAnswer};
 
-use idle_wakeup::the_shared_rule::{Pass, RunName};
-use idle_wakeup::the_shared_table::Shared;
-use idle_wakeup::{IdleAnswer, go_idle, wake};
+use idle_wakeup::{IdleAnswer, Pass, RunName, Shared, go_idle, wake};
 use std::sync::Wait;
 use timer_calls::{arm, cancel};
 use tm_base::{Class, CpuId, Gate, Jiffy, NoMemory, OpFault, TimerId};

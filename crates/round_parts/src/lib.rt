@@ -9,8 +9,8 @@ mod shares;
 mod tasks;
 
 pub use answers::answer_all;
-pub use idle_wakeup::{the_core_state, the_shared_rule, the_shared_table};
+pub use idle_wakeup::{Core, Pass, Ready, RunName, Shared};
 pub use runs::tell_runs;
 pub use shares::{Share, gather};
-pub use story::the_core_facts;
+pub use story::law_rest;
 pub use tasks::{Task, tasks_of};

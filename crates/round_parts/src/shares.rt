@@ -3,7 +3,7 @@
 ghost use Rattle.std.specs.Prelude.{IfOk};
 ghost use Rattle.round_parts.specs.Tasks.{AreGathered};
 
-use idle_wakeup::the_shared_rule::Pass;
+use idle_wakeup::Pass;
 use std::alloc::Global;
 use tm_base::NoMemory;
 use tm_report::Line;

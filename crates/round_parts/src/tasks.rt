@@ -8,7 +8,7 @@ ghost use Rattle.round_parts.specs.Doing.{IsRoundOp};
 ghost use Rattle.round_parts.specs.Tasks.{AreTasks, EachFrom};
 ghost use Rattle.round_parts.specs.Progress.{AreGiven, IsFirstPass, IsGiven};
 
-use idle_wakeup::the_shared_rule::{Pass, RunName};
+use idle_wakeup::{Pass, RunName};
 use std::alloc::Global;
 use tm_base::{CpuSet, NoMemory};
 use tm_script::Op;

@@ -8,13 +8,10 @@
 mod telling;
 mod turns;
 
-pub use core_plays as the_core_plays;
-pub use core_plays::the_core_state::Core;
 pub use core_plays::{
-    RunPlayer, Summary, deep, next_moment, play, play_moment, run_moment, start_core, summary,
+    Core, RunPlayer, Summary, deep, next_moment, play, play_moment, run_moment, start_core, summary,
 };
-pub use plain_moments::the_core_facts::law_each_settled;
-pub use plain_moments::the_play_laws;
+pub use plain_moments::{law_each_settled, law_work};
 pub use telling::tell_round;
 pub use turns::{
     close, come_to, count_due, cpu_count, is_plain, moment_after, ops_of, plain_moment, started,

@@ -7,7 +7,6 @@ mod replies;
 
 pub use program::run_program;
 pub use program_replies::day_text;
-pub use program_texts as the_program_texts;
 pub use program_texts::{
     DONE, JOB_UNKNOWN, MOST_NUMBER, NO_MEMORY, READ_FAULT, SCRIPT_REFUSED, Status, TOO_LONG,
     TRACE_REFUSED, USAGE, WORK_SPENT, WORKS_REFUSED, WRITE_FAULT, tree_text,

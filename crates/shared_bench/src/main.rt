@@ -8,11 +8,7 @@ ghost use Rattle.std.specs.Prelude.{◌≡◌};
 ghost use Rattle.core_world.specs.Covered.{IsSettled};
 ghost use Rattle.shared_rows.specs.shared_table.Ended.{HasNoBaseBehind};
 
-use shared_rows::the_core_state::Core;
-use shared_rows::the_shared_rule::RunName;
-use shared_rows::the_shared_table::{Ready, Shared};
-use shared_rows::the_step_laws::is_settled;
-use shared_rows::{no_base_behind, start, stir};
+use shared_rows::{Core, Ready, RunName, Shared, is_settled, no_base_behind, start, stir};
 use std::env;
 use std::marker::Brand;
 use std::time::Instant;

@@ -8,8 +8,9 @@ ghost use Rattle.shared_cpus.specs.Conditions.{CanEndCarry, EndsAs};
 ghost use Rattle.shared_cpus.specs.Pairs.{HasOwn, by_pair, of_box};
 
 use crate::status::status_word;
-use shared_rule::the_core_state::CpuStatus;
-use shared_rule::{BoxPart, CarryEnds, Reevaluates, Rests, Run, RunName, law_carry, law_finish};
+use shared_rule::{
+    BoxPart, CarryEnds, CpuStatus, Reevaluates, Rests, Run, RunName, law_carry, law_finish,
+};
 use shared_words::SharedWord;
 use tm_base::Jiffy;
 use walk_rules::Walk;

@@ -13,7 +13,6 @@ mod turns;
 pub use ending::{carried_step, reevaluated_step, rest_step};
 pub use marking::{carry_step, release_step, take_step};
 pub use seeing::{see_cpu, see_leaf};
-pub use shared_rule as the_shared_rule;
-pub use shared_rule::the_core_state;
+pub use shared_rule::{BoxPart, Core, Pass, Receipt, Run, RunName, bring, part_off, visit};
 pub use stepping::{cpu_step, finish_step};
 pub use turns::{enter_step, idle_step, leave_step, retell_step, wake_step};

@@ -10,8 +10,9 @@ ghost use Rattle.shared_cpus.specs.Conditions.{CanCarry, CanRelease, CanTake};
 ghost use Rattle.shared_cpus.specs.Pairs.{by_pair};
 
 use crate::status::{begun, count_walk, guest_cpu, status_word};
-use shared_rule::the_core_state::CpuStatus;
-use shared_rule::{BoxPart, Carries, Releases, Run, RunName, Takes, law_carry, law_take};
+use shared_rule::{
+    BoxPart, Carries, CpuStatus, Releases, Run, RunName, Takes, law_carry, law_take,
+};
 use shared_words::SharedWord;
 use walk_rules::{Stage, WalkKind};
 use wheel_core::TimerBase;

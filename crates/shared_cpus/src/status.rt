@@ -14,8 +14,7 @@ ghost use Rattle.shared_rule.specs.Turns.{begun};
 ghost use Rattle.shared_cpus.specs.Guests.{guest_cpu, one_more};
 
 use cpu_word::{CpuState, pack_cpu};
-use shared_rule::the_core_state::CpuStatus;
-use shared_rule::{BoxPart, Guest, Run, RunName};
+use shared_rule::{BoxPart, CpuStatus, Guest, Run, RunName};
 use tm_base::CpuId;
 use walk_rules::{Stage, Walk, WalkKind, begun_where};
 use wheel_core::TimerBase;

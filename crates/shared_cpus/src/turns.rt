@@ -9,9 +9,8 @@ ghost use Rattle.shared_cpus.specs.Conditions.{CanEnter, CanIdle, CanLeave, CanR
 ghost use Rattle.shared_cpus.specs.Pairs.{by_pair, of_box};
 
 use crate::status::{begun, count_walk, status_word};
-use shared_rule::the_core_state::CpuStatus;
 use shared_rule::{
-    BoxPart, Enters, Exits, Idles, Retells, Run, RunName, Wakes, law_turn, law_wake,
+    BoxPart, CpuStatus, Enters, Exits, Idles, Retells, Run, RunName, Wakes, law_turn, law_wake,
 };
 use shared_words::SharedWord;
 use tm_base::NEVER;

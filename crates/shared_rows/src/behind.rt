@@ -5,7 +5,7 @@ ghost use Rattle.core_world.specs.World.{cpu_of};
 ghost use Rattle.shared_table.specs.Ended.{HasNoBaseBehind};
 ghost use Rattle.shared_table.specs.Readied.{HasNoneBehind};
 
-use shared_table::the_core_state::Core;
+use shared_table::Core;
 use tm_base::{Class, CpuId};
 use wheel_base::WheelBase;
 

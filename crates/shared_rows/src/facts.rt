@@ -3,7 +3,7 @@
 ghost use Rattle.std.specs.Prelude.{◌<◌, length};
 
 use event_queue::Event;
-use shared_table::the_core_state::Core;
+use shared_table::Core;
 use std::alloc::Global;
 use tm_base::{Class, CpuId, GroupId, NoMemory, TimerId};
 use wheel_base::WheelBase;

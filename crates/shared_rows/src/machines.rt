@@ -7,9 +7,9 @@ ghost use Rattle.wheel_base.specs.Wheels.{no_base};
 
 use core_world::Step;
 use cpu_bases::Bases;
-use shared_table::the_core_state::Core;
+use shared_table::Core;
 use std::alloc::Global;
-use step_laws::the_step_core::{apply, enabled, new_core};
+use step_laws::{apply, enabled, new_core};
 use tm_base::{Class, CpuId, CpuSet, MOST_NODE_CPUS, MOST_NODES, NoMemory, TimerId};
 use tree_plan::plan;
 use wheel_base::WheelBase;

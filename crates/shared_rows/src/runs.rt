@@ -7,9 +7,7 @@ ghost use Rattle.shared_table.specs.Ended.{AreAllPasses, PassesFrom};
 ghost use Rattle.core_world.specs.Covered.{IsSettled};
 ghost use Rattle.shared_table.specs.Ended.{HasNoBaseBehind};
 
-use shared_table::the_core_state::Core;
-use shared_table::the_shared_rule::{Pass, Run, RunName};
-use shared_table::{Ready, Shared};
+use shared_table::{Core, Pass, Ready, Run, RunName, Shared};
 use shared_words::{SharedWord, unpack_spot};
 use std::alloc::Global;
 use std::marker::Brand;

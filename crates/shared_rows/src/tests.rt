@@ -1,6 +1,5 @@
 use crate::{Seen, facts_of, no_base_behind, run_once, start, stir};
-use shared_table::Ready;
-use shared_table::the_core_state::Core;
+use shared_table::{Core, Ready};
 use std::alloc::Global;
 use std::test::*;
 use std::thread::Threads;

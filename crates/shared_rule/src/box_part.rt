@@ -13,7 +13,7 @@ use crate::run::{Run, RunName};
 use core_state::CpuStatus;
 use cpu_bases::Bases;
 use event_queue::Event;
-use shared_words::the_cpu_word::CpuState;
+use shared_words::CpuState;
 use std::marker::{Model, PhantomData};
 use tm_base::CpuId;
 use walk_rules::Walk;

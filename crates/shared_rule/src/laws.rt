@@ -16,7 +16,7 @@ ghost use Rattle.shared_rule.specs.TurnLaws.{CarryEndStays, CarryStays, SeeCpuSt
 ghost use Rattle.shared_rule.specs.TurnLaws.{TickStays};
 ghost use Rattle.shared_rule.specs.TimerLaws.{ArmStays, CancelStays, HandStays};
 
-use core_state::the_core_facts::{
+use core_state::{
     law_bounds, law_frame, law_height, law_lock, law_mark, law_once_a_level, law_own_event,
     law_place, law_replay, law_rest, law_step, law_walker,
 };

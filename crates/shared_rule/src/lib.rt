@@ -18,8 +18,7 @@ mod visiting;
 
 pub use box_part::{BoxPart, Guest};
 pub use bringing::{bring, part_off};
-pub use core_state as the_core_state;
-pub use core_state::the_core_facts;
+pub use core_state::{Core, CoreCpu, CoreGroup, CoreParts, CpuStatus, Tally, law_bounds, law_rest};
 pub use laws::{
     core_laws, law_arm, law_begins, law_cancel, law_carry, law_ends, law_finish, law_free,
     law_hand, law_ignore, law_leave, law_lock_child, law_lock_group, law_notice, law_rise,

@@ -10,8 +10,9 @@ ghost use Rattle.std.specs.Prelude.{None};
 
 use crate::cpu_box::CpuBox;
 use event_queue::Event;
-use shared_rule::the_core_state::CoreCpu;
-use shared_rule::{BoxOff, BoxPart, Pass, PassOff, Receipts, Run, RunName, Seat, law_seats};
+use shared_rule::{
+    BoxOff, BoxPart, CoreCpu, Pass, PassOff, Receipts, Run, RunName, Seat, law_seats,
+};
 use std::alloc::Global;
 use tm_base::CpuId;
 use wheel_core::TimerBase;

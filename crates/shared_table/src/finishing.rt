@@ -14,8 +14,7 @@ use crate::cpu_box::CpuBox;
 use crate::ended;
 use crate::joining::{join_boxes, join_passes};
 use crate::shared::{Rooms, Shared};
-use shared_rule::the_core_state::{Core, CoreCpu, CoreParts};
-use shared_rule::{Pass, Run, RunName, Seat};
+use shared_rule::{Core, CoreCpu, CoreParts, Pass, Run, RunName, Seat};
 use std::sync::Mutex;
 use wheel_core::TimerBase;
 

@@ -11,8 +11,7 @@ ghost use Rattle.shared_table.specs.Spelled.{SpelledBelow, SpelledTo};
 use cpu_word::pack_cpu;
 use event_queue::pack_event;
 use group_word::{GroupState, pack};
-use shared_rule::the_core_facts::{law_bounds, law_rest};
-use shared_rule::the_core_state::Core;
+use shared_rule::{Core, law_bounds, law_rest};
 use shared_words::{
     Layout, Spot, WORDS_OF_GROUP, WORDS_OF_LINE, law_words_apart, pack_lock, pack_spot,
 };

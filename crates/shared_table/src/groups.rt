@@ -10,8 +10,7 @@ ghost use Rattle.shared_table.specs.Endings.{SpellsAtRest, word_in};
 use crate::last_words::LastWords;
 use event_queue::{Events, unpack_event};
 use group_word::unpack;
-use shared_rule::core_laws;
-use shared_rule::the_core_state::CoreGroup;
+use shared_rule::{CoreGroup, core_laws};
 use shared_words::{SharedWord, law_ways_back};
 use tm_base::GroupId;
 

@@ -8,8 +8,7 @@ ghost use Rattle.shared_table.specs.Ended.{BeganWith};
 ghost use Rattle.shared_table.specs.Joined.{owns_of, with_boxes, with_passes};
 
 use crate::cpu_box::CpuBox;
-use shared_rule::the_core_state::CoreCpu;
-use shared_rule::{BoxPart, Pass, Run, RunName, Seat, Together, law_seats};
+use shared_rule::{BoxPart, CoreCpu, Pass, Run, RunName, Seat, Together, law_seats};
 use wheel_core::TimerBase;
 
 /// A seat takes another in.

@@ -6,7 +6,7 @@ ghost use Rattle.core_world.specs.World.{World};
 ghost use Rattle.shared_rule.specs.Whole.{leaf_of};
 
 use event_queue::Event;
-use shared_rule::the_core_state::CoreGroup;
+use shared_rule::CoreGroup;
 use tm_base::CpuId;
 use tree_plan::Tree;
 use walk_rules::law_hierarchy;

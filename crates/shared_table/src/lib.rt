@@ -21,5 +21,4 @@ pub use joining::{join_boxes, join_passes};
 pub use read_back::ended;
 pub use ready::{MOST_MADE, Ready};
 pub use shared::Shared;
-pub use shared_rule as the_shared_rule;
-pub use shared_rule::the_core_state;
+pub use shared_rule::{BoxPart, Core, Pass, Run, RunName, visit};

@@ -9,8 +9,7 @@ ghost use Rattle.shared_table.specs.Endings.{HasAllParts, IsEnd, RebuildsAs};
 use crate::groups::read_groups;
 use crate::holders::read_holders;
 use crate::last_words::LastWords;
-use shared_rule::the_core_state::{Core, CoreParts};
-use shared_rule::{Seat, Words};
+use shared_rule::{Core, CoreParts, Seat, Words};
 use shared_words::Layout;
 use wheel_core::TimerBase;
 

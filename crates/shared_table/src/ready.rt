@@ -6,8 +6,7 @@ ghost use Rattle.core_world.specs.World.{cpu_of};
 ghost use Rattle.shared_table.specs.Readied.{HasNoneBehind, IsRoomFor, IsTableOf, MayBegin};
 
 use crate::first_words::first_words;
-use shared_rule::the_core_state::{Core, CoreCpu};
-use shared_rule::{Opening, Seat, Words, law_begins};
+use shared_rule::{Core, CoreCpu, Opening, Seat, Words, law_begins};
 use std::alloc::Global;
 use std::marker::Model;
 use tm_base::NoMemory;

@@ -16,5 +16,5 @@ pub use draining::{drain_step, next_timer};
 pub use exchanges::{drain, take_out, try_arm};
 pub use noting::note;
 pub use queueing::{arm_step, cancel_step};
-pub use shared_rule as the_shared_rule;
+pub use shared_rule::{BoxPart, Pass, Run, RunName, bring, part_off};
 pub use together::{arm_with, cancel_with, hand_with};

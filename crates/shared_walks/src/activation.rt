@@ -7,9 +7,9 @@ ghost use Rattle.shared_walks.specs.Steps.{HasMissed, HasRisen, WalkStands, on_p
 
 use crate::path::{at_top, group_on, side_on, state_place};
 use crate::stages::as_ignored;
-use shared_rule::the_core_state::CpuStatus;
 use shared_rule::{
-    BoxPart, FindsMark, Looks, Marks, MarksOwn, Rises, Run, RunName, law_ignore, law_rise,
+    BoxPart, CpuStatus, FindsMark, Looks, Marks, MarksOwn, Rises, Run, RunName, law_ignore,
+    law_rise,
 };
 use shared_words::{SharedWord, has_migrator, joined_word};
 use walk_rules::{Stage, Walk, at_stage, mark_next, up_next};

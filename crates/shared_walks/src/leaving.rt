@@ -8,8 +8,9 @@ ghost use Rattle.shared_walks.specs.Steps.{WalkStands, on_part};
 
 use crate::path::{group_below, group_on, side_on};
 use crate::stages::read_in_box;
-use shared_rule::the_core_state::CpuStatus;
-use shared_rule::{BoxPart, ReadsChild, ReadsGroup, ReadsOwn, Run, RunName, Swaps, law_leave};
+use shared_rule::{
+    BoxPart, CpuStatus, ReadsChild, ReadsGroup, ReadsOwn, Run, RunName, Swaps, law_leave,
+};
 use shared_words::{SharedWord, has_migrator, swapped_word};
 use tree_plan::law_paths;
 use walk_rules::{Walk, child_next, law_hierarchy, swap_next};

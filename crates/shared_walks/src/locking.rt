@@ -8,10 +8,9 @@ ghost use Rattle.shared_rule.specs.Plays.{group_freed_walk, locked_walk};
 ghost use Rattle.shared_walks.specs.Steps.{LockTried, WalkStands, on_part};
 
 use crate::path::{group_below, group_on, lock_below, lock_place};
-use shared_rule::the_core_state::CpuStatus;
 use shared_rule::{
-    BoxPart, FreesChild, FreesGroup, Locks, LocksChild, Run, RunName, law_free, law_lock_child,
-    law_lock_group,
+    BoxPart, CpuStatus, FreesChild, FreesGroup, Locks, LocksChild, Run, RunName, law_free,
+    law_lock_child, law_lock_group,
 };
 use shared_words::{SharedWord, pack_lock};
 use walk_rules::{Stage, Walk, at_stage, first_sight, free_group_next, freed_next, law_hierarchy};

@@ -7,8 +7,9 @@ ghost use Rattle.shared_walks.specs.Steps.{WalkStands, group_seen, on_part, top_
 
 use crate::path::{at_top, group_below, slot_place, state_place};
 use event_queue::unpack_event;
-use shared_rule::the_core_state::CpuStatus;
-use shared_rule::{BoxPart, Run, RunName, Scans, ScansTop, SeesChild, SeesGroup, law_sight};
+use shared_rule::{
+    BoxPart, CpuStatus, Run, RunName, Scans, ScansTop, SeesChild, SeesGroup, law_sight,
+};
 use shared_words::{SharedWord, has_migrator};
 use walk_rules::{Walk, first_next, law_hierarchy, scan_next, see_child_next, see_group_next};
 use wheel_core::TimerBase;

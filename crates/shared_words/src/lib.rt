@@ -7,7 +7,7 @@ mod layout;
 mod lock;
 mod spot;
 
-pub use cpu_word as the_cpu_word;
+pub use cpu_word::CpuState;
 pub use exchange::{has_migrator, joined_word, swapped_word};
 pub use laws::{law_ways_back, law_words_apart};
 pub use layout::{Layout, SharedWord, WORDS_OF_GROUP, WORDS_OF_LINE};

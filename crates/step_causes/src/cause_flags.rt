@@ -10,8 +10,7 @@ ghost use Rattle.walk_rules.specs.declared.walk.WalkKind.TheVariants as kinds;
 ghost use Rattle.step_causes.specs.Causes.{IsCause};
 
 use crate::causes::{Cause, CpuFact};
-use step_core::may_be_missed;
-use step_core::the_core_state::{Core, CpuStatus};
+use step_core::{Core, CpuStatus, may_be_missed};
 use tm_base::{CpuId, Jiffy, TIME_LIMIT};
 use walk_rules::{Walk, WalkKind};
 use wheel_core::TimerBase;

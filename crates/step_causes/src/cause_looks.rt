@@ -11,8 +11,7 @@ ghost use Rattle.step_causes.specs.Causes.{IsCause, IsHandingOn};
 
 use crate::cause_flags::{no_active, no_wake};
 use crate::causes::{Cause, CpuFact};
-use step_core::the_core_state::{Core, CpuStatus};
-use step_core::{is_due_at_leaf, is_reeval};
+use step_core::{Core, CpuStatus, is_due_at_leaf, is_reeval};
 use tm_base::{CpuId, GroupId};
 use walk_rules::{Stage, Walk};
 use wheel_core::TimerBase;

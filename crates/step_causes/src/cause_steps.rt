@@ -12,7 +12,7 @@ use crate::cause_looks::{no_hand_on, no_take, no_walk};
 use crate::cause_timers::{no_arm, no_cancel, no_hand, no_move, no_tick};
 use crate::causes::Cause;
 use core_world::Step;
-use step_core::the_core_state::Core;
+use step_core::Core;
 use wheel_core::TimerBase;
 
 fn no_step<B: TimerBase>(core: &Core<B>, step: Step) -> Option<Cause>

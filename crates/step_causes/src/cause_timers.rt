@@ -13,8 +13,7 @@ ghost use Rattle.step_causes.specs.Causes.{IsCause, MovesNotFirst};
 
 use crate::cause_flags::{no_active, no_free, no_online};
 use crate::causes::{Cause, CpuFact};
-use step_core::the_core_state::Core;
-use step_core::{is_id, may_run};
+use step_core::{Core, is_id, may_run};
 use tm_base::{Class, CpuId, Jiffy, TIME_LIMIT, TimerId};
 use wheel_core::{Item, TimerBase};
 

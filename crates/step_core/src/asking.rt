@@ -11,7 +11,7 @@ ghost use Rattle.walk_rules.specs.declared.walk.Walk.{Walk};
 ghost use Rattle.walk_rules.specs.declared.walk.WalkKind.TheVariants as kinds;
 ghost use Rattle.walk_rules.specs.declared.walk.Stage.TheVariants as stages;
 
-use core_steps::the_core_state::{Core, CpuStatus};
+use core_steps::{Core, CpuStatus};
 use tm_base::{CpuId, Jiffy, TIME_LIMIT};
 use walk_rules::{Stage, Walk, WalkKind};
 use wheel_core::TimerBase;

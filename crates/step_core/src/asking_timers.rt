@@ -10,7 +10,7 @@ ghost use Rattle.core_world.specs.World.{cpu_of};
 ghost use Rattle.step_core.specs.Asking.{MayGo};
 
 use crate::asking::{is_active, is_free, names};
-use core_steps::the_core_state::Core;
+use core_steps::Core;
 use tm_base::{Class, CpuId, GroupId, Jiffy, TIME_LIMIT, TimerId};
 use walk_rules::{Stage, Walk};
 use wheel_core::{Item, TimerBase};

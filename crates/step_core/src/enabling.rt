@@ -8,7 +8,7 @@ use crate::asking::{
     may_reevaluate, may_release, may_take, may_time, may_wake,
 };
 use crate::asking_timers::{may_arm, may_cancel, may_hand, may_move, may_tick, may_walk};
-use core_steps::the_core_state::Core;
+use core_steps::Core;
 use core_world::Step;
 use wheel_core::TimerBase;
 

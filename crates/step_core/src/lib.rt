@@ -10,7 +10,10 @@ mod start;
 
 pub use asking::{is_due_at_leaf, is_reeval, may_be_missed};
 pub use asking_timers::{is_id, may_run};
-pub use core_steps::{apply, the_core_facts, the_core_laws, the_core_state};
+pub use core_steps::{
+    Core, CpuStatus, apply, law_answered, law_covered, law_each_settled, law_height,
+    law_next_moment, law_once, law_place, law_replay, law_start, law_step,
+};
 pub use enabling::enabled;
 pub use small::one_node_core;
 pub use start::new_core;

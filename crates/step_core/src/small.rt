@@ -8,7 +8,7 @@ ghost use Rattle.cpu_bases.specs.CpuBases.{empty_bases};
 ghost use Rattle.core_world.specs.Start.{start_of};
 
 use crate::start::new_core;
-use core_steps::the_core_state::Core;
+use core_steps::Core;
 use cpu_bases::Bases;
 use std::alloc::Global;
 use tm_base::{CpuSet, NoMemory};

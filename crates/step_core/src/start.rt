@@ -6,9 +6,7 @@ ghost use Rattle.tree_plan.specs.Paths.{child_count_of, cpu_count_of, group_coun
 ghost use Rattle.cpu_bases.specs.CpuBases.{empty_bases};
 ghost use Rattle.core_world.specs.Start.{start_cpu, start_group, start_of};
 
-use core_steps::the_core_facts::{law_height, law_replay};
-use core_steps::the_core_laws::law_start;
-use core_steps::the_core_state::{Core, CoreCpu, CoreGroup, CoreParts, Tally};
+use core_steps::{Core, CoreCpu, CoreGroup, CoreParts, Tally, law_height, law_replay, law_start};
 use cpu_bases::Bases;
 use std::alloc::Global;
 use tm_base::{CpuId, GroupId, NoMemory};

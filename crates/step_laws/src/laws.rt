@@ -11,9 +11,7 @@ ghost use Rattle.step_core.specs.core_state.Kept.{WorldsStayFit};
 ghost use Rattle.step_laws.specs.Reached.{EachReachedFits};
 
 use core_world::law_sizes;
-use step_core::the_core_facts::{law_height, law_replay};
-use step_core::the_core_laws::{law_start, law_step};
-use step_core::the_core_state::Core;
+use step_core::{Core, law_height, law_replay, law_start, law_step};
 use wheel_core::TimerBase;
 
 /// Every core is lawful: it began so, and each step keeps it.
@@ -29,7 +27,7 @@ pub fn law_covered<B: TimerBase>(core: &Core<B>)
     ensures { (c : ℕ) (item : Item) → IsWaiting core.now c item → Covered core.now c item.wheel }
 {
     law_lawful(core);
-    step_core::the_core_facts::law_covered();
+    step_core::law_covered();
 }
 
 /// Where none is under way, each of them is held or woken for.
@@ -38,7 +36,7 @@ pub fn law_settled<B: TimerBase>(core: &Core<B>)
         Held (machine_of core.now) c item.wheel ⊎ Woken (machine_of core.now) c item.wheel }
 {
     law_lawful(core);
-    step_core::the_core_facts::law_each_settled();
+    step_core::law_each_settled();
 }
 
 /// A timer is queued at most once, and each arming has at most one end.
@@ -46,7 +44,7 @@ pub fn law_once<B: TimerBase>(core: &Core<B>)
     ensures { IsOnce core.now }
 {
     law_lawful(core);
-    step_core::the_core_facts::law_once();
+    step_core::law_once();
 }
 
 /// No step leaves what a core keeps.

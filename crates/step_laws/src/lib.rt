@@ -9,8 +9,7 @@ mod settled;
 pub use laws::{law_covered, law_lawful, law_once, law_reached, law_settled};
 pub use running::{StepsFault, run_steps};
 pub use settled::is_settled;
-pub use step_core as the_step_core;
-pub use step_core::the_core_state;
+pub use step_core::{Core, apply, enabled, new_core};
 
 #[cfg(test)]
 mod tests;

@@ -9,9 +9,7 @@ ghost use Rattle.step_laws.specs.Runs.{Stops};
 
 use crate::laws::law_lawful;
 use core_world::{Step, law_sizes};
-use step_core::the_core_facts::law_answered;
-use step_core::the_core_state::Core;
-use step_core::{apply, enabled};
+use step_core::{Core, apply, enabled, law_answered};
 use wheel_core::TimerBase;
 
 /// Why a list of steps wasn't made whole. Both name the place of a step in the list.

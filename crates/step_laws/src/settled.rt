@@ -4,7 +4,7 @@ ghost use Rattle.std.specs.Prelude.{◌≡◌, ◌↔◌, ◌<◌, None, false, 
 ghost use Rattle.core_world.specs.Covered.{IsSettled};
 ghost use Rattle.core_world.specs.World.{cpu_of};
 
-use step_core::the_core_state::Core;
+use step_core::Core;
 use tm_base::CpuId;
 use wheel_core::TimerBase;
 

@@ -4,7 +4,7 @@
 
 ghost use Rattle.step_play.specs.Rules.Alike.{ComesAlike, WakesAlike};
 
-use core_facts::the_core_laws::law_step;
+use core_facts::law_step;
 use tree_plan::{law_below, law_paths};
 
 /// A CPU that wakes, with its walk made to its end, is woken as Play has it.

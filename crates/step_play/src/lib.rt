@@ -10,9 +10,9 @@ mod telling_laws;
 ghost use Rattle.step_play.specs.SamePlay.{StepsArePlay};
 
 pub use activation_laws::{law_comes, law_wakes};
-pub use core_facts as the_core_facts;
-use core_facts::the_core_laws::{law_start, law_step};
-pub use play_laws as the_play_laws;
+pub use core_facts::{law_each_settled, law_rest};
+use core_facts::{law_start, law_step};
+pub use play_laws::law_work;
 pub use queue_laws::{
     law_active_below, law_any_first, law_at_rest, law_covers_alike, law_each_slot, law_each_top,
     law_found_is_duty, law_named_can_be_taken, law_names_alike, law_quiet_first,

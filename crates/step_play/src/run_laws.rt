@@ -5,8 +5,7 @@ ghost use Rattle.step_play.specs.SamePlay.{PlayIsARun};
 
 use crate::activation_laws::{law_comes, law_wakes};
 use crate::telling_laws::{law_ends, law_idles, law_lets_go, law_offlines};
-use core_facts::law_always_answered;
-use core_facts::the_core_laws::{law_start, law_step};
+use core_facts::{law_always_answered, law_start, law_step};
 use core_world::law_sizes;
 
 /// The play of every script by the rules of steps goes by runs: each rule's steps are enabled where

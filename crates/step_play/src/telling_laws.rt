@@ -5,7 +5,7 @@
 
 ghost use Rattle.step_play.specs.Rules.Alike.{EndsAlike, IdlesAlike, LetsGoAlike, OfflinesAlike};
 
-use core_facts::the_core_laws::law_step;
+use core_facts::law_step;
 
 /// A CPU that goes idle, with its walk made to its end, is idle as Play has it.
 pub fn law_idles()

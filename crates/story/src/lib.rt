@@ -2,4 +2,4 @@
 //! own, as a relation between the core before and after each, and the lines that are told.
 #![tactic(auto)]
 
-pub use step_play::{the_core_facts, the_play_laws};
+pub use step_play::{law_each_settled, law_rest, law_work};

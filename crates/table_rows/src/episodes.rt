@@ -6,12 +6,10 @@ use std::sync::Wait;
 use std::sync::atomic::{AtomicU64, Ordering};
 use std::test::*;
 use std::thread::Threads;
-use table_stress::the_core_state::Core;
-use table_stress::the_shared_table::MOST_MADE;
-use table_stress::the_step_laws::{is_settled, run_steps};
 use table_stress::{
-    Act, Asked, CPUS, Crew, Draws, Hold, LATEST, Plan, Ran, TIMERS, Tally, Turn, agrees,
-    drawn_turns, episode, is_active, is_quiet_at, judged, no_base_behind, run_plan, start,
+    Act, Asked, CPUS, Core, Crew, Draws, Hold, LATEST, MOST_MADE, Plan, Ran, TIMERS, Tally, Turn,
+    agrees, drawn_turns, episode, is_active, is_quiet_at, is_settled, judged, no_base_behind,
+    run_plan, run_steps, start,
 };
 use tm_base::{Class, CpuId, CpuSet, FreeGate, GroupId, NEVER, NoMemory, Point, TimerId};
 use wheel_base::WheelBase;

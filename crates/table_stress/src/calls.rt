@@ -5,12 +5,10 @@ ghost use Rattle.table_stress.specs.Quiet.{Fits, IsOneOf, StaysQuiet};
 
 use crate::tally::Tally;
 use crate::turns::Asked;
-use idle_wakeup::the_shared_rule::{Pass, RunName};
-use idle_wakeup::{IdleAnswer, go_idle, wake};
+use idle_wakeup::{IdleAnswer, Pass, RunName, go_idle, wake};
 use job_table::Jobs;
-use remote_expiry::the_timer_calls::{arm, cancel};
-use remote_expiry::{Runs, interrupt};
-use shared_rows::the_shared_table::Shared;
+use remote_expiry::{Runs, arm, cancel, interrupt};
+use shared_rows::Shared;
 use std::alloc::Global;
 use std::sync::Wait;
 use tm_base::{CpuId, Gate, Jiffy, OpFault, TimerId};

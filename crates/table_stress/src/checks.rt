@@ -4,9 +4,8 @@ ghost use Rattle.std.specs.Prelude.{◌≡◌, ◌<◌, length};
 
 use crate::covers::agrees;
 use cpu_bases::{Act, Entry};
-use idle_wakeup::the_core_state::Core;
-use shared_rows::no_base_behind;
-use shared_rows::the_step_laws::{is_settled, law_once};
+use idle_wakeup::Core;
+use shared_rows::{is_settled, law_once, no_base_behind};
 use std::alloc::Global;
 use tm_base::{Class, CpuId, NoMemory, TimerId};
 use wheel_base::WheelBase;

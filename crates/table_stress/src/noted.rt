@@ -1,8 +1,7 @@
 //! Receipts, held against the journals.
 
 use cpu_bases::{Act, Entry};
-use idle_wakeup::the_core_state::Core;
-use idle_wakeup::the_shared_rule::{Pass, Receipt};
+use idle_wakeup::{Core, Pass, Receipt};
 use std::alloc::Global;
 use tm_base::{CpuId, NoMemory};
 use wheel_base::WheelBase;

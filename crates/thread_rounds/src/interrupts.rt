@@ -10,9 +10,7 @@ ghost use Rattle.round_parts.specs.Standing.{HasRun, MayAnswer};
 
 use job_table::Jobs;
 use remote_expiry::{Runs, interrupt};
-use round_parts::tell_runs;
-use round_parts::the_shared_rule::{Pass, RunName};
-use round_parts::the_shared_table::Shared;
+use round_parts::{Pass, RunName, Shared, tell_runs};
 use std::alloc::Global;
 use std::sync::Wait;
 use tm_base::{Gate, Jiffy, NoMemory, OpFault};

@@ -13,11 +13,7 @@ ghost use Rattle.round_parts.specs.Progress.{AreAllDone, MayRound};
 
 use crate::threads::do_all;
 use job_table::Jobs;
-use round_parts::the_core_facts::law_rest;
-use round_parts::the_core_state::Core;
-use round_parts::the_shared_rule::{Pass, RunName};
-use round_parts::the_shared_table::{Ready, Shared};
-use round_parts::{gather, tasks_of};
+use round_parts::{Core, Pass, Ready, RunName, Shared, gather, law_rest, tasks_of};
 use std::alloc::Global;
 use std::marker::Brand;
 use std::sync::Wait;

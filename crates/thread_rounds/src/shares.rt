@@ -9,9 +9,7 @@ ghost use Rattle.round_parts.specs.Doing.{HasDone, IsShareOp};
 
 use crate::interrupts::run_if_due;
 use job_table::Jobs;
-use round_parts::the_shared_rule::{Pass, RunName};
-use round_parts::the_shared_table::Shared;
-use round_parts::{Share, answer_all};
+use round_parts::{Pass, RunName, Share, Shared, answer_all};
 use std::alloc::Global;
 use std::sync::Wait;
 use tm_base::{Gate, Jiffy, NoMemory};

@@ -10,9 +10,7 @@ ghost use Rattle.thread_rounds.specs.UnderWay.{AllBegun, AllEnded, IsBegun, IsKe
 
 use crate::shares::do_share;
 use job_table::Jobs;
-use round_parts::the_shared_rule::RunName;
-use round_parts::the_shared_table::Shared;
-use round_parts::{Share, Task};
+use round_parts::{RunName, Share, Shared, Task};
 use std::alloc::Global;
 use std::marker::PhantomData;
 use std::snapshot::Snapshot;

@@ -10,8 +10,7 @@ ghost use Rattle.timer_calls.specs.Arms.{NotArmed, arm_fault_of, arming_of};
 
 use cpu_word::CpuState;
 use remote_looks::take_room;
-use shared_table::the_shared_rule::{BoxPart, Pass, Run, RunName, visit};
-use shared_table::{CpuBox, Shared};
+use shared_table::{BoxPart, CpuBox, Pass, Run, RunName, Shared, visit};
 use shared_timers::{Arming, arm_with};
 use std::sync::Wait;
 use tm_base::{Class, Jiffy, OpFault, TimerId};

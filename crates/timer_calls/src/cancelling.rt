@@ -13,8 +13,7 @@ ghost use Rattle.timer_calls.specs.Cancels.{cancel_fault_of, tried_of};
 
 use cpu_word::CpuState;
 use remote_looks::take_room;
-use shared_table::the_shared_rule::{BoxPart, Pass, Run, RunName, visit};
-use shared_table::{CpuBox, Shared};
+use shared_table::{BoxPart, CpuBox, Pass, Run, RunName, Shared, visit};
 use shared_timers::cancel_with;
 use shared_words::unpack_spot;
 use std::sync::Wait;

@@ -10,6 +10,6 @@ mod runs;
 
 pub use play_driver::{Counts, DriveFault, having_interrupt, play_on};
 pub use run_parts::{
-    Summary, deep, next_moment, play, play_moment, run_moment, start_core, summary, the_play_laws,
+    Summary, deep, next_moment, play, play_moment, run_moment, start_core, summary,
 };
 pub use runs::run;

@@ -5,8 +5,7 @@ use std::alloc::AllocError;
 use std::process::ExitCode;
 use std::{env, io};
 use tm_io::{StdSink, StdSource};
-use view_main::run_views;
-use view_main::the_trace_view::NO_MEMORY;
+use view_main::{NO_MEMORY, run_views};
 
 /// The words after the program's name. Words that aren't UTF-8 are no command, and neither are no
 /// words.

@@ -5,4 +5,4 @@
 mod finding;
 
 pub use finding::{Found, check_all};
-pub use trace_rules as the_trace_rules;
+pub use trace_rules::{Misfit, Tally, Verdict, check_trace};

@@ -12,8 +12,7 @@ use crate::leading::led_to;
 use crate::reach::{End, Reach, climb};
 use crate::reason::Reason;
 use crate::waking::{first_waker, kept_wakeup};
-use step_core::the_core_facts::law_covered;
-use step_core::the_core_state::Core;
+use step_core::{Core, law_covered};
 use tm_base::{Class, CpuId, Jiffy, TimerId};
 use wheel_core::{Item, TimerBase};
 

@@ -8,7 +8,7 @@ ghost use Rattle.trace_check.specs.Told.{MeetsBelow, SeesToBelow, level_under, t
 ghost use Rattle.trace_check.specs.Told.{will_tell_level};
 
 use crate::waking::is_undisturbed;
-use step_core::the_core_state::Core;
+use step_core::Core;
 use tm_base::CpuId;
 use walk_rules::{Stage, Walk};
 use wheel_core::TimerBase;

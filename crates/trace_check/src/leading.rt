@@ -8,7 +8,7 @@ ghost use Rattle.core_world.specs.Covered.{machine_of};
 ghost use Rattle.core_world.specs.World.{cpu_of, is_active};
 ghost use Rattle.trace_check.specs.Leading.{IsInWorld, IsMigrator};
 
-use step_core::the_core_state::Core;
+use step_core::Core;
 use tm_base::{Child, CpuId, GroupId};
 use wheel_core::TimerBase;
 

@@ -10,7 +10,7 @@ ghost use Rattle.core_world.specs.World.{group_of};
 ghost use Rattle.trace_check.specs.Told.{IsReach};
 
 use event_queue::Event;
-use step_core::the_core_state::Core;
+use step_core::Core;
 use tm_base::{CpuId, GroupId, Jiffy};
 use wheel_core::TimerBase;
 

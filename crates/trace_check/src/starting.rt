@@ -7,8 +7,7 @@ ghost use Rattle.trace_check.specs.Answers.{start_for};
 
 use cpu_bases::Bases;
 use std::alloc::Global;
-use step_core::new_core;
-use step_core::the_core_state::Core;
+use step_core::{Core, new_core};
 use tm_base::NoMemory;
 use trace_text::Trace;
 use tree_plan::plan;

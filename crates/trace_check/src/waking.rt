@@ -7,7 +7,7 @@ ghost use Rattle.core_world.specs.Wakeups.{is_undisturbed};
 ghost use Rattle.core_world.specs.World.{cpu_of};
 ghost use Rattle.trace_check.specs.Told.{IsFirstWaker, WakesIn};
 
-use step_core::the_core_state::Core;
+use step_core::Core;
 use tm_base::{CpuId, Jiffy};
 use walk_rules::{Walk, WalkKind};
 use wheel_core::TimerBase;

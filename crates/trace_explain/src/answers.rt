@@ -7,8 +7,7 @@ ghost use Rattle.trace_explain.specs.Telling.{AddsAnswer, AddsAnswers, AddsTold}
 
 use crate::pieces::{push_after, push_around_two, push_words};
 use crate::places::push_group;
-use step_causes::the_core_facts::law_once;
-use step_causes::the_core_state::Core;
+use step_causes::{Core, law_once};
 use tm_base::{CpuId, GroupId, NoMemory, TimerId};
 use trace_check::{Reason, why};
 use wheel_core::TimerBase;

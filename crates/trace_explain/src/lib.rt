@@ -13,6 +13,5 @@ mod walks;
 
 pub use explaining::{Explanation, explain};
 pub use printing::print_trace;
-pub use step_causes as the_step_causes;
-pub use step_causes::the_step_core;
-pub use trace_check as the_trace_check;
+pub use step_causes::one_node_core;
+pub use trace_check::{ReadTrace, Trace, Verdict, read_trace};

@@ -5,8 +5,7 @@ ghost use Rattle.core_world.specs.World.{cpu_of};
 ghost use Rattle.trace_explain.specs.Walks.{group_name, level_named, spot_text};
 
 use crate::pieces::{push_after, push_words};
-use step_causes::the_core_facts::law_place;
-use step_causes::the_core_state::Core;
+use step_causes::{Core, law_place};
 use text_words::push_number;
 use tm_base::{CpuId, GroupId, NoMemory};
 use walk_rules::{Stage, Walk};

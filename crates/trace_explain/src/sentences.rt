@@ -14,7 +14,7 @@ use crate::pieces::{
 };
 use crate::walks::push_walk;
 use core_world::Step;
-use step_causes::the_core_state::Core;
+use step_causes::Core;
 use tm_base::{Class, CpuId, Jiffy, NoMemory, TimerId};
 use wheel_core::TimerBase;
 

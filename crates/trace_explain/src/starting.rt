@@ -7,8 +7,7 @@ ghost use Rattle.trace_check.specs.Answers.{start_for};
 
 use cpu_bases::Bases;
 use std::alloc::Global;
-use step_causes::the_core_state::Core;
-use step_causes::the_step_core::new_core;
+use step_causes::{Core, new_core};
 use tm_base::NoMemory;
 use trace_check::Trace;
 use tree_plan::plan;

@@ -8,7 +8,7 @@ ghost use Rattle.trace_explain.specs.Walks.{wakeup_text};
 
 use crate::pieces::{push_time, push_words};
 use crate::places::push_spot;
-use step_causes::the_core_state::Core;
+use step_causes::Core;
 use tm_base::{CpuId, NEVER, NoMemory};
 use walk_rules::{Stage, Walk, WalkKind};
 use wheel_core::TimerBase;

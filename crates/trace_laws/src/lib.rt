@@ -5,8 +5,7 @@
 
 ghost use Rattle.trace_laws.specs.Alarms.{RestsFit, RunsFit};
 
-use core_facts::the_core_laws::law_step;
-use core_facts::{law_frame, law_place, law_rest};
+use core_facts::{law_frame, law_place, law_rest, law_step};
 
 /// Of every list of steps each of which is enabled where it stands, in a world that was lawful: the
 /// words of groups are lawful after each step, the line of each exchange follows from the word

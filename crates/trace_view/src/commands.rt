@@ -12,7 +12,7 @@ use std::alloc::Global;
 use text_words::push_bytes;
 use tm_base::NoMemory;
 use tm_io::{ReadFault, Sink, Source, WriteCause, read_all, write_all};
-use trace_all::the_trace_rules::{Verdict, check_trace};
+use trace_all::{Verdict, check_trace};
 
 /// What the program is about to write.
 #[derive(Clone, Copy)]

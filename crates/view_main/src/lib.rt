@@ -9,5 +9,5 @@ mod words;
 
 pub use outputs::Output;
 pub use program::run_views;
-pub use trace_view as the_trace_view;
+pub use trace_view::NO_MEMORY;
 pub use words::{Awaited, CPU_NUMBERS, Command, HYPHEN, Look, Options};

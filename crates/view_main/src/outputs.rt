@@ -14,10 +14,8 @@ use std::alloc::Global;
 use text_chart::text_chart;
 use tm_base::NoMemory;
 use tm_report::Line;
-use trace_explain::explain;
-use trace_explain::the_trace_check::{ReadTrace, Trace, Verdict, read_trace};
-use trace_view::the_trace_all::check_all;
-use trace_view::{FITS, MISFIT, NO_TRACE, all_status, print_all};
+use trace_explain::{ReadTrace, Trace, Verdict, explain, read_trace};
+use trace_view::{FITS, MISFIT, NO_TRACE, all_status, check_all, print_all};
 
 /// A text, and the status where all of it is written.
 #[derive(Drop)]

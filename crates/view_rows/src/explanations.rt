@@ -1,6 +1,5 @@
 use std::test::Fail;
-use trace_explain::the_trace_check::read_trace;
-use trace_explain::*;
+use trace_explain::{read_trace, *};
 
 const HEAD: &[u8] = b"trace 1\nnodes 1\ncpus 2\ntimers 1\nisolated\n";
 

@@ -1,9 +1,9 @@
 use std::alloc::Global;
 use std::test::Fail;
+use step_causes::*;
 use tm_base::{Class, CpuId, TimerId};
 use tm_script::{Kind, ScriptFault};
 use trace_explain::print_trace;
-use trace_explain::the_step_causes::*;
 use trace_text::*;
 
 // A timer of an idle CPU, at first carried by that CPU's own walk, and then held.

@@ -2,8 +2,7 @@ use std::test::Fail;
 use tm_base::CpuId;
 use trace_lines::LineFault;
 use trace_seen::{Rule, Whom};
-use trace_view::the_trace_rules::{Misfit, Verdict};
-use trace_view::*;
+use trace_view::{Misfit, Verdict, *};
 
 // The texts are those of docs/TRACES.md.
 #[test]

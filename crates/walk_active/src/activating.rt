@@ -6,8 +6,7 @@ ghost use Rattle.shared_cpus.specs.shared_rule.Passes.{walks_of, with_pass};
 ghost use Rattle.walk_active.specs.Activated.{IsOwnPass, activated_part, activated_pass};
 
 use crate::climbing::climb;
-use shared_cpus::the_shared_rule::{Pass, RunName, bring, part_off};
-use shared_cpus::wake_step;
+use shared_cpus::{Pass, RunName, bring, part_off, wake_step};
 use shared_table::{CpuBox, Shared};
 use std::sync::Wait;
 use tm_base::Gate;

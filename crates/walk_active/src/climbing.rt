@@ -5,7 +5,7 @@ ghost use Rattle.walk_rules.specs.declared.walk.WalkKind.TheVariants as kinds;
 ghost use Rattle.shared_cpus.specs.shared_rule.Whole.{no_looks};
 ghost use Rattle.walk_active.specs.Climbing.{Climbs, HasClimbed, arrived, point_at};
 
-use shared_cpus::the_shared_rule::{BoxPart, Run, RunName};
+use shared_cpus::{BoxPart, Run, RunName};
 use shared_walks::make_step;
 use std::sync::Wait;
 use tm_base::{Gate, Point};

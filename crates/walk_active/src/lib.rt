@@ -5,7 +5,9 @@ mod activating;
 mod climbing;
 
 pub use activating::activate;
-pub use shared_cpus as the_shared_cpus;
-pub use shared_cpus::{the_core_state, the_shared_rule};
-pub use shared_table as the_shared_table;
-pub use shared_walks as the_shared_walks;
+pub use shared_cpus::{
+    BoxPart, Core, Pass, Receipt, Run, RunName, bring, idle_step, part_off, rest_step, visit,
+    wake_step,
+};
+pub use shared_table::{CpuBox, MOST_MADE, Ready, Shared};
+pub use shared_walks::walk_step;

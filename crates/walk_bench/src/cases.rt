@@ -3,9 +3,7 @@
 use core_world::Step;
 use std::alloc::Global;
 use tm_base::{Class, CpuId, CpuSet, NoMemory, TimerId};
-use walk_rows::the_core_state::Core;
-use walk_rows::the_step_laws::run_steps;
-use walk_rows::{Crew, Plan, Turn, start};
+use walk_rows::{Core, Crew, Plan, Turn, run_steps, start};
 use wheel_base::WheelBase;
 
 /// The CPUs of each machine: eight leaves of eight.

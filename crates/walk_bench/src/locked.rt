@@ -5,9 +5,7 @@ use std::sync::{Mutex, Wait};
 use std::thread;
 use std::thread::Threads;
 use tm_base::CpuId;
-use walk_rows::the_core_state::Core;
-use walk_rows::the_step_core::{apply, enabled};
-use walk_rows::{Crew, Plan, Turn};
+use walk_rows::{Core, Crew, Plan, Turn, apply, enabled};
 use wheel_base::WheelBase;
 
 /// The most steps of a walk.

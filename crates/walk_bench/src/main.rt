@@ -15,9 +15,7 @@ use std::sync::{Mutex, Wait};
 use std::thread::Threads;
 use std::time::{Clock, Instant};
 use tm_base::{FreeGate, NoMemory};
-use walk_rows::the_core_state::Core;
-use walk_rows::the_step_laws::is_settled;
-use walk_rows::{Plan, Ran, no_base_behind, run_plan};
+use walk_rows::{Core, Plan, Ran, is_settled, no_base_behind, run_plan};
 use wheel_base::WheelBase;
 
 /// The rounds of each measurement.

@@ -7,8 +7,7 @@ ghost use Rattle.walk_inactive.specs.Ends.{HasCarried, HasWalked, is_marked_by, 
 ghost use Rattle.walk_inactive.specs.Ends.{retells_with, retold};
 
 use crate::telling::tell;
-use shared_cpus::the_shared_rule::{BoxPart, Run, RunName};
-use shared_cpus::{carry_step, finish_step, retell_step};
+use shared_cpus::{BoxPart, Run, RunName, carry_step, finish_step, retell_step};
 use shared_table::Shared;
 use std::sync::Wait;
 use tm_base::{CpuId, Gate, Jiffy};

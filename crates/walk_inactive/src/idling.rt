@@ -10,8 +10,7 @@ ghost use Rattle.shared_cpus.specs.Conditions.{CanIdle};
 ghost use Rattle.walk_inactive.specs.Ends.{HasTold, HasWalked, at_rest, gone_idle, rested};
 
 use crate::telling::tell;
-use shared_cpus::the_shared_rule::{BoxPart, Pass, Run, RunName, bring, part_off};
-use shared_cpus::{finish_step, idle_step};
+use shared_cpus::{BoxPart, Pass, Run, RunName, bring, finish_step, idle_step, part_off};
 use shared_table::{CpuBox, Shared};
 use std::sync::Wait;
 use tm_base::{Gate, Jiffy};

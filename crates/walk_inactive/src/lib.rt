@@ -10,6 +10,5 @@ mod telling;
 
 pub use carrying::carry;
 pub use idling::deactivate;
-pub use shared_cpus as the_shared_cpus;
-pub use shared_cpus::the_shared_rule;
-pub use shared_table as the_shared_table;
+pub use shared_cpus::{BoxPart, Pass, Run, RunName, bring, enter_step, part_off};
+pub use shared_table::{CpuBox, MOST_MADE, Shared};

@@ -7,7 +7,7 @@ ghost use Rattle.shared_walks.specs.Walks.{is_under_way};
 ghost use Rattle.walk_inactive.specs.Ways.{HasAdvanced, HasCome, HasSetOut};
 
 use crate::points::pass_gate;
-use shared_cpus::the_shared_rule::{BoxPart, Run, RunName};
+use shared_cpus::{BoxPart, Run, RunName};
 use shared_walks::make_step;
 use std::sync::Wait;
 use tm_base::Gate;

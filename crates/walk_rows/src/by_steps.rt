@@ -17,11 +17,10 @@ ghost use Rattle.walk_rows.specs.Standing.{IsOneOf};
 
 use crate::crews::count_below;
 use core_world::Step;
-use idle_wakeup::the_core_state::Core;
-use idle_wakeup::the_shared_cpus::{idle_step, rest_step, wake_step};
-use idle_wakeup::the_shared_rule::{BoxPart, Pass, Run, RunName, bring, part_off};
-use idle_wakeup::the_shared_walks::walk_step;
-use shared_rows::the_shared_table::{CpuBox, MOST_MADE, Ready, Shared};
+use idle_wakeup::{
+    BoxPart, Core, Pass, Run, RunName, bring, idle_step, part_off, rest_step, wake_step, walk_step,
+};
+use shared_rows::{CpuBox, MOST_MADE, Ready, Shared};
 use std::alloc::Global;
 use std::marker::Brand;
 use std::sync::Wait;

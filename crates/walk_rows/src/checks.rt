@@ -3,8 +3,8 @@
 ghost use Rattle.std.specs.Prelude.{◌<◌, length};
 
 use core_machine::answers::{Cover, cover_of};
-use idle_wakeup::the_core_state::Core;
-use shared_rows::the_step_laws::law_settled;
+use idle_wakeup::Core;
+use shared_rows::law_settled;
 use tm_base::{Child, CpuId, GroupId, NEVER};
 use wheel_base::WheelBase;
 

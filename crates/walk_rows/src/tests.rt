@@ -1,9 +1,8 @@
 use crate::by_steps::{Stepped, run_by_steps};
 use crate::{Crew, Draws, Hold, Plan, Ran, Tally, Turn, Turnstile, Watch, agrees, run_plan};
 use core_world::Step;
-use idle_wakeup::the_core_state::Core;
-use shared_rows::the_step_laws::{is_settled, run_steps};
-use shared_rows::{facts_of, no_base_behind, start};
+use idle_wakeup::Core;
+use shared_rows::{facts_of, is_settled, no_base_behind, run_steps, start};
 use std::alloc::Global;
 use std::process::Abort;
 use std::sync::Wait;

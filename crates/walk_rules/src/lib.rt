@@ -9,13 +9,13 @@ mod stages;
 mod walk;
 
 pub use begin::begun_where;
-pub use event_queue as the_event_queue;
-pub use group_word as the_group_word;
+pub use event_queue::{Event, Events};
+pub use group_word::{GroupState, activated, swapped};
 pub use laws::law_hierarchy;
 pub use stages::{
     at_stage, child_next, first_next, first_sight, free_group_next, freed_next, leaf_event,
     mark_next, read_next, scan_next, see_child_next, see_group_next, store_next, stored_event,
     swap_next, up_next,
 };
-pub use tree_plan as the_tree_plan;
+pub use tree_plan::{Tree, law_below, law_levels, law_paths};
 pub use walk::{Stage, Walk, WalkKind};

@@ -10,7 +10,7 @@ ghost use Rattle.step_play.specs.Rules.StepRules.{time_at_top};
 ghost use Rattle.core_machine.specs.Covers.Choice.{IsInWorld};
 
 use crate::readings::{is_idle, is_online, is_placed, live_expiry, wakeup};
-use core_steps::the_core_state::Core;
+use core_steps::Core;
 use tm_base::{Child, CpuId, GroupId, Jiffy, NEVER};
 use wheel_core::TimerBase;
 

@@ -14,7 +14,7 @@ ghost use Rattle.core_machine.specs.declared.answers.cover.Cover.TheVariants as 
 use crate::answers::above::{led_to, lowest_active_group, time_at_top, waker_by};
 use crate::answers::cover::Cover;
 use crate::readings::{is_idle, is_online, wakeup};
-use core_steps::the_core_state::Core;
+use core_steps::Core;
 use play_rules::Answerer;
 use tm_base::{Class, CpuId, GroupId, Jiffy};
 use tm_report::ShownCover;

@@ -8,7 +8,7 @@ ghost use Rattle.play_rules.specs.State.{cpu_at, is_active};
 ghost use Rattle.core_world.specs.World.{cpu_of};
 ghost use Rattle.step_play.specs.Rules.Seen.{state_of};
 
-use core_steps::the_core_state::Core;
+use core_steps::Core;
 use tm_base::{CpuId, Jiffy};
 use wheel_core::TimerBase;
 

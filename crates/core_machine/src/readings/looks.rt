@@ -9,7 +9,7 @@ ghost use Rattle.step_play.specs.Rules.StepRules.{can_be_taken, is_waiting, name
 ghost use Rattle.step_play.specs.Rules.StepRules.{named_by_queue};
 
 use crate::walks::goes_on;
-use core_steps::the_core_state::Core;
+use core_steps::Core;
 use event_queue::Event;
 use tm_base::{CpuId, CpuSet, GroupId, Jiffy, NEVER};
 use wheel_core::TimerBase;

@@ -11,7 +11,7 @@ ghost use Rattle.core_world.specs.World.{cpu_of};
 ghost use Rattle.step_play.specs.Rules.Seen.{state_of};
 
 use crate::readings::cpu::{is_active, is_online, is_placed, wakeup};
-use core_steps::the_core_state::Core;
+use core_steps::Core;
 use tm_base::{CpuId, Jiffy, NEVER};
 use wheel_core::TimerBase;
 

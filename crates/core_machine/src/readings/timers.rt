@@ -6,7 +6,7 @@ ghost use Rattle.play_rules.specs.Timers.{count_on, where_queued};
 ghost use Rattle.core_world.specs.World.{cpu_of};
 ghost use Rattle.step_play.specs.Rules.Seen.{state_of};
 
-use core_steps::the_core_state::Core;
+use core_steps::Core;
 use play_rules::Queued;
 use tm_base::{Class, CpuId, TimerId};
 use wheel_core::{Item, TimerBase};

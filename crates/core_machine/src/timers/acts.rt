@@ -7,8 +7,7 @@ ghost use Rattle.play_rules.specs.Phases.{FitsSome, MayArmIn, StaysFit};
 ghost use Rattle.step_play.specs.Rules.Seen.{InPlay, InRun, resting};
 ghost use Rattle.step_play.specs.Rules.StepRules.{step_rules};
 
-use core_steps::the_core_laws::law_step;
-use core_steps::the_core_state::Core;
+use core_steps::{Core, law_step};
 use play_rules::{Arming, Cancelling};
 use tm_base::{CpuId, Jiffy, NoMemory};
 use wheel_core::TimerBase;

@@ -15,8 +15,7 @@ ghost use Rattle.step_play.specs.Rules.Seen.{InPlay, InRun};
 ghost use Rattle.step_play.specs.Rules.StepRules.{items_due, step_rules};
 ghost use Rattle.core_machine.specs.Draining.Turns.{DrainedSome, Drains, handed_next};
 
-use core_steps::the_core_laws::law_step;
-use core_steps::the_core_state::Core;
+use core_steps::{Core, law_step};
 use std::alloc::Global;
 use tm_base::{Class, CpuId, NoMemory, TimerId};
 use wheel_core::{Item, TimerBase};

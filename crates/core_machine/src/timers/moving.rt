@@ -11,8 +11,7 @@ ghost use Rattle.step_play.specs.Rules.Seen.{InPlay, InRun, resting};
 ghost use Rattle.step_play.specs.Rules.StepRules.{step_rules};
 ghost use Rattle.core_machine.specs.Draining.Turns.{mover_at, timer_of};
 
-use core_steps::the_core_laws::law_step;
-use core_steps::the_core_state::Core;
+use core_steps::{Core, law_step};
 use play_rules::Mover;
 use tm_base::{CpuId, Jiffy, NoMemory, TimerId};
 use wheel_core::TimerBase;

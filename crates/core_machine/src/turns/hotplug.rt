@@ -14,8 +14,7 @@ ghost use Rattle.step_play.specs.Rules.StepRules.{made_active, step_rules};
 ghost use Rattle.step_play.specs.Rules.Lone.{IsLone};
 
 use crate::walks::make;
-use core_steps::the_core_laws::law_step;
-use core_steps::the_core_state::Core;
+use core_steps::{Core, law_step};
 use core_world::Step;
 use step_play::{law_comes, law_offlines, law_wakes};
 use tm_base::CpuId;

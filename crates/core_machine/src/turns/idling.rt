@@ -7,8 +7,7 @@ ghost use Rattle.step_play.specs.Rules.Seen.{InPlay, InRun, resting};
 ghost use Rattle.step_play.specs.Rules.StepRules.{step_rules};
 
 use crate::walks::make;
-use core_steps::the_core_laws::law_step;
-use core_steps::the_core_state::Core;
+use core_steps::{Core, law_step};
 use core_world::Step;
 use step_play::{law_idles, law_wakes};
 use tm_base::{CpuId, Jiffy};

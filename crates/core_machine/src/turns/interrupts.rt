@@ -7,8 +7,7 @@ ghost use Rattle.step_play.specs.Rules.Seen.{InPlay, InRun, inside, resting, ser
 ghost use Rattle.step_play.specs.Rules.StepRules.{step_rules};
 
 use crate::walks::{carry, make, reevaluate};
-use core_steps::the_core_laws::law_step;
-use core_steps::the_core_state::Core;
+use core_steps::{Core, law_step};
 use core_world::Step;
 use step_play::{law_ends, law_lets_go};
 use tm_base::CpuId;

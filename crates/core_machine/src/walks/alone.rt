@@ -5,7 +5,7 @@ ghost use Rattle.core_world.specs.World.{cpu_of};
 ghost use Rattle.step_play.specs.Rules.Alone.{goes_on};
 ghost use Rattle.step_play.specs.Rules.Lone.{IsLone};
 
-use core_steps::the_core_state::Core;
+use core_steps::Core;
 use tm_base::CpuId;
 use walk_rules::Stage;
 use wheel_core::TimerBase;

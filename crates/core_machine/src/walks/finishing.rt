@@ -9,9 +9,7 @@ ghost use Rattle.step_play.specs.Rules.Alone.{goes_on, walked_out};
 ghost use Rattle.step_play.specs.Rules.Lone.{IsLone, IsWalkRun};
 
 use crate::walks::alone::goes_on;
-use core_steps::apply;
-use core_steps::the_core_laws::law_step;
-use core_steps::the_core_state::Core;
+use core_steps::{Core, apply, law_step};
 use core_world::{Step, law_sizes};
 use tm_base::{CpuId, NoMemory};
 use tree_plan::law_paths;

@@ -13,8 +13,7 @@ ghost use Rattle.step_play.specs.Rules.StepRules.{woken_by_steps};
 ghost use Rattle.step_play.specs.Rules.Lone.{IsLone, IsRunOf};
 
 use crate::walks::finishing::finish_walk;
-use core_steps::apply;
-use core_steps::the_core_state::Core;
+use core_steps::{Core, apply};
 use core_world::{Step, law_sizes};
 use tm_base::{CpuId, NoMemory};
 use wheel_core::TimerBase;
