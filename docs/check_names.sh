@@ -123,13 +123,8 @@ def check_items(path, text):
             if it[1][0].islower() and it[1] not in ("std", "crate"):
                 fault(path, line_of(text, it.start()), f"there is no crate {it[1]}")
             continue
-        of, names = home_of(it[1], it[2]), (it[2], it[3])
-        if it[2].startswith("the_") and it[2][4:] in crates:
-            if not re.search(rf"^pub use [^;]*\b{it[2]}\b", source_of(it[1]), re.M):
-                fault(path, line_of(text, it.start()), f"crate {it[1]} doesn't pass on {it[2][4:]}")
-            of, names = it[2][4:], (it[3],)
-        for name in names:
-            if name and not re.search(rf"\b(?:fn|struct|enum|trait|const|type|mod|union) {name}\b|^\s+{name}\b", source_of(of), re.M):
+        for name in (it[2], it[3]):
+            if name and not re.search(rf"\b(?:fn|struct|enum|trait|const|type|mod|union) {name}\b|^\s+{name}\b", source_of(home_of(it[1], it[2])), re.M):
                 fault(path, line_of(text, it.start()), f"crate {it[1]} has no {name}")
 
 
