@@ -2,9 +2,10 @@ use core_world::Step;
 use std::alloc::Global;
 use std::test::Fail;
 use step_causes::*;
+use step_core::one_node_core;
 use tm_base::CpuId;
 use tm_report::Report;
-use trace_explain::{one_node_core, *};
+use trace_check::*;
 
 // A timer of an idle CPU, at first carried by that CPU's own walk, and then held.
 const HELD: &[u8] = b"trace 1\nnodes 1\ncpus 2\ntimers 1\nisolated\nclock 10\n\

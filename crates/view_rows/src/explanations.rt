@@ -1,5 +1,6 @@
 use std::test::Fail;
-use trace_explain::{read_trace, *};
+use trace_check::read_trace;
+use trace_explain::*;
 
 const HEAD: &[u8] = b"trace 1\nnodes 1\ncpus 2\ntimers 1\nisolated\n";
 

@@ -1,6 +1,6 @@
 use std::test::Fail;
+use trace_rules::*;
 use trace_seen::Rule;
-use trace_view::*;
 
 // A walk of two CPUs in one leaf, by hand from the rule: CPU 1 joins {0}, whose migrator stays.
 #[test]
