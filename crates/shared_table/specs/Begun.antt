@@ -1,5 +1,5 @@
 -- a run as it begins: the parts of its CPUs, in order, and what is kept for its end
-use Rattle.std.specs.Prelude.{◌≡◌, ℕ, ◌-◌, ◌≤◌, List, [], Some, None, drop, length, map}
+use Rattle.std.specs.Prelude.{◌≡◌, ℕ, ◌-◌, ◌≤◌, List, [], Some, drop, length, map}
 use Rattle.std.specs.List.{range_with_len}
 use Rattle.atomic_table.specs.Seated.{TableId}
 use Rattle.core_world.specs.World.{CpuRecord, World}

@@ -11,4 +11,4 @@ mod causes;
 pub use cause_steps::cause;
 pub use cause_texts::text_of;
 pub use causes::{Cause, CpuFact};
-pub use step_core::{Core, apply, law_once, law_place, new_core, one_node_core};
+pub use step_core::{Core, apply, law_once, law_place, new_core};

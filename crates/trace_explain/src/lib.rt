@@ -13,5 +13,4 @@ mod walks;
 
 pub use explaining::{Explanation, explain};
 pub use printing::print_trace;
-pub use step_causes::one_node_core;
 pub use trace_check::{ReadTrace, Trace, Verdict, read_trace};

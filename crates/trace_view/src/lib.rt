@@ -12,4 +12,4 @@ pub use statuses::{
     FITS, MISFIT, MOST_TRACE_BYTES, NO_MEMORY, NO_TRACE, READ_FAULT, TOO_LONG, USAGE, WRITE_FAULT,
 };
 pub use texts::{all_status, print_all, print_verdict, read_fault_text, too_long_text, usage_text};
-pub use trace_all::{Misfit, Verdict, check_all};
+pub use trace_all::check_all;
