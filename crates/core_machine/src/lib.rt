@@ -5,13 +5,12 @@ pub mod answers;
 mod machine;
 mod player;
 pub mod readings;
-mod run_machine;
 mod settled;
 pub mod timers;
 pub mod turns;
 pub mod walks;
 
 pub use core_steps::{Core, law_step};
-pub use player::{Player, RunPlayer};
+pub use player::{CoreFit, CorePlayer, PlayFit, Player, RunFit, RunPlayer};
 pub use settled::law_settled_in_run;
 pub use step_play::law_steps_are_play;

@@ -1,14 +1,14 @@
 //! The machine's calls on a core.
 
-use crate::player::Player;
+use crate::player::{CoreFit, CorePlayer};
 use play_rules::{Answerer, Arming, Cancelling, Mover, PlayMachine, Queued};
 use tm_base::{Class, CpuId, CpuSet, Jiffy, NoMemory, TimerId};
 use wheel_core::{Item, TimerBase};
 
-impl<B: TimerBase> PlayMachine for Player<B> {
+impl<B: TimerBase, F: CoreFit> PlayMachine for CorePlayer<B, F> {
     ghost use Rattle.core_world.specs.World as core;
-    ghost use Rattle.step_play.specs.Rules.Seen.{InPlay};
     ghost use Rattle.step_play.specs.Rules.StepRules.{step_rules};
+    ghost use Rattle.core_machine.specs.Fitting.{CoreFits};
 
     ghost World = { core.World };
 
@@ -16,7 +16,7 @@ impl<B: TimerBase> PlayMachine for Player<B> {
 
     ghost world = { λ w. w };
 
-    ghost Fit = { InPlay };
+    ghost Fit = { CoreFits F.exact };
 
     fn clock(&self) -> Jiffy {
         self.core.now()
