@@ -13,10 +13,10 @@ mod plays;
 mod sleeping;
 mod starting;
 
-pub use core_machine::{Player, RunPlayer};
+pub use core_machine::{CoreFit, CorePlayer, PlayFit, Player, RunFit, RunPlayer};
 pub use deep_plays::deep;
 pub use following::next_moment;
 pub use numbers::Summary;
-pub use plays::{play, play_moment, run_moment, summary};
+pub use plays::{play, play_moment, summary};
 pub use starting::start_core;
 pub use step_core::Core;

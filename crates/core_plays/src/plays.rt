@@ -4,7 +4,8 @@ ghost use Rattle.std.specs.Prelude.{◌≡◌, ◌≤◌, [], IfErr, IfOk, OnErr
 ghost use Rattle.tm_script.specs.Grammar.{IsScript};
 ghost use Rattle.play_rules.specs.Moments.{moment};
 ghost use Rattle.play_rules.specs.Play.{plain_rules, play_start};
-ghost use Rattle.core_machine.specs.step_play.Rules.Seen.{InPlay, InRun, resting, state_of};
+ghost use Rattle.core_machine.specs.Fitting.{CoreFits};
+ghost use Rattle.core_machine.specs.step_play.Rules.Seen.{InPlay, resting, state_of};
 ghost use Rattle.core_machine.specs.step_play.Rules.StepRules.{step_rules};
 ghost use Rattle.core_machine.specs.step_play.SamePlay.{core_start};
 ghost use Rattle.play_driver.specs.Conditions.{AreOnline};
@@ -16,7 +17,7 @@ ghost use Rattle.core_plays.specs.Plays.{PlaysToEnd, Summarizes, summary_with};
 
 use crate::numbers::Summary;
 use crate::starting::start_core;
-use core_machine::{Player, RunPlayer, law_steps_are_play};
+use core_machine::{CoreFit, CorePlayer, Player, law_steps_are_play};
 use job_table::Jobs;
 use play_driver::{Counts, DriveFault, moment_by_itself, play_on, play_unheard};
 use play_laws::{
@@ -112,12 +113,13 @@ pub fn play<J: Jobs>(
 
 /// Plays one moment of a script on a core, whose clock comes to it, with the interrupts of these
 /// CPUs, which are online; `play` plays each of its moments so, with the CPUs of
-/// `having_interrupt`. It answers how many timers were handed out; the count stands still at
+/// `having_interrupt`. The core may be one in play, or one in a run, which threads left at rest: as
+/// it was, so it stays. The answer is how many timers were handed out; the count stands still at
 /// 2^32 - 1. After want of memory the report is as it was; the core may stand anywhere within the
 /// moment, as lawful as every core.
-pub fn play_moment<J: Jobs>(
+pub fn play_moment<F: CoreFit, J: Jobs>(
     alloc: Global,
-    player: &mut Player<WheelBase>,
+    player: &mut CorePlayer<WheelBase, F>,
     script: &Script,
     jobs: &J,
     at: Jiffy,
@@ -129,7 +131,7 @@ pub fn play_moment<J: Jobs>(
     requires not_back { player.old.clock ≤ at }
     requires by_end { at ≤ script.now.end }
     requires online { AreOnline step_rules player.old interrupts.now }
-    requires in_play { InPlay resting player.old }
+    requires fits { CoreFits F.exact resting player.old }
     ensures plays { IfOk result (λ hand_outs.
         PlaysMoment
         (moment (J.replies jobs.now) step_rules interrupts.now (moment_of at script.now.moments)
@@ -137,37 +139,7 @@ pub fn play_moment<J: Jobs>(
         report.old report.new hand_outs player.new) }
     ensures clock { OnOk result (player.new.clock ≡ at) }
     ensures machine { OnOk result (HasMachineOf script.now player.new) }
-    ensures in_play { OnOk result (InPlay resting player.new) }
-    ensures err { OnErr result (report.new ≡ report.old) }
-{
-    moment_by_itself(alloc, player, script, jobs, at, interrupts, report)
-}
-
-/// Plays one moment of a script on a core in a run, as `play_moment` does on one in play: what the
-/// core's groups were told needn't be exact, so the core may be one that threads left at rest.
-pub fn run_moment<J: Jobs>(
-    alloc: Global,
-    player: &mut RunPlayer<WheelBase>,
-    script: &Script,
-    jobs: &J,
-    at: Jiffy,
-    interrupts: &CpuSet,
-    report: &mut Report,
-) -> Result<u32, NoMemory>
-    requires script { IsScript script.now }
-    requires machine { HasMachineOf script.now player.old }
-    requires not_back { player.old.clock ≤ at }
-    requires by_end { at ≤ script.now.end }
-    requires online { AreOnline step_rules player.old interrupts.now }
-    requires in_run { InRun resting player.old }
-    ensures plays { IfOk result (λ hand_outs.
-        PlaysMoment
-        (moment (J.replies jobs.now) step_rules interrupts.now (moment_of at script.now.moments)
-        (step_rules.at_clock at player.old))
-        report.old report.new hand_outs player.new) }
-    ensures clock { OnOk result (player.new.clock ≡ at) }
-    ensures machine { OnOk result (HasMachineOf script.now player.new) }
-    ensures in_run { OnOk result (InRun resting player.new) }
+    ensures fits { OnOk result (CoreFits F.exact resting player.new) }
     ensures err { OnErr result (report.new ≡ report.old) }
 {
     moment_by_itself(alloc, player, script, jobs, at, interrupts, report)

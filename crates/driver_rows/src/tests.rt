@@ -1,6 +1,6 @@
 ghost use Rattle.job_table.specs.Standard.{one_shot_reply};
 
-use core_plays::{Player, RunPlayer, deep, play, play_moment, run_moment, start_core};
+use core_plays::{Player, RunPlayer, deep, play, play_moment, start_core};
 use job_table::{Job, JobCall, JobReply, JobTable, OneShot};
 use play_driver::having_interrupt;
 use std::alloc::{AllocError, Global};
@@ -99,7 +99,7 @@ fn hand_outs_of_run(alloc: Global, text: &[u8]) -> Result<Option<(u32, u32, bool
     let first = play_moment(alloc, &mut player, &script, &jobs, 0, &due, &mut report)?;
     let mut player = RunPlayer::new(alloc, player.into_core());
     let due = having_interrupt(&player);
-    let second = run_moment(alloc, &mut player, &script, &jobs, 51, &due, &mut report)?;
+    let second = play_moment(alloc, &mut player, &script, &jobs, 51, &due, &mut report)?;
     Ok(Some((first, second, report.text() == text)))
 }
 

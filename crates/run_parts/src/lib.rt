@@ -9,7 +9,7 @@ mod telling;
 mod turns;
 
 pub use core_plays::{
-    Core, RunPlayer, Summary, deep, next_moment, play, play_moment, run_moment, start_core, summary,
+    Core, RunPlayer, Summary, deep, next_moment, play, play_moment, start_core, summary,
 };
 pub use plain_moments::{law_each_settled, law_work};
 pub use telling::tell_round;

@@ -9,7 +9,5 @@ mod run_moments;
 mod runs;
 
 pub use play_driver::{Counts, DriveFault, having_interrupt, play_on};
-pub use run_parts::{
-    Summary, deep, next_moment, play, play_moment, run_moment, start_core, summary,
-};
+pub use run_parts::{Summary, deep, next_moment, play, play_moment, start_core, summary};
 pub use runs::run;
