@@ -1,5 +1,5 @@
 use held_gates::{ByPoints, Meeting, Place, is_answered};
-use job_table::{Job, JobTable, OneShot};
+use job_table::StandardJobs;
 use std::alloc::{AllocError, Global};
 use std::sync::Wait;
 use std::test::Fail;
@@ -8,13 +8,6 @@ use tm_base::{CpuId, Gate, Point};
 use tm_driver::run;
 use tm_report::Report;
 use tm_script::read_script;
-
-// A table of one job, which is done at once.
-fn one_job(alloc: Global) -> Result<JobTable, AllocError> {
-    let mut jobs: Vec<Box<dyn Job + Send + Sync>> = Vec::new(alloc);
-    jobs.push(Box::new(alloc, OneShot)?)?;
-    Ok(JobTable::new(jobs))
-}
 
 // Whether the run of a script past a gate comes to its end, with this report, and leaves a core
 // whose groups and answers are right.
@@ -25,12 +18,11 @@ fn has_run<G: Gate + Sync, R: Threads + Wait + Sync>(
     gate: &G,
     text: &[u8],
 ) -> Result<bool, AllocError> {
-    let jobs = one_job(alloc)?;
     let mut report = Report::new(alloc);
     let Ok(script) = read_script(alloc, script) else {
         return Ok(false);
     };
-    match run(rt, alloc, &script, &jobs, gate, &mut report) {
+    match run(rt, alloc, &script, &StandardJobs, gate, &mut report) {
         Ok(core) => Ok(is_answered(&core) && report.text() == text),
         Err(_) => Ok(false),
     }

@@ -18,11 +18,15 @@ periodic_reply class call = Again class call.arg
 abbrev pub marker_reply : JobCall → JobReply
 marker_reply call = Mark call.arg
 
--- the program's table: job 1 is periodic and global, job 2 periodic and pinned, job 3 a marker;
--- job 0, and any number past them, is done
+-- THE PROGRAM'S JOBS: job 1 is periodic and global, job 2 periodic and pinned, job 3 a marker; job
+-- 0, and any number past them, is done
 abbrev pub standard_reply : ℕ → JobCall → JobReply
 standard_reply n call =
     if n == 1 then periodic_reply Global call
     else if n == 2 then periodic_reply Pinned call
     else if n == 3 then marker_reply call
     else one_shot_reply call
+
+-- how many they are
+abbrev pub standard_count : ℕ
+standard_count = 4

@@ -6,7 +6,7 @@ mod standard;
 mod table;
 
 pub use jobs::{Job, JobCall, JobReply};
-pub use standard::{Marker, OneShot, Periodic};
+pub use standard::{Marker, OneShot, Periodic, StandardJobs};
 pub use table::{JobTable, Jobs, MOST_JOBS};
 
 #[cfg(test)]

@@ -21,7 +21,12 @@ fn a_job_of_the_table_is_run_and_a_number_past_it_is_done(rt: HostRuntime) -> Re
         (255, JobReply::Done),
     ];
     for (n, want) in cases {
-        assert_eq!(rt; standard_answer(rt.alloc(), n, &call)?, want, "job {n}");
+        assert_eq!(rt; StandardJobs.run(n, &call), want, "job {n}");
+        assert_eq!(rt;
+            table_answer(rt.alloc(), n, &call)?,
+            want,
+            "job {n} of a table"
+        );
     }
     Ok(())
 }
@@ -42,8 +47,8 @@ fn again(class: Class, delay: u32) -> JobReply {
     JobReply::Again { class, delay }
 }
 
-// What the program's jobs answer, each stored under its number.
-fn standard_answer(alloc: Global, n: u8, call: &JobCall) -> Result<JobReply, AllocError> {
+// What a table of these jobs answers, each stored under its number.
+fn table_answer(alloc: Global, n: u8, call: &JobCall) -> Result<JobReply, AllocError> {
     let global = Periodic {
         class: Class::Global,
     };

@@ -1,11 +1,11 @@
 use crate::rows::{Row, further_rows, rows, rows_of_one_story};
-use job_table::{Job, JobTable, Marker, OneShot, Periodic};
+use job_table::StandardJobs;
 use script_main::*;
 use std::alloc::{AllocError, Global};
 use std::sync::Wait;
 use std::test::Fail;
 use std::thread::Threads;
-use tm_base::{Class, FreeGate, MOST_BYTES};
+use tm_base::{FreeGate, MOST_BYTES};
 use tm_io::{FullSink, MemorySink, MemorySource, PlainSink, PlainSource, Sink, Source};
 
 // The first of the worked rows.
@@ -23,22 +23,6 @@ fn split(alloc: Global, line: &str) -> Result<Vec<String>, AllocError> {
     Ok(words)
 }
 
-// The four jobs of the program, by the table of jobs in docs/FORMATS.md.
-fn four_jobs(alloc: Global) -> Result<JobTable, AllocError> {
-    let global = Periodic {
-        class: Class::Global,
-    };
-    let pinned = Periodic {
-        class: Class::Pinned,
-    };
-    let mut jobs: Vec<Box<dyn Job + Send + Sync>> = Vec::new(alloc);
-    jobs.push(Box::new(alloc, OneShot)?)?;
-    jobs.push(Box::new(alloc, global)?)?;
-    jobs.push(Box::new(alloc, pinned)?)?;
-    jobs.push(Box::new(alloc, Marker)?)?;
-    Ok(JobTable::new(jobs))
-}
-
 // Runs the program on the words of a line.
 fn ended<S: Source, K: Sink, R: Threads + Wait + Sync>(
     rt: &R,
@@ -48,8 +32,7 @@ fn ended<S: Source, K: Sink, R: Threads + Wait + Sync>(
     sink: &mut K,
 ) -> Result<Status, AllocError> {
     let words = split(alloc, line)?;
-    let jobs = four_jobs(alloc)?;
-    Ok(run_program(rt, alloc, &words, source, sink, &jobs, &FreeGate))
+    Ok(run_program(rt, alloc, &words, source, sink, &StandardJobs, &FreeGate))
 }
 
 // The status and the text that words and an input come to, where no end fails.

@@ -14,13 +14,12 @@ mod orders;
 use crate::drawn::{Schedule, draw};
 use crate::judged::{Flaw, judge};
 use held_gates::is_answered;
-use job_table::{Job, JobTable, Marker, OneShot, Periodic};
+use job_table::StandardJobs;
 use std::alloc::{AllocError, Global};
 use std::sync::Wait;
 use std::thread::Threads;
 use std::time::{Clock, Instant};
 use std::{env, io};
-use tm_base::Class;
 use tm_driver::run;
 use tm_report::Report;
 use tm_script::read_script;
@@ -37,30 +36,24 @@ const SEED: u64 = 1;
 /// How many of them are run there.
 const FEW: u64 = 20;
 
-/// Runs a schedule, and looks what is wrong with what comes of it. The jobs are those of the
-/// program: done, again as global, again as pinned, a mark.
+/// Runs a schedule with the jobs of the program, and looks what is wrong with what comes of it.
 fn run_one<R: Threads + Wait + Sync>(
     rt: &R,
     alloc: Global,
     schedule: &Schedule,
 ) -> Result<Option<Flaw>, AllocError> {
-    let global = Periodic {
-        class: Class::Global,
-    };
-    let pinned = Periodic {
-        class: Class::Pinned,
-    };
-    let mut list: Vec<Box<dyn Job + Send + Sync>> = Vec::new(alloc);
-    list.push(Box::new(alloc, OneShot)?)?;
-    list.push(Box::new(alloc, global)?)?;
-    list.push(Box::new(alloc, pinned)?)?;
-    list.push(Box::new(alloc, Marker)?)?;
-    let jobs = JobTable::new(list);
     let mut report = Report::new(alloc);
     let Ok(script) = read_script(alloc, schedule.script.as_slice()) else {
         return Ok(Some(Flaw::NoScript));
     };
-    match run(rt, alloc, &script, &jobs, &schedule.gate, &mut report) {
+    match run(
+        rt,
+        alloc,
+        &script,
+        &StandardJobs,
+        &schedule.gate,
+        &mut report,
+    ) {
         Ok(core) if is_answered(&core) => judge(alloc, report.text()),
         Ok(_) => Ok(Some(Flaw::Unanswered)),
         Err(_) => Ok(Some(Flaw::BrokenOff)),

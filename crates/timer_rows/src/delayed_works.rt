@@ -3,33 +3,16 @@ ghost use Rattle.tm_base.specs.declared.names.TheConstants.{TIME_LIMIT};
 
 use cpu_bases::Bases;
 use delayed_work::*;
-use job_table::{Job, JobReply, JobTable, Marker, OneShot, Periodic};
+use job_table::{JobReply, StandardJobs};
 use std::alloc::Global;
 use std::test::Fail;
-use tm_base::{Class, Jiffy, NoMemory, SCRIPT_TIME_LIMIT};
+use tm_base::{Jiffy, NoMemory, SCRIPT_TIME_LIMIT};
 use wheel_core::ListBase;
-
-// The program's jobs: none, again on the global and on the pinned base, and a mark.
-fn table(alloc: Global) -> Result<JobTable, NoMemory> {
-    let global = Periodic {
-        class: Class::Global,
-    };
-    let pinned = Periodic {
-        class: Class::Pinned,
-    };
-    let mut jobs: Vec<Box<dyn Job + Send + Sync>> = Vec::new(alloc);
-    jobs.push(Box::new(alloc, OneShot)?)?;
-    jobs.push(Box::new(alloc, global)?)?;
-    jobs.push(Box::new(alloc, pinned)?)?;
-    jobs.push(Box::new(alloc, Marker)?)?;
-    Ok(JobTable::new(jobs))
-}
 
 // What is answered to a script of works: its output, or its fault.
 fn answer(alloc: Global, text: &[u8]) -> Result<Result<Vec<u8>, WorksFault>, Fail> {
-    let table = table(alloc)?;
     match read_works(alloc, text) {
-        Ok(script) => Ok(play_works(alloc, &script, &table)),
+        Ok(script) => Ok(play_works(alloc, &script, &StandardJobs)),
         Err(_) => Ok(Ok(Vec::new(alloc))),
     }
 }
@@ -117,12 +100,11 @@ fn expire(works: &mut Works<ListBase>, now: Jiffy) -> Result<(), NoMemory> {
 fn run_next(
     works: &mut Works<ListBase>,
     now: Jiffy,
-    jobs: &JobTable,
 ) -> Result<Option<(u16, JobReply, Option<Placed>)>, NoMemory> {
     if !may_call(works, now, 0) {
         return Ok(None);
     }
-    works.run_next(now, jobs)
+    works.run_next(now, &StandardJobs)
 }
 
 fn left(works: &Works<ListBase>, work: u16) -> Option<Placed> {
@@ -153,7 +135,7 @@ struct Answers {
     told: usize,
 }
 
-fn call_each(works: &mut Works<ListBase>, jobs: &JobTable) -> Result<Answers, NoMemory> {
+fn call_each(works: &mut Works<ListBase>) -> Result<Answers, NoMemory> {
     let placed = [
         queue(works, 10, 0, 50, 3, 7)?,
         queue(works, 10, 0, 5, 0, 0)?,
@@ -164,7 +146,7 @@ fn call_each(works: &mut Works<ListBase>, jobs: &JobTable) -> Result<Answers, No
     expire(works, 61)?;
     let ready = works.ready_len();
     let left = left(works, 0);
-    let ran = [run_next(works, 61, jobs)?, run_next(works, 61, jobs)?];
+    let ran = [run_next(works, 61)?, run_next(works, 61)?];
     Ok(Answers {
         placed,
         first,
@@ -178,9 +160,8 @@ fn call_each(works: &mut Works<ListBase>, jobs: &JobTable) -> Result<Answers, No
 }
 
 fn two_works_played(alloc: Global) -> Result<Answers, NoMemory> {
-    let jobs = table(alloc)?;
     let mut works = two_works(alloc)?;
-    call_each(&mut works, &jobs)
+    call_each(&mut works)
 }
 
 // The first row of works, call by call.
