@@ -113,10 +113,10 @@ pub fn play<J: Jobs>(
 
 /// Plays one moment of a script on a core, whose clock comes to it, with the interrupts of these
 /// CPUs, which are online; `play` plays each of its moments so, with the CPUs of
-/// `having_interrupt`. The core may be one in play, or one in a run, which threads left at rest: as
-/// it was, so it stays. The answer is how many timers were handed out; the count stands still at
-/// 2^32 - 1. After want of memory the report is as it was; the core may stand anywhere within the
-/// moment, as lawful as every core.
+/// `having_interrupt`. The core may be one in play, or one in a run, which threads left at rest:
+/// what its player asks of it stays so. The answer is how many timers were handed out; the count
+/// stands still at 2^32 - 1. After want of memory the report is as it was; the core may stand
+/// anywhere within the moment, as lawful as every core.
 pub fn play_moment<F: CoreFit, J: Jobs>(
     alloc: Global,
     player: &mut CorePlayer<WheelBase, F>,

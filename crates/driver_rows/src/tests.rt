@@ -1,15 +1,17 @@
 ghost use Rattle.job_table.specs.Standard.{one_shot_reply};
 
-use core_plays::{Player, RunPlayer, deep, play, play_moment, start_core};
-use job_table::{Job, JobCall, JobReply, JobTable, OneShot};
-use play_driver::having_interrupt;
+use core_plays::{Core, Player, RunPlayer, deep, play, play_moment, start_core};
+use job_table::{Job, JobCall, JobReply, JobTable, StandardJobs};
+use play_driver::{DriveFault, having_interrupt};
+use run_parts::{Rounded, run_by};
 use std::alloc::{AllocError, Global};
 use std::sync::Arc;
 use std::sync::atomic::{AtomicU64, Ordering};
 use std::test::Fail;
-use tm_base::NoMemory;
-use tm_report::Report;
-use tm_script::read_script;
+use tm_base::{CpuSet, NoMemory};
+use tm_report::{Line, Report};
+use tm_script::{Op, read_script};
+use wheel_base::WheelBase;
 
 // A device that goes on as long as a CPU sleeps, and one that fires for a CPU that woke before: a
 // script beside its report, worked out by hand from the rules of docs/FORMATS.md.
@@ -28,21 +30,13 @@ const ROWS: [(&[u8], &[u8]); 2] = [
     ),
 ];
 
-// A table of one job, which is done at once.
-fn one_job(alloc: Global) -> Result<JobTable, AllocError> {
-    let mut jobs: Vec<Box<dyn Job + Send + Sync>> = Vec::new(alloc);
-    jobs.push(Box::new(alloc, OneShot)?)?;
-    Ok(JobTable::new(jobs))
-}
-
 // Whether a script's play under a device has this text.
 fn has_text(alloc: Global, script: &[u8], text: &[u8]) -> Result<bool, AllocError> {
-    let jobs = one_job(alloc)?;
     let mut report = Report::new(alloc);
     let Ok(script) = read_script(alloc, script) else {
         return Ok(false);
     };
-    let told = deep(alloc, &script, &jobs, &mut report);
+    let told = deep(alloc, &script, &StandardJobs, &mut report);
     Ok(told.is_ok() && report.text() == text)
 }
 
@@ -61,7 +55,6 @@ const ONE_TIMER: &[u8] =
 // What the moments at 0 and 51 of that script hand out, where they are played by themselves, and
 // whether they come to this text.
 fn hand_outs(alloc: Global, text: &[u8]) -> Result<Option<(u32, u32, bool)>, NoMemory> {
-    let jobs = one_job(alloc)?;
     let mut report = Report::new(alloc);
     let Ok(script) = read_script(alloc, ONE_TIMER) else {
         return Ok(None);
@@ -71,9 +64,25 @@ fn hand_outs(alloc: Global, text: &[u8]) -> Result<Option<(u32, u32, bool)>, NoM
     }
     let mut player = Player::new(alloc, start_core(alloc, &script)?);
     let due = having_interrupt(&player);
-    let first = play_moment(alloc, &mut player, &script, &jobs, 0, &due, &mut report)?;
+    let first = play_moment(
+        alloc,
+        &mut player,
+        &script,
+        &StandardJobs,
+        0,
+        &due,
+        &mut report,
+    )?;
     let due = having_interrupt(&player);
-    let second = play_moment(alloc, &mut player, &script, &jobs, 51, &due, &mut report)?;
+    let second = play_moment(
+        alloc,
+        &mut player,
+        &script,
+        &StandardJobs,
+        51,
+        &due,
+        &mut report,
+    )?;
     Ok(Some((first, second, report.text() == text)))
 }
 
@@ -86,7 +95,6 @@ fn a_moment_is_played_by_itself(rt: HostRuntime) -> Result<(), Fail> {
 
 // The same, where the second moment goes on from the core that the first left, as a run does.
 fn hand_outs_of_run(alloc: Global, text: &[u8]) -> Result<Option<(u32, u32, bool)>, NoMemory> {
-    let jobs = one_job(alloc)?;
     let mut report = Report::new(alloc);
     let Ok(script) = read_script(alloc, ONE_TIMER) else {
         return Ok(None);
@@ -96,10 +104,26 @@ fn hand_outs_of_run(alloc: Global, text: &[u8]) -> Result<Option<(u32, u32, bool
     }
     let mut player = Player::new(alloc, start_core(alloc, &script)?);
     let due = having_interrupt(&player);
-    let first = play_moment(alloc, &mut player, &script, &jobs, 0, &due, &mut report)?;
+    let first = play_moment(
+        alloc,
+        &mut player,
+        &script,
+        &StandardJobs,
+        0,
+        &due,
+        &mut report,
+    )?;
     let mut player = RunPlayer::new(alloc, player.into_core());
     let due = having_interrupt(&player);
-    let second = play_moment(alloc, &mut player, &script, &jobs, 51, &due, &mut report)?;
+    let second = play_moment(
+        alloc,
+        &mut player,
+        &script,
+        &StandardJobs,
+        51,
+        &due,
+        &mut report,
+    )?;
     Ok(Some((first, second, report.text() == text)))
 }
 
@@ -107,6 +131,34 @@ fn hand_outs_of_run(alloc: Global, text: &[u8]) -> Result<Option<(u32, u32, bool
 fn a_moment_of_a_run_goes_on_from_the_core_of_the_one_before(rt: HostRuntime) -> Result<(), Fail> {
     let text = b"arm 0 0 0 global 51\nrun 51 0 0 0 51 done\n";
     assert_eq!(rt; hand_outs_of_run(rt.alloc(), text)?, Some((0, 1, true)));
+    Ok(())
+}
+
+// Two CPUs, so that the moment at 10 is a round; and what was told before it.
+const TWO_CPUS: &[u8] =
+    b"tmig 1\nnodes 1\ncpus 2\ntimers 1\nat 10\narm 1 0 global 50 0 0\nidle 1\nend 100\n";
+
+const BEFORE: &[u8] = b"end 5\n";
+
+// What a run comes to whose rounds are short of memory, and whether its report is as it was.
+fn without_rounds(alloc: Global) -> Result<Option<(bool, bool)>, NoMemory> {
+    let mut report = Report::new(alloc);
+    report.push(&Line::End { now: 5 })?;
+    let Ok(script) = read_script(alloc, TWO_CPUS) else {
+        return Ok(None);
+    };
+    let refuse = |core: Core<WheelBase>, _due: &CpuSet, _ops: &[Op]| -> Rounded {
+        drop(core);
+        Err(NoMemory)
+    };
+    let ran = run_by(alloc, &script, &StandardJobs, &refuse, &mut report);
+    let wants = matches!(ran, Err(DriveFault::NoMemory));
+    Ok(Some((wants, report.text() == BEFORE)))
+}
+
+#[test]
+fn a_run_whose_rounds_want_memory_leaves_the_report_as_it_was(rt: HostRuntime) -> Result<(), Fail> {
+    assert_eq!(rt; without_rounds(rt.alloc())?, Some((true, true)));
     Ok(())
 }
 

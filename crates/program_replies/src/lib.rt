@@ -1,7 +1,9 @@
-//! What the program `tmig` replies to an input without threads, and what each of its statuses says.
+//! What the program `tmig` replies to its words and its input, and what each of its statuses says.
+//! Who makes the rounds of `run` is a parameter.
 #![tactic(auto)]
 
 pub mod day_text;
 mod replies;
+mod words;
 
-pub use replies::{check_trace, draw_tree, play_deep, play_delayed, play_script, sum_up};
+pub use words::reply_to;

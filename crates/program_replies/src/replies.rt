@@ -24,7 +24,11 @@ use tree_plan::plan;
 use work_script::WorkScript;
 
 /// Plays a script.
-pub fn play_script<J: Jobs>(alloc: Global, script: &Script, jobs: &J) -> Result<Reply, NoMemory>
+pub(crate) fn play_script<J: Jobs>(
+    alloc: Global,
+    script: &Script,
+    jobs: &J,
+) -> Result<Reply, NoMemory>
     requires { IsScript script.now }
     ensures { IfOk result
         (IsReplyTo (J.replies jobs.now) (J.count jobs.now) Command.Play
@@ -44,7 +48,11 @@ pub fn play_script<J: Jobs>(alloc: Global, script: &Script, jobs: &J) -> Result<
 }
 
 /// Plays a script under one broadcast device.
-pub fn play_deep<J: Jobs>(alloc: Global, script: &Script, jobs: &J) -> Result<Reply, NoMemory>
+pub(crate) fn play_deep<J: Jobs>(
+    alloc: Global,
+    script: &Script,
+    jobs: &J,
+) -> Result<Reply, NoMemory>
     requires { IsScript script.now }
     ensures { IfOk result
         (IsReplyTo (J.replies jobs.now) (J.count jobs.now) Command.Deep
@@ -61,7 +69,7 @@ pub fn play_deep<J: Jobs>(alloc: Global, script: &Script, jobs: &J) -> Result<Re
 }
 
 /// Plays a script, and sums up what that came to.
-pub fn sum_up<J: Jobs>(alloc: Global, script: &Script, jobs: &J) -> Result<Reply, NoMemory>
+pub(crate) fn sum_up<J: Jobs>(alloc: Global, script: &Script, jobs: &J) -> Result<Reply, NoMemory>
     requires { IsScript script.now }
     ensures { (recipe : Recipe) → IfOk result
         (IsReplyTo (J.replies jobs.now) (J.count jobs.now) (Command.Day recipe)
@@ -77,7 +85,7 @@ pub fn sum_up<J: Jobs>(alloc: Global, script: &Script, jobs: &J) -> Result<Reply
 }
 
 /// Draws the tree of a script's machine.
-pub fn draw_tree(alloc: Global, script: &Script) -> Result<Reply, NoMemory>
+pub(crate) fn draw_tree(alloc: Global, script: &Script) -> Result<Reply, NoMemory>
     requires { IsScript script.now }
     ensures { (jobs : Replies) (table : ℕ) → IfOk result
         (IsReplyTo jobs table Command.Tree (Input.Script script.now)) }
@@ -89,7 +97,7 @@ pub fn draw_tree(alloc: Global, script: &Script) -> Result<Reply, NoMemory>
 }
 
 /// Tells whether a trace is a run, and what it asks.
-pub fn check_trace(alloc: Global, trace: &Trace) -> Result<Reply, NoMemory>
+pub(crate) fn check_trace(alloc: Global, trace: &Trace) -> Result<Reply, NoMemory>
     requires { IsTrace trace.now }
     ensures { (jobs : Replies) (table : ℕ) → IfOk result
         (IsReplyTo jobs table Command.Check (Input.Trace trace.now)) }
@@ -100,7 +108,11 @@ pub fn check_trace(alloc: Global, trace: &Trace) -> Result<Reply, NoMemory>
 }
 
 /// Plays a script of works.
-pub fn play_delayed<J: Jobs>(alloc: Global, works: &WorkScript, jobs: &J) -> Result<Reply, NoMemory>
+pub(crate) fn play_delayed<J: Jobs>(
+    alloc: Global,
+    works: &WorkScript,
+    jobs: &J,
+) -> Result<Reply, NoMemory>
     requires { IsWorkScript works.now }
     ensures { IfOk result
         (IsReplyTo (J.replies jobs.now) (J.count jobs.now) Command.Works (Input.Works works.now)) }

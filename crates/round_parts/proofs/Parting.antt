@@ -19,7 +19,8 @@ use Rattle.idle_wakeup.specs.shared_rule.Starts.{first_pass_of}
 use Rattle.idle_wakeup.specs.shared_table.Begun.{begun_pass, begun_passes}
 use Rattle.story.specs.Rounds.{standing_at}
 use Rattle.story.specs.Shares.{TellsOps, own_ops}
-use Rattle.round_parts.specs.Doing.{HasDone, IsRoundOp, IsShareOp}
+use Rattle.story.specs.Asked.{IsRoundOp}
+use Rattle.round_parts.specs.Doing.{HasDone, IsShareOp}
 use Rattle.round_parts.specs.Progress.{GivenSoFar, IsFirstPass, IsGiven, MayRound, MayShare}
 use Rattle.round_parts.specs.Tasks.{AreTasks, EachFrom, IsTaskOf, Plan}
 use Rattle.round_parts.specs.declared.tasks.Task.{Task}

@@ -9,7 +9,7 @@ use Rattle.tm_script.specs.declared.syntax.Op.{Op}
 use Rattle.core_world.specs.World.{World, cpu_of}
 use Rattle.story.specs.step_play.Rules.Seen.{InRun, resting}
 use Rattle.story.proofs.step_play.Worlds.{no_walk}
-use Rattle.round_parts.specs.Doing.{IsRoundOp}
+use Rattle.story.specs.Asked.{IsRoundOp}
 use Rattle.round_parts.specs.Progress.{MayRound}
 
 pub may_round : (o w : World) (now : ℕ) (due : Cpus) (ops : List Op) → w ≡ o → now ≡ o.clock

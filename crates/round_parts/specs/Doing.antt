@@ -3,8 +3,6 @@ use Rattle.std.specs.Prelude.{◌≡◌, ℕ, ◌<◌, ◌≤◌, Bool, false, L
 use Rattle.std.specs.Prelude.{Contains}
 use Rattle.atomic_table.specs.Seated.{TableId}
 use Rattle.tm_script.specs.declared.syntax.Op.{Op}
-use Rattle.tm_script.specs.declared.syntax.What.{What}
-use Rattle.tm_script.specs.declared.syntax.What.TheVariants as whats
 use Rattle.tm_report.specs.declared.lines.Line.{Line}
 use Rattle.core_world.specs.Enabled.{first_event}
 use Rattle.core_world.specs.World.{World, cpu_of}
@@ -21,6 +19,7 @@ use Rattle.story.specs.Written.{Written, bases_after}
 use Rattle.story.specs.Rounds.{standing_at}
 use Rattle.story.specs.Shares.{Known, Standing, TellsShare}
 use Rattle.story.specs.Stories.{is_hotplug}
+use Rattle.story.specs.Asked.{IsTimerThere}
 
 -- what a receipt says was written
 abbrev pub written_of : Receipt → Written
@@ -81,21 +80,9 @@ pub record HasDone (table : TableId) (o : World) (jobs : Replies) (due : Bool) (
   pub idle : pass.idle ≡ last.idle
   pub wakeup : pass.wakeup ≡ last.wakeup
 
--- the timer that an operation names, if it names one, is there
-abbrev pub IsTimerThere : (timers : ℕ) → What → Type 0
-IsTimerThere timers (whats.Arm timer class delay job arg) = timer.0 < timers
-IsTimerThere timers (whats.Cancel timer) = timer.0 < timers
-IsTimerThere timers what = Unit {0}
-
 -- an operation of a CPU that may be part of a round: its timer is there, and it takes no CPU
 -- offline or online
 pub record IsShareOp (cpu timers : ℕ) (op : Op) : Type 0 where
   pub own : op.cpu.0 ≡ cpu
-  pub timer : IsTimerThere timers op.what
-  pub stays : is_hotplug op.what ≡ false
-
--- an operation that may be part of a round, of whatever CPU that there is
-pub record IsRoundOp (cpus timers : ℕ) (op : Op) : Type 0 where
-  pub cpu : op.cpu.0 < cpus
   pub timer : IsTimerThere timers op.what
   pub stays : is_hotplug op.what ≡ false

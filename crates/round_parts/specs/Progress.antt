@@ -16,7 +16,8 @@ use Rattle.idle_wakeup.specs.shared_rule.Rule.{Each}
 use Rattle.idle_wakeup.specs.shared_table.Begun.{begun_pass}
 use Rattle.play_rules.specs.Interrupts.{Replies}
 use Rattle.story.specs.Shares.{own_ops}
-use Rattle.round_parts.specs.Doing.{HasDone, IsRoundOp, IsShareOp}
+use Rattle.story.specs.Asked.{IsRoundOp}
+use Rattle.round_parts.specs.Doing.{HasDone, IsShareOp}
 use Rattle.round_parts.specs.declared.shares.Share.{Share}
 use Rattle.round_parts.specs.declared.tasks.Task.{Task}
 use Rattle.round_parts.specs.Tasks.{AreGathered, AreTasks, EachFrom, HasEnded, IsTaskOf, Plan}

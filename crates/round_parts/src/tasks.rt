@@ -4,7 +4,7 @@ ghost use Rattle.std.specs.Prelude.{◌≡◌, ◌<◌, [], All, IfOk, OnOk, len
 ghost use Rattle.core_world.specs.World.{World};
 ghost use Rattle.atomic_table.specs.Seated.{TableId};
 ghost use Rattle.idle_wakeup.specs.shared_table.Begun.{begun_passes};
-ghost use Rattle.round_parts.specs.Doing.{IsRoundOp};
+ghost use Rattle.story.specs.Asked.{IsRoundOp};
 ghost use Rattle.round_parts.specs.Tasks.{AreTasks, EachFrom};
 ghost use Rattle.round_parts.specs.Progress.{AreGiven, IsFirstPass, IsGiven};
 

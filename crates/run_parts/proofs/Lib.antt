@@ -1,4 +1,5 @@
 pub mod Plain
-pub mod RoundTold
-pub mod StoryTurns
+mod Threaded
+mod RoundTold
+mod StoryTurns
 pub use Rattle.core_plays.proofs as core_plays

@@ -78,7 +78,8 @@ pub record IsRunMoment (cpus timers : ℕ) (m : Moment) : Type 0 where
   pub in_range : IsMomentInRange cpus timers m
   pub few : length m.ops ≤ MOST_OPS
 
--- a moment with threads was told: its lines and its work are one's that it may be
+-- a moment with threads was told: its lines and its work are one's that it may be (no public clause
+-- cites it)
 pub record TellsThreaded (jobs : Replies) (due : FinSet nat_cmp) (m : Option Moment)
     (start : World) (old new : Progress) (after : World) : Type 0 where
   pub played : Played World
@@ -86,7 +87,7 @@ pub record TellsThreaded (jobs : Replies) (due : FinSet nat_cmp) (m : Option Mom
   pub tells : Tells played old new after
 
 -- a round of so many interrupts was told, with who answers in the moment, whatever core it began
--- with
+-- with (no public clause cites it)
 abbrev pub TellsRound : (interrupts : ℕ) → Option Moment → (after : World) → List Line
     → (old new : Progress) → Type 0
 TellsRound interrupts m after lines old new =

@@ -66,7 +66,7 @@ fn told_covers(
 
 /// Tells of a round with so many interrupts, which left the core as it is: its lines, and who
 /// answers in the moment.
-pub fn tell_round(
+pub(crate) fn tell_round(
     player: &RunPlayer<WheelBase>,
     interrupts: u16,
     lines: &[Line],

@@ -27,7 +27,7 @@ use tm_script::{Moment, Op, Script, What};
 use wheel_base::WheelBase;
 
 /// The core at the start of a script, which is to run it.
-pub fn started(alloc: Global, script: &Script) -> Result<RunPlayer<WheelBase>, NoMemory>
+pub(crate) fn started(alloc: Global, script: &Script) -> Result<RunPlayer<WheelBase>, NoMemory>
     requires { IsScript script.now }
     ensures start { IfOk result (λ player. player ≡ core_start script.now) }
     ensures in_run { IfOk result (InRun resting) }
@@ -37,7 +37,7 @@ pub fn started(alloc: Global, script: &Script) -> Result<RunPlayer<WheelBase>, N
 }
 
 /// How many CPUs there are.
-pub fn cpu_count(player: &RunPlayer<WheelBase>) -> u16
+pub(crate) fn cpu_count(player: &RunPlayer<WheelBase>) -> u16
     ensures count { result ≡ length player.now.cpus }
     ensures few { result ≤ CPU_SET_SIZE }
 {
@@ -45,7 +45,7 @@ pub fn cpu_count(player: &RunPlayer<WheelBase>) -> u16
 }
 
 /// Brings the clock to a moment, and answers the CPUs that have an interrupt in it.
-pub fn come_to(player: &mut RunPlayer<WheelBase>, now: Jiffy) -> CpuSet
+pub(crate) fn come_to(player: &mut RunPlayer<WheelBase>, now: Jiffy) -> CpuSet
     requires not_back { player.old.clock ≤ now }
     requires in_time { now < SCRIPT_TIME_LIMIT }
     requires fit { InRun resting player.old }
@@ -62,7 +62,7 @@ pub fn come_to(player: &mut RunPlayer<WheelBase>, now: Jiffy) -> CpuSet
 }
 
 /// The operations that the script has for a moment.
-pub fn ops_of(m: Option<&Moment>) -> &[Op]
+pub(crate) fn ops_of(m: Option<&Moment>) -> &[Op]
     ensures { result.now ≡ ops_of (option_copied m.entry) }
 {
     match m {
@@ -79,7 +79,7 @@ fn is_hotplug(op: &Op) -> bool
 }
 
 /// How many of so many CPUs are due an interrupt.
-pub fn count_due(cpus: u16, due: &CpuSet) -> u16
+pub(crate) fn count_due(cpus: u16, due: &CpuSet) -> u16
     requires { cpus ≤ CPU_SET_SIZE }
     ensures count { result ≡ count_due cpus due.now }
     ensures few { result ≤ cpus }
@@ -93,7 +93,7 @@ pub fn count_due(cpus: u16, due: &CpuSet) -> u16
 
 /// Whether a moment is played without threads: it has an operation that takes a CPU offline or
 /// online, or no operation and at most one interrupt.
-pub fn is_plain(cpus: u16, due: &CpuSet, ops: &[Op]) -> bool
+pub(crate) fn is_plain(cpus: u16, due: &CpuSet, ops: &[Op]) -> bool
     requires { cpus ≤ CPU_SET_SIZE }
     ensures { result ≡ is_plain cpus due.now ops.now }
 {
@@ -105,7 +105,7 @@ pub fn is_plain(cpus: u16, due: &CpuSet, ops: &[Op]) -> bool
 
 /// A plain moment of a run, of which the CPUs that have an interrupt are known, on the core that
 /// the clock has come to it. After want of memory the core may stand anywhere within the moment.
-pub fn plain_moment<J: Jobs>(
+pub(crate) fn plain_moment<J: Jobs>(
     alloc: Global,
     player: &mut RunPlayer<WheelBase>,
     jobs: &J,
@@ -128,7 +128,7 @@ pub fn plain_moment<J: Jobs>(
 
 /// When the next moment of a run comes, in jiffies: the next interrupt, the script's next moment or
 /// the end.
-pub fn moment_after(player: &RunPlayer<WheelBase>, left: &[Moment], end: Jiffy) -> Jiffy
+pub(crate) fn moment_after(player: &RunPlayer<WheelBase>, left: &[Moment], end: Jiffy) -> Jiffy
     requires { player.now.clock < SCRIPT_TIME_LIMIT }
     ensures { result ≡ next_moment step_rules end left.now player.now }
 {
@@ -136,7 +136,7 @@ pub fn moment_after(player: &RunPlayer<WheelBase>, left: &[Moment], end: Jiffy) 
 }
 
 /// The last lines of a run: the timers that are still queued, and the end.
-pub fn close(
+pub(crate) fn close(
     player: &RunPlayer<WheelBase>,
     end: Jiffy,
     telling: &mut Telling<Report>,

@@ -3,7 +3,6 @@
 #![tactic(auto)]
 
 mod program;
-mod replies;
 
 pub use program::run_program;
 pub use program_replies::day_text;

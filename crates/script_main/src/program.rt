@@ -1,7 +1,10 @@
 //! The whole program.
 
-ghost use Rattle.std.specs.Prelude.{◌≢◌, ◌≡◌, ◌⊎◌, None, Some};
+ghost use Rattle.std.specs.Prelude.{◌≢◌, ◌≡◌, ◌⊎◌, IfOk, None, Some};
+ghost use Rattle.std.specs.Thread.{IsSync};
 ghost use Rattle.tm_io.specs.Seen.{SourceFailed, SourceUnbroken};
+ghost use Rattle.run_parts.specs.story.Asked.{AsksRound};
+ghost use Rattle.run_parts.specs.story.Rounds.{IsRound};
 ghost use Rattle.program_texts.specs.Words.{Reads, command_of};
 ghost use Rattle.program_texts.specs.Ends.{Breaks};
 ghost use Rattle.program_texts.specs.Statuses.{IsEither, IsStatus};
@@ -12,17 +15,21 @@ ghost use Rattle.program_replies.specs.Statuses.{SaysWriteFault};
 ghost use Rattle.program_replies.specs.Causes.{IsFine, IsJobUnknown, IsRefused, IsTooLong};
 ghost use Rattle.program_replies.specs.Causes.{IsTraceRefused, IsWorkSpent, IsWorksRefused};
 
-use crate::replies::reply_to;
 use job_table::Jobs;
+use program_replies::reply_to;
 use program_texts::{
     Command, DONE, JOB_UNKNOWN, NO_MEMORY, READ_FAULT, Recipe, SCRIPT_REFUSED, Status, TOO_LONG,
     TRACE_REFUSED, USAGE, WORK_SPENT, WORKS_REFUSED, WRITE_FAULT, write_reply,
 };
+use run_parts::{Core, Rounded};
 use std::alloc::Global;
 use std::sync::Wait;
 use std::thread::Threads;
-use tm_base::Gate;
+use thread_rounds::round;
+use tm_base::{CpuSet, Gate};
 use tm_io::{Sink, Source};
+use tm_script::Op;
+use wheel_base::WheelBase;
 
 /// Does all that the program does: what the words say, with the input that it reads from the
 /// source, or the script that it generates. The first cause that comes decides: the words, a fault
@@ -111,7 +118,12 @@ pub fn run_program<S: Source, K: Sink, J: Jobs + Sync, G: Gate + Sync, R: Thread
         → IsFine (J.replies jobs.now) (J.count jobs.now) words.now (S.seen source.old).left
         → IsEither result.0 DONE NO_MEMORY }
 {
-    match reply_to(rt, alloc, words, source, jobs, gate) {
+    let by_threads = |core: Core<WheelBase>, due: &CpuSet, ops: &[Op]| -> Rounded
+        requires { IsSync R.row × IsSync J.row × IsSync G.row × AsksRound core due.now ops.now }
+        ensures { IfOk result
+            (λ r. IsRound (J.replies jobs.entry.now) core due.now ops.now r.0 r.1.items) }
+    { round(rt, alloc, core, due, ops, jobs, gate) };
+    match reply_to(alloc, words, source, jobs, &by_threads) {
         Ok(reply) => Status(write_reply(alloc, &reply, sink)),
         Err(_) => Status(NO_MEMORY),
     }

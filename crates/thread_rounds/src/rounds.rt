@@ -1,14 +1,9 @@
 //! A round: threads for the CPUs with something to do, from a core at rest to a core at rest.
 
-ghost use Rattle.std.specs.Prelude.{◌≡◌, ◌-◌, ◌^◌, ◌≤◌, ℕ, All, IfOk, length, true};
-ghost use Rattle.std.specs.FinSet.{contains};
-ghost use Rattle.tm_base.specs.declared.limits.TheConstants.{MOST_OPS};
-ghost use Rattle.tm_base.specs.declared.names.TheConstants.{TIME_LIMIT};
-ghost use Rattle.core_world.specs.World.{cpu_of};
-ghost use Rattle.round_parts.specs.story.step_play.Rules.Seen.{InRun, resting};
+ghost use Rattle.std.specs.Prelude.{◌≡◌, IfOk};
 ghost use Rattle.round_parts.specs.shared_table.Begun.{begun_passes};
+ghost use Rattle.round_parts.specs.story.Asked.{AsksRound};
 ghost use Rattle.round_parts.specs.story.Rounds.{IsRound};
-ghost use Rattle.round_parts.specs.Doing.{IsRoundOp};
 ghost use Rattle.round_parts.specs.Progress.{AreAllDone, MayRound};
 
 use crate::threads::do_all;
@@ -116,11 +111,7 @@ pub fn round<J: Jobs + Sync, G: Gate + Sync, R: Threads + Wait + Sync>(
     jobs: &J,
     gate: &G,
 ) -> Result<(Core<WheelBase>, Vec<Line>), NoMemory>
-    requires in_run { InRun resting core }
-    requires in_time { core.clock ≤ TIME_LIMIT - 2 ^ 32 }
-    requires online { (c : ℕ) → contains due.now c ≡ true → (cpu_of core c).online ≡ true }
-    requires ops { All (IsRoundOp (length core.cpus) core.timers) ops.now }
-    requires few { length ops.now ≤ MOST_OPS }
+    requires { AsksRound core due.now ops.now }
     ensures { IfOk result (λ r. IsRound (J.replies jobs.now) core due.now ops.now r.0 r.1.items) }
 {
     let now = core.now();

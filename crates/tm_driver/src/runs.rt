@@ -1,58 +1,23 @@
-//! Running a script: with threads for the CPUs of a moment.
+//! Running a script with threads for the CPUs of a moment.
 
-ghost use Rattle.std.specs.Prelude.{◌≡◌, ◌≤◌, All, IfErr, IfOk, length};
-ghost use Rattle.tm_base.specs.declared.limits.TheConstants.{MOST_OPS};
+ghost use Rattle.std.specs.Prelude.{IfErr, IfOk};
+ghost use Rattle.std.specs.Thread.{IsSync};
 ghost use Rattle.tm_script.specs.Grammar.{IsScript};
-ghost use Rattle.play_rules.specs.Parts.{Gains};
-ghost use Rattle.run_parts.specs.step_play.Rules.Seen.{InRun, resting};
-ghost use Rattle.run_parts.specs.step_play.SamePlay.{core_start};
-ghost use Rattle.play_driver.specs.Conditions.{IsPlayable};
-ghost use Rattle.run_parts.specs.Runs.{BreaksRun, EndsRunEarly, RunsToEnd, RunsWhole};
+ghost use Rattle.run_parts.specs.Runs.{BreaksRun, RunsToEnd};
+ghost use Rattle.run_parts.specs.story.Asked.{AsksRound};
+ghost use Rattle.run_parts.specs.story.Rounds.{IsRound};
 
-use crate::run_moments::run_moments;
 use job_table::Jobs;
-use play_driver::{DriveFault, Telling, first_unknown_job};
-use play_rules::UnknownJob;
-use run_parts::{Core, RunPlayer, close, started};
+use play_driver::DriveFault;
+use run_parts::{Core, Rounded, run_by};
 use std::alloc::Global;
-use std::mem;
 use std::sync::Wait;
 use std::thread::Threads;
-use tm_base::{Gate, NoMemory};
+use thread_rounds::round;
+use tm_base::{CpuSet, Gate};
 use tm_report::Report;
-use tm_script::Script;
+use tm_script::{Op, Script};
 use wheel_base::WheelBase;
-
-/// The moments of a script, and what is left at its end.
-fn run_known<J: Jobs + Sync, G: Gate + Sync, R: Threads + Wait + Sync>(
-    rt: &R,
-    alloc: Global,
-    player: RunPlayer<WheelBase>,
-    script: &Script,
-    jobs: &J,
-    gate: &G,
-    telling: &mut Telling<Report>,
-) -> Result<RunPlayer<WheelBase>, DriveFault>
-    requires start { player ≡ core_start script.now }
-    requires playable { IsPlayable (length player.cpus) player.timers script.now }
-    requires few { All (λ m. length m.ops ≤ MOST_OPS) script.now.moments }
-    requires no_work { telling.old.work ≡ 0 }
-    requires fit { InRun resting player }
-    ensures whole { IfOk result
-        (RunsWhole (J.replies jobs.now) script.now telling.old.text telling.new.text) }
-    ensures fault { IfErr result (λ fault.
-        EndsRunEarly (J.replies jobs.now) script.now fault telling.old.text telling.new.text) }
-    ensures gains { Gains telling.old.text telling.new.text }
-{
-    let player = run_moments(rt, alloc, player, jobs, gate, script, telling)?;
-    match close(&player, script.end, telling) {
-        Ok(()) => Ok(player),
-        Err(refused) => {
-            drop(player);
-            Err(refused.into())
-        }
-    }
-}
 
 /// Runs a script from its start into a report, with threads: in a moment each CPU that has an
 /// interrupt or operations gets a thread, which does its interrupt and then its operations in line
@@ -79,20 +44,10 @@ pub fn run<J: Jobs + Sync, G: Gate + Sync, R: Threads + Wait + Sync>(
     ensures fault { IfErr result (λ fault.
         BreaksRun (J.replies jobs.now) (J.count jobs.now) script.now fault report.old report.new) }
 {
-    if let Some(UnknownJob { line, job }) = first_unknown_job(script, jobs) {
-        return Err(DriveFault::BadJob { line, job });
-    }
-    let player = started(alloc, script)?;
-    let begin = report.text().len();
-    let mut telling = Telling::new(mem::replace(report, Report::new(alloc)));
-    let ran = run_known(rt, alloc, player, script, jobs, gate, &mut telling);
-    *report = telling.into_report();
-    match ran {
-        Ok(player) => Ok(player.into_core()),
-        Err(DriveFault::NoMemory) => {
-            report.truncate(begin);
-            Err(DriveFault::NoMemory)
-        }
-        Err(fault) => Err(fault),
-    }
+    let by_threads = |core: Core<WheelBase>, due: &CpuSet, ops: &[Op]| -> Rounded
+        requires { IsSync R.row × IsSync J.row × IsSync G.row × AsksRound core due.now ops.now }
+        ensures { IfOk result
+            (λ r. IsRound (J.replies jobs.entry.now) core due.now ops.now r.0 r.1.items) }
+    { round(rt, alloc, core, due, ops, jobs, gate) };
+    run_by(alloc, script, jobs, &by_threads, report)
 }

@@ -5,4 +5,4 @@ pub round_over-requires-clause-may : goal.round_over-requires-clause-may
 round_over-requires-clause-may g c κs within =
     may_round c.args.core c.in-Ok.ready.core c.now-now.result c.args.due.now c.args.ops.now
     c.in-Ok.ensures.core c.now-now.ensures c.requires.in_run c.requires.in_time c.requires.online
-    c.requires.ops c.requires.few
+    c.requires.may c.requires.few
