@@ -3,7 +3,7 @@ ghost use Rattle.job_table.specs.Standard.{one_shot_reply};
 use core_plays::{Core, Player, RunPlayer, deep, play, play_moment, start_core};
 use job_table::{Job, JobCall, JobReply, JobTable, StandardJobs};
 use play_driver::{DriveFault, having_interrupt};
-use run_parts::{Rounded, run_by};
+use run_moments::{Rounded, run_by};
 use std::alloc::{AllocError, Global};
 use std::sync::Arc;
 use std::sync::atomic::{AtomicU64, Ordering};

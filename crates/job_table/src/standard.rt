@@ -50,8 +50,8 @@ impl Job for Marker {
     }
 }
 
-/// The program's jobs: of number 0 the timer is done, 1 arms it again as global and 2 as pinned, and
-/// 3 leaves a mark. They take no memory, and may be lent to several threads.
+/// The program's jobs: of number 0 the timer is done, 1 arms it again as global and 2 as pinned,
+/// and 3 leaves a mark. They take no memory, and may be lent to several threads.
 #[derive(Clone, Copy)]
 pub struct StandardJobs;
 

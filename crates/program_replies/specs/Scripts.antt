@@ -11,9 +11,9 @@ use Rattle.play_rules.specs.Jobs.{first_unknown_job}
 use Rattle.play_rules.specs.Parts.{counted}
 use Rattle.play_rules.specs.Play.{play_text, play_spent}
 use Rattle.play_driver.specs.Outcomes.{work_limit}
-use Rattle.run_parts.specs.core_plays.Deep.{deep_lines, deep_text, without_device}
-use Rattle.run_parts.specs.core_plays.Plays.{CanPlay, LawsHold, summary_of}
-use Rattle.run_parts.specs.Runs.{BreaksStory, RunsToEnd}
+use Rattle.run_moments.specs.core_plays.Deep.{deep_lines, deep_text, without_device}
+use Rattle.run_moments.specs.core_plays.Plays.{CanPlay, LawsHold, summary_of}
+use Rattle.run_moments.specs.Runs.{BreaksStory, RunsToEnd}
 use Rattle.trace_check.specs.Answers.{IsCheckText}
 use Rattle.work_script.specs.declared.syntax.WorkScript.{WorkScript}
 use Rattle.delayed_work.specs.Play.{CanPlayWorks, first_unknown_work_job, works_spent, works_text}

@@ -17,4 +17,4 @@
 mod days;
 
 pub use days::print_day;
-pub use run_parts::Summary;
+pub use run_moments::Summary;

@@ -13,7 +13,7 @@ use job_table::Jobs;
 use play_driver::DriveFault;
 use program_texts::tree_text::print_tree;
 use program_texts::{Command, Input, Recipe, Reply};
-use run_parts::{deep, law_work, play, summary};
+use run_moments::{deep, law_work, play, summary};
 use std::alloc::Global;
 use tm_base::NoMemory;
 use tm_report::Report;

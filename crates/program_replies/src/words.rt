@@ -5,7 +5,7 @@ ghost use Rattle.tm_base.specs.declared.limits.TheConstants.{MOST_BYTES};
 ghost use Rattle.tm_io.specs.Seen.{SourceUnbroken};
 ghost use Rattle.tm_io.specs.Sources.{TakesUpTo};
 ghost use Rattle.tm_script.specs.Grammar.{IsScript};
-ghost use Rattle.run_parts.specs.Rounds.{MakesRounds};
+ghost use Rattle.run_moments.specs.Rounds.{MakesRounds};
 ghost use Rattle.program_texts.specs.Inputs.{IsInput};
 ghost use Rattle.program_texts.specs.Words.{IsRecipe, Reads, form_of, recipe_in};
 ghost use Rattle.program_texts.specs.Brought.{script_by};
@@ -17,7 +17,7 @@ use crate::replies::{check_trace, draw_tree, play_deep, play_delayed, play_scrip
 use job_table::Jobs;
 use play_driver::DriveFault;
 use program_texts::{Command, Form, Input, Recipe, Reply, read_command, read_input};
-use run_parts::{Core, Rounded, run_by};
+use run_moments::{Core, Rounded, run_by};
 use std::alloc::Global;
 use tm_base::{CpuSet, MOST_BYTES, NoMemory};
 use tm_generate::generate;

@@ -1,8 +1,8 @@
 use std::alloc::Global;
 use std::test::Fail;
-use story_check::*;
 use text_words::{cut, push_bytes};
 use tm_base::NoMemory;
+use view_story::*;
 
 // A CPU that is the last active one goes offline: its duty is handed on, and its timers move.
 const SCRIPT: &[u8] = b"tmig 1\nnodes 1\ncpus 3\ntimers 3\nat 10\narm 0 0 global 50 0 0\nidle 0\n\

@@ -15,7 +15,7 @@ use Rattle.shared_rows.specs.shared_rule.Starts.{first_pass_of}
 use Rattle.shared_rows.specs.shared_table.Begun.{begun_pass}
 use Rattle.remote_expiry.specs.Runs.{Ran}
 use Rattle.remote_expiry.specs.Interrupts.{HasInterrupted, NotInterrupted, interrupt_fault}
-use Rattle.remote_expiry.specs.timer_calls.Arms.{NotArmed}
+use Rattle.remote_expiry.specs.shared_calls.Arms.{NotArmed}
 
 -- an interrupt leaves a pass to its CPU, whatever it answers
 pub stays_its : {A : Type 0} (o : World) (jobs : ℕ → JobCall → JobReply) (p q : PassView)

@@ -28,14 +28,14 @@ use Rattle.walk_inactive.specs.shared_rule.Plays.{head_pass, seen_pass}
 use Rattle.walk_inactive.specs.shared_rule.Shows.{BeginsWith, receipt_of}
 use Rattle.walk_inactive.specs.shared_rule.Timers.{armed_box, armed_pass}
 use Rattle.walk_inactive.proofs.shared_rule.Visits.{knows}
-use Rattle.remote_parts.specs.shared_timers.declared.arming.Arming.{Arming}
-use Rattle.remote_parts.specs.shared_timers.Entries.{pair_changed}
-use Rattle.remote_parts.specs.shared_timers.Exchanging.{timer_word}
-use Rattle.timer_calls.specs.Arms.{HasArmed, IsQueued, MetBy, NotArmed, arming_of, met}
-use Rattle.timer_calls.specs.Arms.{roomy}
-use Rattle.remote_parts.specs.declared.runs.RanReply.TheVariants as ran
-use Rattle.remote_parts.specs.Pieces.{Gains, HeldInside, Piece}
-use Rattle.remote_parts.proofs.Gaining.{begins_then, known_more, no_piece, none_gained, piece_of}
+use Rattle.shared_acts.specs.shared_timers.declared.arming.Arming.{Arming}
+use Rattle.shared_acts.specs.shared_timers.Entries.{pair_changed}
+use Rattle.shared_acts.specs.shared_timers.Exchanging.{timer_word}
+use Rattle.shared_calls.specs.Arms.{HasArmed, IsQueued, MetBy, NotArmed, arming_of, met}
+use Rattle.shared_calls.specs.Arms.{roomy}
+use Rattle.shared_acts.specs.declared.runs.RanReply.TheVariants as ran
+use Rattle.shared_acts.specs.Pieces.{Gains, HeldInside, Piece}
+use Rattle.shared_acts.proofs.Gaining.{begins_then, known_more, no_piece, none_gained, piece_of}
 use Rattle.remote_expiry.specs.Running.{HasAnswered, holder_told}
 
 -- a pass inside its interrupt, and the part of its CPU as it met it

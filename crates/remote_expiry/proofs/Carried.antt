@@ -12,8 +12,8 @@ use Rattle.walk_inactive.specs.shared_rule.Parts.{HeldPart, pass_parted, with_gu
 use Rattle.walk_inactive.specs.shared_rule.Passes.{HeldPass, IsPassIn, passes_of, seated_of}
 use Rattle.walk_inactive.specs.shared_rule.Turns.{marks_without}
 use Rattle.walk_inactive.specs.Ends.{HasCarried, has_carried, next_of}
-use Rattle.remote_parts.specs.Tries.{HasUnmarked}
-use Rattle.remote_parts.proofs.Trials.{none_left, off_gains}
+use Rattle.shared_acts.specs.Tries.{HasUnmarked}
+use Rattle.shared_acts.proofs.Trials.{none_left, off_gains}
 
 -- A PASS of the run in the part of a CPU, with which it agrees
 module _ (table : TableId) (part : HeldPart) (held after : HeldPass) (p : PassView)

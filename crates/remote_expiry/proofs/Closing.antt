@@ -21,10 +21,10 @@ use Rattle.walk_inactive.specs.shared_rule.Turns.{entered_box, entered_pass}
 use Rattle.walk_inactive.specs.shared_cpus.Pairs.{by_pair, of_box}
 use Rattle.walk_inactive.specs.shared_rule.Free.{IsFree}
 use Rattle.walk_inactive.specs.Ends.{HasWalked, is_marked_by, reevaluated, retells_with, retold}
-use Rattle.remote_parts.specs.Interrupts.{own_walk}
-use Rattle.remote_parts.specs.Tries.{HasClosed}
-use Rattle.remote_parts.proofs.Trials.{goes_on, known_by, no_mark, off_gains, place_in}
-use Rattle.remote_parts.proofs.Closing.{has_mark, online_by}
+use Rattle.shared_acts.specs.Interrupts.{own_walk}
+use Rattle.shared_acts.specs.Tries.{HasClosed}
+use Rattle.shared_acts.proofs.Trials.{goes_on, known_by, no_mark, off_gains, place_in}
+use Rattle.shared_acts.proofs.Closing.{has_mark, online_by}
 use Rattle.remote_expiry.specs.Interrupts.{interrupt_fault, interrupt_fault_of}
 use Rattle.remote_expiry.specs.Trying.{HasEntered}
 

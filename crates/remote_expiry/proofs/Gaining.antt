@@ -1,2 +1,2 @@
--- what a pass gains, as remote_parts has it, for crates above
-pub use Rattle.remote_parts.proofs.Gaining.{begins, begins_then, known_more, same_pass}
+-- what a pass gains, as shared_acts has it, for crates above
+pub use Rattle.shared_acts.proofs.Gaining.{begins, begins_then, known_more, same_pass}

@@ -18,17 +18,17 @@ use Rattle.walk_inactive.specs.shared_rule.declared.parts.PassView.{PassView}
 use Rattle.walk_inactive.specs.shared_rule.declared.parts.Receipt.{Receipt}
 use Rattle.walk_inactive.specs.shared_rule.Passes.{HeldPass}
 use Rattle.walk_inactive.specs.shared_table.declared.ready.TheConstants.{MOST_MADE}
-use Rattle.remote_parts.specs.declared.runs.Ran.{Ran}
-use Rattle.remote_parts.specs.Following.{Follows}
-use Rattle.remote_parts.specs.Interrupts.{HasTicked, own_walk}
-use Rattle.remote_parts.specs.Looks.{LooksFrom}
-use Rattle.remote_parts.specs.Pieces.{Gains, Piece, deeds_of}
-use Rattle.remote_parts.specs.Tries.{AtWork, BreaksOff, HasClosed}
+use Rattle.shared_acts.specs.declared.runs.Ran.{Ran}
+use Rattle.shared_acts.specs.Following.{Follows}
+use Rattle.shared_acts.specs.Interrupts.{HasTicked, own_walk}
+use Rattle.shared_acts.specs.Looks.{LooksFrom}
+use Rattle.shared_acts.specs.Pieces.{Gains, Piece, deeds_of}
+use Rattle.shared_acts.specs.Tries.{AtWork, BreaksOff, HasClosed}
 use Rattle.remote_expiry.specs.Interrupts.{HasGained, IsAtRest, NotInterrupted, Tells}
 use Rattle.remote_expiry.specs.Interrupts.{interrupt_fault, interrupt_fault_of}
 use Rattle.remote_expiry.specs.Trying.{HasEntered, HasWorked, IsDone, IsEnterable, IsRefusedIn}
-use Rattle.remote_parts.proofs.Gaining as gaining
-use Rattle.remote_parts.proofs.Served.{still_at_work}
+use Rattle.shared_acts.proofs.Gaining as gaining
+use Rattle.shared_acts.proofs.Served.{still_at_work}
 
 -- who isn't refused is online, and has walks left
 pub not_refused : (online : Bool) (walks : ℕ) → interrupt_fault_of online walks ≡ None

@@ -16,11 +16,11 @@ use Rattle.walk_inactive.specs.shared_rule.declared.parts.Did.{Did}
 use Rattle.walk_inactive.specs.shared_rule.declared.parts.PassView.{PassView}
 use Rattle.walk_inactive.specs.shared_rule.declared.parts.Receipt.{Receipt}
 use Rattle.walk_inactive.specs.shared_rule.Passes.{HeldPass, IsPassIn}
-use Rattle.remote_parts.specs.declared.runs.Ran.{Ran}
-use Rattle.remote_parts.specs.Following.{Follows}
-use Rattle.remote_parts.specs.Pieces.{Piece, RanAll, RanSome}
-use Rattle.remote_parts.proofs.Follow.{told_wider}
-use Rattle.remote_parts.proofs.Gaining.{no_piece, piece_then, receipts_then}
+use Rattle.shared_acts.specs.declared.runs.Ran.{Ran}
+use Rattle.shared_acts.specs.Following.{Follows}
+use Rattle.shared_acts.specs.Pieces.{Piece, RanAll, RanSome}
+use Rattle.shared_acts.proofs.Follow.{told_wider}
+use Rattle.shared_acts.proofs.Gaining.{no_piece, piece_then, receipts_then}
 use Rattle.remote_expiry.specs.Running.{Arms, HasAnswered, HasRun, HasToldNone, HasToldRun, IsOf}
 use Rattle.remote_expiry.specs.Running.{IsRan, call_to}
 use Rattle.remote_expiry.proofs.Running.{AllOf, SomeOf, all_more, all_run, all_wider, some_more}

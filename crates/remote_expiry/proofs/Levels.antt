@@ -20,18 +20,18 @@ use Rattle.walk_inactive.specs.shared_rule.declared.parts.Deed.TheVariants as de
 use Rattle.walk_inactive.specs.shared_rule.declared.parts.Did.{Did}
 use Rattle.walk_inactive.specs.shared_rule.declared.parts.Receipt.{Receipt}
 use Rattle.walk_inactive.specs.shared_rule.Passes.{HeldPass}
-use Rattle.remote_parts.specs.declared.runs.Ran.{Ran}
-use Rattle.remote_parts.specs.Looks.{HasEnded, HasLooked, IsClosed, IsLeft, IsServed, IsTried}
-use Rattle.remote_parts.specs.Looks.{LooksFrom, saw}
-use Rattle.remote_parts.specs.Pieces.{Piece, Works, deeds_of}
-use Rattle.remote_parts.specs.Tries.{AtWork, BreaksOff}
+use Rattle.shared_acts.specs.declared.runs.Ran.{Ran}
+use Rattle.shared_acts.specs.Looks.{HasEnded, HasLooked, IsClosed, IsLeft, IsServed, IsTried}
+use Rattle.shared_acts.specs.Looks.{LooksFrom, saw}
+use Rattle.shared_acts.specs.Pieces.{Piece, Works, deeds_of}
+use Rattle.shared_acts.specs.Tries.{AtWork, BreaksOff}
 use Rattle.remote_expiry.specs.Trying.{BreaksRound, HasClimbed, HasRounds, SeesEnd, SeesNothing}
 use Rattle.remote_expiry.specs.Trying.{TriesOne}
 use Rattle.walk_rules.specs.Hierarchy.{side}
 use Rattle.walk_inactive.specs.shared_cpus.Pairs.{cpu_place}
-use Rattle.remote_parts.specs.remote_looks.Sights.{LooksBy, slot_looks, state_look}
-use Rattle.remote_parts.proofs.Served.{deeds_behind, idle_work, still_at_work, works_break}
-use Rattle.remote_parts.proofs.Served.{works_then}
+use Rattle.shared_acts.specs.shared_looks.Sights.{LooksBy, slot_looks, state_look}
+use Rattle.shared_acts.proofs.Served.{deeds_behind, idle_work, still_at_work, works_break}
+use Rattle.shared_acts.proofs.Served.{works_then}
 use Rattle.remote_expiry.proofs.Counted.{count_below, few_below, more_below}
 
 -- WITHIN: what one list contains another does

@@ -17,17 +17,17 @@ use Rattle.walk_inactive.specs.shared_rule.declared.parts.Look.{Look}
 use Rattle.walk_inactive.specs.shared_rule.declared.parts.PassView.{PassView}
 use Rattle.walk_inactive.specs.shared_rule.Plays.{seen_pass}
 use Rattle.walk_inactive.specs.shared_rule.Passes.{HeldPass, IsPassIn, with_pass}
-use Rattle.remote_parts.specs.remote_looks.Looks.{seen_all}
-use Rattle.remote_parts.specs.remote_looks.Sights.{IsOthers, ShowsDue, ShowsNothing, slot_looks}
-use Rattle.remote_parts.specs.remote_looks.Sights.{state_look}
-use Rattle.remote_parts.specs.declared.runs.Ran.{Ran}
-use Rattle.remote_parts.specs.Interrupts.{walks_by}
-use Rattle.remote_parts.specs.Looks.{IsTried, saw}
-use Rattle.remote_parts.specs.Pieces.{Piece, deeds_of}
-use Rattle.remote_parts.specs.Tries.{BreaksOff, HasTried}
+use Rattle.shared_acts.specs.shared_looks.Looks.{seen_all}
+use Rattle.shared_acts.specs.shared_looks.Sights.{IsOthers, ShowsDue, ShowsNothing, slot_looks}
+use Rattle.shared_acts.specs.shared_looks.Sights.{state_look}
+use Rattle.shared_acts.specs.declared.runs.Ran.{Ran}
+use Rattle.shared_acts.specs.Interrupts.{walks_by}
+use Rattle.shared_acts.specs.Looks.{IsTried, saw}
+use Rattle.shared_acts.specs.Pieces.{Piece, deeds_of}
+use Rattle.shared_acts.specs.Tries.{BreaksOff, HasTried}
 use Rattle.remote_expiry.specs.Trying.{BreaksRound, SeesEnd, SeesNothing, TriesOne}
-use Rattle.remote_parts.proofs.Gaining as gaining
-use Rattle.remote_parts.proofs.Served.{idle_work, works_break, works_then}
+use Rattle.shared_acts.proofs.Gaining as gaining
+use Rattle.shared_acts.proofs.Served.{idle_work, works_break, works_then}
 use Rattle.remote_expiry.proofs.Levels.{tried_before}
 
 -- loads as deeds, done when the pass had so many receipts

@@ -14,13 +14,13 @@ use Rattle.job_table.specs.declared.jobs.JobReply.{JobReply}
 use Rattle.job_table.specs.declared.jobs.JobReply.TheVariants as replies
 use Rattle.walk_inactive.specs.shared_rule.declared.parts.Did.{Did}
 use Rattle.walk_inactive.specs.shared_rule.declared.parts.Receipt.{Receipt}
-use Rattle.remote_parts.specs.declared.runs.Ran.{Ran}
-use Rattle.remote_parts.specs.declared.runs.RanReply.{RanReply}
-use Rattle.remote_parts.specs.declared.runs.RanReply.TheVariants as ran
-use Rattle.remote_parts.specs.Following.{Follows, FollowsBy, IsOwed, IsRunOf, IsTold, Owed}
-use Rattle.remote_parts.specs.Following.{RunsOfSome, call_of, owed_by}
-use Rattle.remote_parts.specs.Pieces.{HandsOut, IsHandOut}
-use Rattle.remote_parts.proofs.Follow.{Wider, told_wider}
+use Rattle.shared_acts.specs.declared.runs.Ran.{Ran}
+use Rattle.shared_acts.specs.declared.runs.RanReply.{RanReply}
+use Rattle.shared_acts.specs.declared.runs.RanReply.TheVariants as ran
+use Rattle.shared_acts.specs.Following.{Follows, FollowsBy, IsOwed, IsRunOf, IsTold, Owed}
+use Rattle.shared_acts.specs.Following.{RunsOfSome, call_of, owed_by}
+use Rattle.shared_acts.specs.Pieces.{HandsOut, IsHandOut}
+use Rattle.shared_acts.proofs.Follow.{Wider, told_wider}
 use Rattle.remote_expiry.specs.Running.{Arms, IsOf, IsRan, call_to}
 
 -- SOME of these timers are told, in their order

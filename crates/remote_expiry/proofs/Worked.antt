@@ -11,12 +11,12 @@ use Rattle.job_table.specs.declared.jobs.JobCall.{JobCall}
 use Rattle.job_table.specs.declared.jobs.JobReply.{JobReply}
 use Rattle.walk_inactive.specs.shared_rule.declared.parts.Receipt.{Receipt}
 use Rattle.walk_inactive.specs.shared_rule.Passes.{HeldPass}
-use Rattle.remote_parts.specs.declared.runs.Ran.{Ran}
-use Rattle.remote_parts.specs.Interrupts.{HasTicked}
-use Rattle.remote_parts.specs.Looks.{LooksFrom}
-use Rattle.remote_parts.specs.Pieces.{Breaks, HasDrained, deeds_of}
-use Rattle.remote_parts.specs.Tries.{BreaksOff}
-use Rattle.remote_parts.proofs.Served.{deeds_behind, works_break, works_then}
+use Rattle.shared_acts.specs.declared.runs.Ran.{Ran}
+use Rattle.shared_acts.specs.Interrupts.{HasTicked}
+use Rattle.shared_acts.specs.Looks.{LooksFrom}
+use Rattle.shared_acts.specs.Pieces.{Breaks, HasDrained, deeds_of}
+use Rattle.shared_acts.specs.Tries.{BreaksOff}
+use Rattle.shared_acts.proofs.Served.{deeds_behind, works_break, works_then}
 use Rattle.remote_expiry.specs.Trying.{HasClimbed, HasDrainedAll, HasWorked}
 use Rattle.remote_expiry.proofs.Levels.{Within, looks_behind, within_left, within_right}
 

@@ -15,11 +15,11 @@ use Rattle.walk_inactive.specs.shared_rule.declared.parts.PassView.{PassView}
 use Rattle.walk_inactive.specs.shared_rule.declared.parts.Receipt.{Receipt}
 use Rattle.walk_inactive.specs.shared_rule.Passes.{HeldPass, IsPassIn}
 use Rattle.walk_inactive.specs.shared_rule.Shows.{BeginsWith}
-use Rattle.remote_parts.specs.declared.runs.Ran.{Ran}
+use Rattle.shared_acts.specs.declared.runs.Ran.{Ran}
 use Rattle.walk_inactive.specs.shared_table.declared.ready.TheConstants.{MOST_MADE}
-use Rattle.remote_parts.specs.Following.{Follows, RunsOfSome}
-use Rattle.remote_parts.specs.Looks.{LooksFrom}
-pub use Rattle.remote_parts.specs.Interrupts.{HasTicked, KnowsOwn, most_walks, own_walk, walks_by}
+use Rattle.shared_acts.specs.Following.{Follows, RunsOfSome}
+use Rattle.shared_acts.specs.Looks.{LooksFrom}
+pub use Rattle.shared_acts.specs.Interrupts.{HasTicked, KnowsOwn, most_walks, own_walk, walks_by}
 
 -- what a pass has gained in an interrupt, whatever it answers: receipts and deeds at the ends; its
 -- CPU is as idle as before and outside again, no mark is left, and just these walks were begun,

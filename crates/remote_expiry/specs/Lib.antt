@@ -4,5 +4,5 @@ pub mod Following
 pub mod Interrupts
 pub mod Running
 pub mod Trying
-pub use Rattle.remote_parts.specs.shared_timers as shared_timers
-pub use Rattle.timer_calls.specs as timer_calls
+pub use Rattle.shared_acts.specs.shared_timers as shared_timers
+pub use Rattle.shared_calls.specs as shared_calls

@@ -15,11 +15,11 @@ use Rattle.job_table.specs.declared.jobs.JobReply.TheVariants as replies
 use Rattle.walk_inactive.specs.shared_rule.declared.parts.Did.{Did}
 use Rattle.walk_inactive.specs.shared_rule.declared.parts.Receipt.{Receipt}
 use Rattle.walk_inactive.specs.shared_rule.Passes.{HeldPass}
-use Rattle.remote_parts.specs.declared.runs.Ran.{Ran}
-use Rattle.remote_parts.specs.declared.runs.RanReply.{RanReply}
-use Rattle.remote_parts.specs.declared.runs.RanReply.TheVariants as ran
-use Rattle.remote_parts.specs.Following.{IsTold}
-use Rattle.remote_parts.specs.Pieces.{Piece}
+use Rattle.shared_acts.specs.declared.runs.Ran.{Ran}
+use Rattle.shared_acts.specs.declared.runs.RanReply.{RanReply}
+use Rattle.shared_acts.specs.declared.runs.RanReply.TheVariants as ran
+use Rattle.shared_acts.specs.Following.{IsTold}
+use Rattle.shared_acts.specs.Pieces.{Piece}
 
 -- the CPU that a refusal to arm names
 abbrev pub holder_told : OpFault → Option CpuId

@@ -6,7 +6,7 @@ use Rattle.std.specs.FinSet.{insert}
 use Rattle.tm_base.specs.CpuSet.{Contains, Cpus}
 use Rattle.event_queue.specs.EventMap.{IsTakenUp, NoneFits}
 use Rattle.walk_rules.specs.Hierarchy.{side}
-use Rattle.remote_parts.specs.remote_looks.Sights.{LooksBy, events_in, slot_looks, state_look}
+use Rattle.shared_acts.specs.shared_looks.Sights.{LooksBy, events_in, slot_looks, state_look}
 use Rattle.remote_expiry.specs.declared.looking.Round.{Round}
 use Rattle.remote_expiry.specs.declared.looking.Round.TheVariants as rounds
 use Rattle.atomic_table.specs.Seated.{TableId}
@@ -22,11 +22,11 @@ use Rattle.walk_inactive.specs.shared_rule.declared.parts.Did.{Did}
 use Rattle.walk_inactive.specs.shared_rule.declared.parts.PassView.{PassView}
 use Rattle.walk_inactive.specs.shared_rule.declared.parts.Receipt.{Receipt}
 use Rattle.walk_inactive.specs.shared_rule.Passes.{HeldPass, IsPassIn}
-use Rattle.remote_parts.specs.declared.runs.Ran.{Ran}
-use Rattle.remote_parts.specs.Interrupts.{HasTicked}
-use Rattle.remote_parts.specs.Looks.{HasEnded, HasLooked, IsTried, LooksFrom, saw}
-use Rattle.remote_parts.specs.Pieces.{Gains, Piece, Works, deeds_of}
-use Rattle.remote_parts.specs.Tries.{BreaksOff, HasClosed}
+use Rattle.shared_acts.specs.declared.runs.Ran.{Ran}
+use Rattle.shared_acts.specs.Interrupts.{HasTicked}
+use Rattle.shared_acts.specs.Looks.{HasEnded, HasLooked, IsTried, LooksFrom, saw}
+use Rattle.shared_acts.specs.Pieces.{Gains, Piece, Works, deeds_of}
+use Rattle.shared_acts.specs.Tries.{BreaksOff, HasClosed}
 use Rattle.remote_expiry.specs.Interrupts.{IsAtRest, interrupt_fault}
 
 -- ONE ROUND of a look: a CPU of the run that wasn't tried yet was tried, after loads

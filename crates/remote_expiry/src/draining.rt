@@ -2,12 +2,12 @@
 
 ghost use Rattle.std.specs.Prelude.{◌≡◌, ◌-◌, ◌^◌, ◌≤◌, [], MatchResult};
 ghost use Rattle.tm_base.specs.declared.names.TheConstants.{TIME_LIMIT};
-ghost use Rattle.remote_parts.specs.Handing.{HasHanded};
-ghost use Rattle.remote_parts.specs.Pieces.{Breaks, HasDrained, HeldInside, Piece};
+ghost use Rattle.shared_acts.specs.Handing.{HasHanded};
+ghost use Rattle.shared_acts.specs.Pieces.{Breaks, HasDrained, HeldInside, Piece};
 
 use crate::jobs::run_all;
 use job_table::Jobs;
-use remote_parts::{Runs, hand_all, room_for};
+use shared_acts::{Runs, hand_all, room_for};
 use std::alloc::Global;
 use std::sync::Wait;
 use tm_base::{Class, Jiffy, NoMemory};

@@ -2,14 +2,14 @@
 
 ghost use Rattle.std.specs.Prelude.{◌≡◌, ◌+◌, ◌-◌, ◌^◌, ◌<◌, ◌≤◌, [], All, MatchResult, length};
 ghost use Rattle.tm_base.specs.declared.names.TheConstants.{TIME_LIMIT};
-ghost use Rattle.remote_parts.specs.Pieces.{HeldInside, IsTimerOf, Piece, RanAll, RanSome};
+ghost use Rattle.shared_acts.specs.Pieces.{HeldInside, IsTimerOf, Piece, RanAll, RanSome};
 ghost use Rattle.remote_expiry.specs.Running.{HasAnswered, HasRun, HasToldNone, HasToldRun};
 ghost use Rattle.remote_expiry.specs.Running.{holder_told};
 
 use job_table::{JobCall, JobReply, Jobs};
-use remote_parts::{Ran, RanReply, Runs};
+use shared_acts::{Ran, RanReply, Runs};
+use shared_calls::arm;
 use std::sync::Wait;
-use timer_calls::arm;
 use tm_base::{Class, CpuId, Jiffy, NoMemory, OpFault, TimerId};
 use walk_inactive::{Pass, RunName, Shared};
 use wheel_core::{Item, TimerBase};

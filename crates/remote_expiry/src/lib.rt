@@ -10,5 +10,5 @@ mod marking;
 mod serving;
 
 pub use interrupting::interrupt;
-pub use remote_parts::{Ran, RanReply, Runs};
-pub use timer_calls::{arm, cancel};
+pub use shared_acts::{Ran, RanReply, Runs};
+pub use shared_calls::{arm, cancel};

@@ -3,12 +3,12 @@
 ghost use Rattle.std.specs.Prelude.{◌≡◌, ℕ, ◌-◌, ◌^◌, ◌≤◌, [], Some, true, MatchResult, length};
 ghost use Rattle.tm_base.specs.declared.names.TheConstants.{TIME_LIMIT};
 ghost use Rattle.tree_plan.specs.Paths.{group_at_of, is_placed_in, level_count_of};
-ghost use Rattle.remote_parts.specs.Tries.{AtWork, BreaksOff};
+ghost use Rattle.shared_acts.specs.Tries.{AtWork, BreaksOff};
 ghost use Rattle.remote_expiry.specs.Trying.{BreaksRound, HasClimbed, HasRounds, IsRound};
 
 use crate::serving::serve;
 use job_table::Jobs;
-use remote_parts::{Look, Runs, look};
+use shared_acts::{Look, Runs, look};
 use std::alloc::Global;
 use std::sync::Wait;
 use tm_base::{CPU_SET_SIZE, CpuSet, Gate, Jiffy, NoMemory};

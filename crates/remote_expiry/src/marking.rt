@@ -3,7 +3,7 @@
 ghost use Rattle.std.specs.Prelude.{◌≡◌, ℕ, ◌∷◌, [], true};
 ghost use Rattle.walk_inactive.specs.shared_rule.declared.parts.Deed.TheVariants as deeds;
 ghost use Rattle.walk_inactive.specs.shared_table.Begun.{IsFree};
-ghost use Rattle.remote_parts.specs.Tries.{AtWork, HasUnmarked};
+ghost use Rattle.shared_acts.specs.Tries.{AtWork, HasUnmarked};
 
 use std::sync::Wait;
 use tm_base::{Gate, Point};

@@ -6,14 +6,14 @@ ghost use Rattle.tree_plan.specs.Paths.{is_placed_in};
 ghost use Rattle.walk_rules.specs.Hierarchy.{HasGroup};
 ghost use Rattle.walk_inactive.specs.shared_rule.Slots.{IsGrouped};
 ghost use Rattle.walk_inactive.specs.shared_table.Begun.{IsFree};
-ghost use Rattle.remote_parts.specs.Pieces.{Piece};
-ghost use Rattle.remote_parts.specs.Tries.{AtWork, BreaksOff, HasLetGo, HasTried, IsRunnable};
-ghost use Rattle.remote_parts.specs.Tries.{TakesOrLeaves};
+ghost use Rattle.shared_acts.specs.Pieces.{Piece};
+ghost use Rattle.shared_acts.specs.Tries.{AtWork, BreaksOff, HasLetGo, HasTried, IsRunnable};
+ghost use Rattle.shared_acts.specs.Tries.{TakesOrLeaves};
 
 use crate::jobs::run_all;
 use crate::marking::carry_for;
 use job_table::Jobs;
-use remote_parts::{Runs, may_take, take_back, take_part};
+use shared_acts::{Runs, may_take, take_back, take_part};
 use std::alloc::Global;
 use std::sync::Wait;
 use tm_base::{CpuId, Gate, Jiffy, NoMemory};

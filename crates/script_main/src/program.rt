@@ -3,8 +3,8 @@
 ghost use Rattle.std.specs.Prelude.{◌≢◌, ◌≡◌, ◌⊎◌, IfOk, None, Some};
 ghost use Rattle.std.specs.Thread.{IsSync};
 ghost use Rattle.tm_io.specs.Seen.{SourceFailed, SourceUnbroken};
-ghost use Rattle.run_parts.specs.story.Asked.{AsksRound};
-ghost use Rattle.run_parts.specs.story.Rounds.{IsRound};
+ghost use Rattle.run_moments.specs.run_story.Asked.{AsksRound};
+ghost use Rattle.run_moments.specs.run_story.Rounds.{IsRound};
 ghost use Rattle.program_texts.specs.Words.{Reads, command_of};
 ghost use Rattle.program_texts.specs.Ends.{Breaks};
 ghost use Rattle.program_texts.specs.Statuses.{IsEither, IsStatus};
@@ -21,11 +21,11 @@ use program_texts::{
     Command, DONE, JOB_UNKNOWN, NO_MEMORY, READ_FAULT, Recipe, SCRIPT_REFUSED, Status, TOO_LONG,
     TRACE_REFUSED, USAGE, WORK_SPENT, WORKS_REFUSED, WRITE_FAULT, write_reply,
 };
-use run_parts::{Core, Rounded};
+use run_moments::{Core, Rounded};
+use run_rounds::round;
 use std::alloc::Global;
 use std::sync::Wait;
 use std::thread::Threads;
-use thread_rounds::round;
 use tm_base::{CpuSet, Gate};
 use tm_io::{Sink, Source};
 use tm_script::Op;

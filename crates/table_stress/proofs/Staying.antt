@@ -28,12 +28,12 @@ use Rattle.idle_wakeup.specs.shared_rule.Timers.{cancelled_pass}
 use Rattle.remote_expiry.specs.shared_timers.declared.arming.Arming.{Arming}
 use Rattle.remote_expiry.specs.shared_timers.Exchanging.{timer_word}
 use Rattle.remote_expiry.specs.shared_timers.Queueing.{armed_part, cancelled_part}
-use Rattle.remote_expiry.specs.timer_calls.Arms.{HasArmed, HasLeft, IsArmed, IsQueued, NotArmed}
-use Rattle.remote_expiry.specs.timer_calls.Arms.{met, roomy}
-use Rattle.remote_expiry.specs.timer_calls.Cancels.{HasCancelled, HasEnded, HasStayed, IsTakenOut}
-use Rattle.remote_expiry.specs.timer_calls.Cancels.{NotCancelled}
-use Rattle.remote_expiry.specs.timer_calls.Looks.{seen_all}
-use Rattle.remote_expiry.specs.timer_calls.Rooms.{with_more_room}
+use Rattle.remote_expiry.specs.shared_calls.Arms.{HasArmed, HasLeft, IsArmed, IsQueued, NotArmed}
+use Rattle.remote_expiry.specs.shared_calls.Arms.{met, roomy}
+use Rattle.remote_expiry.specs.shared_calls.Cancels.{HasCancelled, HasEnded, HasStayed, IsTakenOut}
+use Rattle.remote_expiry.specs.shared_calls.Cancels.{NotCancelled}
+use Rattle.remote_expiry.specs.shared_calls.Looks.{seen_all}
+use Rattle.remote_expiry.specs.shared_calls.Rooms.{with_more_room}
 use Rattle.idle_wakeup.specs.declared.idling.IdleAnswer.{IdleAnswer}
 use Rattle.idle_wakeup.specs.declared.idling.IdleAnswer.TheVariants as answers
 use Rattle.idle_wakeup.specs.Calls.{Renews, awake}

@@ -1,2 +1,2 @@
 pub mod Plays
-pub use Rattle.run_parts.specs.Runs
+pub use Rattle.run_moments.specs.Runs

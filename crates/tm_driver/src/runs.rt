@@ -3,17 +3,17 @@
 ghost use Rattle.std.specs.Prelude.{IfErr, IfOk};
 ghost use Rattle.std.specs.Thread.{IsSync};
 ghost use Rattle.tm_script.specs.Grammar.{IsScript};
-ghost use Rattle.run_parts.specs.Runs.{BreaksRun, RunsToEnd};
-ghost use Rattle.run_parts.specs.story.Asked.{AsksRound};
-ghost use Rattle.run_parts.specs.story.Rounds.{IsRound};
+ghost use Rattle.run_moments.specs.Runs.{BreaksRun, RunsToEnd};
+ghost use Rattle.run_moments.specs.run_story.Asked.{AsksRound};
+ghost use Rattle.run_moments.specs.run_story.Rounds.{IsRound};
 
 use job_table::Jobs;
 use play_driver::DriveFault;
-use run_parts::{Core, Rounded, run_by};
+use run_moments::{Core, Rounded, run_by};
+use run_rounds::round;
 use std::alloc::Global;
 use std::sync::Wait;
 use std::thread::Threads;
-use thread_rounds::round;
 use tm_base::{CpuSet, Gate};
 use tm_report::Report;
 use tm_script::{Op, Script};

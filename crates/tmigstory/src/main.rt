@@ -4,8 +4,8 @@
 use std::alloc::AllocError;
 use std::process::ExitCode;
 use std::{env, io};
-use story_check::{NO_MEMORY, run_story};
 use tm_io::{StdSink, StdSource};
+use view_story::{NO_MEMORY, run_story};
 
 /// The words after the program's name. Words that aren't UTF-8 are no command, and neither are no
 /// words.

@@ -3,10 +3,10 @@ use Rattle.std.specs.Prelude.{◌≡◌, ℕ, ◌+◌, List, String}
 use Rattle.std.specs.declared.alloc.Global.{Global}
 use Rattle.tm_io.specs.Seen.{SinkSeen, SourceSeen, SourceFailed}
 use Rattle.tm_io.specs.Sources.{TakesAll, TakesCount}
-use Rattle.trace_view.specs.declared.statuses.TheConstants.{MOST_TRACE_BYTES, NO_MEMORY}
-use Rattle.trace_view.specs.declared.statuses.TheConstants.{READ_FAULT, TOO_LONG}
-use Rattle.trace_view.specs.Ends.{IsEnd, Reads}
-use Rattle.trace_view.specs.Texts.{read_fault_line, too_long_line}
+use Rattle.linux_view.specs.declared.statuses.TheConstants.{MOST_TRACE_BYTES, NO_MEMORY}
+use Rattle.linux_view.specs.declared.statuses.TheConstants.{READ_FAULT, TOO_LONG}
+use Rattle.linux_view.specs.Ends.{IsEnd, Reads}
+use Rattle.linux_view.specs.Texts.{read_fault_line, too_long_line}
 use Rattle.view_main.specs.declared.words.Command.{Command}
 use Rattle.view_main.specs.declared.words.Command.TheVariants as commands
 use Rattle.view_main.specs.Outputs.{IsAllTold, IsDrawing, IsTelling}

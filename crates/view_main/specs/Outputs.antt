@@ -3,7 +3,7 @@ use Rattle.std.specs.Prelude.{◌≡◌, ℕ, List, [], Some, None, if◌then◌
 use Rattle.tm_report.specs.declared.lines.Line.{Line}
 use Rattle.report_reader.specs.declared.faults.ReportFault.{ReportFault}
 use Rattle.report_reader.specs.Reader.{IsFirstFault, IsReportOf}
-use Rattle.run_chart.specs.Charts.{back_from, chart_text, window_of}
+use Rattle.view_chart.specs.Charts.{back_from, chart_text, window_of}
 use Rattle.tm_script.specs.declared.faults.ScriptFault.{ScriptFault}
 use Rattle.trace_text.specs.declared.traces.Trace.{Trace}
 use Rattle.trace_text.specs.Faults.{trace_fault}
@@ -13,11 +13,11 @@ use Rattle.trace_explain.specs.trace_check.declared.verdict.Verdict.TheVariants 
 use Rattle.trace_explain.specs.trace_check.Answers.{start_for}
 use Rattle.trace_explain.specs.Explained.{IsExplained}
 use Rattle.text_words.specs.Words.{lines_of}
-use Rattle.trace_view.specs.trace_rules.Judge.{start}
-use Rattle.trace_view.specs.trace_all.All.{all_of}
-use Rattle.trace_view.specs.Texts.{all_status, all_text}
-use Rattle.trace_view.specs.declared.statuses.TheConstants.{FITS, MISFIT, NO_TRACE}
-use Rattle.text_chart.specs.Texts.{window_text}
+use Rattle.linux_view.specs.linux_rules.Judge.{start}
+use Rattle.linux_view.specs.linux_all.All.{all_of}
+use Rattle.linux_view.specs.Texts.{all_status, all_text}
+use Rattle.linux_view.specs.declared.statuses.TheConstants.{FITS, MISFIT, NO_TRACE}
+use Rattle.view_text.specs.Texts.{window_text}
 use Rattle.view_main.specs.declared.words.Look.{Look}
 use Rattle.view_main.specs.Refusals.{back_text, report_text, steps_text}
 

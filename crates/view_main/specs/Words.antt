@@ -6,7 +6,7 @@ use Rattle.std.specs.List.{position}
 use Rattle.std.specs.declared.alloc.Global.{Global}
 use Rattle.text_words.specs.Numbers.{number_of}
 use Rattle.tm_base.specs.declared.names.CpuId.{CpuId}
-use Rattle.run_chart.specs.declared.charting.Choice.{Choice}
+use Rattle.view_chart.specs.declared.charting.Choice.{Choice}
 use Rattle.view_main.specs.declared.words.Awaited.{Awaited}
 use Rattle.view_main.specs.declared.words.Awaited.TheVariants as awaits
 use Rattle.view_main.specs.declared.words.Command.{Command}

@@ -7,7 +7,7 @@ mod program;
 mod refusals;
 mod words;
 
+pub use linux_view::NO_MEMORY;
 pub use outputs::Output;
 pub use program::run_views;
-pub use trace_view::NO_MEMORY;
 pub use words::{Awaited, CPU_NUMBERS, Command, HYPHEN, Look, Options};

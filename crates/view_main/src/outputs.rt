@@ -1,21 +1,21 @@
 //! What a command writes of its input.
 
 ghost use Rattle.std.specs.Prelude.{◌≡◌, IfErr, IfOk, None};
-ghost use Rattle.run_chart.specs.Charts.{IsRefusal, back_from};
+ghost use Rattle.view_chart.specs.Charts.{IsRefusal, back_from};
 ghost use Rattle.trace_text.specs.Texts.{IsTrace};
 ghost use Rattle.view_main.specs.Outputs.{IsAllTold, IsDrawing, IsDrawn, IsTelling, IsTold};
 ghost use Rattle.view_main.specs.Outputs.{drawing_of, status_told};
 
 use crate::refusals::{back_refused, report_refused, steps_refused};
 use crate::words::Look;
+use linux_view::{FITS, MISFIT, NO_TRACE, all_status, check_all, print_all};
 use report_reader::{ReadReport, read_report};
-use run_chart::{NoChart, chart};
 use std::alloc::Global;
-use text_chart::text_chart;
 use tm_base::NoMemory;
 use tm_report::Line;
 use trace_explain::{ReadTrace, Trace, Verdict, explain, read_trace};
-use trace_view::{FITS, MISFIT, NO_TRACE, all_status, check_all, print_all};
+use view_chart::{NoChart, chart};
+use view_text::text_chart;
 
 /// A text, and the status where all of it is written.
 #[derive(Drop)]

@@ -1,21 +1,21 @@
 //! The whole program.
 
 ghost use Rattle.std.specs.Prelude.{◌≡◌, IfOk};
-ghost use Rattle.trace_view.specs.Ends.{IsEnd};
+ghost use Rattle.linux_view.specs.Ends.{IsEnd};
 ghost use Rattle.view_main.specs.Ends.{IsAnswer, IsOutput, Runs, Views};
 ghost use Rattle.view_main.specs.Words.{command_of};
 ghost use Rattle.view_main.specs.declared.words.Command.TheVariants as commands;
 
 use crate::outputs::{Output, draw, tell, tell_all};
 use crate::words::{Command, command_of};
+use linux_view::{
+    MOST_TRACE_BYTES, NO_MEMORY, READ_FAULT, TOO_LONG, WRITE_FAULT, read_fault_text, run_view,
+    too_long_text,
+};
 use std::alloc::Global;
 use text_words::push_bytes;
 use tm_base::NoMemory;
 use tm_io::{ReadFault, Sink, Source, WriteCause, read_all, write_all};
-use trace_view::{
-    MOST_TRACE_BYTES, NO_MEMORY, READ_FAULT, TOO_LONG, WRITE_FAULT, read_fault_text, run_view,
-    too_long_text,
-};
 
 /// An output of these bytes.
 fn output_of(alloc: Global, bytes: &[u8], status: u8) -> Result<Output, NoMemory>
@@ -89,7 +89,7 @@ fn run_command<S: Source, K: Sink>(
 
 /// Does all that the program does: `chart` draws a report, `explain` tells a trace of steps,
 /// `linux --all` tells all that is wrong with a kernel's trace, and what other words say is
-/// `trace_view::run_view`. It reads the source to its end, writes the answer at the end, and
+/// `linux_view::run_view`. It reads the source to its end, writes the answer at the end, and
 /// answers the exit status.
 pub fn run_views<S: Source, K: Sink>(
     alloc: Global,

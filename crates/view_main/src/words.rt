@@ -9,9 +9,9 @@ ghost use Rattle.view_main.specs.Words.{cpus_in, first_options, is_all, look_of,
 ghost use Rattle.view_main.specs.Words.{option_in, options_from, take_word, with_cpus};
 ghost use Rattle.view_main.specs.Words.{with_from, with_option, with_to};
 
-use run_chart::Choice;
 use text_words::read_number;
 use tm_base::CpuId;
+use view_chart::Choice;
 
 /// CPUs have numbers below this.
 pub const CPU_NUMBERS: u64 = 65_536;

@@ -1,7 +1,7 @@
-use run_chart::*;
 use std::test::Fail;
 use tm_base::{Class, CpuId, NEVER, TimerId};
 use tm_report::{Line, ShownCover, ShownReply};
+use view_chart::*;
 
 // The report of examples/two-sleepers.
 const LINES: [Line; 10] = [

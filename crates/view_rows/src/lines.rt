@@ -1,6 +1,6 @@
+use linux_lines::*;
 use std::test::Fail;
 use tm_base::Class;
-use trace_lines::*;
 
 // Lines of traces of Linux 6.12, and of a tool's report.
 #[test]

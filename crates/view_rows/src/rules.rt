@@ -1,6 +1,6 @@
+use linux_rules::*;
+use linux_seen::Rule;
 use std::test::Fail;
-use trace_rules::*;
-use trace_seen::Rule;
 
 // A walk of two CPUs in one leaf, by hand from the rule: CPU 1 joins {0}, whose migrator stays.
 #[test]

@@ -1,8 +1,8 @@
+use linux_lines::{CpuEvent, CpuKind, Happening, Line, NO_EXPIRY};
+use linux_runs::*;
+use linux_seen::seen::{CpuSeen, Seen, unknown_cpu};
 use std::test::Fail;
 use tm_base::{CpuId, NoMemory};
-use trace_lines::{CpuEvent, CpuKind, Happening, Line, NO_EXPIRY};
-use trace_runs::*;
-use trace_seen::seen::{CpuSeen, Seen, unknown_cpu};
 
 /// The run of CPU 1's timers by CPU 0 at this time.
 fn run_at(time: u64) -> Line {

@@ -1,8 +1,8 @@
-use run_chart::Choice;
 use std::test::Fail;
-use text_chart::*;
 use tm_base::{Class, CpuId, NEVER, TimerId};
 use tm_report::{Line, ShownCover, ShownReply};
+use view_chart::Choice;
+use view_text::*;
 
 // The report of examples/two-sleepers, up to jiffy 70.
 const LINES: [Line; 7] = [

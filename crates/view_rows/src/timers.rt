@@ -1,8 +1,8 @@
+use linux_lines::{Arming, read_line};
+use linux_timers::*;
 use std::alloc::Global;
 use std::test::Fail;
 use tm_base::{Class, CpuId};
-use trace_lines::{Arming, read_line};
-use trace_timers::*;
 
 /// The CPU at fault in the last of these lines; all are taken.
 fn last_fault(alloc: Global, lines: &[&[u8]]) -> Option<u16> {

@@ -1,9 +1,9 @@
+use linux_lines::LineFault;
+use linux_rules::{Misfit, Verdict};
+use linux_seen::{Rule, Whom};
+use linux_view::*;
 use std::test::Fail;
 use tm_base::CpuId;
-use trace_lines::LineFault;
-use trace_rules::{Misfit, Verdict};
-use trace_seen::{Rule, Whom};
-use trace_view::*;
 
 // The texts are those of docs/TRACES.md.
 #[test]

@@ -3,7 +3,7 @@ use Rattle.std.specs.Prelude.{ℕ, List, [], ◌∷◌, codes}
 use Rattle.std.specs.List.{flat_map}
 use Rattle.text_words.specs.Words.{ended}
 use Rattle.tm_script.specs.Texts.{number_line}
-use Rattle.run_parts.specs.core_plays.declared.numbers.Summary.{Summary}
+use Rattle.run_moments.specs.core_plays.declared.numbers.Summary.{Summary}
 
 -- the lines of a day: each number with its name
 abbrev pub day_lines : Summary → List (List ℕ)

@@ -5,7 +5,7 @@ ghost use Rattle.program_texts.specs.Entries.{entry_line};
 ghost use Rattle.program_replies.specs.DayText.Days.{day_lines, day_text};
 
 use program_texts::{Entry, push_entries};
-use run_parts::Summary;
+use run_moments::Summary;
 use std::alloc::Global;
 use tm_base::NoMemory;
 

@@ -2,10 +2,10 @@ use Rattle.std.proofs.Common.{◌∙◌, List, [], subst}
 use Rattle.std.specs.Prelude.{MatchResult}
 use Rattle.std.proofs.lemmas.Result.{err_from_is_err_and}
 use Rattle.wheel_core.specs.declared.item.Item.{Item}
-use Rattle.remote_parts.specs.declared.runs.Ran.{Ran}
-use Rattle.remote_parts.specs.Pieces.{Breaks, HasDrained, RanAll, RanSome}
-use Rattle.remote_parts.proofs.Gaining.{still_inside}
-use Rattle.remote_parts.proofs.OwnDrains.{drained, err_as, none_out}
+use Rattle.shared_acts.specs.declared.runs.Ran.{Ran}
+use Rattle.shared_acts.specs.Pieces.{Breaks, HasDrained, RanAll, RanSome}
+use Rattle.shared_acts.proofs.Gaining.{still_inside}
+use Rattle.shared_acts.proofs.OwnDrains.{drained, err_as, none_out}
 use Rattle.remote_expiry.proofs.draining.drain_own.Goals as goal
 
 pub returns-in_err-hand_own : goal.returns-in_err-hand_own

@@ -5,9 +5,9 @@ use Rattle.walk_inactive.specs.shared_rule.declared.parts.BoxView.{BoxView}
 use Rattle.walk_inactive.specs.shared_rule.Parts.{HeldPart}
 use Rattle.walk_inactive.specs.shared_rule.Passes.{HeldPass}
 use Rattle.walk_inactive.specs.shared_table.Readied.{HasNoneBehind}
-use Rattle.remote_parts.specs.Handing.{HasHanded}
-use Rattle.remote_parts.specs.Pieces.{Piece}
-use Rattle.remote_parts.proofs.OwnDrains.{err_as, handed, may_run_own, room_alone}
+use Rattle.shared_acts.specs.Handing.{HasHanded}
+use Rattle.shared_acts.specs.Pieces.{Piece}
+use Rattle.shared_acts.proofs.OwnDrains.{err_as, handed, may_run_own, room_alone}
 use Rattle.remote_expiry.proofs.draining.hand_box.Goals as goal
 
 pub returns-in_err-room_for-clause-done : goal.returns-in_err-room_for-clause-done

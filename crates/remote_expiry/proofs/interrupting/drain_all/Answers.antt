@@ -1,9 +1,9 @@
 use Rattle.std.proofs.Common.{[]}
 use Rattle.std.proofs.lemmas.Result.{err_from_is_err_and}
-use Rattle.remote_parts.specs.Tries.{BreaksOff}
-use Rattle.remote_parts.proofs.Gaining.{still_inside}
-use Rattle.remote_parts.proofs.OwnDrains.{err_as}
-use Rattle.remote_parts.proofs.Served.{inside_of}
+use Rattle.shared_acts.specs.Tries.{BreaksOff}
+use Rattle.shared_acts.proofs.Gaining.{still_inside}
+use Rattle.shared_acts.proofs.OwnDrains.{err_as}
+use Rattle.shared_acts.proofs.Served.{inside_of}
 use Rattle.remote_expiry.specs.Trying.{HasDrainedAll}
 use Rattle.remote_expiry.proofs.Worked.{drain_off, drained_last, second_off}
 use Rattle.remote_expiry.proofs.interrupting.drain_all.Goals as goal

@@ -4,8 +4,8 @@ use Rattle.walk_inactive.specs.shared_rule.Passes.{HeldPass}
 use Rattle.walk_inactive.specs.shared_rule.Turns.{entered_box, entered_pass}
 use Rattle.walk_inactive.specs.shared_cpus.Conditions.{CanEnter}
 use Rattle.walk_inactive.specs.shared_cpus.Pairs.{by_pair, of_box}
-use Rattle.remote_parts.proofs.Closing.{agree_of, box_by_step, can_enter, free_with, guest_by}
-use Rattle.remote_parts.proofs.Closing.{online_by, parted_by}
+use Rattle.shared_acts.proofs.Closing.{agree_of, box_by_step, can_enter, free_with, guest_by}
+use Rattle.shared_acts.proofs.Closing.{online_by, parted_by}
 use Rattle.remote_expiry.proofs.Closing.{entered, fault_by}
 use Rattle.remote_expiry.proofs.Interrupted.{not_refused}
 use Rattle.remote_expiry.proofs.interrupting.enter_part.Goals as goal

@@ -9,7 +9,7 @@ use Rattle.walk_inactive.specs.shared_rule.Passes.{HeldPass, passes_of}
 use Rattle.walk_inactive.specs.shared_cpus.Conditions.{CanRetell}
 use Rattle.walk_inactive.specs.shared_table.Readied.{HasNoneBehind}
 use Rattle.walk_inactive.specs.Ends.{HasWalked, reevaluated, retells_with, retold}
-use Rattle.remote_parts.proofs.Closing.{agree_of, can_retell, free_with, online_in}
+use Rattle.shared_acts.proofs.Closing.{agree_of, can_retell, free_with, online_in}
 use Rattle.remote_expiry.proofs.Closing.{retells, told_anew}
 use Rattle.remote_expiry.proofs.interrupting.retell_part.Goals as goal
 

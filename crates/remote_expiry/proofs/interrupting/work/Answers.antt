@@ -1,8 +1,8 @@
 use Rattle.std.proofs.Common.{[], arith}
 use Rattle.std.proofs.lemmas.Result.{err_from_is_err_and}
-use Rattle.remote_parts.specs.Tries.{BreaksOff}
-use Rattle.remote_parts.proofs.OwnDrains.{err_as}
-use Rattle.remote_parts.proofs.Served.{more_off, still_at_work}
+use Rattle.shared_acts.specs.Tries.{BreaksOff}
+use Rattle.shared_acts.proofs.OwnDrains.{err_as}
+use Rattle.shared_acts.proofs.Served.{more_off, still_at_work}
 use Rattle.remote_expiry.specs.Trying.{HasWorked}
 use Rattle.remote_expiry.proofs.Worked.{worked_last}
 use Rattle.remote_expiry.proofs.interrupting.work.Goals as goal

@@ -1,6 +1,6 @@
 use Rattle.std.proofs.Common.{subst, sym}
 use Rattle.job_table.specs.declared.jobs.JobReply.{JobReply}
-use Rattle.remote_parts.specs.declared.runs.RanReply.TheVariants as ran
+use Rattle.shared_acts.specs.declared.runs.RanReply.TheVariants as ran
 use Rattle.remote_expiry.specs.Running.{HasAnswered}
 use Rattle.remote_expiry.proofs.Again.{done, marked}
 use Rattle.remote_expiry.proofs.jobs.answer.Goals as goal

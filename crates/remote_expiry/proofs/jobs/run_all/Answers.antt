@@ -1,7 +1,7 @@
 use Rattle.std.proofs.Common.{◌∙◌, List, refl, subst, take}
 use Rattle.std.proofs.lemmas.List.{take_all, take_more}
 use Rattle.wheel_core.specs.declared.item.Item.{Item}
-use Rattle.remote_parts.proofs.Gaining.{still_inside}
+use Rattle.shared_acts.proofs.Gaining.{still_inside}
 use Rattle.remote_expiry.proofs.JobLoop.{RunsSoFar, all_runs, no_runs, runs_more}
 use Rattle.remote_expiry.proofs.jobs.run_all.Goals as goal
 

@@ -1,8 +1,8 @@
 use Rattle.std.proofs.Common.{subst, arith}
 use Rattle.std.proofs.lemmas.Result.{err_from_is_err_and}
-use Rattle.remote_parts.specs.Tries.{BreaksOff}
-use Rattle.remote_parts.proofs.Gaining.{no_piece}
-use Rattle.remote_parts.proofs.OwnDrains.{err_as}
+use Rattle.shared_acts.specs.Tries.{BreaksOff}
+use Rattle.shared_acts.proofs.Gaining.{no_piece}
+use Rattle.shared_acts.proofs.OwnDrains.{err_as}
 use Rattle.remote_expiry.specs.Trying.{HasRounds, IsRound}
 use Rattle.remote_expiry.proofs.Levels.{few_rounds, no_round, one_round, round_work, rounds_done}
 use Rattle.remote_expiry.proofs.Levels.{rounds_off, rounds_up}

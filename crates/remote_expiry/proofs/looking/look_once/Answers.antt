@@ -3,8 +3,8 @@ use Rattle.std.proofs.lemmas.Result.{err_from_is_err_and}
 use Rattle.tree_plan.specs.Paths.{is_placed_in}
 use Rattle.core_world.specs.World.{World}
 use Rattle.walk_inactive.specs.shared_rule.Slots.{IsGrouped}
-use Rattle.remote_parts.proofs.OwnDrains.{err_as}
-use Rattle.remote_parts.proofs.Served.{still_at_work}
+use Rattle.shared_acts.proofs.OwnDrains.{err_as}
+use Rattle.shared_acts.proofs.Served.{still_at_work}
 use Rattle.remote_expiry.specs.Trying.{BreaksRound, IsRound}
 use Rattle.remote_expiry.proofs.Rounds.{due_piece, round_off, sees_no_group, sees_nothing}
 use Rattle.remote_expiry.proofs.Rounds.{sees_others, tries_one}

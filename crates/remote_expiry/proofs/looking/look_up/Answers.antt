@@ -1,9 +1,9 @@
 use Rattle.std.proofs.Common.{ap, ◌∙◌, arith}
 use Rattle.std.proofs.lemmas.Result.{err_from_is_err_and}
 use Rattle.tree_plan.specs.Paths.{level_count_of}
-use Rattle.remote_parts.specs.Tries.{BreaksOff}
-use Rattle.remote_parts.proofs.Gaining.{no_piece}
-use Rattle.remote_parts.proofs.OwnDrains.{err_as}
+use Rattle.shared_acts.specs.Tries.{BreaksOff}
+use Rattle.shared_acts.proofs.Gaining.{no_piece}
+use Rattle.shared_acts.proofs.OwnDrains.{err_as}
 use Rattle.remote_expiry.specs.Trying.{HasClimbed}
 use Rattle.remote_expiry.proofs.Levels.{all_levels, below, further_up, last_level, level_off}
 use Rattle.remote_expiry.proofs.Levels.{level_work, no_further, no_level, one_level, up_to}

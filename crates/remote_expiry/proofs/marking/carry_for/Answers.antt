@@ -8,7 +8,7 @@ use Rattle.cpu_bases.specs.CpuBases.{CpuBases}
 use Rattle.walk_inactive.specs.shared_cpus.Conditions.{CanCarry}
 use Rattle.walk_inactive.specs.shared_table.Readied.{HasNoneBehind}
 use Rattle.walk_inactive.specs.Ends.{HasCarried, has_carried, retells_with}
-use Rattle.remote_parts.proofs.Closing.{agree_of, can_carry, free_with}
+use Rattle.shared_acts.proofs.Closing.{agree_of, can_carry, free_with}
 use Rattle.remote_expiry.proofs.Closing.{carries}
 use Rattle.remote_expiry.proofs.Carried.{carried}
 use Rattle.remote_expiry.proofs.marking.carry_for.Goals as goal

@@ -1,6 +1,6 @@
 use Rattle.std.proofs.Common.{[], ◌∷◌, sym, ap, ◌∙◌, subst}
 use Rattle.walk_inactive.specs.shared_rule.Parts.{HeldPart}
-use Rattle.remote_parts.specs.Tries.{AtWork, HasLetGo}
+use Rattle.shared_acts.specs.Tries.{AtWork, HasLetGo}
 use Rattle.remote_expiry.proofs.serving.let_go.Goals as goal
 
 pub lock-guard-requires : goal.lock-guard-requires

@@ -1,6 +1,6 @@
 use Rattle.std.proofs.Common.{[], ◌∷◌, sym, subst}
 use Rattle.walk_inactive.specs.shared_rule.Parts.{HeldPart}
-use Rattle.remote_parts.specs.Tries.{AtWork, HasLetGo}
+use Rattle.shared_acts.specs.Tries.{AtWork, HasLetGo}
 use Rattle.remote_expiry.proofs.serving.let_go_box.Goals as goal
 
 pub let_go_part-requires-clause-marked : goal.let_go_part-requires-clause-marked

@@ -3,10 +3,10 @@ use Rattle.walk_inactive.specs.core_state.Shown.{shown_cpu}
 use Rattle.cpu_word.specs.declared.state.CpuState.{CpuState}
 use Rattle.walk_inactive.specs.shared_rule.Parts.{HeldPart}
 use Rattle.walk_inactive.specs.shared_table.Begun.{IsFree}
-use Rattle.remote_parts.specs.Tries.{AtWork}
-use Rattle.remote_parts.proofs.Taking.{awake_by_line, awake_by_rest, let_go_carried}
-use Rattle.remote_parts.proofs.Taking.{let_go_released, looked_work}
-use Rattle.remote_parts.proofs.Trials.{noted}
+use Rattle.shared_acts.specs.Tries.{AtWork}
+use Rattle.shared_acts.proofs.Taking.{awake_by_line, awake_by_rest, let_go_carried}
+use Rattle.shared_acts.proofs.Taking.{let_go_released, looked_work}
+use Rattle.shared_acts.proofs.Trials.{noted}
 use Rattle.remote_expiry.proofs.serving.let_go_part.Goals as goal
 use Rattle.remote_expiry.proofs.serving.let_go_part.Goals.{else-state-via-else-state}
 use Rattle.remote_expiry.proofs.serving.let_go_part.Goals.{else-state-via-then-state+else-state-2}

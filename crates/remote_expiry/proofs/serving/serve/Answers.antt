@@ -2,10 +2,10 @@ use Rattle.std.proofs.Common.{List, [], ◌∷◌, sym, ap, subst}
 use Rattle.std.specs.Prelude.{not}
 use Rattle.std.proofs.lemmas.Result.{err_from_is_err_and}
 use Rattle.wheel_core.specs.declared.item.Item.{Item}
-use Rattle.remote_parts.specs.Tries.{BreaksOff, HasTaken, HasTried}
-use Rattle.remote_parts.proofs.OwnDrains.{err_as}
-use Rattle.remote_parts.proofs.Served.{has_left, has_taken, inside_of, no_work, ran_work}
-use Rattle.remote_parts.proofs.Served.{served_either, taken_work, tried_left}
+use Rattle.shared_acts.specs.Tries.{BreaksOff, HasTaken, HasTried}
+use Rattle.shared_acts.proofs.OwnDrains.{err_as}
+use Rattle.shared_acts.proofs.Served.{has_left, has_taken, inside_of, no_work, ran_work}
+use Rattle.shared_acts.proofs.Served.{served_either, taken_work, tried_left}
 use Rattle.remote_expiry.proofs.serving.serve.Goals as goal
 
 pub returns-in_err-take : goal.returns-in_err-take

@@ -2,8 +2,8 @@ use Rattle.std.proofs.Common.{[], sym, ap, ◌∙◌, subst}
 use Rattle.std.specs.Prelude.{MatchResult}
 use Rattle.walk_rules.specs.Hierarchy.{HasGroup}
 use Rattle.walk_inactive.specs.shared_rule.Parts.{HeldPart}
-use Rattle.remote_parts.specs.Pieces.{Piece}
-use Rattle.remote_parts.specs.Tries.{TakesOrLeaves}
+use Rattle.shared_acts.specs.Pieces.{Piece}
+use Rattle.shared_acts.specs.Tries.{TakesOrLeaves}
 use Rattle.remote_expiry.proofs.serving.take.Goals as goal
 
 pub lock-guard-requires : goal.lock-guard-requires

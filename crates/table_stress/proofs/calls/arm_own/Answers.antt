@@ -1,5 +1,5 @@
 use Rattle.std.proofs.Common.{◌+◌}
-use Rattle.remote_expiry.specs.timer_calls.Arms.{arming_of}
+use Rattle.remote_expiry.specs.shared_calls.Arms.{arming_of}
 use Rattle.table_stress.proofs.Staying.{arm_stays}
 use Rattle.table_stress.proofs.calls.arm_own.Goals as goal
 

@@ -1,0 +1,7 @@
+use Rattle.std.proofs.Common.{◌≡◌, drop}
+use Rattle.linux_lines.specs.Numbers.{number_from}
+use Rattle.linux_lines.proofs.numbers.number.Given as goal
+
+abbrev pub invariant-loop-byte : goal.invariant-loop-byte
+invariant-loop-byte l =
+    number_from l.base l.number (drop l.byte-index l.word) ≡ number_from l.base 0 l.word

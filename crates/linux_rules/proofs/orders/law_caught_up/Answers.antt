@@ -1,0 +1,7 @@
+use Rattle.std.proofs.Common.{arith}
+use Rattle.std.specs.Prelude.{length}
+use Rattle.linux_rules.proofs.Taking.{enough}
+use Rattle.linux_rules.proofs.orders.law_caught_up.Goals as goal
+
+pub returns : goal.returns
+returns c = λ group word ls. enough group (length ls) word ls (omega arith)

@@ -1,6 +1,0 @@
-use Rattle.std.proofs.Common.{[]}
-use Rattle.plain_moments.specs.Apart.{ToldApart}
-use Rattle.plain_moments.proofs.moments.nobody.Given as goal
-
-abbrev pub invariant-loop-cpu : goal.invariant-loop-cpu
-invariant-loop-cpu l = ToldApart l._cpu l.own.items [] 0

@@ -1,7 +1,0 @@
-use Rattle.std.proofs.Common.{◌≡◌, ◌++◌, map, take}
-use Rattle.round_parts.specs.Lines.{ran_line}
-use Rattle.round_parts.proofs.runs.tell_runs.Given as goal
-
-abbrev pub invariant-loop-i : goal.invariant-loop-i
-invariant-loop-i l =
-    l.lines.items ≡ l.fn.lines.items ++ map (ran_line l.now l.runner) (take l.i l.runs.runs)

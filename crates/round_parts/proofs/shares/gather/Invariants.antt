@@ -1,6 +1,0 @@
-use Rattle.round_parts.specs.Progress.{GatheredSoFar}
-use Rattle.round_parts.proofs.shares.gather.Given as goal
-
-abbrev pub invariant-loop-share : goal.invariant-loop-share
-invariant-loop-share l =
-    GatheredSoFar l.fn.shares.items l.share-iterator.rest.items l.passes.items l.lines.items

@@ -1,6 +1,0 @@
-use Rattle.round_parts.specs.Progress.{TasksSoFar}
-use Rattle.round_parts.proofs.tasks.first_tasks.Given as goal
-
-abbrev pub invariant-loop-pass : goal.invariant-loop-pass
-invariant-loop-pass l =
-    TasksSoFar l.due l.fn.passes.items l.pass-iterator.rest.items l.tasks.items

@@ -1,5 +1,0 @@
-use Rattle.run_chart.proofs.States.{arrows_right}
-use Rattle.run_chart.proofs.laws.law_arrows.Goals as goal
-
-pub returns : goal.returns
-returns c = arrows_right

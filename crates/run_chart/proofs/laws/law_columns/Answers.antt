@@ -1,5 +1,0 @@
-use Rattle.run_chart.proofs.Places.{columns_rise}
-use Rattle.run_chart.proofs.laws.law_columns.Goals as goal
-
-pub returns : goal.returns
-returns c = columns_rise

@@ -1,5 +1,0 @@
-use Rattle.run_chart.proofs.NoteLaws.{notes_right}
-use Rattle.run_chart.proofs.laws.law_notes.Goals as goal
-
-pub returns : goal.returns
-returns c = notes_right

@@ -1,8 +1,0 @@
-use Rattle.story_check.specs.Judge.{active_cpu}
-use Rattle.story_check.proofs.Beginnings.{one_more}
-use Rattle.story_check.proofs.judge.fresh_cpus.Goals as goal
-
-pub loop-number-preserved : goal.loop-number-preserved
-loop-number-preserved c =
-    one_more (λ n. active_cpu (record { 0 = n })) c.loop-number.number c.loop-number.cpus.items _ _
-    c.loop-number.invariant c.active_cpu.ensures c.in_ok-push.ensures.items

@@ -1,6 +1,0 @@
-use Rattle.std.proofs.Common.{◌≡◌}
-use Rattle.story_check.specs.Judge.{fresh_cpus}
-use Rattle.story_check.proofs.judge.fresh_cpus.Given as goal
-
-abbrev pub invariant-loop-number : goal.invariant-loop-number
-invariant-loop-number l = l.cpus.items ≡ fresh_cpus l.number

@@ -1,8 +1,0 @@
-use Rattle.std.proofs.Common.{◌≡◌, drop}
-use Rattle.story_check.specs.Judge.{judged, start}
-use Rattle.story_check.proofs.judge.judge_from.Given as goal
-
-abbrev pub invariant-loop-line : goal.invariant-loop-line
-invariant-loop-line l =
-    judged l.fn.script l.seen l.number (drop l.line-index l.lines)
-    ≡ judged l.fn.script (start l.fn.script l.fn.play) 0 l.lines

@@ -1,7 +1,0 @@
-use Rattle.std.proofs.Common.{◌≡◌, drop}
-use Rattle.text_chart.specs.Pages.{end_of}
-use Rattle.text_chart.proofs.pages.end_of.Given as goal
-
-abbrev pub invariant-loop-span : goal.invariant-loop-span
-invariant-loop-span l =
-    record { end : end_of l.end (drop l.span-index l.spans) ≡ end_of 0 l.spans }

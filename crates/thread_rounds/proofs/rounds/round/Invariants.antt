@@ -1,4 +1,0 @@
-use Rattle.thread_rounds.proofs.rounds.round.Given as goal
-
-abbrev pub ghosts-round_over : goal.ghosts-round_over
-ghosts-round_over g a = record { table = a.ready.table; opening = a.ready.core }

@@ -1,7 +1,0 @@
-use Rattle.thread_rounds.specs.UnderWay.{EndedSoFar}
-use Rattle.thread_rounds.proofs.threads.end_all.Given as goal
-
-abbrev pub invariant-loop-one : goal.invariant-loop-one
-invariant-loop-one g l =
-    EndedSoFar g.N.RunName.table g.N.RunName.opening g.J.Jobs.replies l.fn.begun.items
-    l.one-iterator.rest.items l.shares.items

@@ -1,2 +1,0 @@
-pub mod UnderWay
-pub use Rattle.round_parts.specs.Doing as Doing

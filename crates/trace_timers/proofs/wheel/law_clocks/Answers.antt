@@ -1,5 +1,0 @@
-use Rattle.trace_timers.proofs.Buckets.{finds_clocks}
-use Rattle.trace_timers.proofs.wheel.law_clocks.Goals as goal
-
-pub returns : goal.returns
-returns c = finds_clocks

@@ -1,4 +1,0 @@
-use Rattle.trace_told.proofs.told.+climb.Given as goal
-
-abbrev pub decreases-climb : goal.decreases-climb
-decreases-climb l = l.levels

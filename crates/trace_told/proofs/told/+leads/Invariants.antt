@@ -1,4 +1,0 @@
-use Rattle.trace_told.proofs.told.+leads.Given as goal
-
-abbrev pub decreases-leads : goal.decreases-leads
-decreases-leads l = l.levels

@@ -1,6 +1,0 @@
-use Rattle.trace_view.proofs.Digits.{hex_none}
-use Rattle.trace_view.proofs.texts.+push_hex.Goals as goal
-
-pub returns-then-count-eq0 : goal.returns-then-count-eq0
-returns-then-count-eq0 t c =
-    hex_none c.args.text.now.items c.args.count c.args.n c.if-count-eq0.true

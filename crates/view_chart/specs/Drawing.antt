@@ -1,0 +1,82 @@
+-- bars, arrows and labels of a chart, as SVG: one unit is a column of the chart; a row has three
+use Rattle.std.specs.Prelude.{ℕ, zero, suc, ◌+◌, ◌-◌, ◌*◌, ◌==◌, nat_lt, List, [], ◌++◌, codes}
+use Rattle.std.specs.Prelude.{if◌then◌else◌}
+use Rattle.tm_report.specs.Words.{time_word}
+use Rattle.view_chart.specs.declared.drawing.TheConstants.{ROW}
+use Rattle.view_chart.specs.declared.marks.Fold.{Fold}
+use Rattle.view_chart.specs.declared.model.Arrow.{Arrow}
+use Rattle.view_chart.specs.declared.model.Point.{Point}
+use Rattle.view_chart.specs.declared.model.Span.{Span}
+use Rattle.view_chart.specs.declared.model.Window.{Window}
+use Rattle.view_chart.specs.declared.said.State.{State}
+use Rattle.view_chart.specs.declared.said.State.TheVariants as states
+use Rattle.view_chart.specs.Pieces.{after, three, two}
+
+-- where the row of CPU c is, in units from the top
+abbrev pub row_of : Window → (c : ℕ) → ℕ
+row_of w c = if nat_lt c w.first.0 then 0 else ROW * (c - w.first.0)
+
+-- how the bar of a state begins: a thick bar is awake, a thin line asleep, a dotted one offline
+abbrev pub bar_text : State → List ℕ
+bar_text states.Awake = codes "<path class=\"a\" d=\"M"
+bar_text (states.Asleep until) = codes "<path class=\"s\" d=\"M"
+bar_text states.Offline = codes "<path class=\"o\" d=\"M"
+
+-- what a CPU is, in words
+abbrev pub state_text : State → List ℕ
+state_text states.Awake = codes " awake"
+state_text (states.Asleep until) = codes " asleep, its wakeup" ++ time_word until
+state_text states.Offline = codes " offline"
+
+-- a bar, from the column at which a span begins to the one at which it ends, and its title
+unfoldable pub line_of : Window → Span → List ℕ
+line_of w s =
+    bar_text s.state
+    ++ (three [] s.from.column (codes " ") (row_of w s.cpu.0) (codes "H") s.to.column
+    ++ (two (codes "\"><title>jiffies ") s.from.at (codes " to ") s.to.at
+    ++ (after (codes ": CPU ") s.cpu.0 ++ (state_text s.state ++ codes "</title></path>\n"))))
+
+-- A SPAN: a bar, and nothing where it has no column
+unfoldable pub span_text : Window → Span → List ℕ
+span_text w s = if nat_lt s.from.column s.to.column then line_of w s else []
+
+-- the way of an arrow: from the row of its home to that of its runner, and into the row from above
+-- where they are one
+unfoldable pub head_text : Window → Arrow → List ℕ
+head_text w a =
+    two (codes "<path class=\"r\" d=\"M") a.point.column (codes " ") (row_of w a.home.0)
+    ++ (if a.home.0 == a.runner.0 then codes "m0-1.3v.8"
+    else after (codes "V") (row_of w a.runner.0))
+
+-- the title of an arrow
+unfoldable pub run_text : Arrow → List ℕ
+run_text a =
+    two (codes "\"><title>jiffy ") a.point.at (codes ": CPU ") a.runner.0
+    ++ two (codes " runs timer ") a.timer.0 (codes " of CPU ") a.home.0
+
+-- AN ARROW, and its title
+unfoldable pub arrow_text : Window → Arrow → List ℕ
+arrow_text w a = head_text w a ++ (run_text a ++ codes "</title></path>\n")
+
+-- a jiffy above the chart
+unfoldable pub tick_text : Point → List ℕ
+tick_text p =
+    two (codes "<text x=\"") p.column (codes "\" y=\"-2\">") p.at ++ codes "</text>\n"
+
+-- a folded rest, which ends at a column
+unfoldable pub fold_text : Fold → List ℕ
+fold_text f =
+    three (codes "<text class=\"f\" x=\"") f.to.column
+    (codes "\" y=\"-1.2\" dx=\"-6\">~<title>folded: jiffies ") f.from.at (codes " to ") f.to.at
+    ++ codes "</title></text>\n"
+
+-- the label of a row, so many units from the top
+unfoldable pub label_text : (top cpu : ℕ) → List ℕ
+label_text top cpu =
+    two (codes "<text class=\"c\" x=\"-1\" y=\"") top (codes "\" dy=\".4\">CPU ") cpu
+    ++ codes "</text>\n"
+
+-- the labels of so many rows
+abbrev pub labels_below : Window → (rows : ℕ) → List ℕ
+labels_below w zero = []
+labels_below w (suc n) = labels_below w n ++ label_text (ROW * n) (w.first.0 + n)
