@@ -1,12 +1,13 @@
 #!/bin/sh
-# Prints docs/DEFINITIONS.md: each definition of crates/NAME/specs with the comment that stands above it, crate by crate in
-# the order of crates.txt. After a change there: docs/print_definitions.sh >docs/DEFINITIONS.md
+# Prints docs/DEFINITIONS.md: each file of crates/NAME/specs with its first comment and the names that it states, crate by
+# crate in the order of crates.txt. After a change there: docs/print_definitions.sh >docs/DEFINITIONS.md
 #
 # --check     prints nothing but where the page differs from that, and ends with status 1 if it does
+# --long      prints no page, but each definition with the comment that stands above it
 # --without   prints the definitions that have no comment, file by file
 cd "$(dirname "$0")/.." || exit 1
 exec python3 - "$@" <<'PYTHON'
-import difflib, glob, re, sys
+import difflib, glob, re, sys, textwrap
 
 PAGE = "docs/DEFINITIONS.md"
 # The beginning of a definition, also of one in a module: `abbrev` and `unfoldable`, records and data, and plain ones.
@@ -19,13 +20,18 @@ HEADS = (
 PRIVATE = re.compile(r"no (?:public )?clause (?:of another crate )?(?:cites|speaks)")
 HEAD = """# Definitions
 
-What the contracts cite, crate by crate, in words: the comments of `crates/NAME/specs`, from which
-`docs/print_definitions.sh` prints this page. A definition of the crate NAME in the row FILE is stated in
-`crates/NAME/specs/FILE.antt`; fields and cases are told there. The types that definitions speak of (`Item`, `Script`,
-`Line` and so on) are those of the Rust sources in `crates/NAME/src`.
+What the contracts cite, file by file, in the order of [crates.txt](../crates.txt). `docs/print_definitions.sh` prints this
+page: a file's first comment, and the names of the definitions in it. `docs/print_definitions.sh --long` prints a row for
+each definition with its comment, for whoever wants to search. Fields and cases are explained in the file. The types that
+definitions speak of (`Item`, `Script`, `Line` and so on) are those of the Rust sources in `crates/NAME/src`.
 
-A row of a file that is marked with *, or one that says so, is cited by no public clause: it says how the code keeps or
-finds something, or what functions inside a crate promise one another. Nobody has to believe it.
+No public clause cites a file that is marked with * or one that says so: its definitions say how the code keeps or finds
+something, or what functions inside a crate promise one another. Nobody has to believe them.
+"""
+LONG = """# Definitions, one by one
+
+What the contracts cite, crate by crate: the comment above each definition of `crates/NAME/specs`. A * marks a file that no
+public clause cites.
 """
 
 
@@ -73,7 +79,25 @@ def in_cell(words):
 
 
 def page():
-    out, bare = [HEAD], []
+    out, bare = [HEAD, "| File | What it says | Names |", "|---|---|---|"], []
+    for crate in crates():
+        rows = [row(crate, file, lines) for file, lines in files_of(crate)]
+        rows = [it for it in rows if it]
+        out += rows
+        if not rows:
+            bare.append(f"`{crate}`")
+    return [*out, "", *textwrap.wrap(f"No definitions of their own have {', '.join(bare)}.", 120)]
+
+
+def row(crate, file, lines):
+    names = " ".join(f"`{in_cell(name)}`" for name, _ in definitions_of(lines))
+    head = head_of(lines)
+    mark = " *" if PRIVATE.search(head) else ""
+    return f"| [{crate}: {file}](../crates/{crate}/specs/{file}.antt){mark} | {in_cell(head)} | {names} |" if names else ""
+
+
+def long_page():
+    out, bare = [LONG], []
     for crate in crates():
         rows = []
         for file, lines in files_of(crate):
@@ -107,5 +131,5 @@ elif "--check" in sys.argv[1:]:
         print(it)
     sys.exit(1 if changes else 0)
 else:
-    print("\n".join(page()).rstrip("\n"))
+    print("\n".join(long_page() if "--long" in sys.argv[1:] else page()).rstrip("\n"))
 PYTHON
