@@ -1,5 +1,6 @@
 //! Runs scripts that are drawn, with threads for four CPUs whose walks take turns in orders that
-//! are drawn too, and judges each report and each core.
+//! are drawn too: by the program, from bytes to bytes, and by the library's call. It judges each
+//! report and each core.
 //!
 //! With no words it runs the first few schedules of one seed, and writes how many: `runs N`. `SEED`
 //! draws one schedule after another for a minute, and writes the same. Where one fails it writes
@@ -15,12 +16,14 @@ use crate::drawn::{Schedule, draw};
 use crate::judged::{Flaw, judge};
 use held_gates::is_answered;
 use job_table::StandardJobs;
+use script_main::{DONE, SCRIPT_REFUSED, run_program};
 use std::alloc::{AllocError, Global};
 use std::sync::Wait;
 use std::thread::Threads;
 use std::time::{Clock, Instant};
 use std::{env, io};
 use tm_driver::run;
+use tm_io::{PlainSink, PlainSource};
 use tm_report::Report;
 use tm_script::read_script;
 
@@ -36,8 +39,36 @@ const SEED: u64 = 1;
 /// How many of them are run there.
 const FEW: u64 = 20;
 
-/// Runs a schedule with the jobs of the program, and looks what is wrong with what comes of it.
-fn run_one<R: Threads + Wait + Sync>(
+/// Runs a schedule as the program does it, from the word `run` and the bytes of the script to the
+/// bytes of the report, and looks what is wrong with them.
+fn by_program<R: Threads + Wait + Sync>(
+    rt: &R,
+    alloc: Global,
+    schedule: &Schedule,
+) -> Result<Option<Flaw>, AllocError> {
+    let mut words = Vec::new(alloc);
+    words.push(String::from_str(alloc, "run")?)?;
+    let mut source = PlainSource::new(schedule.script.as_slice().to_vec(alloc)?);
+    let mut sink = PlainSink::new(alloc);
+    let gate = &schedule.gate;
+    let status = run_program(
+        rt,
+        alloc,
+        &words,
+        &mut source,
+        &mut sink,
+        &StandardJobs,
+        gate,
+    );
+    match status.0 {
+        DONE => judge(alloc, sink.held()),
+        SCRIPT_REFUSED => Ok(Some(Flaw::NoScript)),
+        _ => Ok(Some(Flaw::BrokenOff)),
+    }
+}
+
+/// Runs a schedule by the library's call, and looks what is wrong with the report and the core.
+fn by_library<R: Threads + Wait + Sync>(
     rt: &R,
     alloc: Global,
     schedule: &Schedule,
@@ -58,6 +89,27 @@ fn run_one<R: Threads + Wait + Sync>(
         Ok(_) => Ok(Some(Flaw::Unanswered)),
         Err(_) => Ok(Some(Flaw::BrokenOff)),
     }
+}
+
+/// Runs a schedule both ways, each with its gate as it was drawn.
+fn run_both<R: Threads + Wait + Sync>(
+    rt: &R,
+    alloc: Global,
+    seed: u64,
+    number: u64,
+) -> Result<Option<(Schedule, Flaw)>, AllocError> {
+    for is_program in [true, false] {
+        let schedule = draw(alloc, seed, number)?;
+        let flaw = if is_program {
+            by_program(rt, alloc, &schedule)?
+        } else {
+            by_library(rt, alloc, &schedule)?
+        };
+        if let Some(flaw) = flaw {
+            return Ok(Some((schedule, flaw)));
+        }
+    }
+    Ok(None)
 }
 
 /// How a call ended: after how many schedules, and with which of them and why, if one failed.
@@ -82,8 +134,7 @@ fn run_all<R: Threads + Wait + Sync + Clock>(
             Some(number) => number,
             None => runs,
         };
-        let schedule = draw(alloc, seed, number)?;
-        if let Some(flaw) = run_one(rt, alloc, &schedule)? {
+        if let Some((schedule, flaw)) = run_both(rt, alloc, seed, number)? {
             return Ok(Outcome {
                 runs,
                 failed: Some((number, schedule, flaw)),
