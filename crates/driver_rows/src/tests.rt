@@ -1,14 +1,17 @@
 ghost use Rattle.job_table.specs.Standard.{one_shot_reply};
 
 use core_plays::{Core, Player, RunPlayer, deep, play, play_moment, start_core};
+use held_gates::{Meeting, is_answered};
 use job_table::{Job, JobCall, JobReply, JobTable, StandardJobs};
 use play_driver::{DriveFault, having_interrupt};
 use run_moments::{Rounded, run_by};
 use std::alloc::{AllocError, Global};
-use std::sync::Arc;
 use std::sync::atomic::{AtomicU64, Ordering};
+use std::sync::{Arc, Wait};
 use std::test::Fail;
-use tm_base::{CpuSet, NoMemory};
+use std::thread::Threads;
+use tm_base::{CpuId, CpuSet, Gate, NoMemory, Point};
+use tm_driver::run;
 use tm_report::{Line, Report};
 use tm_script::{Op, read_script};
 use wheel_base::WheelBase;
@@ -206,5 +209,41 @@ fn calls_noted(alloc: Global) -> Result<Option<u64>, AllocError> {
 #[test]
 fn a_job_is_called_once_for_each_hand_out_in_their_order(rt: HostRuntime) -> Result<(), Fail> {
     assert_eq!(rt; calls_noted(rt.alloc())?, Some(231));
+    Ok(())
+}
+
+// CPU 0 answers for CPU 1, and CPU 8 for CPU 9: at 61 each of them has to take the other one's
+// timer. By hand, from docs/FORMATS.md: a delay of 50 at jiffy 10 expires at 61.
+const TWO_LOOKS: &[u8] = b"tmig 1\nnodes 1\ncpus 10\ntimers 2\nat 10\narm 1 0 global 50 0 0\n\
+    idle 1\narm 9 1 global 50 0 0\nidle 9\nend 100\n";
+
+const TWO_LOOKED: &[u8] = b"arm 10 1 0 global 61\nidle 10 1 never\narm 10 9 1 global 61\n\
+    idle 10 9 never\ncover 10 1 61 migrator 0:0 0\ncover 10 9 61 migrator 0:1 8\n\
+    run 61 0 0 1 61 done\nrun 61 8 1 9 61 done\nend 100\n";
+
+// Whether the library's run of the two looks past a gate comes to its end with that report, and
+// leaves a core in which each sleeper is answered for.
+fn has_looked<G: Gate + Sync, R: Threads + Wait + Sync>(
+    rt: &R,
+    alloc: Global,
+    gate: &G,
+) -> Result<bool, AllocError> {
+    let mut report = Report::new(alloc);
+    let Ok(script) = read_script(alloc, TWO_LOOKS) else {
+        return Ok(false);
+    };
+    match run(rt, alloc, &script, &StandardJobs, gate, &mut report) {
+        Ok(core) => Ok(is_answered(&core) && report.text() == TWO_LOOKED),
+        Err(_) => Ok(false),
+    }
+}
+
+// Each looker is held before it runs the other CPU's timers until the other looker stands there
+// too: the library's call makes its rounds as the program does, whose tests are those of held_runs.
+#[test]
+fn in_the_library_s_run_two_cpus_look_after_others_at_once(rt: HostRuntime) -> Result<(), Fail> {
+    let gate = Meeting::new(CpuId(0), CpuId(8), Point::BeforeRemoteRun);
+    assert!(rt; has_looked(&rt, rt.alloc(), &gate)?);
+    assert!(rt; gate.met());
     Ok(())
 }

@@ -1,4 +1,4 @@
-use held_gates::{ByPoints, Meeting, Place, is_answered};
+use held_gates::{ByPoints, Meeting, Place};
 use job_table::{JobCall, JobReply, Jobs, StandardJobs};
 use script_main::{DONE, run_program};
 use std::alloc::{AllocError, Global};
@@ -7,10 +7,7 @@ use std::sync::atomic::{AtomicU64, Ordering};
 use std::test::Fail;
 use std::thread::Threads;
 use tm_base::{CpuId, FreeGate, Gate, Point};
-use tm_driver::run;
 use tm_io::{PlainSink, PlainSource};
-use tm_report::Report;
-use tm_script::read_script;
 
 // Whether the program, run past a gate with the word `run` on the bytes of a script, ends well and
 // has written this text.
@@ -28,25 +25,6 @@ fn writes<J: Jobs + Sync, G: Gate + Sync, R: Threads + Wait + Sync>(
     let mut sink = PlainSink::new(alloc);
     let status = run_program(rt, alloc, &words, &mut source, &mut sink, jobs, gate);
     Ok(status.0 == DONE && sink.held() == text)
-}
-
-// Whether the library's run of a script past a gate comes to its end, with this report, and leaves
-// a core whose groups and answers are right.
-fn has_run<G: Gate + Sync, R: Threads + Wait + Sync>(
-    rt: &R,
-    alloc: Global,
-    script: &[u8],
-    gate: &G,
-    text: &[u8],
-) -> Result<bool, AllocError> {
-    let mut report = Report::new(alloc);
-    let Ok(script) = read_script(alloc, script) else {
-        return Ok(false);
-    };
-    match run(rt, alloc, &script, &StandardJobs, gate, &mut report) {
-        Ok(core) => Ok(is_answered(&core) && report.text() == text),
-        Err(_) => Ok(false),
-    }
 }
 
 // CPUs 8 and 9 are alone in their leaf, and both wake at jiffy 20. Each is held before it joins its
@@ -148,14 +126,5 @@ fn a_cpu_wakes_while_another_one_is_held_as_it_looks_after_a_third(
         );
         assert!(rt; gate.call.met(), "{point:?}");
     }
-    Ok(())
-}
-
-// The library's call makes its rounds as the program does, and answers a core at rest.
-#[test]
-fn the_library_s_run_meets_at_the_same_gate(rt: HostRuntime) -> Result<(), Fail> {
-    let gate = Meeting::new(CpuId(0), CpuId(8), Point::BeforeRemoteRun);
-    assert!(rt; has_run(&rt, rt.alloc(), TWO_LOOKS, &gate, TWO_LOOKED)?);
-    assert!(rt; gate.met());
     Ok(())
 }

@@ -13,8 +13,6 @@ pub(crate) enum Flaw {
     NoScript,
     /// The run didn't come to its end.
     BrokenOff,
-    /// In the core at the end a group isn't as its CPUs are, or a timer isn't answered for.
-    Unanswered,
     /// The report can't be read back.
     NoReport,
     /// After a moment a timer is queued twice, or less than never.

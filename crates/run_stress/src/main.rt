@@ -1,6 +1,5 @@
 //! Runs scripts that are drawn, with threads for four CPUs whose walks take turns in orders that
-//! are drawn too: by the program, from bytes to bytes, and by the library's call. It judges each
-//! report and each core.
+//! are drawn too, by the program, from bytes to bytes, and judges each report.
 //!
 //! With no words it runs the first few schedules of one seed, and writes how many: `runs N`. `SEED`
 //! draws one schedule after another for a minute, and writes the same. Where one fails it writes
@@ -14,7 +13,6 @@ mod orders;
 
 use crate::drawn::{Schedule, draw};
 use crate::judged::{Flaw, judge};
-use held_gates::is_answered;
 use job_table::StandardJobs;
 use script_main::{DONE, SCRIPT_REFUSED, run_program};
 use std::alloc::{AllocError, Global};
@@ -22,10 +20,7 @@ use std::sync::Wait;
 use std::thread::Threads;
 use std::time::{Clock, Instant};
 use std::{env, io};
-use tm_driver::run;
 use tm_io::{PlainSink, PlainSource};
-use tm_report::Report;
-use tm_script::read_script;
 
 /// How long schedules are run, in seconds.
 const SECONDS: u64 = 60;
@@ -41,7 +36,7 @@ const FEW: u64 = 20;
 
 /// Runs a schedule as the program does it, from the word `run` and the bytes of the script to the
 /// bytes of the report, and looks what is wrong with them.
-fn by_program<R: Threads + Wait + Sync>(
+fn run_one<R: Threads + Wait + Sync>(
     rt: &R,
     alloc: Global,
     schedule: &Schedule,
@@ -67,51 +62,6 @@ fn by_program<R: Threads + Wait + Sync>(
     }
 }
 
-/// Runs a schedule by the library's call, and looks what is wrong with the report and the core.
-fn by_library<R: Threads + Wait + Sync>(
-    rt: &R,
-    alloc: Global,
-    schedule: &Schedule,
-) -> Result<Option<Flaw>, AllocError> {
-    let mut report = Report::new(alloc);
-    let Ok(script) = read_script(alloc, schedule.script.as_slice()) else {
-        return Ok(Some(Flaw::NoScript));
-    };
-    match run(
-        rt,
-        alloc,
-        &script,
-        &StandardJobs,
-        &schedule.gate,
-        &mut report,
-    ) {
-        Ok(core) if is_answered(&core) => judge(alloc, report.text()),
-        Ok(_) => Ok(Some(Flaw::Unanswered)),
-        Err(_) => Ok(Some(Flaw::BrokenOff)),
-    }
-}
-
-/// Runs a schedule both ways, each with its gate as it was drawn.
-fn run_both<R: Threads + Wait + Sync>(
-    rt: &R,
-    alloc: Global,
-    seed: u64,
-    number: u64,
-) -> Result<Option<(Schedule, Flaw)>, AllocError> {
-    for is_program in [true, false] {
-        let schedule = draw(alloc, seed, number)?;
-        let flaw = if is_program {
-            by_program(rt, alloc, &schedule)?
-        } else {
-            by_library(rt, alloc, &schedule)?
-        };
-        if let Some(flaw) = flaw {
-            return Ok(Some((schedule, flaw)));
-        }
-    }
-    Ok(None)
-}
-
 /// How a call ended: after how many schedules, and with which of them and why, if one failed.
 #[derive(Drop)]
 struct Outcome {
@@ -134,7 +84,8 @@ fn run_all<R: Threads + Wait + Sync + Clock>(
             Some(number) => number,
             None => runs,
         };
-        if let Some((schedule, flaw)) = run_both(rt, alloc, seed, number)? {
+        let schedule = draw(alloc, seed, number)?;
+        if let Some(flaw) = run_one(rt, alloc, &schedule)? {
             return Ok(Outcome {
                 runs,
                 failed: Some((number, schedule, flaw)),
