@@ -14,9 +14,11 @@
 # - `crate::Name` ..                      in any page: the crate's src/ has an item of that name, or passes it on from a
 #                                         crate below whose src/ has it
 # - `examples/NAME`, `docs/NAME` ..       in any page: the file is there
-# - a picture of an example               in README.md the block before 'This is `examples/NAME.tmig`', in docs/FORMATS.md
-#                                         the block behind '`examples/NAME.tmig`': it has each line of the script and of
-#                                         the report, in order
+# - [words](path#heading)                 in any page: the file is there, and where it is a page of ours has that heading
+# - `.ci/NAME`, `./NAME`, `crates/..`     in any page: the file is there, but for what is built in out/
+# - a picture of an example               in README.md the block before 'This is [`examples/NAME.tmig`]', in
+#                                         docs/FORMATS.md the block behind '`examples/NAME.tmig`': it has each line of the
+#                                         script and of the report, in order
 # - ```rust                               in docs/USE.md below a heading '## crate': the block's lines stand, one after the
 #                                         other, in crates/crate/src/tests.rt
 # - `NAME` first in a row                 in examples/README.md: it is one of examples/, and each of examples/ is named there
@@ -116,6 +118,26 @@ def check_cites(path, text):
             fault(path, line_of(text, it.start()), f"there is no {it[1]}")
 
 
+def headings_of(path):
+    """The anchors of a page's headings, as pages on the web have them."""
+    heads = re.findall(r"^#+ (.+)$", re.sub(r"^```.*?^```", "", read(path), flags=re.M | re.S), re.M)
+    return {re.sub(r"[^\w -]", "", it.lower()).replace(" ", "-") for it in heads}
+
+
+def check_links(path, text):
+    """Each link that isn't one to the web leads to a file that is there, and to a heading that it has."""
+    for it in re.finditer(r"\]\((?!\w+:)([^)#\s]*)(?:#([^)\s]+))?\)", text):
+        to = os.path.normpath(os.path.join(os.path.dirname(path), it[1])) if it[1] else path
+        if not os.path.exists(to):
+            fault(path, line_of(text, it.start()), f"there is no {to}")
+        elif it[2] and it[2] not in headings_of(to):
+            fault(path, line_of(text, it.start()), f"{to} has no heading {it[2]}")
+    for it in re.finditer(r"`(?:\./(\w[\w./-]*)|((?:\.ci|crates)/[\w./-]+))", text):
+        to = (it[1] or it[2]).rstrip("./")
+        if "/out/" not in to and not re.search(r"[A-Z]{4}", to) and not os.path.exists(to):
+            fault(path, line_of(text, it.start()), f"there is no {to}")
+
+
 def check_items(path, text):
     """Each `crate::Name`, `crate::Type::call` is an item of that crate."""
     for it in re.finditer(r"`(?:impl \w+ of )?(\w+)::(\w+)(?:::(\w+))?", text):
@@ -190,8 +212,11 @@ def check_picture(path, text, name, block):
 
 def check_pictures():
     text = read("README.md")
-    for it in re.finditer(r"```\n((?:(?!```).)*)\n```\n\nThis is `examples/([\w-]+)\.tmig`", text, re.S):
-        check_picture("README.md", text, it[2], it[1])
+    shown = re.findall(r"```\n((?:(?!```).)*)\n```\n\n(?:!\[[^\n]*\n+)?This is \[`examples/([\w-]+)\.tmig`\]", text, re.S)
+    for block, name in shown:
+        check_picture("README.md", text, name, block)
+    if not shown:
+        fault("README.md", 1, "there is no picture of an example")
     text = read("docs/FORMATS.md")
     for it in re.finditer(r"^`examples/([\w-]+)\.tmig`[^`]*```\n((?:(?!```).)*)\n```", text, re.M | re.S):
         check_picture("docs/FORMATS.md", text, it[1], it[2])
@@ -223,10 +248,11 @@ def check_examples():
 check_pictures()
 check_uses()
 check_examples()
-pages = ["README.md", *sorted(it for it in glob.glob("docs/*.md") if it != "docs/DEFINITIONS.md")]
+pages = ["README.md", "crates/README.md", "examples/README.md", *sorted(it for it in glob.glob("docs/*.md") if it != "docs/DEFINITIONS.md")]
 for page in pages:
     text = read(page)
     check_cites(page, text)
+    check_links(page, text)
     check_items(page, text)
 for page in ("README.md", "docs/CLAIMS.md"):
     check_claims(page, read(page))
