@@ -7,7 +7,7 @@
 # --without   prints the definitions that have no comment, file by file
 cd "$(dirname "$0")/.." || exit 1
 exec python3 - "$@" <<'PYTHON'
-import difflib, glob, re, sys, textwrap
+import difflib, glob, re, sys
 
 PAGE = "docs/DEFINITIONS.md"
 # The beginning of a definition, also of one in a module: `abbrev` and `unfoldable`, records and data, and plain ones.
@@ -26,7 +26,8 @@ each definition with its comment, for whoever wants to search. Fields and cases 
 definitions speak of (`Item`, `Script`, `Line` and so on) are those of the Rust sources in `crates/NAME/src`.
 
 No public clause cites a file that is marked with * or one that says so: its definitions say how the code keeps or finds
-something, or what functions inside a crate promise one another. Nobody has to believe them.
+something, or what functions inside a crate promise one another. Nobody has to believe them. A crate that isn't on this
+page has no definitions of its own.
 """
 LONG = """# Definitions, one by one
 
@@ -79,14 +80,10 @@ def in_cell(words):
 
 
 def page():
-    out, bare = [HEAD, "| File | What it says | Names |", "|---|---|---|"], []
+    out = [HEAD, "| File | What it says | Names |", "|---|---|---|"]
     for crate in crates():
-        rows = [row(crate, file, lines) for file, lines in files_of(crate)]
-        rows = [it for it in rows if it]
-        out += rows
-        if not rows:
-            bare.append(f"`{crate}`")
-    return [*out, "", *textwrap.wrap(f"No definitions of their own have {', '.join(bare)}.", 120)]
+        out += [it for it in (row(crate, file, lines) for file, lines in files_of(crate)) if it]
+    return out
 
 
 def row(crate, file, lines):
