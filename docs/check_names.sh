@@ -14,6 +14,7 @@
 # - `crate::Name` ..                      in any page: the crate's src/ has an item of that name, or passes it on from a
 #                                         crate below whose src/ has it
 # - `examples/NAME`, `docs/NAME` ..       in any page: the file is there
+# - ## crate                              in docs/CLAIMS.md: the table of subjects on top leads to each heading
 # - [words](path#heading)                 in any page: the file is there, and where it is a page of ours has that heading
 # - `.ci/NAME`, `./NAME`, `crates/..`     in any page: the file is there, but for what is built in out/
 # - a picture of an example               in README.md the block before 'This is [`examples/NAME.tmig`]', in
@@ -197,6 +198,18 @@ def check_claims(path, text):
                     fault(path, number, f"no contract of {', '.join(it for _, it in named)} has a clause {clause}")
 
 
+def check_subjects():
+    """The table on top of the claims leads to each crate that has any."""
+    path = "docs/CLAIMS.md"
+    text = read(path)
+    led = set(re.findall(r"\]\(#(\w+)\)", text))
+    for it in re.finditer(r"^## (.+)$", text, re.M):
+        if it[1] not in crates:
+            fault(path, line_of(text, it.start()), f"the heading {it[1]} is no crate")
+        elif it[1] not in led:
+            fault(path, line_of(text, it.start()), f"no subject on top leads to {it[1]}")
+
+
 def is_within(lines, fields):
     """Whether these lines stand among the fields, in order."""
     rest = iter(fields)
@@ -248,6 +261,7 @@ def check_examples():
 check_pictures()
 check_uses()
 check_examples()
+check_subjects()
 pages = ["README.md", "crates/README.md", "examples/README.md", *sorted(it for it in glob.glob("docs/*.md") if it != "docs/DEFINITIONS.md")]
 for page in pages:
     text = read(page)
