@@ -119,10 +119,15 @@ def check_cites(path, text):
             fault(path, line_of(text, it.start()), f"there is no {it[1]}")
 
 
+anchors = {}
+
+
 def headings_of(path):
     """The anchors of a page's headings, as pages on the web have them."""
-    heads = re.findall(r"^#+ (.+)$", re.sub(r"^```.*?^```", "", read(path), flags=re.M | re.S), re.M)
-    return {re.sub(r"[^\w -]", "", it.lower()).replace(" ", "-") for it in heads}
+    if path not in anchors:
+        heads = re.findall(r"^#+ (.+)$", re.sub(r"^```.*?^```", "", read(path), flags=re.M | re.S), re.M)
+        anchors[path] = {re.sub(r"[^\w -]", "", it.lower()).replace(" ", "-") for it in heads}
+    return anchors[path]
 
 
 def check_links(path, text):
@@ -151,8 +156,14 @@ def check_items(path, text):
                 fault(path, line_of(text, it.start()), f"crate {it[1]} has no {name}")
 
 
+every = set()
+
+
 def everywhere(name):
-    return any(name in names_of(it) for it in glob.glob("crates/*/specs/**/*.antt", recursive=True))
+    """Whether the definitions of some crate state the name."""
+    if not every:
+        every.update(*(names_of(it) for it in glob.glob("crates/*/specs/**/*.antt", recursive=True)))
+    return name in every
 
 
 def check_claims(path, text):
