@@ -1,9 +1,11 @@
 //! Any list of calls on the bases of a CPU.
 
 ghost use Rattle.std.specs.Prelude.{◌≡◌, ℕ, ◌≤◌, IfOk, OnOk, OnErr};
-ghost use Rattle.base_calls.specs.BasesCalls.{IsByRight, MayCall, MayCallAll, StandsAfterSome};
-ghost use Rattle.base_calls.specs.BasesCalls.{StaysLegal, after, after_calls, answer_of};
-ghost use Rattle.base_calls.specs.BasesCalls.{answers_to, time_of};
+ghost use Rattle.base_calls.specs.BasesCalls.{BasesStandAfterSome, IsByRight, MayCallBases};
+ghost use Rattle.base_calls.specs.BasesCalls.{MayCallBasesAll};
+ghost use Rattle.base_calls.specs.BasesCalls.{StaysLegal, answer_of_bases, bases_after_call};
+ghost use Rattle.base_calls.specs.BasesCalls.{bases_after_calls};
+ghost use Rattle.base_calls.specs.BasesCalls.{answers_of_bases, bases_call_time};
 ghost use Rattle.cpu_bases.specs.CpuBases.{IsConsistent};
 ghost use Rattle.cpu_bases.specs.Journals.{LegalUpTo};
 ghost use Rattle.cpu_bases.specs.Replay.{AddsReplay, IsPlayed, KeepsReplay};
@@ -76,14 +78,14 @@ pub enum BasesAnswer {
 
 /// Makes one call.
 fn make_call<B: TimerBase>(bases: &mut Bases<B>, call: &BasesCall) -> Result<BasesAnswer, NoMemory>
-    requires { MayCall call.now bases.old }
-    ensures answer { IfOk result (λ answer. answer ≡ answer_of call.now bases.old.plain) }
-    ensures after { OnOk result (bases.new ≡ after call.now bases.old) }
+    requires { MayCallBases call.now bases.old }
+    ensures answer { IfOk result (λ answer. answer ≡ answer_of_bases call.now bases.old.plain) }
+    ensures after { OnOk result (bases.new ≡ bases_after_call call.now bases.old) }
     ensures err { OnErr result (bases.new ≡ bases.old) }
     ensures replay { AddsReplay bases.old.plain bases.new.plain }
-    ensures legal { (cpu time : ℕ) → time ≤ time_of call.now time → IsByRight cpu call.now
+    ensures legal { (cpu time : ℕ) → time ≤ bases_call_time call.now time → IsByRight cpu call.now
         → LegalUpTo cpu time bases.old.plain.journal
-        → LegalUpTo cpu (time_of call.now time) bases.new.plain.journal }
+        → LegalUpTo cpu (bases_call_time call.now time) bases.new.plain.journal }
 {
     Ok(match *call {
         BasesCall::Reserve { timers, entries } => {
@@ -133,14 +135,15 @@ pub fn make_calls<B: TimerBase>(
     bases: &mut Bases<B>,
     calls: &[BasesCall],
 ) -> Result<Vec<BasesAnswer>, NoMemory>
-    requires { MayCallAll calls.now bases.old }
-    ensures answers { IfOk result (λ answers. answers.items ≡ answers_to calls.now bases.old) }
-    ensures after { OnOk result (bases.new ≡ after_calls calls.now bases.old) }
+    requires { MayCallBasesAll calls.now bases.old }
+    ensures answers { IfOk result
+        (λ answers. answers.items ≡ answers_of_bases calls.now bases.old) }
+    ensures after { OnOk result (bases.new ≡ bases_after_calls calls.now bases.old) }
     ensures consistent { OnOk result (IsConsistent bases.new.plain) }
     ensures legal { OnOk result (StaysLegal calls.now bases.old.plain bases.new.plain) }
     ensures replay { KeepsReplay bases.old.plain bases.new.plain }
     ensures played { IsPlayed bases.old.plain → IsPlayed bases.new.plain }
-    ensures err { OnErr result (StandsAfterSome calls.now bases.old bases.new) }
+    ensures err { OnErr result (BasesStandAfterSome calls.now bases.old bases.new) }
 {
     let mut answers = Vec::new(alloc);
     answers.reserve(calls.len())?;

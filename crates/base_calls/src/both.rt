@@ -1,7 +1,7 @@
 //! The same calls on both bases.
 
 ghost use Rattle.std.specs.Prelude.{◌≡◌, IfOk};
-ghost use Rattle.base_calls.specs.WheelCalls.{MayCallAll, answers_to};
+ghost use Rattle.base_calls.specs.WheelCalls.{MayCallBaseAll, answers_of_base};
 ghost use Rattle.wheel_base.specs.Wheels.{no_base};
 
 use crate::wheel::{BaseAnswer, BaseCall, make_calls};
@@ -15,9 +15,9 @@ pub fn calls_on_both(
     alloc: Global,
     calls: &[BaseCall],
 ) -> Result<(Vec<BaseAnswer>, Vec<BaseAnswer>), NoRoom>
-    requires { MayCallAll calls.now no_base }
-    ensures list { IfOk result (λ both. both.0.items ≡ answers_to calls.now no_base) }
-    ensures wheel { IfOk result (λ both. both.1.items ≡ answers_to calls.now no_base) }
+    requires { MayCallBaseAll calls.now no_base }
+    ensures list { IfOk result (λ both. both.0.items ≡ answers_of_base calls.now no_base) }
+    ensures wheel { IfOk result (λ both. both.1.items ≡ answers_of_base calls.now no_base) }
     ensures alike { IfOk result (λ both. both.0.items ≡ both.1.items) }
 {
     let mut list = ListBase::new(alloc);

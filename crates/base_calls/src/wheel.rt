@@ -1,8 +1,9 @@
 //! Any list of calls on a base.
 
 ghost use Rattle.std.specs.Prelude.{◌≡◌, IfOk, OnOk, OnErr};
-ghost use Rattle.base_calls.specs.WheelCalls.{MayCall, MayCallAll, StandsAfterSome, after};
-ghost use Rattle.base_calls.specs.WheelCalls.{after_calls, answer_of, answers_to};
+ghost use Rattle.base_calls.specs.WheelCalls.{BaseStandsAfterSome, MayCallBase, MayCallBaseAll};
+ghost use Rattle.base_calls.specs.WheelCalls.{base_after_call};
+ghost use Rattle.base_calls.specs.WheelCalls.{answer_of_base, answers_of_base, base_after_calls};
 
 use std::alloc::Global;
 use wheel_core::{Item, NoRoom, TimerBase};
@@ -56,9 +57,10 @@ pub enum BaseAnswer {
 
 /// Makes one call.
 fn make_call<B: TimerBase>(base: &mut B, call: &BaseCall) -> Result<BaseAnswer, NoRoom>
-    requires { MayCall call.now (B.base base.old) }
-    ensures answer { IfOk result (λ answer. answer ≡ answer_of call.now (B.base base.old).plain) }
-    ensures after { OnOk result (B.base base.new ≡ after call.now (B.base base.old)) }
+    requires { MayCallBase call.now (B.base base.old) }
+    ensures answer { IfOk result
+        (λ answer. answer ≡ answer_of_base call.now (B.base base.old).plain) }
+    ensures after { OnOk result (B.base base.new ≡ base_after_call call.now (B.base base.old)) }
     ensures err { OnErr result (B.base base.new ≡ B.base base.old) }
 {
     Ok(match *call {
@@ -95,10 +97,11 @@ pub fn make_calls<B: TimerBase>(
     base: &mut B,
     calls: &[BaseCall],
 ) -> Result<Vec<BaseAnswer>, NoRoom>
-    requires { MayCallAll calls.now (B.base base.old) }
-    ensures answers { IfOk result (λ told. told.items ≡ answers_to calls.now (B.base base.old)) }
-    ensures after { OnOk result (B.base base.new ≡ after_calls calls.now (B.base base.old)) }
-    ensures err { OnErr result (StandsAfterSome calls.now (B.base base.old) (B.base base.new)) }
+    requires { MayCallBaseAll calls.now (B.base base.old) }
+    ensures answers { IfOk result
+        (λ told. told.items ≡ answers_of_base calls.now (B.base base.old)) }
+    ensures after { OnOk result (B.base base.new ≡ base_after_calls calls.now (B.base base.old)) }
+    ensures err { OnErr result (BaseStandsAfterSome calls.now (B.base base.old) (B.base base.new)) }
 {
     let mut answers = Vec::new(alloc);
     answers.reserve(calls.len())?;

@@ -8,7 +8,7 @@ use Rattle.std.proofs.lemmas.Bool.Decides.{nat_tests}
 use Rattle.std.proofs.lemmas.List.{get_or-replicate, length-replicate}
 use Rattle.std.proofs.lemmas.List.Concat.{flat_map-append}
 use Rattle.tm_base.specs.declared.names.TheConstants.{NEVER}
-use Rattle.deep_idle.specs.Device.{DeviceState, new_device, settled, wanted}
+use Rattle.deep_idle.specs.Device.{DeviceState, new_device, device_settled, wanted}
 use Rattle.tm_report.specs.Lines.{line_text, report_text}
 use Rattle.tm_script.specs.declared.syntax.Script.{Script}
 use Rattle.play_rules.specs.Rules.{Rules}
@@ -30,7 +30,7 @@ use Rattle.core_machine.proofs.step_play.Queues.Sights.{count_seen, seen_at}
 use Rattle.play_driver.specs.declared.outcomes.DriveFault.{DriveFault}
 use Rattle.play_driver.specs.declared.outcomes.DriveFault.TheVariants.{BadJob, NoMemory, WorkSpent}
 use Rattle.core_plays.specs.Deep.{BreaksDeep, DeepToEnd, after_fire, deep_lines, deep_text}
-use Rattle.core_plays.specs.Deep.{deep_turns, device_after, device_line, sleep_until, told_after}
+use Rattle.core_plays.specs.Deep.{deep_turns, device_after, device_line, sleep_until, with_device_line}
 use Rattle.core_plays.specs.Deep.{with_device, with_lines, without_device}
 use Rattle.play_driver.specs.Outcomes.{work_limit}
 use Rattle.core_plays.specs.Plays.{LawsHold}
@@ -78,7 +78,7 @@ module _ (w : World) where
 after_seen : (t : Turn World) (device : DeviceState)
     → device_after plain_rules (turn_seen t) device ≡ device_after step_rules t device
 after_seen t device =
-    ap (λ u. settled u (length (after_fire t.at device).sleepers) (after_fire t.at device))
+    ap (λ u. device_settled u (length (after_fire t.at device).sleepers) (after_fire t.at device))
     (until_seen t.played.state)
 
 device_seen : (device : DeviceState) (ts : List (Turn World))
@@ -88,7 +88,7 @@ device_seen device [] = refl
 device_seen device (t ∷ ts) =
     ap (λ d. with_lines (turn_seen t) (device_line t.at device.time d.time)
     ∷ with_device plain_rules d (map turn_seen ts)) (after_seen t device)
-    ∙ ap (λ xs. turn_seen (told_after step_rules device t) ∷ xs)
+    ∙ ap (λ xs. turn_seen (with_device_line step_rules device t) ∷ xs)
     (device_seen (device_after step_rules t device) ts)
 
 -- a device's lines leave the state as it is

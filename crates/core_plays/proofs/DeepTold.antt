@@ -14,7 +14,7 @@ use Rattle.play_rules.specs.Interrupts.{Replies}
 use Rattle.play_rules.specs.Moments.{Turn, finished, last_state, moments_after, next_moment}
 use Rattle.play_rules.specs.Moments.{spent_at, turn, turn_lines, turns}
 use Rattle.core_plays.specs.Deep.{device_after}
-use Rattle.core_plays.specs.Deep.{told_after, with_device}
+use Rattle.core_plays.specs.Deep.{with_device_line, with_device}
 use Rattle.core_plays.specs.Sleepers.{DeepEarly, DeepOut}
 use Rattle.play_driver.specs.PartLeaves.{Tells}
 use Rattle.play_driver.specs.declared.outcomes.DriveFault.TheVariants.{WorkSpent}
@@ -47,18 +47,18 @@ pub record DeepSoFar {S : Type 0} (jobs : Replies) (r : Rules S) (end limit : �
 
 module _ {S : Type 0} (r : Rules S) (limit : ℕ) (device : DeviceState) (t : Turn S)
     (old new : List ℕ)
-    (gained : new ≡ old ++ report_text (told_after r device t).played.lines) where
+    (gained : new ≡ old ++ report_text (with_device_line r device t).played.lines) where
   -- the text of a moment, and of what is behind it
   text_then : (xs : List (Turn S))
-      → old ++ report_text (turn_lines (told_after r device t ∷ xs)) ≡ new ++ report_text (turn_lines xs)
+      → old ++ report_text (turn_lines (with_device_line r device t ∷ xs)) ≡ new ++ report_text (turn_lines xs)
   text_then xs =
       ap (λ x. old ++ x)
-      (flat_map-append line_text (told_after r device t).played.lines (turn_lines xs))
-      ∙ sym (append_assoc old (report_text (told_after r device t).played.lines)
+      (flat_map-append line_text (with_device_line r device t).played.lines (turn_lines xs))
+      ∙ sym (append_assoc old (report_text (with_device_line r device t).played.lines)
       (report_text (turn_lines xs)))
       ∙ ap (λ x. x ++ report_text (turn_lines xs)) (sym gained)
 
-  text_last : old ++ report_text (turn_lines (told_after r device t ∷ [])) ≡ new
+  text_last : old ++ report_text (turn_lines (with_device_line r device t ∷ [])) ≡ new
   text_last = text_then [] ∙ append-nil new
 
 module _ {S : Type 0} (jobs : Replies) (r : Rules S) (end limit : ℕ) (whole : List (Turn S))
@@ -84,7 +84,7 @@ module _ {S : Type 0} (jobs : Replies) (r : Rules S) (end limit : ℕ) (whole : 
   module _ (now : ℕ) (ms : List Moment) (s : S) (device : DeviceState) (told : Progress)
       (far : DeepSoFar jobs r end limit whole start first old now ms s device told)
       (next : S) (new : Progress)
-      (tells : Tells (told_after r device (turn jobs r ms now s)).played told new next) where
+      (tells : Tells (with_device_line r device (turn jobs r ms now s)).played told new next) where
     abbrev here : Turn S
     here = turn jobs r ms now s
 
@@ -140,7 +140,7 @@ module _ {S : Type 0} (jobs : Replies) (r : Rules S) (end limit : ℕ) (whole : 
             ended =
                 far.ended ∙ ap (λ x. told.text ++ text_by r limit far.work device x) split
                 ∙ ap (λ x. told.text ++ report_text (turn_lines x))
-                (finished_more limit far.work (told_after r device here) (with_device r settled rest)
+                (finished_more limit far.work (with_device_line r device here) (with_device r settled rest)
                 below)
                 ∙ text_then r limit device here told.text new.text tells.text
                 (finished limit (far.work + here.played.work) (with_device r settled rest))
@@ -183,7 +183,7 @@ module _ {S : Type 0} (jobs : Replies) (r : Rules S) (end limit : ℕ) (whole : 
                 ∙ ap Some same,
             sym (far.ended ∙ ap (λ x. told.text ++ text_by r limit far.work device x) split
                 ∙ ap (λ x. told.text ++ report_text (turn_lines x))
-                (finished_here limit far.work (told_after r device here) (with_device r settled rest)
+                (finished_here limit far.work (with_device_line r device here) (with_device r settled rest)
                 reached)
                 ∙ text_last r limit device here told.text new.text tells.text),
           )

@@ -2,7 +2,7 @@
 use Rattle.std.specs.Prelude.{◌≡◌, ℕ, ◌&&◌, ◌==◌, not, Bool, true, false, List, [], ◌∷◌, ◌++◌}
 use Rattle.std.specs.Prelude.{if◌then◌else◌, filter, length, nat_le, nat_lt}
 use Rattle.tm_base.specs.declared.names.TheConstants.{NEVER}
-use Rattle.deep_idle.specs.Device.{DeviceState, fired, new_device, settled}
+use Rattle.deep_idle.specs.Device.{DeviceState, device_settled, fired, new_device}
 use Rattle.tm_script.specs.declared.syntax.Script.{Script}
 use Rattle.tm_report.specs.declared.lines.Line.{Line}
 use Rattle.tm_report.specs.declared.lines.Line.TheVariants as lines
@@ -28,7 +28,7 @@ after_fire now device = if nat_le device.time now then fired now device else dev
 
 -- THE DEVICE after a moment: its sleepers become the online idle CPUs, each with its wakeup
 abbrev pub after_settle : {S : Type 0} → Rules S → S → DeviceState → DeviceState
-after_settle r s device = settled (sleep_until r s) (length device.sleepers) device
+after_settle r s device = device_settled (sleep_until r s) (length device.sleepers) device
 
 -- THE DEVICE after a moment in which it had fired where it was time
 abbrev pub device_after : {S : Type 0} → Rules S → Turn S → DeviceState → DeviceState
@@ -50,15 +50,15 @@ with_lines t ls = record {
 }
 
 -- a moment, and the device's line behind its lines
-abbrev pub told_after : {S : Type 0} → Rules S → DeviceState → Turn S → Turn S
-told_after r device t =
+abbrev pub with_device_line : {S : Type 0} → Rules S → DeviceState → Turn S → Turn S
+with_device_line r device t =
     with_lines t (device_line t.at device.time (device_after r t device).time)
 
 -- MOMENTS with the device's lines, from what the device is before them
 abbrev pub with_device : {S : Type 0} → Rules S → DeviceState → List (Turn S) → List (Turn S)
 with_device r device [] = []
 with_device r device (t ∷ ts) =
-    told_after r device t ∷ with_device r (device_after r t device) ts
+    with_device_line r device t ∷ with_device r (device_after r t device) ts
 
 -- DEEP IDLE: the moments of a script's play, with the lines of a device for its CPUs, of which none
 -- sleeps before the first moment

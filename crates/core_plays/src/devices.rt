@@ -2,7 +2,7 @@
 
 ghost use Rattle.std.specs.Prelude.{◌≡◌, ◌++◌, ◌<◌, ℕ, OnOk, length, true};
 ghost use Rattle.std.specs.FinSet as set;
-ghost use Rattle.deep_idle.specs.Device.{AreSettled, is_due, sleeper_of};
+ghost use Rattle.deep_idle.specs.Device.{AreSettled, is_wakeup_due, sleeper_of};
 ghost use Rattle.tm_report.specs.Lines.{report_text};
 ghost use Rattle.play_rules.specs.Interrupts.{having_interrupt};
 ghost use Rattle.play_rules.specs.Parts.{Gains};
@@ -45,7 +45,7 @@ fn sleep_until<M: PlayMachine>(machine: &M, cpu: CpuId) -> Jiffy
 /// The CPUs that the device wakes in a moment: it fires where its time isn't past it.
 pub(crate) fn fire_at(device: &mut Device, now: Jiffy) -> CpuSet
     ensures after { device.new ≡ after_fire now device.old }
-    ensures due { (c : ℕ) → set.contains result c ≡ is_due now (sleeper_of c device.old) }
+    ensures due { (c : ℕ) → set.contains result c ≡ is_wakeup_due now (sleeper_of c device.old) }
     ensures len { length device.new.sleepers ≡ length device.old.sleepers }
 {
     if device.time() <= now {

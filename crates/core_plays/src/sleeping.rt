@@ -9,7 +9,7 @@ ghost use Rattle.play_rules.specs.Moments.{turn};
 ghost use Rattle.play_rules.specs.Phases.{resting};
 ghost use Rattle.play_driver.specs.Conditions.{IsMomentInRange, IsPlayable};
 ghost use Rattle.play_driver.specs.PartLeaves.{PartLeaves, Tells};
-ghost use Rattle.core_plays.specs.Deep.{device_after, told_after};
+ghost use Rattle.core_plays.specs.Deep.{device_after, with_device_line};
 ghost use Rattle.play_driver.specs.Outcomes.{script_turns, work_limit};
 ghost use Rattle.core_plays.specs.Sleepers.{ByWakeups, DeepEarly, DeepOut, DeepWhole, IsFor};
 ghost use Rattle.core_plays.specs.Sleepers.{SaysDeep, script_deep};
@@ -50,7 +50,7 @@ fn deep_turn<M: PlayMachine, J: Jobs>(
     ensures settled { OnOk result (IsFor M.rules (M.world machine.new) device.new) }
     ensures clock { OnOk result (M.rules.clock (M.world machine.new) ≡ now) }
     ensures leaves { PartLeaves
-        (Tells (told_after M.rules device.old
+        (Tells (with_device_line M.rules device.old
         (turn (J.replies jobs.now) M.rules left.now now (M.world machine.old))).played)
         (SameBuild M.rules) (M.Fit resting) result
         (M.world machine.old) (M.world machine.new) telling.old telling.new }

@@ -10,7 +10,7 @@ use Rattle.std.proofs.lemmas.Option.{none-some, same_Some, slice_get-get_or}
 use Rattle.tm_base.specs.declared.names.TheConstants.{NEVER}
 use Rattle.deep_idle.specs.declared.order.Sleeper.{Sleeper}
 use Rattle.deep_idle.specs.Device.{DeviceLaw, least_wakeup}
-use Rattle.deep_idle.specs.Order.{After, AreDescending, Each, IsIn, IsKept, IsQueueOf}
+use Rattle.deep_idle.specs.Order.{After, AreDescending, EachSleeper, IsIn, IsOrderKept, IsQueueOf}
 use Rattle.deep_idle.specs.Order.{NotAfter, NotBefore, Sleeps, first_wakeup, last_wakeup}
 use Rattle.deep_idle.proofs.Queues.{descending_out, descending_put, distinct_out, distinct_put}
 use Rattle.deep_idle.proofs.Queues.{each_is, each_out, each_put, each_sleeps, lacks_all, last_least}
@@ -92,14 +92,14 @@ rose_queue sleepers front back s old =
 
 -- the law
 pub law_kept : (sleepers : List (Option ℕ)) (queue : List Sleeper) (time capacity : ℕ)
-    → IsKept sleepers queue time capacity → DeviceLaw (record { sleepers = sleepers; time = time })
+    → IsOrderKept sleepers queue time capacity → DeviceLaw (record { sleepers = sleepers; time = time })
 law_kept sleepers queue time capacity kept cpu wakeup is =
     each_sleeps (λ w. time ≤ w) cpu wakeup queue kept.in_time (kept.queue_of.queued cpu wakeup is)
 
 -- there is room for a CPU that doesn't sleep
 all_within : (sleepers : List (Option ℕ)) (list : List Sleeper)
     → ((cpu wakeup : ℕ) → Sleeps cpu wakeup list → cpu < length sleepers)
-    → Each (λ s. s.cpu.0 < length sleepers) list
+    → EachSleeper (λ s. s.cpu.0 < length sleepers) list
 all_within sleepers [] within = tt
 all_within sleepers (s ∷ list) within =
     (within s.cpu.0 s.wakeup (inl (refl, refl)), all_within sleepers list (λ cpu wakeup there. within cpu wakeup (inr there)))
@@ -114,10 +114,10 @@ room_left sleepers queue s old free within =
     omega (arith, bound)
 
 pub kept_slept : (sleepers : List (Option ℕ)) (queue : List Sleeper) (time capacity now_capacity place : ℕ)
-    (s : Sleeper) → IsKept sleepers queue time capacity → After s.wakeup (take place queue)
+    (s : Sleeper) → IsOrderKept sleepers queue time capacity → After s.wakeup (take place queue)
     → NotAfter s.wakeup (drop place queue) → get_or sleepers s.cpu.0 None ≡ None
     → s.cpu.0 < length sleepers → s.wakeup < NEVER → capacity ≤ now_capacity
-    → IsKept (slice_set sleepers s.cpu.0 (Some s.wakeup)) (take place queue ++ s ∷ drop place queue)
+    → IsOrderKept (slice_set sleepers s.cpu.0 (Some s.wakeup)) (take place queue ++ s ∷ drop place queue)
     (min time s.wakeup) now_capacity
 kept_slept sleepers queue time capacity now_capacity place s kept before behind free within early grows =
     let whole : take place queue ++ drop place queue ≡ queue = take-append-drop place queue in
@@ -141,9 +141,9 @@ around queue place d within =
     ap (λ back. take place queue ++ back) (sym (drop-cons queue place d within)) ∙ take-append-drop place queue
 
 pub kept_rose : (sleepers : List (Option ℕ)) (queue : List Sleeper) (time capacity now_capacity place cpu : ℕ)
-    (d : Sleeper) → IsKept sleepers queue time capacity → place < length queue
+    (d : Sleeper) → IsOrderKept sleepers queue time capacity → place < length queue
     → (get_or queue place d).cpu.0 ≡ cpu → capacity ≤ now_capacity
-    → IsKept (slice_set sleepers cpu None) (take place queue ++ drop (suc place) queue) time now_capacity
+    → IsOrderKept (slice_set sleepers cpu None) (take place queue ++ drop (suc place) queue) time now_capacity
 kept_rose sleepers queue time capacity now_capacity place cpu d kept within is grows =
     let whole = around queue place d within in
     let s = get_or queue place d in
@@ -166,7 +166,7 @@ sleeps_at cpu wakeup (s ∷ list) (inr later) =
     let (place, within, is) = sleeps_at cpu wakeup list later in (suc place, omega arith, is)
 
 -- places in a queue
-pub each_at : (P : Sleeper → Type 0) (list : List Sleeper) (place : ℕ) (d : Sleeper) → Each P list
+pub each_at : (P : Sleeper → Type 0) (list : List Sleeper) (place : ℕ) (d : Sleeper) → EachSleeper P list
     → place < length list → P (get_or list place d)
 each_at P [] place d each within = absurd (omega arith)
 each_at P (s ∷ list) zero d each within = each.0
@@ -223,7 +223,7 @@ first_high sleepers (s ∷ list) old =
     let (cpu, there) = last_sleeps NEVER s list in
     least_high sleepers cpu _ (old.sleeps cpu _ there)
 
-pub first_bounds : (queue : List Sleeper) → AreDescending queue → Each (λ s. s.wakeup < NEVER) queue
+pub first_bounds : (queue : List Sleeper) → AreDescending queue → EachSleeper (λ s. s.wakeup < NEVER) queue
     → NotBefore (first_wakeup queue) queue × (first_wakeup queue ≤ NEVER)
 first_bounds queue order early =
     last_least NEVER queue (each_is (λ s. s.wakeup < NEVER) (λ s. s.wakeup ≤ NEVER) queue (λ s soon. omega arith) early) order
@@ -239,7 +239,7 @@ least_first sleepers queue old =
 
 pub kept_fired : (sleepers : List (Option ℕ)) (queue : List Sleeper) (capacity : ℕ)
     → IsQueueOf sleepers queue → length sleepers ≤ 512 → length sleepers ≤ capacity
-    → IsKept sleepers queue (first_wakeup queue) capacity
+    → IsOrderKept sleepers queue (first_wakeup queue) capacity
 kept_fired sleepers queue capacity old few room = record {
   queue_of = old;
   in_time = (first_bounds queue old.descending old.early).0;
@@ -265,8 +265,8 @@ read_sleeper sleepers i cpu wakeup found within is_i read is =
     ∙ ap (λ k. get_or sleepers k found) (sym is_i) ∙ sym read ∙ is
 
 pub kept_as : (sleepers now : List (Option ℕ)) (queue now_queue : List Sleeper) (time now_time capacity : ℕ)
-    → IsKept sleepers queue time capacity → now ≡ sleepers → now_queue ≡ queue → now_time ≡ time
-    → IsKept now now_queue now_time capacity
+    → IsOrderKept sleepers queue time capacity → now ≡ sleepers → now_queue ≡ queue → now_time ≡ time
+    → IsOrderKept now now_queue now_time capacity
 kept_as sleepers now queue now_queue time now_time capacity kept s q t = rw (s, q, t) kept
 
 -- the last of a queue is a CPU that there is

@@ -3,7 +3,7 @@ use Rattle.std.proofs.Common.{◌≡◌, ◌≢◌, ℕ, zero, suc, ◌<◌, ◌
 use Rattle.std.proofs.Common.{length, refl, sym, ap, ◌∙◌, inl, inr, arith}
 use Rattle.std.proofs.lemmas.Bool.{both_ways, cases_Bool, cases_eq, eqb-true}
 use Rattle.std.proofs.lemmas.List.{get_or-set_same, get_or-set_other, length-set}
-use Rattle.deep_idle.specs.Device.{AreSettled, DeviceState, asleep, is_same, risen, settled}
+use Rattle.deep_idle.specs.Device.{AreSettled, DeviceState, asleep, is_same, risen, device_settled}
 use Rattle.deep_idle.specs.Device.{settled_one, sleeper_of, wanted}
 
 same_is : (one other : Option ℕ) → is_same one other ≡ true → one ≡ other
@@ -73,27 +73,27 @@ module _ (want : Option ℕ) (cpu : ℕ) (d : DeviceState) where
 module _ (wakeups : ℕ → ℕ) where
   -- no CPU is more or less
   pub settled_len : (n : ℕ) (d : DeviceState)
-      → length (settled wakeups n d).sleepers ≡ length d.sleepers
+      → length (device_settled wakeups n d).sleepers ≡ length d.sleepers
   settled_len zero d = refl
   settled_len (suc n) d =
-      one_len (wanted (wakeups n)) n (settled wakeups n d) ∙ settled_len n d
+      one_len (wanted (wakeups n)) n (device_settled wakeups n d) ∙ settled_len n d
 
   settled_each : (n : ℕ) (d : DeviceState) → n ≤ length d.sleepers → (c : ℕ) → c < n
-      → sleeper_of c (settled wakeups n d) ≡ wanted (wakeups c)
+      → sleeper_of c (device_settled wakeups n d) ≡ wanted (wakeups c)
   settled_each zero d few c low = absurd (omega (arith, low))
   settled_each (suc n) d few c low = elim (cases_eq c n) [
     | inl here ↦
-        ap (λ k. sleeper_of k (settled wakeups (suc n) d)) here
-        ∙ one_here (wanted (wakeups n)) n (settled wakeups n d)
+        ap (λ k. sleeper_of k (device_settled wakeups (suc n) d)) here
+        ∙ one_here (wanted (wakeups n)) n (device_settled wakeups n d)
         (let len = settled_len n d in omega (arith, few, len))
         ∙ ap (λ k. wanted (wakeups k)) (sym here)
     | inr apart ↦
-        one_there (wanted (wakeups n)) n (settled wakeups n d) c apart
+        one_there (wanted (wakeups n)) n (device_settled wakeups n d) c apart
         ∙ settled_each n d (omega (arith, few)) c (omega (arith, low, apart))
   ]
 
   -- EXACTLY those that are wanted sleep
-  pub settled_all : (d : DeviceState) → AreSettled wakeups (settled wakeups (length d.sleepers) d)
+  pub settled_all : (d : DeviceState) → AreSettled wakeups (device_settled wakeups (length d.sleepers) d)
   settled_all d c low =
       settled_each (length d.sleepers) d (omega arith) c
       (let len = settled_len (length d.sleepers) d in omega (arith, low, len))

@@ -11,7 +11,7 @@ use Rattle.std.proofs.lemmas.List.{append-nil, get_or-set_same, get_or-set_other
 use Rattle.tm_base.specs.CpuSet.{Cpus}
 use Rattle.tm_base.specs.declared.limits.TheConstants.{CPU_SET_SIZE}
 use Rattle.deep_idle.specs.declared.order.Sleeper.{Sleeper}
-use Rattle.deep_idle.specs.Device.{asleep_still, is_due}
+use Rattle.deep_idle.specs.Device.{asleep_still, is_wakeup_due}
 use Rattle.deep_idle.specs.Order.{After, IsQueueOf, first_wakeup}
 use Rattle.deep_idle.proofs.Kept.{first_bounds, rose_queue, sleeps_within}
 use Rattle.deep_idle.proofs.Queues.{each_is, each_sleeps, sleeps_here}
@@ -19,7 +19,7 @@ use Rattle.deep_idle.proofs.Queues.{each_is, each_sleeps, sleeps_here}
 -- a CPU was woken, or stands as at the start
 abbrev pub IsWokenOr : (now : ℕ) → (start sleepers : List (Option ℕ)) → Cpus → (cpu : ℕ) → Type 0
 IsWokenOr now start sleepers due cpu =
-    ((contains due cpu ≡ true) × (is_due now (get_or start cpu None) ≡ true)
+    ((contains due cpu ≡ true) × (is_wakeup_due now (get_or start cpu None) ≡ true)
     × (get_or sleepers cpu None ≡ None))
     ⊎ ((contains due cpu ≡ false) × (get_or sleepers cpu None ≡ get_or start cpu None))
 
@@ -49,7 +49,7 @@ not_due : (now wakeup : ℕ) → now < wakeup → nat_le wakeup now ≡ false
 not_due now wakeup high = search rules
 
 map_cleared : (now : ℕ) (sleepers : List (Option ℕ)) (cpu : ℕ)
-    → is_due now (get_or sleepers cpu None) ≡ true
+    → is_wakeup_due now (get_or sleepers cpu None) ≡ true
     → map (asleep_still now) (slice_set sleepers cpu None) ≡ map (asleep_still now) sleepers
 map_cleared now [] cpu due = refl
 map_cleared now (sleeper ∷ sleepers) zero due =
@@ -69,7 +69,7 @@ woken_more now start sleepers queue front due before capacity now_capacity s old
     let sleeps : get_or sleepers s.cpu.0 None ≡ Some s.wakeup =
     queue_of.sleeps s.cpu.0 s.wakeup (sleeps_here front [] s) in
     let within = sleeps_within sleepers s.cpu.0 s.wakeup sleeps in
-    let here_due : is_due now (get_or sleepers s.cpu.0 None) ≡ true = ap (is_due now) sleeps ∙ due_is now s.wakeup low in
+    let here_due : is_wakeup_due now (get_or sleepers s.cpu.0 None) ≡ true = ap (is_wakeup_due now) sleeps ∙ due_is now s.wakeup low in
     let has : (cpu : ℕ) → contains (insert due s.cpu.0) cpu ≡ ((cpu == s.cpu.0) || contains due cpu) =
     λ cpu. contains-insert nat_cmp_total due s.cpu.0 cpu ∙ ap (λ t. t || contains due cpu) (unsigned_tied cpu s.cpu.0) in
     record {
@@ -79,13 +79,13 @@ woken_more now start sleepers queue front due before capacity now_capacity s old
       each = λ cpu. elim (cases_Bool (cpu == s.cpu.0)) [
         | inl here ↦
             let same = eqb-true cpu s.cpu.0 here in
-            let at_start : is_due now (get_or start s.cpu.0 None) ≡ true = elim (old.each s.cpu.0) [
+            let at_start : is_wakeup_due now (get_or start s.cpu.0 None) ≡ true = elim (old.each s.cpu.0) [
               | inl woken ↦ woken.1
-              | inr asleep ↦ ap (is_due now) (sym asleep.1) ∙ here_due
+              | inr asleep ↦ ap (is_wakeup_due now) (sym asleep.1) ∙ here_due
             ] in
             inl (
               has cpu ∙ ap (λ t. t || contains due cpu) here,
-              ap (λ c. is_due now (get_or start c None)) same ∙ at_start,
+              ap (λ c. is_wakeup_due now (get_or start c None)) same ∙ at_start,
               ap (λ c. get_or (slice_set sleepers s.cpu.0 None) c None) same
                   ∙ get_or-set_same sleepers s.cpu.0 None None within,
             )
@@ -105,7 +105,7 @@ woken_more now start sleepers queue front due before capacity now_capacity s old
 
 -- none is left that is due
 map_none : (now : ℕ) (sleepers : List (Option ℕ))
-    → ((cpu : ℕ) → is_due now (get_or sleepers cpu None) ≡ false)
+    → ((cpu : ℕ) → is_wakeup_due now (get_or sleepers cpu None) ≡ false)
     → map (asleep_still now) sleepers ≡ sleepers
 map_none now [] none = refl
 map_none now (sleeper ∷ sleepers) none = λ i.
@@ -113,10 +113,10 @@ map_none now (sleeper ∷ sleepers) none = λ i.
 
 pub record AllWoken (now : ℕ) (start sleepers : List (Option ℕ)) (due : Cpus) : Type 0 where
   pub sleepers_are : sleepers ≡ map (asleep_still now) start
-  pub due_are : (cpu : ℕ) → contains due cpu ≡ is_due now (get_or start cpu None)
+  pub due_are : (cpu : ℕ) → contains due cpu ≡ is_wakeup_due now (get_or start cpu None)
 
 none_due : (now : ℕ) (found : Option ℕ) → ((wakeup : ℕ) → found ≡ Some wakeup → now < wakeup)
-    → is_due now found ≡ false
+    → is_wakeup_due now found ≡ false
 none_due now None later = refl
 none_due now (Some wakeup) later = not_due now wakeup (later wakeup refl)
 
@@ -124,14 +124,14 @@ pub all_woken : (now : ℕ) (start sleepers : List (Option ℕ)) (queue : List S
     (before capacity : ℕ) → Woken now start sleepers queue due before capacity → After now queue
     → AllWoken now start sleepers due
 all_woken now start sleepers queue due before capacity old after =
-    let none : (cpu : ℕ) → is_due now (get_or sleepers cpu None) ≡ false = λ cpu.
+    let none : (cpu : ℕ) → is_wakeup_due now (get_or sleepers cpu None) ≡ false = λ cpu.
     none_due now (get_or sleepers cpu None) (λ wakeup is.
     each_sleeps (λ w. now < w) cpu wakeup queue after (old.queue_of.queued cpu wakeup is)) in
     record {
       sleepers_are = sym (map_none now sleepers none) ∙ old.rest;
       due_are = λ cpu. elim (old.each cpu) [
         | inl woken ↦ woken.0 ∙ sym woken.1
-        | inr asleep ↦ asleep.0 ∙ sym (none cpu) ∙ ap (is_due now) asleep.1
+        | inr asleep ↦ asleep.0 ∙ sym (none cpu) ∙ ap (is_wakeup_due now) asleep.1
       ];
     }
 

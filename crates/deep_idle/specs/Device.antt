@@ -30,23 +30,23 @@ abbrev pub rose : (cpu : ℕ) → DeviceState → DeviceState
 rose cpu device = record device { sleepers = slice_set device.sleepers cpu None }
 
 -- the least wakeup of some sleepers, `NEVER` where there is none
-abbrev pub sooner : Option ℕ → ℕ → ℕ
-sooner None others = others
-sooner (Some wakeup) others = min wakeup others
+abbrev pub sooner_wakeup : Option ℕ → ℕ → ℕ
+sooner_wakeup None others = others
+sooner_wakeup (Some wakeup) others = min wakeup others
 
 -- the least wakeup of the sleepers, or the time that never comes
 abbrev pub least_wakeup : List (Option ℕ) → ℕ
 least_wakeup [] = NEVER
-least_wakeup (sleeper ∷ sleepers) = sooner sleeper (least_wakeup sleepers)
+least_wakeup (sleeper ∷ sleepers) = sooner_wakeup sleeper (least_wakeup sleepers)
 
 -- a sleeper whose wakeup isn't past a time
-abbrev pub is_due : (now : ℕ) → Option ℕ → Bool
-is_due now None = false
-is_due now (Some wakeup) = nat_le wakeup now
+abbrev pub is_wakeup_due : (now : ℕ) → Option ℕ → Bool
+is_wakeup_due now None = false
+is_wakeup_due now (Some wakeup) = nat_le wakeup now
 
 -- a sleeper that isn't due sleeps on
 abbrev pub asleep_still : (now : ℕ) → Option ℕ → Option ℕ
-asleep_still now sleeper = if is_due now sleeper then None else sleeper
+asleep_still now sleeper = if is_wakeup_due now sleeper then None else sleeper
 
 -- the device fires (tick_handle_oneshot_broadcast): those that are due wake, and its time is the
 -- least wakeup of the rest
@@ -58,7 +58,7 @@ fired now device =
 -- a set has exactly the CPUs that are due
 abbrev pub AreDue : (now : ℕ) → DeviceState → Cpus → Type 0
 AreDue now device cpus =
-    (cpu : ℕ) → Contains cpus cpu ↔ (is_due now (sleeper_of cpu device) ≡ true)
+    (cpu : ℕ) → Contains cpus cpu ↔ (is_wakeup_due now (sleeper_of cpu device) ≡ true)
 
 -- THE LAW: the time isn't later than the wakeup of any sleeper
 abbrev pub DeviceLaw : DeviceState → Type 0
@@ -92,10 +92,10 @@ settled_one want cpu device =
     else asleep want cpu (risen (sleeper_of cpu device) cpu device)
 
 -- so many CPUs, in ascending order
-abbrev pub settled : (wakeups : ℕ → ℕ) → (cpus : ℕ) → DeviceState → DeviceState
-settled wakeups zero device = device
-settled wakeups (suc cpu) device =
-    settled_one (wanted (wakeups cpu)) cpu (settled wakeups cpu device)
+abbrev pub device_settled : (wakeups : ℕ → ℕ) → (cpus : ℕ) → DeviceState → DeviceState
+device_settled wakeups zero device = device
+device_settled wakeups (suc cpu) device =
+    settled_one (wanted (wakeups cpu)) cpu (device_settled wakeups cpu device)
 
 -- the sleepers are exactly the CPUs that have a wakeup before `NEVER`, each with it
 abbrev pub AreSettled : (wakeups : ℕ → ℕ) → DeviceState → Type 0

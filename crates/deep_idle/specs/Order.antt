@@ -6,21 +6,21 @@ use Rattle.tm_base.specs.declared.names.TheConstants.{NEVER}
 use Rattle.deep_idle.specs.declared.order.Sleeper.{Sleeper}
 
 -- each of them is so
-abbrev pub Each : (Sleeper → Type 0) → List Sleeper → Type 0
-Each Is [] = Unit {0}
-Each Is (s ∷ sleepers) = Is s × Each Is sleepers
+abbrev pub EachSleeper : (Sleeper → Type 0) → List Sleeper → Type 0
+EachSleeper Is [] = Unit {0}
+EachSleeper Is (s ∷ sleepers) = Is s × EachSleeper Is sleepers
 
 -- none of them wakes after this time
 abbrev pub NotAfter : (time : ℕ) → List Sleeper → Type 0
-NotAfter time sleepers = Each (λ s. s.wakeup ≤ time) sleepers
+NotAfter time sleepers = EachSleeper (λ s. s.wakeup ≤ time) sleepers
 
 -- none wakes before a time
 abbrev pub NotBefore : (time : ℕ) → List Sleeper → Type 0
-NotBefore time sleepers = Each (λ s. time ≤ s.wakeup) sleepers
+NotBefore time sleepers = EachSleeper (λ s. time ≤ s.wakeup) sleepers
 
 -- all wake after a time
 abbrev pub After : (time : ℕ) → List Sleeper → Type 0
-After time sleepers = Each (λ s. time < s.wakeup) sleepers
+After time sleepers = EachSleeper (λ s. time < s.wakeup) sleepers
 
 -- the last wakes first
 abbrev pub AreDescending : List Sleeper → Type 0
@@ -28,14 +28,14 @@ AreDescending [] = Unit {0}
 AreDescending (s ∷ sleepers) = NotAfter s.wakeup sleepers × AreDescending sleepers
 
 -- a CPU is none of them
-abbrev pub Lacks : (cpu : ℕ) → List Sleeper → Type 0
-Lacks cpu [] = Unit {0}
-Lacks cpu (s ∷ sleepers) = (s.cpu.0 ≡ cpu → ⊥) × Lacks cpu sleepers
+abbrev pub LacksSleeper : (cpu : ℕ) → List Sleeper → Type 0
+LacksSleeper cpu [] = Unit {0}
+LacksSleeper cpu (s ∷ sleepers) = (s.cpu.0 ≡ cpu → ⊥) × LacksSleeper cpu sleepers
 
 -- no CPU is there twice
-abbrev pub AreDistinct : List Sleeper → Type 0
-AreDistinct [] = Unit {0}
-AreDistinct (s ∷ sleepers) = Lacks s.cpu.0 sleepers × AreDistinct sleepers
+abbrev pub AreDistinctSleepers : List Sleeper → Type 0
+AreDistinctSleepers [] = Unit {0}
+AreDistinctSleepers (s ∷ sleepers) = LacksSleeper s.cpu.0 sleepers × AreDistinctSleepers sleepers
 
 -- a CPU is one of them, with this wakeup
 abbrev pub Sleeps : (cpu wakeup : ℕ) → List Sleeper → Type 0
@@ -61,15 +61,16 @@ first_wakeup sleepers = last_wakeup NEVER sleepers
 -- a queue has exactly the sleepers, each once, in their order
 pub record IsQueueOf (sleepers : List (Option ℕ)) (queue : List Sleeper) : Type 0 where
   pub descending : AreDescending queue
-  pub distinct : AreDistinct queue
+  pub distinct : AreDistinctSleepers queue
   pub queued : (cpu wakeup : ℕ) → slice_index_or sleepers cpu None ≡ Some wakeup
       → Sleeps cpu wakeup queue
   pub sleeps : (cpu wakeup : ℕ) → Sleeps cpu wakeup queue
       → slice_index_or sleepers cpu None ≡ Some wakeup
-  pub early : Each (λ s. s.wakeup < NEVER) queue
+  pub early : EachSleeper (λ s. s.wakeup < NEVER) queue
 
 -- what a device keeps: memory for as many sleepers as there are CPUs too
-pub record IsKept (sleepers : List (Option ℕ)) (queue : List Sleeper) (time capacity : ℕ) : Type 0
+pub record IsOrderKept (sleepers : List (Option ℕ)) (queue : List Sleeper) (time capacity : ℕ)
+    : Type 0
   where
     pub queue_of : IsQueueOf sleepers queue
     pub in_time : NotBefore time queue

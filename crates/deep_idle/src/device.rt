@@ -6,7 +6,7 @@ ghost use Rattle.std.specs.FinSet as set;
 ghost use Rattle.tm_base.specs.declared.limits.TheConstants.{CPU_SET_SIZE};
 ghost use Rattle.tm_base.specs.declared.names.TheConstants.{NEVER};
 ghost use Rattle.deep_idle.specs.Device.{AreDue, DeviceLaw, fired, new_device, rose, sleeper_of};
-ghost use Rattle.deep_idle.specs.Device.{asleep_still, is_due, slept};
+ghost use Rattle.deep_idle.specs.Device.{asleep_still, is_wakeup_due, slept};
 ghost use Rattle.deep_idle.specs.Order.{IsQueueOf, first_wakeup};
 
 use crate::order::{Sleeper, index_for, place_with};
@@ -28,13 +28,14 @@ pub struct Device {
 impl Model for Device {
     ghost use Rattle.std.specs.Prelude.{vec_capacity};
     ghost use Rattle.deep_idle.specs.Device.{DeviceState};
-    ghost use Rattle.deep_idle.specs.Order.{IsKept};
+    ghost use Rattle.deep_idle.specs.Order.{IsOrderKept};
 
     ghost Value = { DeviceState };
 
     ghost view = { λ d. record { sleepers = d.sleepers.items; time = d.time } };
 
-    ghost invariant = { λ d. IsKept d.sleepers.items d.queue.items d.time (vec_capacity d.queue) };
+    ghost invariant = { λ d. IsOrderKept d.sleepers.items d.queue.items d.time
+        (vec_capacity d.queue) };
 }
 
 impl Device {
@@ -144,7 +145,7 @@ fn wake_due(sleepers: &mut Vec<Option<Jiffy>>, queue: &mut Vec<Sleeper>, now: Ji
     ensures sleepers { sleepers.new.items ≡ map (asleep_still now) sleepers.old.items }
     ensures queue_of { IsQueueOf sleepers.new.items queue.new.items }
     ensures due { (cpu : ℕ)
-        → set.contains result cpu ≡ is_due now (slice_index_or sleepers.old.items cpu None) }
+        → set.contains result cpu ≡ is_wakeup_due now (slice_index_or sleepers.old.items cpu None) }
     ensures capacity { vec_capacity queue.new ≡ vec_capacity queue.old }
 {
     let mut due = CpuSet::new();

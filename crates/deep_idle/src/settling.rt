@@ -2,7 +2,7 @@
 
 ghost use Rattle.std.specs.Prelude.{◌≡◌, ◌<◌, length, IfSome, None};
 ghost use Rattle.tm_base.specs.declared.names.TheConstants.{NEVER};
-ghost use Rattle.deep_idle.specs.Device.{AreSettled, DeviceLaw, is_same, risen, settled};
+ghost use Rattle.deep_idle.specs.Device.{AreSettled, DeviceLaw, device_settled, is_same, risen};
 ghost use Rattle.deep_idle.specs.Device.{settled_one, sleeper_of, wanted};
 
 use crate::Device;
@@ -24,7 +24,7 @@ pub trait Wakeups {
 /// and `sleep` on those that differ, in ascending order.
 pub fn settle<W: Wakeups>(device: &mut Device, machine: &W)
     ensures after { device.new
-        ≡ settled (W.wakeups machine.now) (length device.old.sleepers) device.old }
+        ≡ device_settled (W.wakeups machine.now) (length device.old.sleepers) device.old }
     ensures exactly { AreSettled (W.wakeups machine.now) device.new }
     ensures len { length device.new.sleepers ≡ length device.old.sleepers }
     ensures law { DeviceLaw device.new }

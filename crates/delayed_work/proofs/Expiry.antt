@@ -14,7 +14,7 @@ use Rattle.cpu_bases.specs.CpuBases.{handed_out}
 use Rattle.cpu_bases.proofs.Drains.{one_fewer}
 use Rattle.cpu_bases.proofs.Keeping.{handing_out_keeps, or_item}
 use Rattle.delayed_work.specs.declared.standing.Standing.TheVariants.{Waiting, Ready}
-use Rattle.delayed_work.specs.Ledger.{IsSound, LedgerState, come_ready, ready_from}
+use Rattle.delayed_work.specs.Ledger.{IsLedgerSound, LedgerState, come_ready, ready_from}
 use Rattle.delayed_work.specs.Ledger.{standing_of}
 use Rattle.delayed_work.specs.Works.{all_ready, first_cpu, items_out, out_then}
 use Rattle.delayed_work.proofs.Sound.{ready_sound}
@@ -78,7 +78,7 @@ out_none (suc most) now bases is =
 
 -- a ledger stays right of a queue as works become ready
 pub record Fits (items : List Item) (ledger : LedgerState) (count : ℕ) : Type 0 where
-  pub sound : IsSound ledger
+  pub sound : IsLedgerSound ledger
   pub waits : Waits items ledger
   pub count_is : length ledger.standings ≡ count
 

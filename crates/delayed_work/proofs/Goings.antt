@@ -11,13 +11,13 @@ use Rattle.work_script.specs.declared.syntax.WorkOp.TheVariants.{Queue, Cancel}
 use Rattle.work_script.specs.Grammar.{AreWorkMoments, AreWorkOps, IsWorkScript, first_line}
 use Rattle.delayed_work.specs.declared.faults.WorksFault.TheVariants.{WorkSpent}
 use Rattle.delayed_work.specs.declared.standing.Standing.TheVariants.{Free}
-use Rattle.delayed_work.specs.Calls.{Replies}
-use Rattle.delayed_work.specs.Play.{Finished, Outcome, Playing, PlaysEnd, Spent, Stand, Unfinished, count_after, moment, moments_after, next_moment, ops_at, play_start, played_from, playing_after, stand_after, work_of, works_played}
-use Rattle.delayed_work.specs.Playable.{AreAllInRange, AreInRange, BreaksOff, StaysPlayable, Stands}
+use Rattle.delayed_work.specs.Calls.{WorkReplies}
+use Rattle.delayed_work.specs.Play.{Finished, Outcome, Playing, PlaysEnd, Spent, Stand, Unfinished, count_after, works_moment, work_moments_after, next_works_moment, work_ops_at, works_play_start, played_from, playing_after, stand_after, moment_work, works_played}
+use Rattle.delayed_work.specs.Playable.{AreAllInRange, AreInRange, BreaksOffPlay, StaysPlayable, StandsToPlay}
 
 -- ---- no play is unfinished
 
-plays_end : (replies : Replies) (end n : ℕ) (s : Stand) → WORK_LIMIT_V1 ≤ n + s.count → s.count < WORK_LIMIT_V1 → played_from replies n end s ≡ Unfinished → ⊥
+plays_end : (replies : WorkReplies) (end n : ℕ) (s : Stand) → WORK_LIMIT_V1 ≤ n + s.count → s.count < WORK_LIMIT_V1 → played_from replies n end s ≡ Unfinished → ⊥
 unfolding played_from
 plays_end replies end zero s enough low e = absurd (omega (arith, enough, low))
 plays_end replies end (suc n) s enough low e = elim (cases_Bool (leb end s.now)) [
@@ -32,7 +32,7 @@ plays_end replies end (suc n) s enough low e = elim (cases_Bool (leb end s.now))
 ]
 
 pub all_end : PlaysEnd
-all_end replies script e = plays_end replies script.end WORK_LIMIT_V1 (play_start script) (omega arith) (omega arith) e
+all_end replies script e = plays_end replies script.end WORK_LIMIT_V1 (works_play_start script) (omega arith) (omega arith) e
 
 -- ---- the start
 
@@ -46,10 +46,10 @@ moments_in_range count line last end [] h = tt
 moments_in_range count line last end (m ∷ ms) h =
     (ops_in_range count (line + 1) m.ops h.2, moments_in_range count (line + 1 + length m.ops) (Some m.at) end ms h.3)
 
-pub stands_first : (replies : Replies) (script : WorkScript) (p : Playing) → IsWorkScript script → p ≡ (play_start script).playing
-    → Stands replies script.end script.count (record { now = 0; moments = script.moments; count = 0; playing = p }) (works_played replies script)
+pub stands_first : (replies : WorkReplies) (script : WorkScript) (p : Playing) → IsWorkScript script → p ≡ (works_play_start script).playing
+    → StandsToPlay replies script.end script.count (record { now = 0; moments = script.moments; count = 0; playing = p }) (works_played replies script)
 stands_first replies script p is same =
-    subst (λ q. Stands replies script.end script.count (record { now = 0; moments = script.moments; count = 0; playing = q }) (works_played replies script)) (sym same)
+    subst (λ q. StandsToPlay replies script.end script.count (record { now = 0; moments = script.moments; count = 0; playing = q }) (works_played replies script)) (sym same)
     (record {
       going = λ low. record { moments = WORK_LIMIT_V1; enough = omega arith; same = refl };
       spent = λ high. absurd (omega (arith, high));
@@ -62,7 +62,7 @@ stands_first replies script p is same =
 
 -- ---- one moment
 
-ops_at_range : (count now : ℕ) (ms : List WorkMoment) → AreAllInRange count ms → AreInRange count (ops_at now ms) × AreAllInRange count (moments_after now ms)
+ops_at_range : (count now : ℕ) (ms : List WorkMoment) → AreAllInRange count ms → AreInRange count (work_ops_at now ms) × AreAllInRange count (work_moments_after now ms)
 ops_at_range count now [] h = (tt, tt)
 ops_at_range count now (m ∷ ms) h = elim (cases_Bool (eqb m.at now)) [
   | inl here ↦ (
@@ -75,7 +75,7 @@ ops_at_range count now (m ∷ ms) h = elim (cases_Bool (eqb m.at now)) [
   )
 ]
 
-pub turn_range : (count n now : ℕ) (ms : List WorkMoment) (ops : List WorkOp) → AreAllInRange count ms → ops ≡ ops_at now ms → n ≡ count → AreInRange n ops
+pub turn_range : (count n now : ℕ) (ms : List WorkMoment) (ops : List WorkOp) → AreAllInRange count ms → ops ≡ work_ops_at now ms → n ≡ count → AreInRange n ops
 turn_range count n now ms ops h is len =
     let at : AreInRange count ops = subst (λ os. AreInRange count os) (sym is) (ops_at_range count now ms h).0 in
     subst (λ k. AreInRange k ops) (sym len) at
@@ -86,42 +86,42 @@ more_times now next b count work low few later =
     let same : (now + 1) * b ≡ now * b + b = omega arith in
     omega (arith, low, few, grown, same)
 
-module _ (replies : Replies) (end count : ℕ) (s : Stand) (outcome : Outcome) (ops : List WorkOp) (after : Playing)
-    (ops_is : ops ≡ ops_at s.now s.moments) (after_is : after ≡ moment replies s.now ops s.playing) where
+module _ (replies : WorkReplies) (end count : ℕ) (s : Stand) (outcome : Outcome) (ops : List WorkOp) (after : Playing)
+    (ops_is : ops ≡ work_ops_at s.now s.moments) (after_is : after ≡ works_moment replies s.now ops s.playing) where
   after_same : after ≡ playing_after replies s
-  after_same = after_is ∙ ap (λ (os : List WorkOp). moment replies s.now os s.playing) ops_is
+  after_same = after_is ∙ ap (λ (os : List WorkOp). works_moment replies s.now os s.playing) ops_is
 
   record Step : Type 0 where
     behind : ℕ
     enough : WORK_LIMIT_V1 ≤ suc behind + s.count
     same : played_from replies (suc behind) end s ≡ outcome
 
-  step : Stands replies end count s outcome → s.count < WORK_LIMIT_V1 → Step
+  step : StandsToPlay replies end count s outcome → s.count < WORK_LIMIT_V1 → Step
   step st low = let g = st.going low in by g.moments g.enough g.same
     where
       by : (n : ℕ) → WORK_LIMIT_V1 ≤ n + s.count → played_from replies n end s ≡ outcome → Step
       by zero enough same = absurd (omega (arith, low, enough))
       by (suc m) enough same = record { behind = m; enough = enough; same = same }
 
-  pub stands_end : Stands replies end count s outcome → s.count < WORK_LIMIT_V1 → end ≤ s.now → outcome ≡ Finished after
+  pub stands_end : StandsToPlay replies end count s outcome → s.count < WORK_LIMIT_V1 → end ≤ s.now → outcome ≡ Finished after
   unfolding played_from
   stands_end st low over =
       let g = step st low in
       sym g.same ∙ cond-true (leb end s.now) _ _ (le-leb end s.now over) ∙ ap (λ (p : Playing). Finished p) (sym after_same)
 
-  module _ (behind : List WorkMoment) (work next : ℕ) (behind_is : behind ≡ moments_after s.now s.moments) (work_is : work ≡ work_of s.now ops s.playing)
-      (next_is : next ≡ next_moment s.now end behind after.works) where
+  module _ (behind : List WorkMoment) (work next : ℕ) (behind_is : behind ≡ work_moments_after s.now s.moments) (work_is : work ≡ moment_work s.now ops s.playing)
+      (next_is : next ≡ next_works_moment s.now end behind after.works) where
     abbrev new : Stand
     new = record { now = next; moments = behind; count = s.count + work; playing = after }
 
-    work_same : work ≡ work_of s.now (ops_at s.now s.moments) s.playing
-    work_same = work_is ∙ ap (λ (os : List WorkOp). work_of s.now os s.playing) ops_is
+    work_same : work ≡ moment_work s.now (work_ops_at s.now s.moments) s.playing
+    work_same = work_is ∙ ap (λ (os : List WorkOp). moment_work s.now os s.playing) ops_is
 
     count_same : s.count + work ≡ count_after s
     count_same = ap (λ n. s.count + n) work_same
 
-    next_same : next ≡ next_moment s.now end (moments_after s.now s.moments) (playing_after replies s).works
-    next_same = next_is ∙ (λ i. next_moment s.now end (behind_is i) (after_same i).works)
+    next_same : next ≡ next_works_moment s.now end (work_moments_after s.now s.moments) (playing_after replies s).works
+    next_same = next_is ∙ (λ i. next_works_moment s.now end (behind_is i) (after_same i).works)
 
     new_same : new ≡ stand_after replies end s
     new_same = λ i. record { now = next_same i; moments = behind_is i; count = count_same i; playing = after_same i }
@@ -140,8 +140,8 @@ module _ (replies : Replies) (end count : ℕ) (s : Stand) (outcome : Outcome) (
         cond-false (leb end s.now) _ _ (lt-leb end s.now early) ∙ cond-true (leb WORK_LIMIT_V1 (count_after s)) _ _ full
         ∙ ap (λ n. Spent n) (sym count_same)
 
-    pub stands_next : Stands replies end count s outcome → s.count < WORK_LIMIT_V1 → s.now < end → work ≤ 1 + count → StaysPlayable s.now s.playing after → s.now < next → next ≤ end
-        → Stands replies end count new outcome
+    pub stands_next : StandsToPlay replies end count s outcome → s.count < WORK_LIMIT_V1 → s.now < end → work ≤ 1 + count → StaysPlayable s.now s.playing after → s.now < next → next ≤ end
+        → StandsToPlay replies end count new outcome
     stands_next st low early few keeps later last =
         let g = step st low in
         let some : 1 ≤ work = omega (arith, work_is) in
@@ -155,7 +155,7 @@ module _ (replies : Replies) (end count : ℕ) (s : Stand) (outcome : Outcome) (
           ranges = subst (λ ms. AreAllInRange count ms) (sym behind_is) (ops_at_range count s.now s.moments st.ranges).1;
         }
 
-pub stands_spent : (replies : Replies) (end count : ℕ) (s : Stand) (outcome : Outcome) → Stands replies end count s outcome → WORK_LIMIT_V1 ≤ s.count → BreaksOff end count outcome (WorkSpent s.count)
+pub stands_spent : (replies : WorkReplies) (end count : ℕ) (s : Stand) (outcome : Outcome) → StandsToPlay replies end count s outcome → WORK_LIMIT_V1 ≤ s.count → BreaksOffPlay end count outcome (WorkSpent s.count)
 stands_spent replies end count s outcome st high =
     let grown : s.now * (1 + count) ≤ end * (1 + count) = mul-le-mul_right (1 + count) st.in_time in
     (st.spent high, (let work = st.work in omega (arith, high, work, grown)))

@@ -10,21 +10,21 @@ use Rattle.delayed_work.specs.declared.standing.Standing.{Standing}
 use Rattle.delayed_work.specs.declared.standing.Standing.TheVariants.{Free, Waiting, Ready}
 use Rattle.delayed_work.specs.declared.standing.End.{End}
 use Rattle.delayed_work.specs.declared.standing.End.TheVariants.{Pending}
-use Rattle.delayed_work.specs.Ledger.{IsSound, Told, is_ready, number_in, standing_of}
+use Rattle.delayed_work.specs.Ledger.{IsLedgerSound, WorkTold, is_ready, work_number_in, standing_of}
 use Rattle.delayed_work.specs.Kept.{IsKept, ledger_of}
 use Rattle.delayed_work.proofs.Lists.{first_holds, length_without}
 use Rattle.delayed_work.proofs.Sound.{accepted_ready_sound, accepted_waiting_sound, ended_sound}
 use Rattle.delayed_work.proofs.Sound.{few_ready, ready_sound, ready_within}
 
 -- what each call of a ledger starts from
-pub record Before (standings : List Standing) (table : KeyTable) (ready_len : ℕ) (story : List Told)
+pub record Before (standings : List Standing) (table : KeyTable) (ready_len : ℕ) (story : List WorkTold)
     (work : ℕ) (standing : Standing) : Type 0 where
   pub kept : IsKept standings table ready_len story
   pub within : work < length standings
   pub stands : standing_of work (ledger_of standings table story) ≡ standing
 
 -- so it is where a read found the work to stand so
-pub before_read : (standings : List Standing) (table : KeyTable) (ready_len : ℕ) (story : List Told)
+pub before_read : (standings : List Standing) (table : KeyTable) (ready_len : ℕ) (story : List WorkTold)
     (work i : ℕ) (found standing : Standing) → IsKept standings table ready_len story
     → work < length standings → i ≡ work → found ≡ get_or standings i found → found ≡ standing
     → Before standings table ready_len story work standing
@@ -48,7 +48,7 @@ pub record Unlinked (old new : KeyTable) (work : ℕ) : Type 0 where
   pub room : new.room ≡ old.room
   pub list : list_of new 0 ≡ without work (list_of old 0)
 
-pub kept_waiting : (standings : List Standing) (table : KeyTable) (ready_len : ℕ) (story now : List Told)
+pub kept_waiting : (standings : List Standing) (table : KeyTable) (ready_len : ℕ) (story now : List WorkTold)
     (work i number : ℕ) → Before standings table ready_len story work Free → i ≡ work
     → number ≡ length story → now ≡ story ++ (number, work, Pending) ∷ []
     → IsKept (slice_set standings i (Waiting number)) table ready_len now
@@ -65,7 +65,7 @@ kept_waiting standings table ready_len story now work i number b is_i is_number 
     rw (is_now, is_number, is_i) whole
 
 pub kept_ready : (standings : List Standing) (table table_now : KeyTable) (ready_len : ℕ)
-    (story now : List Told) (work i number job arg : ℕ)
+    (story now : List WorkTold) (work i number job arg : ℕ)
     → Before standings table ready_len story work Free → i ≡ work
     → number ≡ length story → now ≡ story ++ (number, work, Pending) ∷ []
     → Pushed table table_now work
@@ -74,7 +74,7 @@ kept_ready standings table table_now ready_len story now work i number job arg b
     let sound = accepted_ready_sound (ledger_of standings table story) work job arg b.within b.stands b.kept.sound in
     let whole : IsKept (slice_set standings work (Ready (length story) job arg)) table_now (ready_len + 1)
     (story ++ (length story, work, Pending) ∷ []) = record {
-      sound = subst (λ ready. IsSound (record {
+      sound = subst (λ ready. IsLedgerSound (record {
         standings = slice_set standings work (Ready (length story) job arg);
         ready = ready;
         story = story ++ (length story, work, Pending) ∷ [];
@@ -87,14 +87,14 @@ kept_ready standings table table_now ready_len story now work i number job arg b
     rw (is_now, is_number, is_i) whole
 
 pub kept_come : (standings : List Standing) (table table_now : KeyTable) (ready_len : ℕ)
-    (story : List Told) (work i number job arg : ℕ)
+    (story : List WorkTold) (work i number job arg : ℕ)
     → Before standings table ready_len story work (Waiting number) → i ≡ work
     → Pushed table table_now work
     → IsKept (slice_set standings i (Ready number job arg)) table_now (ready_len + 1) story
 kept_come standings table table_now ready_len story work i number job arg b is_i pushed =
     let sound = ready_sound (ledger_of standings table story) work number job arg b.within b.stands b.kept.sound in
     let whole : IsKept (slice_set standings work (Ready number job arg)) table_now (ready_len + 1) story = record {
-      sound = subst (λ ready. IsSound (record {
+      sound = subst (λ ready. IsLedgerSound (record {
         standings = slice_set standings work (Ready number job arg);
         ready = ready;
         story = story;
@@ -107,7 +107,7 @@ kept_come standings table table_now ready_len story work i number job arg b is_i
     rw is_i whole
 
 pub kept_waiting_ended : (standings standings_now : List Standing) (table : KeyTable) (ready_len : ℕ)
-    (story now : List Told) (work number : ℕ) (end : End)
+    (story now : List WorkTold) (work number : ℕ) (end : End)
     → Before standings table ready_len story work (Waiting number) → end ≢ Pending
     → standings_now ≡ slice_set standings work Free
     → now ≡ slice_set story number (number, work, end)
@@ -125,7 +125,7 @@ kept_waiting_ended standings standings_now table ready_len story now work number
     rw (is_standings, is_now) whole
 
 pub kept_ready_ended : (standings standings_now : List Standing) (table table_now : KeyTable) (ready_len : ℕ)
-    (story now : List Told) (work number job arg : ℕ) (end : End)
+    (story now : List WorkTold) (work number job arg : ℕ) (end : End)
     → Before standings table ready_len story work (Ready number job arg) → end ≢ Pending
     → standings_now ≡ slice_set standings work Free
     → now ≡ slice_set story number (number, work, end)
@@ -136,7 +136,7 @@ kept_ready_ended standings standings_now table table_now ready_len story now wor
     let shorter = length_without work (list_of table 0) (b.kept.sound.in_list work (ap is_ready b.stands)) in
     let whole : IsKept (slice_set standings work Free) table_now (ready_len - 1)
     (slice_set story number (number, work, end)) = record {
-      sound = subst (λ ready. IsSound (record {
+      sound = subst (λ ready. IsLedgerSound (record {
         standings = slice_set standings work Free;
         ready = ready;
         story = slice_set story number (number, work, end);
@@ -149,22 +149,22 @@ kept_ready_ended standings standings_now table table_now ready_len story now wor
     rw (is_standings, is_now) whole
 
 -- a work's number is told of
-pub told_within : (standings : List Standing) (table : KeyTable) (ready_len : ℕ) (story : List Told)
+pub told_within : (standings : List Standing) (table : KeyTable) (ready_len : ℕ) (story : List WorkTold)
     (work number : ℕ) (standing : Standing) → Before standings table ready_len story work standing
-    → number_in standing ≡ Some number → number < length story
+    → work_number_in standing ≡ Some number → number < length story
 told_within standings table ready_len story work number standing b is =
     slice_get_within story number _
-    (b.kept.sound.numbered work number (ap number_in b.stands ∙ is))
+    (b.kept.sound.numbered work number (ap work_number_in b.stands ∙ is))
 
 -- there is room to count one ready work more, and a ready work counts
-pub counts_more : (standings : List Standing) (table : KeyTable) (ready_len : ℕ) (story : List Told)
+pub counts_more : (standings : List Standing) (table : KeyTable) (ready_len : ℕ) (story : List WorkTold)
     → IsKept standings table ready_len story → ready_len ≤ MOST_TIMERS
 counts_more standings table ready_len story kept =
     let bound = few_ready (ledger_of standings table story) kept.sound in
     let counted = kept.counted in let few = kept.few in
     omega arith
 
-pub counts_one : (standings : List Standing) (table : KeyTable) (ready_len : ℕ) (story : List Told)
+pub counts_one : (standings : List Standing) (table : KeyTable) (ready_len : ℕ) (story : List WorkTold)
     (work number job arg : ℕ) → Before standings table ready_len story work (Ready number job arg)
     → 1 ≤ ready_len
 counts_one standings table ready_len story work number job arg b =
@@ -173,7 +173,7 @@ counts_one standings table ready_len story work number job arg b =
     omega arith
 
 -- the first ready work is one of the works
-pub first_low : (standings : List Standing) (table : KeyTable) (ready_len : ℕ) (story : List Told)
+pub first_low : (standings : List Standing) (table : KeyTable) (ready_len : ℕ) (story : List WorkTold)
     (first : ℕ) (found : Option ℕ) → IsKept standings table ready_len story
     → found ≡ first_key (list_of table 0) → found ≡ Some first → first < MOST_TIMERS
 first_low standings table ready_len story first found kept is some =
@@ -183,7 +183,7 @@ first_low standings table ready_len story first found kept is some =
     omega arith
 
 -- the one list of keys holds exactly the ready works
-pub one_only : (standings : List Standing) (table : KeyTable) (ready_len : ℕ) (story : List Told)
+pub one_only : (standings : List Standing) (table : KeyTable) (ready_len : ℕ) (story : List WorkTold)
     (work : ℕ) (standing : Standing) → Before standings table ready_len story work standing
     → is_ready standing ≡ Bool.false → (c : ℕ) → c < table.number → Lacks work (list_of table c)
 one_only standings table ready_len story work standing b is c low =

@@ -26,13 +26,13 @@ use Rattle.delayed_work.specs.declared.standing.Standing.{Standing}
 use Rattle.delayed_work.specs.declared.standing.Standing.TheVariants.{Free, Waiting, Ready}
 use Rattle.delayed_work.specs.declared.standing.End.TheVariants as ends
 use Rattle.delayed_work.specs.Kept.{IsKept, ledger_of}
-use Rattle.delayed_work.specs.Ledger.{IsSound, LedgerState, Told, accepted_ready}
-use Rattle.delayed_work.specs.Ledger.{accepted_waiting, come_ready, ended, ended_from, is_ready}
-use Rattle.delayed_work.specs.Ledger.{is_waiting, new_ledger, number_in, ready_from, standing_of}
-use Rattle.delayed_work.specs.Works.{IsLawful, WorksState, all_ready, call_of}
+use Rattle.delayed_work.specs.Ledger.{IsLedgerSound, LedgerState, WorkTold, accepted_ready}
+use Rattle.delayed_work.specs.Ledger.{accepted_waiting, come_ready, work_ended, ended_from, is_ready}
+use Rattle.delayed_work.specs.Ledger.{is_work_waiting, new_ledger, work_number_in, ready_from, standing_of}
+use Rattle.delayed_work.specs.Works.{AreLawfulWorks, WorksState, all_ready, work_call_of}
 use Rattle.delayed_work.specs.Works.{cancelled_from, first_cpu, items_out, ledger_queued, new_works}
-use Rattle.delayed_work.specs.Works.{queued_again, queued_from, ran_first, ran_from}
-use Rattle.delayed_work.specs.Calls.{MayMake, Replies, after, time_of}
+use Rattle.delayed_work.specs.Works.{queued_again, work_queued_from, ran_first, ran_from}
+use Rattle.delayed_work.specs.Calls.{MayMakeCall, WorkReplies, works_after_call, works_call_time}
 use Rattle.delayed_work.specs.Laws.{AreReplies, WentOut}
 use Rattle.delayed_work.proofs.Lawful.{MayCall, accepted_lawful, again_lawful, cancelled_lawful}
 use Rattle.delayed_work.proofs.Lawful.{ended_lawful, expired_lawful, first_within}
@@ -47,17 +47,17 @@ free_in zero work = refl
 free_in (suc count) zero = refl
 free_in (suc count) (suc work) = free_in count work
 
-new_sound : (count : ℕ) → IsSound (new_ledger count)
+new_sound : (count : ℕ) → IsLedgerSound (new_ledger count)
 new_sound count = record {
   in_list = λ work is. absurd (let free = ap is_ready (free_in count work) in cc);
   not_in_list = λ work is. tt;
   distinct = tt;
-  numbered = λ work number is. absurd (none-some number (ap number_in (sym (free_in count work)) ∙ is));
+  numbered = λ work number is. absurd (none-some number (ap work_number_in (sym (free_in count work)) ∙ is));
   told = λ number told is. absurd (none-some told is);
 }
 
 -- what a new ledger keeps of its parts
-pub kept_new : (count : ℕ) (standings : List Standing) (table : KeyTable) (story : List Told)
+pub kept_new : (count : ℕ) (standings : List Standing) (table : KeyTable) (story : List WorkTold)
     → standings ≡ replicate count Free → table.number ≡ 1 → list_of table 0 ≡ []
     → count ≤ table.room → story ≡ [] → count ≤ MOST_TIMERS → IsKept standings table 0 story
 kept_new count standings table story all one none room untold few =
@@ -65,7 +65,7 @@ kept_new count standings table story all one none room untold few =
     λ i. record { standings = all i; ready = none i; story = untold i } in
     let len : length standings ≡ count = ap length all ∙ length-replicate count Free in
     record {
-      sound = subst IsSound (sym same) (new_sound count);
+      sound = subst IsLedgerSound (sym same) (new_sound count);
       one_list = one;
       room = omega (arith, len, room);
       counted = ap length (sym none);
@@ -73,14 +73,14 @@ kept_new count standings table story all one none room untold few =
     }
 
 pub new_lawful : (bases : CpuBases) (count : ℕ) → IsConsistent bases
-    → bases.bases ≡ empty_bases.bases → count ≤ MOST_TIMERS → IsLawful (new_works bases count)
+    → bases.bases ≡ empty_bases.bases → count ≤ MOST_TIMERS → AreLawfulWorks (new_works bases count)
 new_lawful bases count consistent empty few =
     let global : base_of Global bases ≡ base_of Global empty_bases = ap (λ (b : ByClass PlainBase). b.global) empty in
     record {
       sound = new_sound count;
       few = rw length-replicate few;
       waiting = λ work. ap (λ (b : PlainBase). is_some (item_of work b.items)) global
-          ∙ ap is_waiting (sym (free_in count work));
+          ∙ ap is_work_waiting (sym (free_in count work));
       none_pinned = ap (λ (b : ByClass PlainBase). b.pinned.items) empty;
       none_deferrable = ap (λ (b : ByClass PlainBase). b.deferrable.items) empty;
       none_behind = rw global (λ wheel none. absurd (none-some wheel none));
@@ -89,18 +89,18 @@ new_lawful bases count consistent empty few =
     }
 
 -- EACH CALL keeps works lawful
-may_call : (call : WorksCall) (work : ℕ) (works : WorksState) → IsLawful works → MayMake call works
-    → work < length works.ledger.standings → MayCall (time_of call) work works
+may_call : (call : WorksCall) (work : ℕ) (works : WorksState) → AreLawfulWorks works → MayMakeCall call works
+    → work < length works.ledger.standings → MayCall (works_call_time call) work works
 may_call call work works lawful may within =
     record { lawful = lawful; in_time = may.in_time; not_before = may.not_before; within = within }
 
-low : (work : ℕ) (works : WorksState) → IsLawful works → work < length works.ledger.standings
+low : (work : ℕ) (works : WorksState) → AreLawfulWorks works → work < length works.ledger.standings
     → work < 2 ^ 16
 low work works lawful within = let few = lawful.few in omega arith
 
 queue_lawful : (standing : Standing) (now work delay job arg line : ℕ) (works : WorksState)
     → MayCall now work works → delay < 2 ^ 32 → standing_of work works.ledger ≡ standing
-    → IsLawful (queued_from standing now work delay job arg line works)
+    → AreLawfulWorks (work_queued_from standing now work delay job arg line works)
 queue_lawful Free now work delay job arg line works may short is =
     accepted_lawful now work delay job arg line works may (low work works may.lawful may.within) short is
 queue_lawful (Waiting number) now work delay job arg line works may short is = may.lawful
@@ -108,7 +108,7 @@ queue_lawful (Ready number j a) now work delay job arg line works may short is =
 
 cancel_lawful : (standing : Standing) (now work line : ℕ) (works : WorksState)
     → MayCall now work works → standing_of work works.ledger ≡ standing
-    → IsLawful (cancelled_from standing now work line works)
+    → AreLawfulWorks (cancelled_from standing now work line works)
 cancel_lawful Free now work line works may is = may.lawful
 cancel_lawful (Waiting number) now work line works may is =
     cancelled_lawful now work line number works may is
@@ -118,8 +118,8 @@ cancel_lawful (Ready number job arg) now work line works may is =
 again_from : (reply : JobReply) (now work number job arg : ℕ) (works : WorksState)
     → MayCall now work works → standing_of work works.ledger ≡ Ready number job arg
     → ((class : _) (delay : ℕ) → reply ≡ Again class delay → delay < 2 ^ 32)
-    → IsLawful (queued_again reply now work job arg
-    (record { bases = works.bases; ledger = ended work ends.Ran works.ledger; time = now }))
+    → AreLawfulWorks (queued_again reply now work job arg
+    (record { bases = works.bases; ledger = work_ended work ends.Ran works.ledger; time = now }))
 again_from Done now work number job arg works may is short =
     ended_lawful now work number job arg ends.Ran works may (λ same. cc) is
 again_from (Mark m) now work number job arg works may is short =
@@ -128,18 +128,18 @@ again_from (Again class delay) now work number job arg works may is short =
     again_lawful now work number delay job arg 0 works may (low work works may.lawful may.within)
     (short class delay refl) is
 
-run_lawful : (standing : Standing) (replies : Replies) (now work : ℕ) (works : WorksState)
+run_lawful : (standing : Standing) (replies : WorkReplies) (now work : ℕ) (works : WorksState)
     → AreReplies replies → MayCall now work works → standing_of work works.ledger ≡ standing
-    → IsLawful (ran_from standing work replies now works)
+    → AreLawfulWorks (ran_from standing work replies now works)
 run_lawful Free replies now work works short may is = may.lawful
 run_lawful (Waiting number) replies now work works short may is = may.lawful
 run_lawful (Ready number job arg) replies now work works short may is =
-    again_from (replies job (call_of work arg now)) now work number job arg works may is
-    (short job (call_of work arg now))
+    again_from (replies job (work_call_of work arg now)) now work number job arg works may is
+    (short job (work_call_of work arg now))
 
-first_lawful : (found : Option ℕ) (replies : Replies) (now : ℕ) (works : WorksState)
-    → AreReplies replies → IsLawful works → now ≤ TIME_LIMIT - 2 ^ 32 → works.time ≤ now
-    → found ≡ first_key works.ledger.ready → IsLawful (ran_first found replies now works)
+first_lawful : (found : Option ℕ) (replies : WorkReplies) (now : ℕ) (works : WorksState)
+    → AreReplies replies → AreLawfulWorks works → now ≤ TIME_LIMIT - 2 ^ 32 → works.time ≤ now
+    → found ≡ first_key works.ledger.ready → AreLawfulWorks (ran_first found replies now works)
 first_lawful None replies now works short lawful in_time not_before is = lawful
 first_lawful (Some work) replies now works short lawful in_time not_before is =
     run_lawful (standing_of work works.ledger) replies now work works short (record {
@@ -149,8 +149,8 @@ first_lawful (Some work) replies now works short lawful in_time not_before is =
       within = first_within works work (Some work) lawful is refl;
     }) refl
 
-pub made_lawful : (replies : Replies) (call : WorksCall) (works : WorksState) → AreReplies replies
-    → IsLawful works → MayMake call works → IsLawful (after replies call works)
+pub made_lawful : (replies : WorkReplies) (call : WorksCall) (works : WorksState) → AreReplies replies
+    → AreLawfulWorks works → MayMakeCall call works → AreLawfulWorks (works_after_call replies call works)
 made_lawful replies (Queue now work delay job arg line) works short lawful may =
     queue_lawful (standing_of work works.ledger) now work delay job arg line works
     (may_call (Queue now work delay job arg line) work works lawful may may.names.0) may.names.1 refl
@@ -163,7 +163,7 @@ made_lawful replies (RunNext now) works short lawful may =
     first_lawful (first_key works.ledger.ready) replies now works short lawful may.in_time may.not_before refl
 
 -- the first ready work is ready
-pub first_is_ready : (ledger : LedgerState) (work : ℕ) → IsSound ledger
+pub first_is_ready : (ledger : LedgerState) (work : ℕ) → IsLedgerSound ledger
     → first_key ledger.ready ≡ Some work → is_ready (standing_of work ledger) ≡ true
 first_is_ready ledger work sound is = elim (cases_Bool (is_ready (standing_of work ledger))) [
   | inl ready ↦ ready
@@ -171,7 +171,7 @@ first_is_ready ledger work sound is = elim (cases_Bool (is_ready (standing_of wo
 ]
 
 -- NO WAITING WORK becomes ready but by expiry
-both : (standing : Standing) → is_waiting standing ≡ true → is_ready standing ≡ true → ⊥
+both : (standing : Standing) → is_work_waiting standing ≡ true → is_ready standing ≡ true → ⊥
 both Free waits ready = cc
 both (Waiting number) waits ready = cc
 both (Ready number job arg) waits ready = cc
@@ -179,14 +179,14 @@ both (Ready number job arg) waits ready = cc
 -- a change of one work that isn't from waiting to ready
 record Unready (old new : LedgerState) (one : ℕ) : Type 0 where
   pub others : (k : ℕ) → k ≢ one → standing_of k new ≡ standing_of k old
-  pub one_idle : (is_waiting (standing_of one old) ≡ false) ⊎ (is_ready (standing_of one new) ≡ false)
+  pub one_idle : (is_work_waiting (standing_of one old) ≡ false) ⊎ (is_ready (standing_of one new) ≡ false)
 
 unready : (old new : LedgerState) (one work : ℕ) → Unready old new one
-    → is_waiting (standing_of work old) ≡ true → is_ready (standing_of work new) ≡ true → ⊥
+    → is_work_waiting (standing_of work old) ≡ true → is_ready (standing_of work new) ≡ true → ⊥
 unready old new one work change waits ready = elim (cases_Bool (work == one)) [
   | inl here ↦
       let same = eqb-true work one here in
-      let waits_one : is_waiting (standing_of one old) ≡ true = ap (λ w. is_waiting (standing_of w old)) (sym same) ∙ waits in
+      let waits_one : is_work_waiting (standing_of one old) ≡ true = ap (λ w. is_work_waiting (standing_of w old)) (sym same) ∙ waits in
       let ready_one : is_ready (standing_of one new) ≡ true = ap (λ w. is_ready (standing_of w new)) (sym same) ∙ ready in
       elim change.one_idle [ inl idle ↦ cc | inr idle ↦ cc ]
   | inr there ↦
@@ -228,7 +228,7 @@ IsOut now work bases =
 
 came_out : (most now : ℕ) (bases : CpuBases) (ledger : LedgerState) (work count : ℕ)
     → now < TIME_LIMIT - 1 → IsConsistent bases → length (queue_of bases) ≤ most
-    → Fits (queue_of bases) ledger count → is_waiting (standing_of work ledger) ≡ true
+    → Fits (queue_of bases) ledger count → is_work_waiting (standing_of work ledger) ≡ true
     → is_ready (standing_of work (all_ready (items_out most now bases) ledger)) ≡ true
     → IsOut now work bases
 came_out zero now bases ledger work count in_time consistent few fits waits ready =
@@ -256,7 +256,7 @@ came_out (suc most) now bases ledger work count in_time consistent few fits wait
                 (come_fits bases ledger item count consistent fits queued) in
                 let (found, is, late) = came_out most now (one_out now bases) next work count in_time
                 (handing_out_keeps now Global first_cpu bases in_time consistent).0 (omega arith) moved
-                (ap is_waiting still ∙ waits)
+                (ap is_work_waiting still ∙ waits)
                 (ap (λ items. is_ready (standing_of work (all_ready items ledger))) (sym (out_some most now bases item there.1)) ∙ ready) in (
                   found,
                   sym (item_of-without work item.id (queue_of bases) apart)
@@ -275,12 +275,12 @@ again_others (Again class delay) now work job arg works k apart =
 
 queue_unready : (standing : Standing) (now work delay job arg line k : ℕ) (works : WorksState)
     → standing_of work works.ledger ≡ standing
-    → is_waiting (standing_of k works.ledger) ≡ true
-    → is_ready (standing_of k (queued_from standing now work delay job arg line works).ledger) ≡ true → ⊥
+    → is_work_waiting (standing_of k works.ledger) ≡ true
+    → is_ready (standing_of k (work_queued_from standing now work delay job arg line works).ledger) ≡ true → ⊥
 queue_unready Free now work delay job arg line k works is waits ready =
     unready works.ledger (ledger_queued work delay job arg works.ledger) work k (record {
       others = queued_others work delay job arg works.ledger;
-      one_idle = inl (ap is_waiting is);
+      one_idle = inl (ap is_work_waiting is);
     }) waits ready
 queue_unready (Waiting number) now work delay job arg line k works is waits ready =
     both (standing_of k works.ledger) waits ready
@@ -289,7 +289,7 @@ queue_unready (Ready number j a) now work delay job arg line k works is waits re
 
 cancel_unready : (standing : Standing) (now work line k : ℕ) (works : WorksState)
     → work < length works.ledger.standings → standing_of work works.ledger ≡ standing
-    → is_waiting (standing_of k works.ledger) ≡ true
+    → is_work_waiting (standing_of k works.ledger) ≡ true
     → is_ready (standing_of k (cancelled_from standing now work line works).ledger) ≡ true → ⊥
 cancel_unready Free now work line k works within is waits ready =
     both (standing_of k works.ledger) waits ready
@@ -305,35 +305,35 @@ cancel_unready (Ready number job arg) now work line k works within is waits read
     let as_new : is_ready (standing_of k new) ≡ true = subst (λ s. is_ready (standing_of k (ended_from s work ends.Cancelled works.ledger)) ≡ true) is ready in
     unready works.ledger new work k (record {
       others = ended_others (Ready number job arg) work ends.Cancelled works.ledger;
-      one_idle = inl (ap is_waiting is);
+      one_idle = inl (ap is_work_waiting is);
     }) waits as_new
 
-run_unready : (standing : Standing) (replies : Replies) (now work k : ℕ) (works : WorksState)
+run_unready : (standing : Standing) (replies : WorkReplies) (now work k : ℕ) (works : WorksState)
     → standing_of work works.ledger ≡ standing
-    → is_waiting (standing_of k works.ledger) ≡ true
+    → is_work_waiting (standing_of k works.ledger) ≡ true
     → is_ready (standing_of k (ran_from standing work replies now works).ledger) ≡ true → ⊥
 run_unready Free replies now work k works is waits ready = both (standing_of k works.ledger) waits ready
 run_unready (Waiting number) replies now work k works is waits ready =
     both (standing_of k works.ledger) waits ready
 run_unready (Ready number job arg) replies now work k works is waits ready =
-    let reply = replies job (call_of work arg now) in
-    let over : WorksState = record { bases = works.bases; ledger = ended work ends.Ran works.ledger; time = now } in
+    let reply = replies job (work_call_of work arg now) in
+    let over : WorksState = record { bases = works.bases; ledger = work_ended work ends.Ran works.ledger; time = now } in
     unready works.ledger (queued_again reply now work job arg over).ledger work k (record {
       others = λ j apart. again_others reply now work job arg over j apart
           ∙ ended_others (standing_of work works.ledger) work ends.Ran works.ledger j apart;
-      one_idle = inl (ap is_waiting is);
+      one_idle = inl (ap is_work_waiting is);
     }) waits ready
 
-first_unready : (found : Option ℕ) (replies : Replies) (now k : ℕ) (works : WorksState)
-    → is_waiting (standing_of k works.ledger) ≡ true
+first_unready : (found : Option ℕ) (replies : WorkReplies) (now k : ℕ) (works : WorksState)
+    → is_work_waiting (standing_of k works.ledger) ≡ true
     → is_ready (standing_of k (ran_first found replies now works).ledger) ≡ true → ⊥
 first_unready None replies now k works waits ready = both (standing_of k works.ledger) waits ready
 first_unready (Some work) replies now k works waits ready =
     run_unready (standing_of work works.ledger) replies now work k works refl waits ready
 
-pub made_not_early : (replies : Replies) (call : WorksCall) (works : WorksState) (work : ℕ)
-    → IsLawful works → MayMake call works → is_waiting (standing_of work works.ledger) ≡ true
-    → is_ready (standing_of work (after replies call works).ledger) ≡ true → WentOut call works work
+pub made_not_early : (replies : WorkReplies) (call : WorksCall) (works : WorksState) (work : ℕ)
+    → AreLawfulWorks works → MayMakeCall call works → is_work_waiting (standing_of work works.ledger) ≡ true
+    → is_ready (standing_of work (works_after_call replies call works).ledger) ≡ true → WentOut call works work
 made_not_early replies (Queue now one delay job arg line) works work lawful may waits ready =
     absurd (queue_unready (standing_of one works.ledger) now one delay job arg line work works refl waits ready)
 made_not_early replies (Cancel now one line) works work lawful may waits ready =

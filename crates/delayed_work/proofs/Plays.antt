@@ -11,12 +11,12 @@ use Rattle.delayed_work.specs.declared.standing.End.{End}
 use Rattle.delayed_work.specs.declared.standing.End.TheVariants as ends
 use Rattle.delayed_work.specs.declared.standing.Standing.{Standing}
 use Rattle.delayed_work.specs.declared.standing.Standing.TheVariants.{Free, Waiting, Ready}
-use Rattle.delayed_work.specs.Calls.{Replies}
-use Rattle.delayed_work.specs.Ledger.{LedgerState, accepted_ready, accepted_waiting, come_ready, ended, ended_from, ready_from, standing_of}
+use Rattle.delayed_work.specs.Calls.{WorkReplies}
+use Rattle.delayed_work.specs.Ledger.{LedgerState, accepted_ready, accepted_waiting, come_ready, work_ended, ended_from, ready_from, standing_of}
 use Rattle.delayed_work.proofs.Sound.{few_ready}
 use Rattle.tm_base.specs.declared.limits.TheConstants.{MOST_TIMERS}
-use Rattle.delayed_work.specs.Works.{IsLawful, WorksState, accepted, all_ready, cancelled_from, cancelled_work, expired, items_out, queued, queued_again, queued_from, ran, ran_first, ran_from}
-use Rattle.delayed_work.specs.Play.{Playing, done, run_one}
+use Rattle.delayed_work.specs.Works.{AreLawfulWorks, WorksState, accepted, all_ready, cancelled_from, cancelled_work, expired, items_out, work_queued, queued_again, work_queued_from, work_ran, ran_first, ran_from}
+use Rattle.delayed_work.specs.Play.{Playing, work_op_done, run_one}
 use Rattle.delayed_work.specs.Playable.{StaysPlayable}
 
 abbrev KeepsWorks : (now : ℕ) → WorksState → WorksState → Type 0
@@ -52,10 +52,10 @@ accepted_keeps now work delay job arg line works =
     (omega arith, queued_count (eqb delay 0) work job arg works.ledger)
 
 queued_keeps : (now work delay job arg line : ℕ) (works : WorksState) → works.time ≤ now
-    → KeepsWorks now works (queued now work delay job arg line works)
+    → KeepsWorks now works (work_queued now work delay job arg line works)
 queued_keeps now work delay job arg line works early = by (standing_of work works.ledger)
   where
-    by : (standing : Standing) → KeepsWorks now works (queued_from standing now work delay job arg line works)
+    by : (standing : Standing) → KeepsWorks now works (work_queued_from standing now work delay job arg line works)
     by Free = accepted_keeps now work delay job arg line works
     by (Waiting number) = (early, refl)
     by (Ready number j a) = (early, refl)
@@ -78,15 +78,15 @@ again_keeps Done now work job arg works early = (early, refl)
 again_keeps (Mark mark) now work job arg works early = (early, refl)
 again_keeps (Again class delay) now work job arg works early = accepted_keeps now work delay job arg 0 works
 
-ran_keeps : (replies : Replies) (now : ℕ) (works : WorksState) → works.time ≤ now
-    → KeepsWorks now works (ran replies now works)
+ran_keeps : (replies : WorkReplies) (now : ℕ) (works : WorksState) → works.time ≤ now
+    → KeepsWorks now works (work_ran replies now works)
 ran_keeps replies now works early = first (first_key works.ledger.ready)
   where
     by : (standing : Standing) (work : ℕ) → KeepsWorks now works (ran_from standing work replies now works)
     by Free work = (early, refl)
     by (Waiting number) work = (early, refl)
     by (Ready number job arg) work =
-        let freed : WorksState = record works { ledger = ended work ends.Ran works.ledger; time = now } in
+        let freed : WorksState = record works { ledger = work_ended work ends.Ran works.ledger; time = now } in
         let again = again_keeps (replies job _) now work job arg freed (omega arith) in
         (again.0, again.1 ∙ ended_count (standing_of work works.ledger) work ends.Ran works.ledger)
 
@@ -96,7 +96,7 @@ ran_keeps replies now works early = first (first_key works.ledger.ready)
 
 -- ---- in play
 
-pub done_keeps : (now : ℕ) (op : WorkOp) (p : Playing) → p.works.time ≤ now → StaysPlayable now p (done now op p)
+pub done_keeps : (now : ℕ) (op : WorkOp) (p : Playing) → p.works.time ≤ now → StaysPlayable now p (work_op_done now op p)
 done_keeps now (Queue line work delay job arg) p early =
     let k = queued_keeps now work delay job arg line p.works early in
     record { time = k.0; len = k.1 }
@@ -104,7 +104,7 @@ done_keeps now (Cancel line work) p early =
     let k = cancelled_keeps now work line p.works early in
     record { time = k.0; len = k.1 }
 
-pub run_keeps : (replies : Replies) (now : ℕ) (p : Playing) → p.works.time ≤ now → StaysPlayable now p (run_one replies now p)
+pub run_keeps : (replies : WorkReplies) (now : ℕ) (p : Playing) → p.works.time ≤ now → StaysPlayable now p (run_one replies now p)
 run_keeps replies now p early =
     let k = ran_keeps replies now p.works early in
     record { time = k.0; len = k.1 }
@@ -125,7 +125,7 @@ expired_in_play now p text works old is view =
     }
 
 -- no more works run than there are
-pub few_runs : (now : ℕ) (p mid q : Playing) (works : WorksState) (text : List ℕ) (n : ℕ) → StaysPlayable now p mid → StaysPlayable now mid q → record { works = works; text = text } ≡ q → IsLawful works → n ≡ length works.ledger.ready
+pub few_runs : (now : ℕ) (p mid q : Playing) (works : WorksState) (text : List ℕ) (n : ℕ) → StaysPlayable now p mid → StaysPlayable now mid q → record { works = works; text = text } ≡ q → AreLawfulWorks works → n ≡ length works.ledger.ready
     → (n ≤ length p.works.ledger.standings) × (n ≤ MOST_TIMERS)
 few_runs now p mid q works text n a b view lawful is =
     let few = few_ready works.ledger lawful.sound in

@@ -8,19 +8,19 @@ use Rattle.delayed_work.specs.declared.standing.End.{End}
 use Rattle.delayed_work.specs.declared.standing.End.TheVariants.{Pending}
 
 -- what is told of a queueing: its number, its work, and its end
-abbrev pub Told : Type 0
-Told = ℕ × ℕ × End
+abbrev pub WorkTold : Type 0
+WorkTold = ℕ × ℕ × End
 
 -- how each work stands, the works that are ready, first the one that became so first, and what is
 -- told of each queueing
 pub record LedgerState : Type 0 where
   pub standings : List Standing
   pub ready : List ℕ
-  pub story : List Told
+  pub story : List WorkTold
 
 -- the list of queueings as its holder sees it: how many entries it has memory for
 pub record RoomyStories : Type 0 where
-  pub entries : List Told
+  pub entries : List WorkTold
   pub capacity : ℕ
 
 -- the same of the whole ledger
@@ -42,9 +42,9 @@ is_free Free = true
 is_free _ = false
 
 -- .. that waits for its timer
-abbrev pub is_waiting : Standing → Bool
-is_waiting (Waiting number) = true
-is_waiting _ = false
+abbrev pub is_work_waiting : Standing → Bool
+is_work_waiting (Waiting number) = true
+is_work_waiting _ = false
 
 -- .. that is ready
 abbrev pub is_ready : Standing → Bool
@@ -52,10 +52,10 @@ is_ready (Ready number job arg) = true
 is_ready _ = false
 
 -- by which number a work is pending
-abbrev pub number_in : Standing → Option ℕ
-number_in Free = None
-number_in (Waiting number) = Some number
-number_in (Ready number job arg) = Some number
+abbrev pub work_number_in : Standing → Option ℕ
+work_number_in Free = None
+work_number_in (Waiting number) = Some number
+work_number_in (Ready number job arg) = Some number
 
 -- ACCEPTING a queueing gives it the next number; the work waits for its timer
 abbrev pub accepted_waiting : (work : ℕ) → LedgerState → LedgerState
@@ -105,8 +105,8 @@ ended_from (Ready number job arg) work end ledger = record {
 }
 
 -- a pending work comes to its end, and is free
-abbrev pub ended : (work : ℕ) → End → LedgerState → LedgerState
-ended work end ledger = ended_from (standing_of work ledger) work end ledger
+abbrev pub work_ended : (work : ℕ) → End → LedgerState → LedgerState
+work_ended work end ledger = ended_from (standing_of work ledger) work end ledger
 
 -- WHAT IS KEPT: no work is twice in a list
 abbrev pub AreDistinct : List ℕ → Type 0
@@ -115,17 +115,17 @@ AreDistinct (work ∷ works) = Lacks work works × AreDistinct works
 
 -- what is told of a queueing has its number, and where it is told to be pending its work is
 -- pending by that number
-pub record IsTold (ledger : LedgerState) (number : ℕ) (told : Told) : Type 0 where
+pub record IsWorkTold (ledger : LedgerState) (number : ℕ) (told : WorkTold) : Type 0 where
   pub number_is : told.0 ≡ number
-  pub pending : told.2 ≡ Pending → number_in (standing_of told.1 ledger) ≡ Some number
+  pub pending : told.2 ≡ Pending → work_number_in (standing_of told.1 ledger) ≡ Some number
 
 -- the ready list has exactly the works that are ready, each once, and the story is right
-pub record IsSound (ledger : LedgerState) : Type 0 where
+pub record IsLedgerSound (ledger : LedgerState) : Type 0 where
   pub in_list : (work : ℕ) → is_ready (standing_of work ledger) ≡ true → Holds work ledger.ready
   pub not_in_list : (work : ℕ) → is_ready (standing_of work ledger) ≡ false
       → Lacks work ledger.ready
   pub distinct : AreDistinct ledger.ready
-  pub numbered : (work number : ℕ) → number_in (standing_of work ledger) ≡ Some number
+  pub numbered : (work number : ℕ) → work_number_in (standing_of work ledger) ≡ Some number
       → slice_get ledger.story number ≡ Some (number, work, Pending)
-  pub told : (number : ℕ) (told : Told) → slice_get ledger.story number ≡ Some told
-      → IsTold ledger number told
+  pub told : (number : ℕ) (told : WorkTold) → slice_get ledger.story number ≡ Some told
+      → IsWorkTold ledger number told

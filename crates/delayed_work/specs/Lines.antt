@@ -36,22 +36,22 @@ again_words None = codes "again" ∷ []
 again_words (Some placed) = codes "again" ∷ due_word placed ∷ []
 
 -- what a job replied
-abbrev pub reply_words : JobReply → Option Placed → List (List ℕ)
-reply_words Done placed = codes "done" ∷ []
-reply_words (Mark mark) placed = codes "mark" ∷ decimal mark ∷ []
-reply_words (Again class delay) placed = again_words placed
+abbrev pub job_reply_words : JobReply → Option Placed → List (List ℕ)
+job_reply_words Done placed = codes "done" ∷ []
+job_reply_words (Mark mark) placed = codes "mark" ∷ decimal mark ∷ []
+job_reply_words (Again class delay) placed = again_words placed
 
 -- the run of a work; nothing where none was ready
-abbrev pub ran_line : (now : ℕ) → Option Run → List ℕ
-ran_line now None = []
-ran_line now (Some run) = work_line (codes "ran") now run.0 (reply_words run.1 run.2)
+abbrev pub work_run_line : (now : ℕ) → Option Run → List ℕ
+work_run_line now None = []
+work_run_line now (Some run) = work_line (codes "ran") now run.0 (job_reply_words run.1 run.2)
 
 -- where a pending work is left at the end; nothing where it is free
-abbrev pub left_line : (work : ℕ) → Option Placed → List ℕ
-left_line work None = []
-left_line work (Some placed) =
+abbrev pub left_work_line : (work : ℕ) → Option Placed → List ℕ
+left_work_line work None = []
+left_work_line work (Some placed) =
     ended (spaced (codes "left" ∷ decimal work ∷ due_word placed ∷ []))
 
 -- the last line
-abbrev pub end_line : (end : ℕ) → List ℕ
-end_line end = ended (spaced (codes "end" ∷ decimal end ∷ []))
+abbrev pub works_end_line : (end : ℕ) → List ℕ
+works_end_line end = ended (spaced (codes "end" ∷ decimal end ∷ []))

@@ -6,7 +6,7 @@ use Rattle.work_script.specs.declared.syntax.WorkOp.TheVariants.{Queue, Cancel}
 use Rattle.tm_base.specs.declared.limits.TheConstants.{WORK_LIMIT_V1}
 use Rattle.delayed_work.specs.declared.faults.WorksFault.{WorksFault}
 use Rattle.delayed_work.specs.declared.faults.WorksFault.TheVariants.{BadJob, WorkSpent, NoMemory}
-use Rattle.delayed_work.specs.Calls.{Replies}
+use Rattle.delayed_work.specs.Calls.{WorkReplies}
 use Rattle.delayed_work.specs.Play.{Outcome, Playing, Spent, Stand, played_from}
 
 -- an operation names a work that there is
@@ -30,15 +30,16 @@ pub record StaysPlayable (now : ℕ) (old new : Playing) : Type 0 where
   pub len : length new.works.ledger.standings ≡ length old.works.ledger.standings
 
 -- a play that goes on from here comes out so
-pub record GoesOn (replies : Replies) (end : ℕ) (s : Stand) (outcome : Outcome) : Type 0 where
+pub record GoesOnPlaying (replies : WorkReplies) (end : ℕ) (s : Stand) (outcome : Outcome)
+    : Type 0 where
   pub moments : ℕ
   pub enough : WORK_LIMIT_V1 ≤ moments + s.count
   pub same : played_from replies moments end s ≡ outcome
 
 -- what stands to be played: it comes out so, and the work so far is that of so many moments
-pub record Stands (replies : Replies) (end count : ℕ) (s : Stand) (outcome : Outcome)
+pub record StandsToPlay (replies : WorkReplies) (end count : ℕ) (s : Stand) (outcome : Outcome)
     : Type 0 where
-  pub going : s.count < WORK_LIMIT_V1 → GoesOn replies end s outcome
+  pub going : s.count < WORK_LIMIT_V1 → GoesOnPlaying replies end s outcome
   pub spent : WORK_LIMIT_V1 ≤ s.count → outcome ≡ Spent s.count
   pub work : s.count ≤ s.now * (1 + count)
   pub in_time : s.now ≤ end
@@ -47,8 +48,8 @@ pub record Stands (replies : Replies) (end count : ℕ) (s : Stand) (outcome : O
   pub ranges : AreAllInRange count s.moments
 
 -- a play is broken off: its work is spent, or memory is wanting
-abbrev pub BreaksOff : (end count : ℕ) → Outcome → WorksFault → Type 0
-BreaksOff end count outcome (BadJob line job) = ⊥
-BreaksOff end count outcome (WorkSpent work) =
+abbrev pub BreaksOffPlay : (end count : ℕ) → Outcome → WorksFault → Type 0
+BreaksOffPlay end count outcome (BadJob line job) = ⊥
+BreaksOffPlay end count outcome (WorkSpent work) =
     (outcome ≡ Spent work) × (WORK_LIMIT_V1 ≤ end * (1 + count))
-BreaksOff end count outcome NoMemory = Unit {0}
+BreaksOffPlay end count outcome NoMemory = Unit {0}

@@ -17,8 +17,9 @@ use Rattle.delayed_work.specs.declared.standing.Standing.TheVariants as standing
 use Rattle.delayed_work.specs.declared.standing.Placed.{Placed}
 use Rattle.delayed_work.specs.declared.standing.Placed.TheVariants.{Waiting, Ready, Pending}
 use Rattle.delayed_work.specs.declared.standing.End.TheVariants as ends
-use Rattle.delayed_work.specs.Ledger.{IsSound, LedgerState, accepted_ready, accepted_waiting}
-use Rattle.delayed_work.specs.Ledger.{come_ready, ended, is_waiting, new_ledger, standing_of}
+use Rattle.delayed_work.specs.Ledger.{IsLedgerSound, LedgerState, accepted_ready, accepted_waiting}
+use Rattle.delayed_work.specs.Ledger.{come_ready, is_work_waiting, new_ledger, standing_of}
+use Rattle.delayed_work.specs.Ledger.{work_ended}
 
 -- the bases, of which the global one has the timers of the works that wait; how the works stand;
 -- and the last time at which a call changed something
@@ -62,15 +63,15 @@ accepted now work delay job arg line works = record {
 }
 
 -- a work that is pending already stays as it is
-abbrev pub queued_from : Standing → (now work delay job arg line : ℕ) → WorksState → WorksState
-queued_from standings.Free now work delay job arg line works =
+abbrev pub work_queued_from : Standing → (now work delay job arg line : ℕ) → WorksState → WorksState
+work_queued_from standings.Free now work delay job arg line works =
     accepted now work delay job arg line works
-queued_from _ now work delay job arg line works = works
+work_queued_from _ now work delay job arg line works = works
 
 -- QUEUEING: a work that is pending stays as it is
-abbrev pub queued : (now work delay job arg line : ℕ) → WorksState → WorksState
-queued now work delay job arg line works =
-    queued_from (standing_of work works.ledger) now work delay job arg line works
+abbrev pub work_queued : (now work delay job arg line : ℕ) → WorksState → WorksState
+work_queued now work delay job arg line works =
+    work_queued_from (standing_of work works.ledger) now work delay job arg line works
 
 -- what queueing answers, by how the work stands
 abbrev pub queue_answer_from : Standing → (now work delay job arg : ℕ) → CpuBases → Placed
@@ -89,11 +90,11 @@ abbrev pub cancelled_from : Standing → (now work line : ℕ) → WorksState �
 cancelled_from standings.Free now work line works = works
 cancelled_from (standings.Waiting number) now work line works = record {
   bases = cancelled now work line first_cpu works.bases;
-  ledger = ended work ends.Cancelled works.ledger;
+  ledger = work_ended work ends.Cancelled works.ledger;
   time = now;
 }
 cancelled_from (standings.Ready number job arg) now work line works =
-    record works { ledger = ended work ends.Cancelled works.ledger; time = now }
+    record works { ledger = work_ended work ends.Cancelled works.ledger; time = now }
 
 -- CANCELLING: a work that is pending is free afterwards
 abbrev pub cancelled_work : (now work line : ℕ) → WorksState → WorksState
@@ -130,8 +131,8 @@ expired now works =
 
 -- RUNNING (process_one_work): the first ready work becomes free, its job is run, and it is queued
 -- again where the job says so; the class that the job names is set aside
-abbrev pub call_of : (work arg now : ℕ) → JobCall
-call_of work arg now =
+abbrev pub work_call_of : (work arg now : ℕ) → JobCall
+work_call_of work arg now =
     record { timer = record { 0 = work }; arg = arg; now = now; runner = first_cpu }
 
 -- a work is queued again where its job says so
@@ -150,8 +151,8 @@ queue_answer_again _ now work job arg bases = None
 abbrev pub ran_from : Standing → (work : ℕ) → (ℕ → JobCall → JobReply) → (now : ℕ)
     → WorksState → WorksState
 ran_from (standings.Ready number job arg) work replies now works =
-    queued_again (replies job (call_of work arg now)) now work job arg
-    (record works { ledger = ended work ends.Ran works.ledger; time = now })
+    queued_again (replies job (work_call_of work arg now)) now work job arg
+    (record works { ledger = work_ended work ends.Ran works.ledger; time = now })
 ran_from _ work replies now works = works
 
 -- the first ready work runs, if there is one
@@ -161,8 +162,8 @@ ran_first (Some work) replies now works =
     ran_from (standing_of work works.ledger) work replies now works
 
 -- RUNNING the next ready work
-abbrev pub ran : (ℕ → JobCall → JobReply) → (now : ℕ) → WorksState → WorksState
-ran replies now works = ran_first (first_key works.ledger.ready) replies now works
+abbrev pub work_ran : (ℕ → JobCall → JobReply) → (now : ℕ) → WorksState → WorksState
+work_ran replies now works = ran_first (first_key works.ledger.ready) replies now works
 
 -- what a run answers: the work, its job's reply, and where it was queued again
 abbrev pub Run : Type 0
@@ -172,7 +173,7 @@ Run = ℕ × JobReply × Option Placed
 abbrev pub told_from : Standing → (work : ℕ) → (ℕ → JobCall → JobReply) → (now : ℕ)
     → WorksState → Option Run
 told_from (standings.Ready number job arg) work replies now works =
-    let reply = replies job (call_of work arg now) in
+    let reply = replies job (work_call_of work arg now) in
     Some (work, reply, queue_answer_again reply now work job arg works.bases)
 told_from _ work replies now works = None
 
@@ -192,22 +193,22 @@ due_with None = None
 due_with (Some item) = Some (Waiting item.wheel)
 
 -- where a pending work stands
-abbrev pub left_from : Standing → (work : ℕ) → CpuBases → Option Placed
-left_from standings.Free work bases = None
-left_from (standings.Waiting number) work bases =
+abbrev pub work_left_from : Standing → (work : ℕ) → CpuBases → Option Placed
+work_left_from standings.Free work bases = None
+work_left_from (standings.Waiting number) work bases =
     due_with (item_of work (base_of Global bases).items)
-left_from (standings.Ready number job arg) work bases = Some Ready
+work_left_from (standings.Ready number job arg) work bases = Some Ready
 
 -- where a work is left at the end, if it is pending
-abbrev pub left : (work : ℕ) → WorksState → Option Placed
-left work works = left_from (standing_of work works.ledger) work works.bases
+abbrev pub work_left : (work : ℕ) → WorksState → Option Placed
+work_left work works = work_left_from (standing_of work works.ledger) work works.bases
 
 -- WHAT IS KEPT: a timer is queued exactly for each work that waits
-pub record IsLawful (works : WorksState) : Type 0 where
-  pub sound : IsSound works.ledger
+pub record AreLawfulWorks (works : WorksState) : Type 0 where
+  pub sound : IsLedgerSound works.ledger
   pub few : length works.ledger.standings ≤ MOST_TIMERS
   pub waiting : (work : ℕ) → is_some (item_of work (base_of Global works.bases).items)
-      ≡ is_waiting (standing_of work works.ledger)
+      ≡ is_work_waiting (standing_of work works.ledger)
   pub none_pinned : (base_of Pinned works.bases).items ≡ []
   pub none_deferrable : (base_of Deferrable works.bases).items ≡ []
   pub none_behind : NoneBehind (base_of Global works.bases)

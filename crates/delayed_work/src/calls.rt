@@ -1,7 +1,7 @@
 //! Any list of calls on works.
 
 ghost use Rattle.std.specs.Prelude.{◌≡◌, OnOk, OnErr};
-ghost use Rattle.delayed_work.specs.Calls.{MayMake, after};
+ghost use Rattle.delayed_work.specs.Calls.{MayMakeCall, works_after_call};
 ghost use Rattle.delayed_work.specs.Laws.{WorksLaw};
 
 use crate::Works;
@@ -39,8 +39,9 @@ pub fn make_call<B: TimerBase, J: Jobs>(
     jobs: &J,
     call: &WorksCall,
 ) -> Result<(), NoMemory>
-    requires { MayMake call.now works.old }
-    ensures after { OnOk result (works.new ≡ after (J.replies jobs.now) call.now works.old) }
+    requires { MayMakeCall call.now works.old }
+    ensures after { OnOk result
+        (works.new ≡ works_after_call (J.replies jobs.now) call.now works.old) }
     ensures err { OnErr result (works.new ≡ works.old) }
 {
     match *call {

@@ -4,8 +4,9 @@ ghost use Rattle.std.specs.Prelude.{◌≡◌, ◌≢◌, ◌<◌, ◌≤◌, If
 ghost use Rattle.std.specs.Prelude.{slice_set};
 ghost use Rattle.tm_base.specs.declared.limits.TheConstants.{MOST_TIMERS};
 ghost use Rattle.key_lists.specs.Tables.{first_key};
-ghost use Rattle.delayed_work.specs.Ledger.{IsSound, accepted_ready, accepted_waiting, come_ready};
-ghost use Rattle.delayed_work.specs.Ledger.{ended, new_ledger, standing_of};
+ghost use Rattle.delayed_work.specs.Ledger.{IsLedgerSound, accepted_ready, accepted_waiting};
+ghost use Rattle.delayed_work.specs.Ledger.{come_ready};
+ghost use Rattle.delayed_work.specs.Ledger.{new_ledger, standing_of, work_ended};
 
 use crate::standing::{End, Standing};
 use crate::stories::Stories;
@@ -83,7 +84,7 @@ impl Ledger {
     /// How many works there are.
     pub fn len(&self) -> usize
         ensures len { result ≡ length self.now.plain.standings }
-        ensures sound { IsSound self.now.plain }
+        ensures sound { IsLedgerSound self.now.plain }
         ensures few { result ≤ MOST_TIMERS }
     {
         self.standings.len()
@@ -160,7 +161,7 @@ impl Ledger {
     pub fn end(&mut self, work: u16, end: End)
         requires work { work < length self.old.plain.standings }
         requires ended { end ≢ End.Pending }
-        ensures plain { self.new.plain ≡ ended work end self.old.plain }
+        ensures plain { self.new.plain ≡ work_ended work end self.old.plain }
         ensures capacity { self.new.capacity ≡ self.old.capacity }
     {
         let standing = self.standings[usize::from(work)];

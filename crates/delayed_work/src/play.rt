@@ -6,10 +6,11 @@ ghost use Rattle.work_script.specs.Grammar.{IsWorkScript};
 ghost use Rattle.wheel_base.specs.Wheels.{no_base};
 ghost use Rattle.cpu_bases.specs.CpuBases.{empty_bases};
 ghost use Rattle.delayed_work.specs.Play.{CanPlayWorks, Finished, PlaysEnd, WhyNotPlayed};
-ghost use Rattle.delayed_work.specs.Play.{moments_after, ops_at, unknown_in, unknown_in_ops};
+ghost use Rattle.delayed_work.specs.Play.{unknown_in, unknown_in_work_ops, work_moments_after};
+ghost use Rattle.delayed_work.specs.Play.{work_ops_at};
 ghost use Rattle.delayed_work.specs.Play.{unknown_of};
 ghost use Rattle.delayed_work.specs.Play.{works_played, works_text};
-ghost use Rattle.delayed_work.specs.Playable.{BreaksOff};
+ghost use Rattle.delayed_work.specs.Playable.{BreaksOffPlay};
 ghost use Rattle.delayed_work.specs.Works.{new_works};
 
 use crate::faults::{UnknownWorkJob, WorksFault};
@@ -24,8 +25,8 @@ use work_script::{WorkMoment, WorkOp, WorkScript};
 
 /// The lines of the script for the time now, and its moments that are still to come after it.
 fn turn(now: Jiffy, moments: &[WorkMoment]) -> (&[WorkOp], &[WorkMoment])
-    ensures ops { result.0.now ≡ ops_at now moments.now }
-    ensures behind { result.1.now ≡ moments_after now moments.now }
+    ensures ops { result.0.now ≡ work_ops_at now moments.now }
+    ensures behind { result.1.now ≡ work_moments_after now moments.now }
 {
     match moments {
         [moment, behind @ ..] => {
@@ -53,7 +54,7 @@ fn unknown_of(table: usize, op: &WorkOp) -> Option<UnknownWorkJob>
 
 /// The first of these operations whose job a table of so many hasn't.
 fn unknown_in_ops(table: usize, ops: &[WorkOp]) -> Option<UnknownWorkJob>
-    ensures { result ≡ unknown_in_ops table ops.now }
+    ensures { result ≡ unknown_in_work_ops table ops.now }
 {
     for op in ops {
         if let Some(unknown) = unknown_of(table, op) {
@@ -139,7 +140,7 @@ fn all_moments<J: Jobs>(
         (works_played (J.replies jobs.now) script.now ≡ Finished player.new) }
     ensures len { OnOk result
         (length player.new.works.ledger.standings ≡ script.now.count) }
-    ensures err { IfErr result (BreaksOff script.now.end script.now.count
+    ensures err { IfErr result (BreaksOffPlay script.now.end script.now.count
         (works_played (J.replies jobs.now) script.now)) }
 {
     let mut moments = script.moments.as_slice();
@@ -169,7 +170,7 @@ fn play_moments<J: Jobs>(
         works_played (J.replies jobs.now) script.now ≡ Finished player) }
     ensures len { IfOk result
         (λ player. length player.works.ledger.standings ≡ script.now.count) }
-    ensures err { IfErr result (BreaksOff script.now.end script.now.count
+    ensures err { IfErr result (BreaksOffPlay script.now.end script.now.count
         (works_played (J.replies jobs.now) script.now)) }
 {
     let mut player = start(alloc, script.count)?;

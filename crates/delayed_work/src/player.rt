@@ -3,9 +3,9 @@
 ghost use Rattle.std.specs.Prelude.{◌≡◌, ◌+◌, ◌-◌, ◌^◌, ◌<◌, ◌≤◌, ◌++◌, length, IfOk, OnOk};
 ghost use Rattle.tm_base.specs.declared.names.TheConstants.{TIME_LIMIT};
 ghost use Rattle.delayed_work.specs.Playable.{AreInRange, StaysPlayable, NamesWork};
-ghost use Rattle.delayed_work.specs.Play.{all_done, closing_lines, done};
-ghost use Rattle.delayed_work.specs.Play.{left_lines, moment, next_moment, run_all};
-ghost use Rattle.delayed_work.specs.Play.{run_one, work_of};
+ghost use Rattle.delayed_work.specs.Play.{all_done, closing_lines, work_op_done};
+ghost use Rattle.delayed_work.specs.Play.{left_lines, next_works_moment, run_all, works_moment};
+ghost use Rattle.delayed_work.specs.Play.{moment_work, run_one};
 
 use crate::printing::{tell_cancelled, tell_end, tell_left, tell_queued, tell_ran};
 use crate::works::Works;
@@ -36,7 +36,7 @@ impl<B: TimerBase> Player<B> {
         requires now_in_time { now ≤ TIME_LIMIT - 2 ^ 32 }
         requires times { self.old.works.time ≤ now }
         requires work { NamesWork (length self.old.works.ledger.standings) op.now }
-        ensures after { OnOk result (self.new ≡ done now op.now self.old) }
+        ensures after { OnOk result (self.new ≡ work_op_done now op.now self.old) }
         ensures keeps { OnOk result (StaysPlayable now self.old self.new) }
     {
         match *op {
@@ -108,8 +108,8 @@ impl<B: TimerBase> Player<B> {
         requires times { self.old.works.time ≤ now }
         requires works { AreInRange (length self.old.works.ledger.standings) ops.now }
         ensures after { OnOk result
-            (self.new ≡ moment (J.replies jobs.now) now ops.now self.old) }
-        ensures work { IfOk result (λ n. n ≡ work_of now ops.now self.old) }
+            (self.new ≡ works_moment (J.replies jobs.now) now ops.now self.old) }
+        ensures work { IfOk result (λ n. n ≡ moment_work now ops.now self.old) }
         ensures few { IfOk result (λ n. n ≤ 1 + length self.old.works.ledger.standings) }
         ensures keeps { OnOk result (StaysPlayable now self.old self.new) }
     {
@@ -124,7 +124,7 @@ impl<B: TimerBase> Player<B> {
     /// The time of the next moment.
     pub(crate) fn next_moment(&self, now: Jiffy, end: Jiffy, moments: &[WorkMoment]) -> Jiffy
         requires { now < end }
-        ensures next { result ≡ next_moment now end moments.now self.now.works }
+        ensures next { result ≡ next_works_moment now end moments.now self.now.works }
         ensures later { now < result }
         ensures not_past { result ≤ end }
     {

@@ -3,8 +3,9 @@
 ghost use Rattle.std.specs.Prelude.{◌≡◌, ◌∷◌, ◌++◌, [], OnOk, Some, codes};
 ghost use Rattle.std.specs.Fmt.{decimal};
 ghost use Rattle.text_words.specs.Words.{ended, spaced};
-ghost use Rattle.delayed_work.specs.Lines.{again_words, cancelled_line, due_word, end_line};
-ghost use Rattle.delayed_work.specs.Lines.{left_line, queued_line, ran_line, reply_words};
+ghost use Rattle.delayed_work.specs.Lines.{again_words, cancelled_line, due_word, works_end_line};
+ghost use Rattle.delayed_work.specs.Lines.{job_reply_words, left_work_line, queued_line};
+ghost use Rattle.delayed_work.specs.Lines.{work_run_line};
 
 use crate::standing::Placed;
 use job_table::JobReply;
@@ -113,7 +114,7 @@ pub(crate) fn tell_cancelled(
 #[tactic(auto, using(std::proofs::lemmas::List::append_assoc))]
 fn push_reply(text: &mut Vec<u8>, reply: JobReply, placed: Option<Placed>) -> Result<(), NoMemory>
     ensures { OnOk result
-        (text.new.items ≡ text.old.items ++ 32 ∷ spaced (reply_words reply placed)) }
+        (text.new.items ≡ text.old.items ++ 32 ∷ spaced (job_reply_words reply placed)) }
 {
     match reply {
         JobReply::Done => push_word(text, b"done"),
@@ -147,7 +148,7 @@ pub(crate) fn tell_ran(
     placed: Option<Placed>,
 ) -> Result<(), NoMemory>
     ensures { OnOk result (text.new.items
-        ≡ text.old.items ++ ran_line now (Some (work, reply, placed))) }
+        ≡ text.old.items ++ work_run_line now (Some (work, reply, placed))) }
 {
     push_start(text, b"ran", now, work)?;
     push_reply(text, reply, placed)?;
@@ -158,7 +159,7 @@ pub(crate) fn tell_ran(
 /// Where a pending work is left.
 #[tactic(auto, using(std::proofs::lemmas::List::append_assoc))]
 fn push_left(text: &mut Vec<u8>, work: u16, placed: Placed) -> Result<(), NoMemory>
-    ensures { OnOk result (text.new.items ≡ text.old.items ++ left_line work (Some placed)) }
+    ensures { OnOk result (text.new.items ≡ text.old.items ++ left_work_line work (Some placed)) }
 {
     push_bytes(text, b"left")?;
     push_next(text, u64::from(work))?;
@@ -173,7 +174,7 @@ pub(crate) fn tell_left(
     work: u16,
     placed: Option<Placed>,
 ) -> Result<(), NoMemory>
-    ensures { OnOk result (text.new.items ≡ text.old.items ++ left_line work placed) }
+    ensures { OnOk result (text.new.items ≡ text.old.items ++ left_work_line work placed) }
 {
     match placed {
         None => Ok(()),
@@ -184,7 +185,7 @@ pub(crate) fn tell_left(
 /// The last line.
 #[tactic(auto, using(std::proofs::lemmas::List::append_assoc))]
 pub(crate) fn tell_end(text: &mut Vec<u8>, end: Jiffy) -> Result<(), NoMemory>
-    ensures { OnOk result (text.new.items ≡ text.old.items ++ end_line end) }
+    ensures { OnOk result (text.new.items ≡ text.old.items ++ works_end_line end) }
 {
     push_bytes(text, b"end")?;
     push_next(text, end)?;

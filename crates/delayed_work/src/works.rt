@@ -8,10 +8,11 @@ ghost use Rattle.tm_base.specs.declared.names.Class.{Class};
 ghost use Rattle.wheel_core.specs.PlainBase.{NoneBehind, NoneDue, item_of, least};
 ghost use Rattle.cpu_bases.specs.CpuBases.{base_of, class_in, drained, empty_bases};
 ghost use Rattle.delayed_work.specs.Ledger.{is_free, standing_of};
-ghost use Rattle.delayed_work.specs.Works.{IsLawful, all_ready, bases_queued, cancelled_work};
+ghost use Rattle.delayed_work.specs.Works.{AreLawfulWorks, all_ready, bases_queued, cancelled_work};
 ghost use Rattle.delayed_work.specs.Works.{expired, first_cpu, items_out, ledger_queued, new_works};
-ghost use Rattle.delayed_work.specs.Works.{due_with, left, queue_answer, queue_answer_free, queued};
-ghost use Rattle.delayed_work.specs.Works.{ran};
+ghost use Rattle.delayed_work.specs.Works.{due_with, queue_answer, queue_answer_free, work_left};
+ghost use Rattle.delayed_work.specs.Works.{work_queued};
+ghost use Rattle.delayed_work.specs.Works.{work_ran};
 ghost use Rattle.delayed_work.specs.Works.{told_run};
 ghost use Rattle.delayed_work.specs.declared.standing.Standing.{Standing};
 
@@ -43,13 +44,13 @@ pub struct Works<B: TimerBase> {
 }
 
 impl<B: TimerBase> Model for Works<B> {
-    ghost use Rattle.delayed_work.specs.Works.{IsLawful, WorksState};
+    ghost use Rattle.delayed_work.specs.Works.{AreLawfulWorks, WorksState};
 
     ghost Value = { WorksState };
 
     ghost view = { λ w. record { bases = w.bases.plain; ledger = w.ledger.plain; time = w.time } };
 
-    ghost invariant = { (λ w. IsLawful
+    ghost invariant = { (λ w. AreLawfulWorks
         (record { bases = w.bases.plain; ledger = w.ledger.plain; time = w.time })) };
 }
 
@@ -138,7 +139,7 @@ impl<B: TimerBase> Works<B> {
     /// How many works there are.
     pub fn len(&self) -> usize
         ensures len { result ≡ length self.now.ledger.standings }
-        ensures lawful { IsLawful self.now }
+        ensures lawful { AreLawfulWorks self.now }
     {
         self.ledger.len()
     }
@@ -160,7 +161,7 @@ impl<B: TimerBase> Works<B> {
         requires work { work < length self.old.ledger.standings }
         ensures answer { IfOk result
             (λ answer. answer ≡ queue_answer now work delay job arg self.old) }
-        ensures after { OnOk result (self.new ≡ queued now work delay job arg line self.old) }
+        ensures after { OnOk result (self.new ≡ work_queued now work delay job arg line self.old) }
         ensures err { OnErr result (self.new ≡ self.old) }
     {
         let standing = self.ledger.standing(work);
@@ -240,7 +241,7 @@ impl<B: TimerBase> Works<B> {
         requires times { self.old.time ≤ now }
         ensures answer { IfOk result
             (λ run. run ≡ told_run (J.replies jobs.now) now self.old) }
-        ensures after { OnOk result (self.new ≡ ran (J.replies jobs.now) now self.old) }
+        ensures after { OnOk result (self.new ≡ work_ran (J.replies jobs.now) now self.old) }
         ensures err { OnErr result (self.new ≡ self.old) }
     {
         let Some(work) = self.ledger.first_ready() else {
@@ -302,7 +303,7 @@ impl<B: TimerBase> Works<B> {
     /// None where it is free.
     pub fn left(&self, work: u16) -> Option<Placed>
         requires { work < length self.now.ledger.standings }
-        ensures { result ≡ left work self.now }
+        ensures { result ≡ work_left work self.now }
     {
         let standing = self.ledger.standing(work);
         match standing {

@@ -25,12 +25,12 @@ use Rattle.core_machine.specs.step_play.Rules.StepRules.{made_active, step_rules
 use Rattle.core_machine.proofs.step_play.Queues.Sights.{count_seen}
 use Rattle.core_machine.proofs.step_play.Hotplug.{IsHead, head_is, read}
 use Rattle.core_machine.proofs.step_play.Takes.{there}
-use Rattle.core_machine.specs.Draining.Turns.{timer_of}
+use Rattle.core_machine.specs.Draining.Turns.{timer_found}
 use Rattle.hotplug.specs.Afterwards.{AllWith, NothingMoved, PartMoved, SomeMoved, StillQueued}
-use Rattle.hotplug.specs.Afterwards.{asked, items_of, timers_of}
+use Rattle.hotplug.specs.Afterwards.{asked, base_items_of, timers_of}
 use Rattle.hotplug.specs.Frames.{Activated, MayActivate, MayMoveAll}
 use Rattle.hotplug.specs.Settled.{AllWhole, MovedSome, MovedTimes, SomeOnline, heir_of, moved_off}
-use Rattle.hotplug.specs.Settled.{moved_times, moved_to}
+use Rattle.hotplug.specs.Settled.{moved_times, moved_to_heir}
 use Rattle.cpu_bases.proofs.Counts.{count_in}
 use Rattle.play_rules.proofs.FirstMoves.{either_none, none_queued}
 use Rattle.hotplug.proofs.Moving.{count_seen_in, some_queued}
@@ -52,7 +52,7 @@ moved_more start w v from to so_far made fewer = record {
 
 -- WHERE THEY ARE, once none is left
 nothing_left : (w : World) (dead : ℕ) → dead < length w.cpus → step_rules.count_queued w dead ≡ 0 →
-    (k : Class) → items_of w dead k ≡ []
+    (k : Class) → base_items_of w dead k ≡ []
 nothing_left w dead low none k =
     none_of k (cpu_of w dead).bases (sym (count_seen_in w dead low) ∙ none)
 
@@ -78,11 +78,11 @@ all_with w dead to u (gone, x) may none =
 abbrev as_cpu : ℕ → CpuId
 as_cpu d = record { 0 = d }
 
-none_first : (o : Option (Class × Item)) → None ≡ option_map timer_of o → o ≡ None
+none_first : (o : Option (Class × Item)) → None ≡ option_map timer_found o → o ≡ None
 none_first None is = refl
-none_first (Some f) is = absurd (none-some (timer_of f) is)
+none_first (Some f) is = absurd (none-some (timer_found f) is)
 
-some_first : (t : TimerId) (o : Option (Class × Item)) → Some t ≡ option_map timer_of o →
+some_first : (t : TimerId) (o : Option (Class × Item)) → Some t ≡ option_map timer_found o →
     (f : Class × Item) × (o ≡ Some f)
 some_first t None is = absurd (none-some t (sym is))
 some_first t (Some f) is = (f, refl)
@@ -100,17 +100,17 @@ module _ (w : World) (dead : ℕ) (low : dead < length w.cpus) where
   head = option_map as_cpu (step_rules.controller w)
 
   -- nothing is queued
-  pub empty_is : None ≡ option_map timer_of (first_to_move (cpu_of w dead).bases) → many ≡ 0
+  pub empty_is : None ≡ option_map timer_found (first_to_move (cpu_of w dead).bases) → many ≡ 0
   empty_is none =
       count_seen_in w dead low
       ∙ none_queued (cpu_of w dead).bases (none_first (first_to_move (cpu_of w dead).bases) none)
 
-  pub heir_empty : None ≡ option_map timer_of (first_to_move (cpu_of w dead).bases) →
+  pub heir_empty : None ≡ option_map timer_found (first_to_move (cpu_of w dead).bases) →
       None ≡ heir_of w dead
   heir_empty none = sym (cond-true (many == 0) None head (eq-eqb many 0 (empty_is none)))
 
   pub heir_full : (t : TimerId) →
-      Some t ≡ option_map timer_of (first_to_move (cpu_of w dead).bases) → (o : Option CpuId) →
+      Some t ≡ option_map timer_found (first_to_move (cpu_of w dead).bases) → (o : Option CpuId) →
       option_map (λ (d : CpuId). d.0) o ≡ controller (state_of w) → o ≡ heir_of w dead
   heir_full t is o found =
       let f = some_first t (first_to_move (cpu_of w dead).bases) is in
@@ -236,7 +236,7 @@ module _ (w : World) (dead : ℕ) (low : dead < length w.cpus) where
               (let left = so_far.left in let same = same_many in omega (arith, left, same, none)) in
               so_far.is
               ∙ ((λ j. moved_times (count j) dead to.0 (made j))
-              ∙ ap (moved_to w dead) heir)
+              ∙ ap (moved_to_heir w dead) heir)
 
   -- without heir nothing is queued, where some CPU is online
   none_by : (b : Bool) → many == 0 ≡ b → None ≡ (if b then None else head) → SomeOnline w → many ≡ 0

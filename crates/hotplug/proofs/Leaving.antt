@@ -24,9 +24,9 @@ use Rattle.core_machine.specs.step_play.Rules.StepRules.{is_waiting}
 use Rattle.core_machine.proofs.step_play.Hotplug.{runs}
 use Rattle.core_machine.proofs.step_play.Worlds.{own_is, put_all, put_else, put_field}
 use Rattle.core_machine.proofs.step_play.Activation.Calm.{handing}
-use Rattle.hotplug.specs.Afterwards.{HasCome, HasLeft}
+use Rattle.hotplug.specs.Afterwards.{HasComeOnline, HasGoneOffline}
 use Rattle.hotplug.specs.Frames.{Activated, HandedOn, MayActivate, Waits}
-use Rattle.hotplug.specs.Settled.{AllWhole, IsWhole, gone_whole, heir_at, offline_fault}
+use Rattle.hotplug.specs.Settled.{AllWhole, AreBasesWhole, gone_whole, heir_at, offline_fault}
 use Rattle.core_machine.proofs.Alone.Frames.{Framed, begun_framed}
 use Rattle.hotplug.proofs.Settling.{online_free, settled_lone}
 
@@ -118,14 +118,14 @@ module _ (w : World) (c to : ℕ) (waits : Waits w c to) where
 
     pub handed_bases : AllWhole w → AllWhole last
     handed_bases all d =
-        subst (λ u. IsWhole (cpu_of u d).bases) (sym (own_is v c (with_walk (cpu_of v c) None)))
-        (put_all v c (with_walk (cpu_of v c) None) within (λ e z. IsWhole z.bases)
-        (subst (λ (y : CpuRecord). IsWhole y.bases) (sym back) (all c))
+        subst (λ u. AreBasesWhole (cpu_of u d).bases) (sym (own_is v c (with_walk (cpu_of v c) None)))
+        (put_all v c (with_walk (cpu_of v c) None) within (λ e z. AreBasesWhole z.bases)
+        (subst (λ (y : CpuRecord). AreBasesWhole y.bases) (sym back) (all c))
         (λ e ne. elim (cases_eq e to) [
-          | inl same ↦ subst (λ n. IsWhole (cpu_of v n).bases) (sym same)
-              (subst IsWhole (sym active.bases) (all to))
+          | inl same ↦ subst (λ n. AreBasesWhole (cpu_of v n).bases) (sym same)
+              (subst AreBasesWhole (sym active.bases) (all to))
           | inr other ↦
-              subst (λ (y : CpuRecord). IsWhole y.bases) (sym (active.others e other)) (all e)
+              subst (λ (y : CpuRecord). AreBasesWhole y.bases) (sym (active.others e other)) (all e)
         ]) d)
 
     pub handed_settled : IsSettled last
@@ -222,9 +222,9 @@ module _ (w : World) (c to : ℕ) (low : c < length w.cpus) (to_low : to < lengt
 
     pub leaves_bases : AllWhole w → AllWhole v
     leaves_bases all d = elim (cases_eq d c) [
-      | inl same ↦ subst (λ n. IsWhole (cpu_of v n).bases) (sym same)
-          (subst IsWhole (sym f.itself.bases) (all c))
-      | inr ne ↦ subst (λ (y : CpuRecord). IsWhole y.bases) (sym (f.others d ne)) (all d)
+      | inl same ↦ subst (λ n. AreBasesWhole (cpu_of v n).bases) (sym same)
+          (subst AreBasesWhole (sym f.itself.bases) (all c))
+      | inr ne ↦ subst (λ (y : CpuRecord). AreBasesWhole y.bases) (sym (f.others d ne)) (all d)
     ]
 
     others : (d : ℕ) → d ≢ c → (cpu_of v d).walk ≡ None
@@ -237,7 +237,7 @@ module _ (w : World) (c to : ℕ) (low : c < length w.cpus) (to_low : to < lengt
       | inr ne ↦ ap (λ (y : CpuRecord). y.bases) (f.others d ne)
     ]
 
-    pub leaves_alone : (heir : CpuId) → HasLeft w c heir None v
+    pub leaves_alone : (heir : CpuId) → HasGoneOffline w c heir None v
     leaves_alone heir = record {
       tree = f.tree;
       clock = f.clock;
@@ -250,7 +250,7 @@ module _ (w : World) (c to : ℕ) (low : c < length w.cpus) (to_low : to < lengt
     }
 
     pub leaves_to : (heir : CpuId) → heir.0 ≡ to → (u : World) → HandedOn v c to u →
-        HasLeft w c heir (Some heir) u
+        HasGoneOffline w c heir (Some heir) u
     leaves_to heir is_heir u handed = record {
       tree = handed.tree ∙ f.tree;
       clock = handed.clock ∙ f.clock;
@@ -346,12 +346,12 @@ module _ (w : World) (c : ℕ) (low : c < length w.cpus) (settled : IsSettled w)
 
     pub come_bases : AllWhole w → AllWhole v
     come_bases all d = elim (cases_eq d c) [
-      | inl same ↦ subst (λ n. IsWhole (cpu_of v n).bases) (sym same)
-          (subst IsWhole (sym framed.itself.bases) (all c))
-      | inr ne ↦ subst (λ (y : CpuRecord). IsWhole y.bases) (sym (framed.others d ne)) (all d)
+      | inl same ↦ subst (λ n. AreBasesWhole (cpu_of v n).bases) (sym same)
+          (subst AreBasesWhole (sym framed.itself.bases) (all c))
+      | inr ne ↦ subst (λ (y : CpuRecord). AreBasesWhole y.bases) (sym (framed.others d ne)) (all d)
     ]
 
-    pub come_back : HasCome w c v
+    pub come_back : HasComeOnline w c v
     come_back = record {
       tree = framed.tree;
       clock = framed.clock;

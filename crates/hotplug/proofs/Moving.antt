@@ -31,7 +31,7 @@ use Rattle.core_machine.proofs.step_play.Held.{bases_seen}
 use Rattle.core_machine.proofs.step_play.Moves.{first_alike}
 use Rattle.core_machine.proofs.step_play.Worlds.{put, put_all, put_count, put_else, put_field}
 use Rattle.core_machine.proofs.step_play.Worlds.{put_same}
-use Rattle.core_machine.specs.Draining.Turns.{timer_of}
+use Rattle.core_machine.specs.Draining.Turns.{timer_found}
 use Rattle.core_machine.proofs.Draining.FirstMoves.{Found, found_first}
 use Rattle.hotplug.specs.Afterwards.{SomeMoved, StillQueued, asked}
 use Rattle.hotplug.specs.Frames.{MayMoveAll}
@@ -62,7 +62,7 @@ some_queued b f is = some_in b f.0 f.1 (first_is b f is)
 
 -- A MOVE
 module _ (w : World) (from to : ℕ) (lawful : IsLawful w) (may : MayMoveAll w from to)
-    (t : TimerId) (is : Some t ≡ option_map timer_of (first_to_move (cpu_of w from).bases)) where
+    (t : TimerId) (is : Some t ≡ option_map timer_found (first_to_move (cpu_of w from).bases)) where
   f : Found w from t
   f = found_first w from t is
 

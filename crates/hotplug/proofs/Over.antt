@@ -17,7 +17,7 @@ use Rattle.cpu_bases.specs.CpuBases.{CpuBases, after_move_out, base_of, changed,
 use Rattle.cpu_bases.specs.CpuBases.{moved_in, moved_out, oldest_in}
 use Rattle.cpu_bases.proofs.Counts.{count_in}
 use Rattle.core_world.specs.World.{World}
-use Rattle.hotplug.specs.Afterwards.{Asked, SomeMoved, asked, items_of, timers_of}
+use Rattle.hotplug.specs.Afterwards.{Asked, SomeMoved, asked, base_items_of, timers_of}
 
 -- nothing of any class
 abbrev pub no_items : ByClass (List Item)
@@ -110,7 +110,7 @@ over_none w from to = (
     tree = refl;
     clock = refl;
     online = λ d. refl;
-    left = λ k. left_alone k (items_of w from k);
+    left = λ k. left_alone k (base_items_of w from k);
     come = λ k. come_alone k (timers_of w to k);
     others = λ d ne other. refl;
   },
@@ -127,8 +127,8 @@ over_then u v w from to (a, x) (b, y) = (
     left = λ k.
         x.left k
         ∙ (ap (λ xs. of_class k a ++ xs) (y.left k)
-        ∙ (sym (append_assoc (of_class k a) (of_class k b) (items_of w from k))
-        ∙ ap (λ xs. xs ++ items_of w from k) (sym (at_both k a b))));
+        ∙ (sym (append_assoc (of_class k a) (of_class k b) (base_items_of w from k))
+        ∙ ap (λ xs. xs ++ base_items_of w from k) (sym (at_both k a b))));
     come = λ k.
         y.come k
         ∙ (ap (λ xs. xs ++ map asked (of_class k b)) (x.come k)

@@ -16,7 +16,7 @@ cpu_id c = record { 0 = c }
 -- OFFLINE: CPU c is offline; each CPU has the timers and the journal that it had; of the others
 -- none went offline or came online, and all but the heir are as they were. The heir is CPU `to`,
 -- and it is active
-pub record HasLeft (old : World) (c : ℕ) (to : CpuId) (heir : Option CpuId) (new : World)
+pub record HasGoneOffline (old : World) (c : ℕ) (to : CpuId) (heir : Option CpuId) (new : World)
     : Type 0 where
   pub tree : new.tree ≡ old.tree
   pub clock : new.clock ≡ old.clock
@@ -29,7 +29,7 @@ pub record HasLeft (old : World) (c : ℕ) (to : CpuId) (heir : Option CpuId) (n
 
 -- ONLINE: CPU c is online and active; each CPU has the timers and the journal that it had, and the
 -- others are as they were
-pub record HasCome (old : World) (c : ℕ) (new : World) : Type 0 where
+pub record HasComeOnline (old : World) (c : ℕ) (new : World) : Type 0 where
   pub tree : new.tree ≡ old.tree
   pub clock : new.clock ≡ old.clock
   pub active : is_active (cpu_of new c) ≡ true
@@ -54,12 +54,12 @@ asked item = record {
 }
 
 -- the items queued in the base of a class of CPU c, in arming order
-abbrev pub items_of : World → (c : ℕ) → Class → List Item
-items_of w c class = (base_of class (cpu_of w c).bases).items
+abbrev pub base_items_of : World → (c : ℕ) → Class → List Item
+base_items_of w c class = (base_of class (cpu_of w c).bases).items
 
 -- the timers of a class that are queued on CPU c, in arming order, as they were asked for
 abbrev pub timers_of : World → (c : ℕ) → Class → List Asked
-timers_of w c class = map asked (items_of w c class)
+timers_of w c class = map asked (base_items_of w c class)
 
 -- these timers of each class went from the head of CPU `from` to the end of the base of the same
 -- class of CPU `to`, in arming order and as they were asked for; nothing else moved, and no other
@@ -69,8 +69,8 @@ pub record HaveMoved (old : World) (from to : ℕ) (gone : ByClass (List Item)) 
   pub tree : new.tree ≡ old.tree
   pub clock : new.clock ≡ old.clock
   pub online : (d : ℕ) → (cpu_of new d).online ≡ (cpu_of old d).online
-  pub left : (class : Class) → items_of old from class
-      ≡ of_class class gone ++ items_of new from class
+  pub left : (class : Class) → base_items_of old from class
+      ≡ of_class class gone ++ base_items_of new from class
   pub come : (class : Class) → timers_of new to class
       ≡ timers_of old to class ++ map asked (of_class class gone)
   pub others : (d : ℕ) → d ≢ from → d ≢ to → cpu_of new d ≡ cpu_of old d
@@ -83,7 +83,7 @@ SomeMoved old from to new = (gone : ByClass (List Item)) × HaveMoved old from t
 pub record StillQueued (w : World) (c : ℕ) : Type 0 where
   pub class : Class
   pub item : Item
-  pub first : oldest_in (items_of w c class) ≡ Some item
+  pub first : oldest_in (base_items_of w c class) ≡ Some item
 
 -- A DEAD CPU's timers are all with CPU `to`, which is active: each in the base of its class,
 -- behind those that were there, in arming order and as it was asked for. No other CPU changed
@@ -91,7 +91,7 @@ pub record AllWith (old : World) (dead to : ℕ) (new : World) : Type 0 where
   pub tree : new.tree ≡ old.tree
   pub clock : new.clock ≡ old.clock
   pub online : (d : ℕ) → (cpu_of new d).online ≡ (cpu_of old d).online
-  pub none_left : (class : Class) → items_of new dead class ≡ []
+  pub none_left : (class : Class) → base_items_of new dead class ≡ []
   pub come : (class : Class) → timers_of new to class
       ≡ timers_of old to class ++ timers_of old dead class
   pub active : is_active (cpu_of new to) ≡ true
@@ -99,7 +99,7 @@ pub record AllWith (old : World) (dead to : ℕ) (new : World) : Type 0 where
 
 -- nothing was queued on a dead CPU, and all is as it was
 pub record NothingMoved (old : World) (dead : ℕ) (new : World) : Type 0 where
-  pub empty : (class : Class) → items_of old dead class ≡ []
+  pub empty : (class : Class) → base_items_of old dead class ≡ []
   pub same : new ≡ old
 
 -- A DEAD CPU's timers are all with its heir; where it has none, it had no timers

@@ -51,14 +51,14 @@ moved_times (suc n) from to w =
     after_move (step_rules.moved (moved_times n from to w) from to) (moved_times n from to w)
 
 -- the controlling CPU is woken where it is idle, and then as many move as are queued
-abbrev pub moved_to : World → (dead : ℕ) → Option CpuId → World
-moved_to w dead None = w
-moved_to w dead (Some to) =
+abbrev pub moved_to_heir : World → (dead : ℕ) → Option CpuId → World
+moved_to_heir w dead None = w
+moved_to_heir w dead (Some to) =
     moved_times (step_rules.count_queued w dead) dead to.0 (made_active w to.0)
 
 -- all timers of an offline CPU have moved to its heir
 abbrev pub moved_off : World → (dead : ℕ) → World
-moved_off w dead = moved_to w dead (heir_of w dead)
+moved_off w dead = moved_to_heir w dead (heir_of w dead)
 
 -- the first timers of CPU `from` have moved, and the others are still there
 pub record MovedTimes (old : World) (from to : ℕ) (new : World) : Type 0 where
@@ -73,12 +73,12 @@ pub record MovedSome (old : World) (dead : ℕ) (new : World) : Type 0 where
   pub moved : MovedTimes (made_active old to.0) dead to.0 new
 
 -- in no base is a queued wheel expiry below the base's clock
-abbrev pub IsWhole : CpuBases → Type 0
-IsWhole bases = (class : Class) → NoneBehind (base_of class bases)
+abbrev pub AreBasesWhole : CpuBases → Type 0
+AreBasesWhole bases = (class : Class) → NoneBehind (base_of class bases)
 
 -- no queued wheel expiry of any CPU is below its base's clock
 abbrev pub AllWhole : World → Type 0
-AllWhole w = (c : ℕ) → IsWhole (cpu_of w c).bases
+AllWhole w = (c : ℕ) → AreBasesWhole (cpu_of w c).bases
 
 -- some placed CPU is online
 abbrev pub SomeOnline : World → Type 0

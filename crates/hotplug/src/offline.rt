@@ -5,7 +5,7 @@ ghost use Rattle.std.specs.Prelude.{length, true};
 ghost use Rattle.tree_plan.specs.Paths.{is_placed_in};
 ghost use Rattle.core_world.specs.Covered.{IsSettled};
 ghost use Rattle.core_machine.specs.step_play.Rules.StepRules.{handed_on_by_steps};
-ghost use Rattle.hotplug.specs.Afterwards.{HasLeft};
+ghost use Rattle.hotplug.specs.Afterwards.{HasGoneOffline};
 ghost use Rattle.hotplug.specs.Frames.{HandedOn, Waits};
 ghost use Rattle.core_machine.specs.step_play.Rules.Lone.{Reaches};
 ghost use Rattle.hotplug.specs.Settled.{AllWhole, gone_whole, heir_at, offline_fault};
@@ -59,7 +59,7 @@ fn leave<B: TimerBase>(core: &mut Core<B>, cpu: CpuId, to: CpuId) -> Option<CpuI
     requires allowed { offline_fault core.old cpu.0 to.0 ≡ None }
     ensures gone { core.new ≡ gone_whole core.old cpu.0 to.0 }
     ensures heir { result ≡ heir_at core.old cpu.0 to }
-    ensures left { HasLeft core.old cpu.0 to result core.new }
+    ensures left { HasGoneOffline core.old cpu.0 to result core.new }
     ensures settled { IsSettled core.new }
     ensures whole { AllWhole core.old → AllWhole core.new }
     ensures run { Reaches core.old core.new }
@@ -93,7 +93,7 @@ pub fn go_offline<B: TimerBase>(
     ensures err { OnErr result (core.new ≡ core.old) }
     ensures gone { OnOk result (core.new ≡ gone_whole core.old cpu.0 to.0) }
     ensures heir { IfOk result (λ heir. heir ≡ heir_at core.old cpu.0 to) }
-    ensures left { IfOk result (λ heir. HasLeft core.old cpu.0 to heir core.new) }
+    ensures left { IfOk result (λ heir. HasGoneOffline core.old cpu.0 to heir core.new) }
     ensures settled { IsSettled core.new }
     ensures whole { AllWhole core.old → AllWhole core.new }
     ensures run { Reaches core.old core.new }

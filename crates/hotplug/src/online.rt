@@ -4,7 +4,7 @@ ghost use Rattle.std.specs.Prelude.{◌≡◌, ◌<◌, MatchResult, None, OnErr
 ghost use Rattle.core_world.specs.Covered.{IsSettled};
 ghost use Rattle.core_machine.specs.step_play.Rules.StepRules.{come_by_steps};
 ghost use Rattle.core_machine.specs.step_play.Rules.Lone.{Reaches};
-ghost use Rattle.hotplug.specs.Afterwards.{HasCome};
+ghost use Rattle.hotplug.specs.Afterwards.{HasComeOnline};
 ghost use Rattle.hotplug.specs.Settled.{AllWhole, online_fault};
 
 use core_machine::Core;
@@ -22,7 +22,7 @@ pub fn go_online<B: TimerBase>(core: &mut Core<B>, cpu: CpuId) -> Result<(), OpF
         (λ fault. online_fault core.old cpu.0 ≡ Some fault) }
     ensures err { OnErr result (core.new ≡ core.old) }
     ensures come { OnOk result (core.new ≡ come_by_steps core.old cpu.0) }
-    ensures back { OnOk result (HasCome core.old cpu.0 core.new) }
+    ensures back { OnOk result (HasComeOnline core.old cpu.0 core.new) }
     ensures settled { IsSettled core.new }
     ensures whole { AllWhole core.old → AllWhole core.new }
     ensures run { Reaches core.old core.new }

@@ -2,7 +2,7 @@
 
 ghost use Rattle.std.specs.Prelude.{◌↔◌, ◌<◌, length, IsTrue};
 ghost use Rattle.core_world.specs.World.{cpu_of};
-ghost use Rattle.hotplug.specs.Settled.{AllWhole, IsWhole};
+ghost use Rattle.hotplug.specs.Settled.{AllWhole, AreBasesWhole};
 
 use core_machine::Core;
 use tm_base::{Class, CpuId};
@@ -11,7 +11,7 @@ use wheel_core::TimerBase;
 /// Whether in no base of a CPU a queued wheel expiry is below the base's clock.
 fn is_whole_on<B: TimerBase>(core: &Core<B>, cpu: CpuId) -> bool
     requires { cpu.0 < length core.now.cpus }
-    ensures { IsTrue result ↔ IsWhole (cpu_of core.now cpu.0).bases }
+    ensures { IsTrue result ↔ AreBasesWhole (cpu_of core.now cpu.0).bases }
 {
     if !core.none_behind(cpu, Class::Pinned) {
         return false;

@@ -16,8 +16,8 @@ use Rattle.walk_inactive.specs.Looks.{FindsFirst}
 use Rattle.idle_wakeup.specs.declared.idling.IdleAnswer.{IdleAnswer}
 use Rattle.idle_wakeup.specs.declared.idling.IdleAnswer.TheVariants as answers
 use Rattle.idle_wakeup.specs.Calls.{known_journal}
-use Rattle.idle_wakeup.specs.Resting.{IsAnswer, IsBoxAnswer, known_bases, made_by}
-use Rattle.idle_wakeup.specs.Resting.{resting}
+use Rattle.idle_wakeup.specs.Resting.{IsIdleAnswer, IsBoxAnswer, known_bases, made_by}
+use Rattle.idle_wakeup.specs.Resting.{resting_pass}
 use Rattle.idle_wakeup.proofs.Meetings as meetings
 
 -- A PASS of the run in the box of its CPU, with which it agrees
@@ -72,7 +72,7 @@ module _ (part : HeldPart) (held : HeldPass) (table : TableId) (p : PassView)
   -- THE ANSWER by the box is that by the pass
   pub said : (answer : IdleAnswer) (new : HeldPass)
       → IsBoxAnswer part.box answer (with_pass (knowing journal) held) new
-      → IsAnswer o answer held new
+      → IsIdleAnswer o answer held new
   said (answers.Stay t) new (same, first, soon) =
       let bases = knows_bases (λ q. q) new same in
       record {
@@ -81,8 +81,8 @@ module _ (part : HeldPart) (held : HeldPass) (table : TableId) (p : PassView)
         soon = subst (λ (w : World). t ≤ w.clock + 1) opening soon;
       }
   said (answers.Until t) new (to, later, looked, found, finds, wakeup) =
-      let once = to ∙ renewed_twice (resting t) in
-      let bases = knows_bases (resting t) new once in
+      let once = to ∙ renewed_twice (resting_pass t) in
+      let bases = knows_bases (resting_pass t) new once in
       record {
         renews = (journal, meetings.begins part held table p is agree own, once);
         later = subst (λ (w : World). w.clock + 1 < first_event (known_bases new)) opening

@@ -12,7 +12,7 @@ use Rattle.walk_active.specs.shared_rule.declared.parts.Look.{Look}
 use Rattle.walk_active.specs.shared_rule.declared.parts.PassView.{PassView}
 use Rattle.walk_active.specs.shared_rule.Passes.{HeldPass, IsPassIn, knowing, with_pass}
 use Rattle.atomic_table.specs.Seated.{TableId}
-use Rattle.walk_inactive.specs.Ends.{leaf_of, next_of, wakeup_of}
+use Rattle.walk_inactive.specs.Ends.{box_leaf_of, next_of, wakeup_of}
 use Rattle.walk_inactive.specs.Looks.{FindsFirst}
 use Rattle.idle_wakeup.specs.declared.idling.IdleAnswer.{IdleAnswer}
 use Rattle.idle_wakeup.specs.declared.idling.IdleAnswer.TheVariants as answers
@@ -31,8 +31,8 @@ abbrev pub known_bases : HeldPass → CpuBases
 known_bases held = made_by (known_journal held.seated)
 
 -- a pass whose CPU has gone idle with this wakeup: one walk more was begun with it
-abbrev pub resting : (wakeup : ℕ) → PassView → PassView
-resting wakeup p =
+abbrev pub resting_pass : (wakeup : ℕ) → PassView → PassView
+resting_pass wakeup p =
     record p { walks = suc p.walks; idle = true; reeval = false; wakeup = wakeup }
 
 -- STAY: the CPU's first event, by the journal that the pass then has, is at this time, which is at
@@ -46,7 +46,7 @@ pub record IsStay (o : World) (t : ℕ) (old new : HeldPass) : Type 0 where
 -- idle, and its wakeup is its first pinned timer, or what its walk has found by what it looked at,
 -- if that is sooner
 pub record IsUntil (o : World) (t : ℕ) (old new : HeldPass) : Type 0 where
-  pub renews : Renews (resting t) old new
+  pub renews : Renews (resting_pass t) old new
   pub later : o.clock + 1 < first_event (known_bases new)
   pub looked : List Look
   pub found : ℕ
@@ -55,17 +55,17 @@ pub record IsUntil (o : World) (t : ℕ) (old new : HeldPass) : Type 0 where
   pub wakeup : t ≡ min (events_of (known_bases new)).pin found
 
 -- THE ANSWER to a CPU that is to go idle: it has to stay, or may rest until then
-abbrev pub IsAnswer : World → IdleAnswer → (old new : HeldPass) → Type 0
-IsAnswer o (answers.Stay t) old new = IsStay o t old new
-IsAnswer o (answers.Until t) old new = IsUntil o t old new
+abbrev pub IsIdleAnswer : World → IdleAnswer → (old new : HeldPass) → Type 0
+IsIdleAnswer o (answers.Stay t) old new = IsStay o t old new
+IsIdleAnswer o (answers.Until t) old new = IsUntil o t old new
 
 -- the same by the box of the CPU, with a pass that knows its journal (no public clause cites it)
 abbrev pub IsBoxAnswer : BoxView → IdleAnswer → (old new : HeldPass) → Type 0
 IsBoxAnswer b (answers.Stay t) old new =
     (new ≡ old) × (t ≡ first_event b.own.bases) × (t ≤ b.opening.clock + 1)
 IsBoxAnswer b (answers.Until t) old new =
-    (new ≡ with_pass (λ p. knowing b.own.bases.journal (resting t p)) old)
+    (new ≡ with_pass (λ p. knowing b.own.bases.journal (resting_pass t p)) old)
     × (b.opening.clock + 1 < first_event b.own.bases)
     × (looked : List Look) × (found : ℕ)
-    × FindsFirst (leaf_of b) b.opening b.cpu kinds.Deactivate (next_of b) looked found
+    × FindsFirst (box_leaf_of b) b.opening b.cpu kinds.Deactivate (next_of b) looked found
     × (t ≡ wakeup_of found b.own)

@@ -6,7 +6,7 @@ ghost use Rattle.core_world.specs.Enabled.{first_event};
 ghost use Rattle.walk_active.specs.shared_rule.Passes.{IsOfRun, walks_of};
 ghost use Rattle.walk_active.specs.Activated.{IsOwnPass};
 ghost use Rattle.idle_wakeup.specs.Calls.{Renews, idle_fault_of, refusal};
-ghost use Rattle.idle_wakeup.specs.Resting.{IsAnswer, IsBoxAnswer, IsOutside};
+ghost use Rattle.idle_wakeup.specs.Resting.{IsBoxAnswer, IsIdleAnswer, IsOutside};
 
 use crate::meeting::meet_own;
 use cpu_word::CpuState;
@@ -90,7 +90,7 @@ fn idle_in<N: RunName, B: TimerBase, G: Gate, R: Wait>(
     ensures refused { MatchResult result
         (λ answer. refusal idle_fault_of pass.old.seated ≡ None)
         (λ fault. refusal idle_fault_of pass.old.seated ≡ Some fault) }
-    ensures ok { IfOk result (λ answer. IsAnswer N.opening answer pass.old pass.new) }
+    ensures ok { IfOk result (λ answer. IsIdleAnswer N.opening answer pass.old pass.new) }
     ensures err { OnErr result (Renews (λ p. p) pass.old pass.new) }
 {
     meet_own(shared.run(), pass, cpu_box);
@@ -120,7 +120,7 @@ pub fn go_idle<N: RunName, B: TimerBase, G: Gate, R: Wait>(
     ensures refused { MatchResult result
         (λ answer. refusal idle_fault_of pass.old.seated ≡ None)
         (λ fault. refusal idle_fault_of pass.old.seated ≡ Some fault) }
-    ensures ok { IfOk result (λ answer. IsAnswer N.opening answer pass.old pass.new) }
+    ensures ok { IfOk result (λ answer. IsIdleAnswer N.opening answer pass.old pass.new) }
     ensures err { OnErr result (Renews (λ p. p) pass.old pass.new) }
 {
     pass.law();

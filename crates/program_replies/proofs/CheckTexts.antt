@@ -20,7 +20,7 @@ use Rattle.tm_report.specs.declared.lines.ShownReason.{ShownReason}
 use Rattle.tm_report.specs.declared.lines.ShownReason.TheVariants as shows
 use Rattle.core_world.specs.Steps.{stepped}
 use Rattle.core_world.specs.World.{World}
-use Rattle.trace_check.specs.Answers.{IsCheckText, IsPlayed, start_for}
+use Rattle.trace_check.specs.Answers.{IsCheckText, AreLinesPlayed, start_for}
 use Rattle.trace_text.specs.declared.traces.Trace.{Trace}
 use Rattle.trace_text.specs.declared.traces.TraceLine.{TraceLine}
 use Rattle.trace_text.specs.declared.traces.TraceLine.TheVariants as lines
@@ -143,8 +143,8 @@ module _ (made : ℕ) (cpu : CpuId) (timer : TimerId) where
 -- ---- and a text ends where another one does
 
 whole : (w : World) (made : ℕ) (ls : List TraceLine) (v u : Verdict) (xs ys : List ℕ)
-    → IsPlayed w made ls v xs → IsPlayed w made ls u ys → FrontIsWhole xs ys
-unfolding IsPlayed
+    → AreLinesPlayed w made ls v xs → AreLinesPlayed w made ls u ys → FrontIsWhole xs ys
+unfolding AreLinesPlayed
 whole w made [] v u xs ys x y = same_is_whole xs ys (x.text_is ∙ sym y.text_is)
 whole w made (lines.Do step ∷ rest) v u xs ys (inl x) (inl y) =
     whole (stepped w step) (made + 1) rest v u xs ys x.goes_on y.goes_on

@@ -24,9 +24,9 @@ use Rattle.program_texts.specs.declared.replies.Reply.TheVariants.{Played, Made}
 use Rattle.program_texts.specs.declared.statuses.TheConstants.{DONE, USAGE, NO_MEMORY, WRITE_FAULT}
 use Rattle.program_texts.specs.declared.statuses.TheConstants.{WORK_SPENT, JOB_UNKNOWN, READ_FAULT}
 use Rattle.program_texts.specs.declared.statuses.TheConstants.{TOO_LONG}
-use Rattle.program_texts.specs.Words.{command_of, form_of, recipe_in, HasJobsRun, Reads}
+use Rattle.program_texts.specs.Words.{program_command_of, form_of, recipe_in, HasJobsRun, Reads}
 use Rattle.program_texts.specs.Brought.{BringsBy, MakesScript, script_by, ReadsNone}
-use Rattle.program_texts.specs.Replies.{reply_text}
+use Rattle.program_texts.specs.Replies.{program_reply_text}
 use Rattle.program_texts.specs.Statuses.{IsEither, refused_status, status_written, status_broken}
 use Rattle.program_texts.specs.Ends.{EndsAs, WritesAll, WritesFront, Writes, whole, part, wanting}
 use Rattle.program_texts.specs.Ends.{unwritten}
@@ -35,8 +35,8 @@ use Rattle.program_texts.proofs.Refusals.{is_refusal, no_break, no_want, no_done
 use Rattle.program_texts.proofs.Refusals.{never_write_fault, never_no_memory, broken_output}
 use Rattle.program_texts.proofs.Refusals.{own_of_broken, never_broken_done}
 use Rattle.program_texts.proofs.Written.{by_end, either, no_change}
-use Rattle.program_replies.specs.Scripts.{EndsLate, IsOutput, LacksJob, SpendsBy, SpendsWork}
-use Rattle.program_replies.specs.Replies.{IsReply, IsReplyBy, RepliesToInput}
+use Rattle.program_replies.specs.Scripts.{EndsLate, IsScriptOutput, LacksJob, SpendsBy, SpendsWork}
+use Rattle.program_replies.specs.Replies.{IsProgramReply, IsReplyBy, RepliesToInput}
 use Rattle.program_replies.specs.Statuses.{HasInput, SaysDone, SaysJobUnknown, SaysNoMemory}
 use Rattle.program_replies.specs.Statuses.{SaysReadFault, SaysRefusedAs, SaysTooLong, SaysUsage}
 use Rattle.program_replies.specs.Statuses.{SaysWorkSpent, IsShortDay, SaysWriteFault}
@@ -50,7 +50,7 @@ use Rattle.program_replies.proofs.OneText.{front_of_none}
 pub record Ended (jobs : Replies) (table : ℕ) (words : List (String Global)) (s t : SourceSeen)
     (k m : SinkSeen) (status : ℕ) : Type 0 where
   pub reply : Reply
-  pub is : IsReply jobs table words s t reply
+  pub is : IsProgramReply jobs table words s t reply
   pub ends : EndsAs reply k m status
 
 module _ (jobs : Replies) (table : ℕ) (words : List (String Global)) (s t : SourceSeen) where
@@ -58,7 +58,7 @@ module _ (jobs : Replies) (table : ℕ) (words : List (String Global)) (s t : So
     command : Command
     input : Input
     has : HasInput words s t command input
-    output : IsOutput jobs table command input (reply_text reply)
+    output : IsScriptOutput jobs table command input (program_reply_text reply)
 
   record Lacks (reply : Reply) : Type 0 where
     command : Command
@@ -79,7 +79,7 @@ module _ (jobs : Replies) (table : ℕ) (words : List (String Global)) (s t : So
     spends : SpendsBy jobs table command input count
     is : reply ≡ WorkSpent count
 
-  has_input : (command : Command) → command_of words ≡ Some command → (reply : Reply)
+  has_input : (command : Command) → program_command_of words ≡ Some command → (reply : Reply)
       → (r : RepliesToInput jobs table command s t reply) → HasInput words s t command r.input
   has_input command named reply r =
       record { named = named; brought = r.brought; unbroken = r.unbroken }
@@ -87,7 +87,7 @@ module _ (jobs : Replies) (table : ℕ) (words : List (String Global)) (s t : So
   usage_at : (reply : Reply) (x : ℕ) → reply ≡ Usage → status_written reply ≡ x → USAGE ≡ x
   usage_at reply x e at = sym (ap status_written e) ∙ at
 
-  outputs : (o : Option Command) → command_of words ≡ o → (reply : Reply)
+  outputs : (o : Option Command) → program_command_of words ≡ o → (reply : Reply)
       → IsReplyBy jobs table o s t reply → status_written reply ≡ DONE → Outputs reply
   outputs None named reply is at =
       absurd (apart USAGE DONE refl refl (usage_at reply DONE is at))
@@ -111,7 +111,7 @@ module _ (jobs : Replies) (table : ℕ) (words : List (String Global)) (s t : So
     output = is.reply_is;
   }
 
-  lacks_job : (o : Option Command) → command_of words ≡ o → (reply : Reply)
+  lacks_job : (o : Option Command) → program_command_of words ≡ o → (reply : Reply)
       → IsReplyBy jobs table o s t reply → status_written reply ≡ JOB_UNKNOWN → Lacks reply
   lacks_job None named reply is at =
       absurd (apart USAGE JOB_UNKNOWN refl refl (usage_at reply JOB_UNKNOWN is at))
@@ -135,7 +135,7 @@ module _ (jobs : Replies) (table : ℕ) (words : List (String Global)) (s t : So
   lacks_job (Some command) named (Played text) is at = absurd (apart DONE JOB_UNKNOWN refl refl at)
   lacks_job (Some command) named (Made text) is at = absurd (apart DONE JOB_UNKNOWN refl refl at)
 
-  spends_work : (o : Option Command) → command_of words ≡ o → (reply : Reply)
+  spends_work : (o : Option Command) → program_command_of words ≡ o → (reply : Reply)
       → IsReplyBy jobs table o s t reply → status_written reply ≡ WORK_SPENT → Spends reply
   spends_work None named reply is at =
       absurd (apart USAGE WORK_SPENT refl refl (usage_at reply WORK_SPENT is at))
@@ -158,24 +158,24 @@ module _ (jobs : Replies) (table : ℕ) (words : List (String Global)) (s t : So
   spends_work (Some command) named (Played text) is at = absurd (apart DONE WORK_SPENT refl refl at)
   spends_work (Some command) named (Made text) is at = absurd (apart DONE WORK_SPENT refl refl at)
 
-  no_words : (o : Option Command) → command_of words ≡ o → IsReplyBy jobs table o s t Usage
-      → command_of words ≡ None
+  no_words : (o : Option Command) → program_command_of words ≡ o → IsReplyBy jobs table o s t Usage
+      → program_command_of words ≡ None
   no_words None named is = named
   no_words (Some command) named is = absurd is
 
-  fault_by : (o : Option Command) → command_of words ≡ o → IsReplyBy jobs table o s t ReadFault
+  fault_by : (o : Option Command) → program_command_of words ≡ o → IsReplyBy jobs table o s t ReadFault
       → Reads words × SourceFailed s t × TakesUpTo s t MOST_BYTES
   fault_by None named is = absurd (no_usage ReadFault refl is)
   fault_by (Some command) named is = ((command, named, is.0), is.1, is.2)
 
-  long_by : (o : Option Command) → command_of words ≡ o → IsReplyBy jobs table o s t TooLong
+  long_by : (o : Option Command) → program_command_of words ≡ o → IsReplyBy jobs table o s t TooLong
       → Reads words × SourceUnbroken s t × TakesCount s t (MOST_BYTES + 1)
   long_by None named is = absurd (no_usage TooLong refl is)
   long_by (Some command) named is = ((command, named, is.0), is.1, is.2)
 
   record Refuses (form : Form) (reply : Reply) : Type 0 where
     command : Command
-    named : command_of words ≡ Some command
+    named : program_command_of words ≡ Some command
     reader : recipe_in command ≡ None
     form_is : form_of command ≡ form
     unbroken : SourceUnbroken s t
@@ -183,7 +183,7 @@ module _ (jobs : Replies) (table : ℕ) (words : List (String Global)) (s t : So
     read : ReadsNone form s t fault
     is : reply ≡ Refused form fault
 
-  refusal_by : (form : Form) (fault : ScriptFault) (o : Option Command) → command_of words ≡ o
+  refusal_by : (form : Form) (fault : ScriptFault) (o : Option Command) → program_command_of words ≡ o
       → IsReplyBy jobs table o s t (Refused form fault) → Refuses form (Refused form fault)
   refusal_by form fault None named is = absurd (no_usage (Refused form fault) refl is)
   refusal_by form fault (Some command) named is = record {
@@ -197,20 +197,20 @@ module _ (jobs : Replies) (table : ℕ) (words : List (String Global)) (s t : So
     is = refl;
   }
 
-  refusal_of : (form : Form) (reply : Reply) → IsReply jobs table words s t reply
+  refusal_of : (form : Form) (reply : Reply) → IsProgramReply jobs table words s t reply
       → status_written reply ≡ refused_status form → Refuses form reply
   refusal_of form reply is at =
       let refusal = is_refusal form reply at in
-      let Is : Reply → Type 0 = λ r. IsReply jobs table words s t r in
+      let Is : Reply → Type 0 = λ r. IsProgramReply jobs table words s t r in
       subst (λ r. Refuses form r) (sym refusal.1)
-      (refusal_by form refusal.0 (command_of words) refl (subst Is refusal.1 is))
+      (refusal_by form refusal.0 (program_command_of words) refl (subst Is refusal.1 is))
 
   -- nothing was put: the reply's text isn't empty, or the command has read
   module _ (k m : SinkSeen) (same : m ≡ k) where
     GainsNothing : Type 0
     GainsNothing = WritesNothing words s t k m ⊎ WritesReplyFront jobs table words s t k m
 
-    has_read : (command : Command) → command_of words ≡ Some command → SourceUnbroken s t
+    has_read : (command : Command) → program_command_of words ≡ Some command → SourceUnbroken s t
         → TakesUpTo s t MOST_BYTES → GainsNothing
     unfolding GainsNothing
     has_read command named sound read = inl (record {
@@ -218,14 +218,14 @@ module _ (jobs : Replies) (table : ℕ) (words : List (String Global)) (s t : So
       nothing = no_change k m same;
     })
 
-    has_brought : (command : Command) → command_of words ≡ Some command → (reply : Reply)
+    has_brought : (command : Command) → program_command_of words ≡ Some command → (reply : Reply)
         → RepliesToInput jobs table command s t reply → GainsNothing
     has_brought command named reply r =
         has_read command named r.unbroken
         (brought_up s t (recipe_in command) (form_of command) r.input r.brought)
 
-    front_of : (reply : Reply) → IsReply jobs table words s t reply
-        → 0 < length (reply_text reply) → Appends k.held m.held (take 0 (reply_text reply))
+    front_of : (reply : Reply) → IsProgramReply jobs table words s t reply
+        → 0 < length (program_reply_text reply) → Appends k.held m.held (take 0 (program_reply_text reply))
         → GainsNothing
     unfolding GainsNothing
     front_of reply is some put = inr (record {
@@ -236,8 +236,8 @@ module _ (jobs : Replies) (table : ℕ) (words : List (String Global)) (s t : So
       not_all = front_of_none jobs table words s t reply 0 is some;
     })
 
-    nothing_put : (o : Option Command) → command_of words ≡ o → (reply : Reply)
-        → IsReplyBy jobs table o s t reply → IsReply jobs table words s t reply → GainsNothing
+    nothing_put : (o : Option Command) → program_command_of words ≡ o → (reply : Reply)
+        → IsReplyBy jobs table o s t reply → IsProgramReply jobs table words s t reply → GainsNothing
     nothing_put o named Usage by is = front_of Usage is (lit< tt) (no_change k m same)
     nothing_put o named ReadFault by is = front_of ReadFault is (lit< tt) (no_change k m same)
     nothing_put o named TooLong by is = front_of TooLong is (lit< tt) (no_change k m same)
@@ -256,12 +256,12 @@ module _ (jobs : Replies) (table : ℕ) (words : List (String Global)) (s t : So
         has_brought command named (Played text) by
     nothing_put (Some command) named (Made text) by is = has_brought command named (Made text) by
 
-    unwritten_says : (reply : Reply) → IsReply jobs table words s t reply
+    unwritten_says : (reply : Reply) → IsProgramReply jobs table words s t reply
         → SaysNoMemory jobs table words s t k m
     unfolding GainsNothing
     unwritten_says reply is = record {
       sound = (ap (λ (x : SinkSeen). x.faults) same, ap (λ (x : SinkSeen). x.refusals) same);
-      written = nothing_put (command_of words) refl reply is is;
+      written = nothing_put (program_command_of words) refl reply is is;
     }
 
 -- ---- a day that ends too early for so much work
@@ -281,15 +281,15 @@ day_late r late =
 module _ {jobs : Replies} {table : ℕ} {words : List (String Global)} {s t : SourceSeen}
     {k m : SinkSeen} {status : ℕ} (e : Ended jobs table words s t k m status) where
   by : {A : Type 0} (x : ℕ) → status ≡ x
-      → (status_written e.reply ≡ x → WritesAll (reply_text e.reply) k m → A)
-      → (status_broken e.reply ≡ x → WritesFront (reply_text e.reply) k m → A)
+      → (status_written e.reply ≡ x → WritesAll (program_reply_text e.reply) k m → A)
+      → (status_broken e.reply ≡ x → WritesFront (program_reply_text e.reply) k m → A)
       → (NO_MEMORY ≡ x → A) → A
   by x =
-      by_end k m status (reply_text e.reply) (status_written e.reply) (status_broken e.reply) x
+      by_end k m status (program_reply_text e.reply) (status_written e.reply) (status_broken e.reply) x
       e.ends
 
   out_of : status_written e.reply ≡ DONE → Outputs jobs table words s t e.reply
-  out_of own = outputs jobs table words s t (command_of words) refl e.reply e.is own
+  out_of own = outputs jobs table words s t (program_command_of words) refl e.reply e.is own
 
   pub says_done : status ≡ DONE → SaysDone jobs table words s t k m
   says_done at =
@@ -298,7 +298,7 @@ module _ {jobs : Replies} {table : ℕ} {words : List (String Global)} {s t : So
         command = out.command;
         input = out.input;
         has = out.has;
-        text = reply_text e.reply;
+        text = program_reply_text e.reply;
         output = out.output;
         writes = w;
       })
@@ -312,7 +312,7 @@ module _ {jobs : Replies} {table : ℕ} {words : List (String Global)} {s t : So
         command = out.command;
         input = out.input;
         has = out.has;
-        text = reply_text e.reply;
+        text = program_reply_text e.reply;
         output = out.output;
         writes = w;
       })
@@ -339,14 +339,14 @@ module _ {jobs : Replies} {table : ℕ} {words : List (String Global)} {s t : So
       no_memory_by (unwritten same) =
           unwritten_says jobs table words s t k m same.0 e.reply e.is
 
-  usage_said : status_written e.reply ≡ USAGE → Writes (reply_text e.reply) k m
+  usage_said : status_written e.reply ≡ USAGE → Writes (program_reply_text e.reply) k m
       → SaysUsage words k m
   usage_said own w =
       let same = usage_written e.reply own in
-      let Wrote : Reply → Type 0 = λ r. Writes (reply_text r) k m in
-      let Is : Reply → Type 0 = λ r. IsReply jobs table words s t r in
+      let Wrote : Reply → Type 0 = λ r. Writes (program_reply_text r) k m in
+      let Is : Reply → Type 0 = λ r. IsProgramReply jobs table words s t r in
       record {
-        words_are = no_words jobs table words s t (command_of words) refl (subst Is same e.is);
+        words_are = no_words jobs table words s t (program_command_of words) refl (subst Is same e.is);
         writes = subst Wrote same w;
       }
 
@@ -357,13 +357,13 @@ module _ {jobs : Replies} {table : ℕ} {words : List (String Global)} {s t : So
       (inr w))
       (λ own. absurd (apart NO_MEMORY USAGE refl refl own))
 
-  read_fault_said : status_written e.reply ≡ READ_FAULT → Writes (reply_text e.reply) k m
+  read_fault_said : status_written e.reply ≡ READ_FAULT → Writes (program_reply_text e.reply) k m
       → SaysReadFault words s t k m
   read_fault_said own w =
       let same = fault_written e.reply own in
-      let Wrote : Reply → Type 0 = λ r. Writes (reply_text r) k m in
-      let Is : Reply → Type 0 = λ r. IsReply jobs table words s t r in
-      let is = fault_by jobs table words s t (command_of words) refl (subst Is same e.is) in
+      let Wrote : Reply → Type 0 = λ r. Writes (program_reply_text r) k m in
+      let Is : Reply → Type 0 = λ r. IsProgramReply jobs table words s t r in
+      let is = fault_by jobs table words s t (program_command_of words) refl (subst Is same e.is) in
       record { reads = is.0; cause = is.1; read = is.2; writes = subst Wrote same w }
 
   pub says_read_fault : status ≡ READ_FAULT → SaysReadFault words s t k m
@@ -373,13 +373,13 @@ module _ {jobs : Replies} {table : ℕ} {words : List (String Global)} {s t : So
       (inr w))
       (λ own. absurd (apart NO_MEMORY READ_FAULT refl refl own))
 
-  too_long_said : status_written e.reply ≡ TOO_LONG → Writes (reply_text e.reply) k m
+  too_long_said : status_written e.reply ≡ TOO_LONG → Writes (program_reply_text e.reply) k m
       → SaysTooLong words s t k m
   too_long_said own w =
       let same = long_written e.reply own in
-      let Wrote : Reply → Type 0 = λ r. Writes (reply_text r) k m in
-      let Is : Reply → Type 0 = λ r. IsReply jobs table words s t r in
-      let is = long_by jobs table words s t (command_of words) refl (subst Is same e.is) in
+      let Wrote : Reply → Type 0 = λ r. Writes (program_reply_text r) k m in
+      let Is : Reply → Type 0 = λ r. IsProgramReply jobs table words s t r in
+      let is = long_by jobs table words s t (program_command_of words) refl (subst Is same e.is) in
       record { reads = is.0; unbroken = is.1; read = is.2; writes = subst Wrote same w }
 
   pub says_too_long : status ≡ TOO_LONG → SaysTooLong words s t k m
@@ -389,17 +389,17 @@ module _ {jobs : Replies} {table : ℕ} {words : List (String Global)} {s t : So
       (inr w))
       (λ own. absurd (apart NO_MEMORY TOO_LONG refl refl own))
 
-  pub usage_exactly : command_of words ≡ None → IsEither status USAGE NO_MEMORY
+  pub usage_exactly : program_command_of words ≡ None → IsEither status USAGE NO_MEMORY
   usage_exactly none =
       let By : Option Command → Type 0 = λ o. IsReplyBy jobs table o s t e.reply in
       let Ends : Reply → Type 0 = λ r. EndsAs r k m status in
-      either (reply_text Usage) k m status USAGE (subst Ends (subst By none e.is) e.ends)
+      either (program_reply_text Usage) k m status USAGE (subst Ends (subst By none e.is) e.ends)
 
-  job_said : status_written e.reply ≡ JOB_UNKNOWN → Writes (reply_text e.reply) k m
+  job_said : status_written e.reply ≡ JOB_UNKNOWN → Writes (program_reply_text e.reply) k m
       → SaysJobUnknown table words s t k m
   job_said own w =
-      let no = lacks_job jobs table words s t (command_of words) refl e.reply e.is own in
-      let Wrote : Reply → Type 0 = λ r. Writes (reply_text r) k m in
+      let no = lacks_job jobs table words s t (program_command_of words) refl e.reply e.is own in
+      let Wrote : Reply → Type 0 = λ r. Writes (program_reply_text r) k m in
       record {
         command = no.command;
         input = no.input;
@@ -418,11 +418,11 @@ module _ {jobs : Replies} {table : ℕ} {words : List (String Global)} {s t : So
       (inr w))
       (λ own. absurd (apart NO_MEMORY JOB_UNKNOWN refl refl own))
 
-  work_said : status_written e.reply ≡ WORK_SPENT → Writes (reply_text e.reply) k m
+  work_said : status_written e.reply ≡ WORK_SPENT → Writes (program_reply_text e.reply) k m
       → SaysWorkSpent jobs table words s t k m
   work_said own w =
-      let no = spends_work jobs table words s t (command_of words) refl e.reply e.is own in
-      let Wrote : Reply → Type 0 = λ r. Writes (reply_text r) k m in
+      let no = spends_work jobs table words s t (program_command_of words) refl e.reply e.is own in
+      let Wrote : Reply → Type 0 = λ r. Writes (program_reply_text r) k m in
       record {
         command = no.command;
         input = no.input;
@@ -441,10 +441,10 @@ module _ {jobs : Replies} {table : ℕ} {words : List (String Global)} {s t : So
       (λ own. absurd (apart NO_MEMORY WORK_SPENT refl refl own))
 
   refusal_said : (form : Form) → status_written e.reply ≡ refused_status form
-      → Writes (reply_text e.reply) k m → SaysRefusedAs form words s t k m
+      → Writes (program_reply_text e.reply) k m → SaysRefusedAs form words s t k m
   refusal_said form own w =
       let no = refusal_of jobs table words s t form e.reply e.is own in
-      let Wrote : Reply → Type 0 = λ r. Writes (reply_text r) k m in
+      let Wrote : Reply → Type 0 = λ r. Writes (program_reply_text r) k m in
       record {
         reads = (no.command, no.named, no.reader, no.form_is);
         unbroken = no.unbroken;
@@ -461,7 +461,7 @@ module _ {jobs : Replies} {table : ℕ} {words : List (String Global)} {s t : So
       (inr w))
       (λ own. absurd (no_want form own))
 
-  pub day_ends : (recipe : Recipe) → command_of words ≡ Some (Day recipe) → IsShortDay recipe
+  pub day_ends : (recipe : Recipe) → program_command_of words ≡ Some (Day recipe) → IsShortDay recipe
       → status ≡ WORK_SPENT → ⊥
   day_ends recipe named short at =
       let says = says_work_spent at in

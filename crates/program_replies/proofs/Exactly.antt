@@ -20,12 +20,12 @@ use Rattle.program_texts.specs.Inputs.{SpellsInput}
 use Rattle.program_texts.specs.Words.{form_of, recipe_in}
 use Rattle.program_texts.specs.Brought.{BringsBy, ReadsNone}
 use Rattle.program_texts.specs.Statuses.{refused_status, IsEither}
-use Rattle.program_texts.specs.Replies.{reply_text}
-use Rattle.program_texts.specs.Ends.{Breaks, EndsAs, EndsWith}
+use Rattle.program_texts.specs.Replies.{program_reply_text}
+use Rattle.program_texts.specs.Ends.{SinkBreaks, EndsAs, EndsWith}
 use Rattle.program_texts.proofs.Told.{all_known, not_many, refuses}
 use Rattle.program_texts.proofs.Written.{either, out_ends, out_whole}
 use Rattle.program_replies.specs.Replies.{IsReplyBy, IsReplyTo, RepliesToInput}
-use Rattle.program_replies.specs.Causes.{Asks, HasText, IsFine, IsInputBy, IsJobUnknown, IsRefusedAs}
+use Rattle.program_replies.specs.Causes.{AsksCommand, HasText, IsFine, IsInputBy, IsJobUnknown, IsRefusedAs}
 use Rattle.program_replies.specs.Causes.{IsWorkSpent}
 use Rattle.program_replies.proofs.Endings.{Ended}
 use Rattle.program_replies.proofs.Known.{ends_know, never_spends, not_both, out_knows, out_plays}
@@ -42,7 +42,7 @@ same_input s t None form x y brought asked =
 same_input s t (Some recipe) form x y brought asked = brought.made ∙ sym asked
 
 module _ (jobs : Replies) (table : ℕ) (words : List (String Global)) (s t : SourceSeen)
-    (command : Command) (input : Input) (asks : Asks words s.left command input) where
+    (command : Command) (input : Input) (asks : AsksCommand words s.left command input) where
   text_asked : recipe_in command ≡ None → HasText (form_of command) s.left input
   text_asked reader =
       let By : Option Recipe → Type 0 = λ o. IsInputBy o (form_of command) s.left input in
@@ -86,7 +86,7 @@ module _ (jobs : Replies) (table : ℕ) (words : List (String Global)) (s t : So
 module _ {jobs : Replies} {table : ℕ} {words : List (String Global)} {s t : SourceSeen}
     {k m : SinkSeen} {status : ℕ} (e : Ended jobs table words s t k m status) where
   -- the reply to an input that is asked for, unless the source failed
-  answered : (command : Command) (input : Input) → Asks words s.left command input
+  answered : (command : Command) (input : Input) → AsksCommand words s.left command input
       → ((e.reply ≡ ReadFault) × SourceFailed s t) ⊎ IsReplyTo jobs table command input e.reply
   answered command input asks =
       let By : Option Command → Type 0 = λ o. IsReplyBy jobs table o s t e.reply in
@@ -96,7 +96,7 @@ module _ {jobs : Replies} {table : ℕ} {words : List (String Global)} {s t : So
   no_read_fault : e.reply ≡ ReadFault → status ≢ READ_FAULT → status ≡ NO_MEMORY
   no_read_fault is not =
       let Ends : Reply → Type 0 = λ r. EndsAs r k m status in
-      elim (either (reply_text ReadFault) k m status READ_FAULT (subst Ends is e.ends)) [
+      elim (either (program_reply_text ReadFault) k m status READ_FAULT (subst Ends is e.ends)) [
         | inl own ↦ absurd (not own)
         | inr own ↦ own
       ]
@@ -110,7 +110,7 @@ module _ {jobs : Replies} {table : ℕ} {words : List (String Global)} {s t : So
   job_to j TooLong is ends = absurd is
   job_to j (Refused form fault) is ends = absurd is
   job_to j (JobUnknown line job) is ends =
-      either (reply_text (JobUnknown line job)) k m status JOB_UNKNOWN ends
+      either (program_reply_text (JobUnknown line job)) k m status JOB_UNKNOWN ends
   job_to j (WorkSpent count) is ends =
       absurd (j.unknown (spent_knows jobs table j.command j.input count is.1))
   job_to j (Played text) is ends =
@@ -136,7 +136,7 @@ module _ {jobs : Replies} {table : ℕ} {words : List (String Global)} {s t : So
   work_to w (Refused form fault) is ends = absurd is
   work_to w (JobUnknown line job) is ends = absurd (not_both table w.input line job is.1 w.known)
   work_to w (WorkSpent count) is ends =
-      either (reply_text (WorkSpent count)) k m status WORK_SPENT ends
+      either (program_reply_text (WorkSpent count)) k m status WORK_SPENT ends
   work_to w (Played text) is ends =
       absurd (w.spent (out_plays jobs table w.command w.input text w.plays is).within)
   work_to w (Made text) is ends =
@@ -153,7 +153,7 @@ module _ {jobs : Replies} {table : ℕ} {words : List (String Global)} {s t : So
   -- an output
   fine_text : (f : IsFine jobs table words s.left) (reply : Reply)
       → IsReplyTo jobs table f.command f.input reply → EndsAs reply k m status
-      → EndsWith (reply_text reply) DONE WRITE_FAULT k m status
+      → EndsWith (program_reply_text reply) DONE WRITE_FAULT k m status
   fine_text f Usage is ends = absurd is
   fine_text f ReadFault is ends = absurd is
   fine_text f TooLong is ends = absurd is
@@ -171,15 +171,15 @@ module _ {jobs : Replies} {table : ℕ} {words : List (String Global)} {s t : So
   fine_ends not f =
       elim (answered f.command f.input f.asks) [
         | inl fault ↦ inr (inr (no_read_fault fault.0 not))
-        | inr to ↦ out_ends (reply_text e.reply) k m status (fine_text f e.reply to e.ends)
+        | inr to ↦ out_ends (program_reply_text e.reply) k m status (fine_text f e.reply to e.ends)
       ]
 
-  pub fine_done : (SourceFailed s t → ⊥) → (Breaks k m → ⊥) → IsFine jobs table words s.left
+  pub fine_done : (SourceFailed s t → ⊥) → (SinkBreaks k m → ⊥) → IsFine jobs table words s.left
       → IsEither status DONE NO_MEMORY
   fine_done sure sound f =
       elim (answered f.command f.input f.asks) [
         | inl fault ↦ absurd (sure fault.1)
-        | inr to ↦ out_whole (reply_text e.reply) k m status (fine_text f e.reply to e.ends) sound
+        | inr to ↦ out_whole (program_reply_text e.reply) k m status (fine_text f e.reply to e.ends) sound
       ]
 
   -- what was to be read was refused
@@ -203,7 +203,7 @@ module _ {jobs : Replies} {table : ℕ} {words : List (String Global)} {s t : So
     refused_by (Refused f fault) is same ends not =
         let Own : Form → Type 0 = λ g. IsEither status (refused_status g) NO_MEMORY in
         subst Own (sym is.2 ∙ r.reads.3)
-        (either (reply_text (Refused f fault)) k m status (refused_status f) ends)
+        (either (program_reply_text (Refused f fault)) k m status (refused_status f) ends)
     refused_by (JobUnknown line job) is same ends not =
         absurd (no_text (JobUnknown line job) is)
     refused_by (WorkSpent count) is same ends not = absurd (no_text (WorkSpent count) is)

@@ -9,7 +9,7 @@ use Rattle.program_texts.specs.declared.commands.Command.TheVariants as commands
 use Rattle.program_texts.specs.declared.inputs.Input.{Input}
 use Rattle.program_texts.specs.declared.inputs.Input.TheVariants as inputs
 use Rattle.program_texts.specs.Words.{HasJobsRun, IsPlayer}
-use Rattle.program_replies.specs.Scripts.{CanEnd, EndsBy, IsOutput, KnowsJobs, LacksJob, SpendsBy}
+use Rattle.program_replies.specs.Scripts.{CanEnd, EndsBy, IsScriptOutput, KnowsJobs, LacksJob, SpendsBy}
 use Rattle.program_replies.specs.Scripts.{SpendsWork}
 
 -- a job that the table hasn't isn't known
@@ -21,7 +21,7 @@ not_both table (inputs.Works works) line job lacks known = cc (lacks, known)
 
 -- a player's output is that of an input that can be played
 pub out_plays : (jobs : Replies) (table : ℕ) (command : Command) (input : Input) (text : List ℕ)
-    → IsPlayer command → IsOutput jobs table command input text → CanEnd jobs table input
+    → IsPlayer command → IsScriptOutput jobs table command input text → CanEnd jobs table input
 out_plays jobs table commands.Play (inputs.Script script) text plays out =
     record { known = out.can_play.known; within = ap (option_map counted) out.can_play.within }
 out_plays jobs table commands.Play (inputs.Trace trace) text plays out = absurd out
@@ -59,7 +59,7 @@ spends_alone jobs table commands.Works input count other is = is
 module _ (jobs : Replies) (table : ℕ) where
   -- an output is that of an input whose jobs are in the table
   pub out_knows : (command : Command) (input : Input) (text : List ℕ) → HasJobsRun command
-      → IsOutput jobs table command input text → KnowsJobs table input
+      → IsScriptOutput jobs table command input text → KnowsJobs table input
   out_knows commands.Play input text has out =
       (out_plays jobs table commands.Play input text tt out).known
   out_knows commands.Run (inputs.Script script) text has out = out.1.known

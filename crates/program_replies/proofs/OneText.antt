@@ -22,15 +22,15 @@ use Rattle.program_texts.specs.declared.replies.Reply.{Reply}
 use Rattle.program_texts.specs.declared.replies.Reply.TheVariants.{Usage, ReadFault, TooLong}
 use Rattle.program_texts.specs.declared.replies.Reply.TheVariants.{Refused, JobUnknown, WorkSpent}
 use Rattle.program_texts.specs.declared.replies.Reply.TheVariants.{Played, Made}
-use Rattle.program_texts.specs.Words.{command_of, form_of, recipe_in, HasJobsRun}
+use Rattle.program_texts.specs.Words.{program_command_of, form_of, recipe_in, HasJobsRun}
 use Rattle.program_texts.specs.Brought.{BringsBy, IsReader, ReadsNone}
-use Rattle.program_texts.specs.Replies.{reply_text}
+use Rattle.program_texts.specs.Replies.{program_reply_text}
 use Rattle.program_texts.proofs.Told.{not_many, few_known, first_fault, none_spelled, not_both_ways}
 use Rattle.program_texts.proofs.Told.{one_input}
 use Rattle.program_texts.proofs.Forms.{plays_alone}
 use Rattle.program_replies.proofs.CheckTexts.{FrontIsWhole, check_whole, front_apart, same_is_whole}
-use Rattle.program_replies.specs.Scripts.{IsOutput, LacksJob, SpendsWork}
-use Rattle.program_replies.specs.Replies.{IsReply, IsReplyBy, IsReplyOf, IsReplyTo, RepliesToInput}
+use Rattle.program_replies.specs.Scripts.{IsScriptOutput, LacksJob, SpendsWork}
+use Rattle.program_replies.specs.Replies.{IsProgramReply, IsReplyBy, IsReplyOf, IsReplyTo, RepliesToInput}
 use Rattle.program_replies.specs.Statuses.{IsAllOfNone, IsOneDue}
 use Rattle.program_replies.proofs.Known.{not_both, out_knows, out_plays, spends_alone}
 
@@ -38,8 +38,8 @@ use Rattle.program_replies.proofs.Known.{not_both, out_knows, out_plays, spends_
 
 -- a command but `run` writes one output, or of `check` none that is a front of another
 whole_output : (jobs : Replies) (table : ℕ) (command : Command) (input : Input) (xs ys : List ℕ)
-    → command ≢ commands.Run → IsOutput jobs table command input xs
-    → IsOutput jobs table command input ys → FrontIsWhole xs ys
+    → command ≢ commands.Run → IsScriptOutput jobs table command input xs
+    → IsScriptOutput jobs table command input ys → FrontIsWhole xs ys
 whole_output jobs table commands.Play (inputs.Script script) xs ys not_run x y =
     same_is_whole xs ys (x.played ∙ sym y.played)
 whole_output jobs table commands.Play (inputs.Trace trace) xs ys not_run x y = absurd x
@@ -99,7 +99,7 @@ data Answer (jobs : Replies) (table : ℕ) (command : Command) (input : Input) (
       → reply ≡ JobUnknown line job → Answer jobs table command input reply
   spend : (count : ℕ) → HasJobsRun command → SpendsWork jobs table input count
       → reply ≡ WorkSpent count → Answer jobs table command input reply
-  output : IsOutput jobs table command input (reply_text reply)
+  output : IsScriptOutput jobs table command input (program_reply_text reply)
       → Answer jobs table command input reply
 
 module _ (jobs : Replies) (table : ℕ) (command : Command) (no_run : command ≢ commands.Run) where
@@ -116,37 +116,37 @@ module _ (jobs : Replies) (table : ℕ) (command : Command) (no_run : command �
   answer input (Made text) is = output is
 
   whole_answer : (input : Input) (x y : Reply) → Answer jobs table command input x
-      → Answer jobs table command input y → FrontIsWhole (reply_text x) (reply_text y)
+      → Answer jobs table command input y → FrontIsWhole (program_reply_text x) (program_reply_text y)
   whole_answer input x y (lack l j plays lacks is) (lack m k plays2 lacks2 is2) =
       let same = one_lack table input l j m k lacks lacks2 in
-      let texts : reply_text (JobUnknown l j) ≡ reply_text (JobUnknown m k) =
-      λ i. reply_text (JobUnknown (same.0 i) (same.1 i)) in
-      same_is_whole (reply_text x) (reply_text y)
-      (ap reply_text is ∙ texts ∙ sym (ap reply_text is2))
+      let texts : program_reply_text (JobUnknown l j) ≡ program_reply_text (JobUnknown m k) =
+      λ i. program_reply_text (JobUnknown (same.0 i) (same.1 i)) in
+      same_is_whole (program_reply_text x) (program_reply_text y)
+      (ap program_reply_text is ∙ texts ∙ sym (ap program_reply_text is2))
   whole_answer input x y (lack l j plays lacks is) (spend n plays2 spent is2) =
       absurd (not_both table input l j lacks spent.known)
   whole_answer input x y (lack l j plays lacks is) (output out) =
       absurd (not_both table input l j lacks
-      (out_knows jobs table command input (reply_text y) plays out))
+      (out_knows jobs table command input (program_reply_text y) plays out))
   whole_answer input x y (spend n plays spent is) (lack l j plays2 lacks is2) =
       absurd (not_both table input l j lacks spent.known)
   whole_answer input x y (spend n plays spent is) (spend k plays2 spent2 is2) =
       let same = same_Some n k (sym spent.spent ∙ spent2.spent) in
-      same_is_whole (reply_text x) (reply_text y)
-      (ap reply_text is ∙ ap (λ (c : ℕ). reply_text (WorkSpent c)) same ∙ sym (ap reply_text is2))
+      same_is_whole (program_reply_text x) (program_reply_text y)
+      (ap program_reply_text is ∙ ap (λ (c : ℕ). program_reply_text (WorkSpent c)) same ∙ sym (ap program_reply_text is2))
   whole_answer input x y (spend n plays spent is) (output out) =
       let alone = plays_alone command plays no_run in
-      let within = (out_plays jobs table command input (reply_text y) alone out).within in
+      let within = (out_plays jobs table command input (program_reply_text y) alone out).within in
       absurd (none-some n (sym within ∙ spent.spent))
   whole_answer input x y (output out) (lack l j plays lacks is) =
       absurd (not_both table input l j lacks
-      (out_knows jobs table command input (reply_text x) plays out))
+      (out_knows jobs table command input (program_reply_text x) plays out))
   whole_answer input x y (output out) (spend n plays spent is) =
       let alone = plays_alone command plays no_run in
-      let within = (out_plays jobs table command input (reply_text x) alone out).within in
+      let within = (out_plays jobs table command input (program_reply_text x) alone out).within in
       absurd (none-some n (sym within ∙ spent.spent))
   whole_answer input x y (output out) (output out2) =
-      whole_output jobs table command input (reply_text x) (reply_text y) no_run out out2
+      whole_output jobs table command input (program_reply_text x) (program_reply_text y) no_run out out2
 
 -- ---- one text of a source
 
@@ -200,7 +200,7 @@ module _ (s t : SourceSeen) (known : List ℕ) (told : s.left ≡ Some known) wh
 
       to_whole : (x y : Reply) → (a : RepliesToInput jobs table command s t x)
           → RepliesToInput jobs table command s t y
-          → FrontIsWhole (reply_text x) (reply_text y)
+          → FrontIsWhole (program_reply_text x) (program_reply_text y)
       to_whole x y a b =
           let To : Input → Type 0 = λ input. IsReplyTo jobs table command input x in
           let same =
@@ -210,20 +210,20 @@ module _ (s t : SourceSeen) (known : List ℕ) (told : s.left ≡ Some known) wh
           (answer jobs table command no_run b.input x (subst To same a.reply_is))
           (answer jobs table command no_run b.input y b.reply_is)
 
-      from_same : (x y : Reply) → reply_text x ≡ reply_text y
-          → FrontIsWhole (reply_text x) (reply_text y)
-      from_same x y same = same_is_whole (reply_text x) (reply_text y) same
+      from_same : (x y : Reply) → program_reply_text x ≡ program_reply_text y
+          → FrontIsWhole (program_reply_text x) (program_reply_text y)
+      from_same x y same = same_is_whole (program_reply_text x) (program_reply_text y) same
 
       whole_due : (x y : Reply) → Due jobs table command s t x → Due jobs table command s t y
-          → FrontIsWhole (reply_text x) (reply_text y)
+          → FrontIsWhole (program_reply_text x) (program_reply_text y)
       whole_due x y (failed fell is) (failed fell2 is2) =
-          from_same x y (ap reply_text (is ∙ sym is2))
+          from_same x y (ap program_reply_text (is ∙ sym is2))
       whole_due x y (failed fell is) (long reader sound count is2) = sure fell sound
       whole_due x y (failed fell is) (refused fault reader sound none is2) = sure fell sound
       whole_due x y (failed fell is) (answered r) = sure fell r.unbroken
       whole_due x y (long reader sound count is) (failed fell is2) = sure fell sound
       whole_due x y (long reader sound count is) (long r2 s2 c2 is2) =
-          from_same x y (ap reply_text (is ∙ sym is2))
+          from_same x y (ap program_reply_text (is ∙ sym is2))
       whole_due x y (long reader sound count is) (refused fault r2 s2 none is2) =
           absurd (not_many s t known told (few_known s t known told none.bytes none.read) count)
       whole_due x y (long reader sound count is) (answered r) = absurd (not_long y reader count r)
@@ -233,7 +233,7 @@ module _ (s t : SourceSeen) (known : List ℕ) (told : s.left ≡ Some known) wh
       whole_due x y (refused fault reader sound none is) (refused g r2 s2 none2 is2) =
           let Told : ScriptFault → Reply = λ f. Refused (form_of command) f in
           let same = first_fault s t known told (form_of command) fault g none none2 in
-          from_same x y (ap reply_text (is ∙ ap Told same ∙ sym is2))
+          from_same x y (ap program_reply_text (is ∙ ap Told same ∙ sym is2))
       whole_due x y (refused fault reader sound none is) (answered r) =
           absurd (not_none y fault reader none r)
       whole_due x y (answered r) (failed fell is2) = sure fell r.unbroken
@@ -246,11 +246,11 @@ module _ (s t : SourceSeen) (known : List ℕ) (told : s.left ≡ Some known) wh
 
 module _ (jobs : Replies) (table : ℕ) (words : List (String Global)) (s t : SourceSeen)
     (one : IsOneDue words s) where
-  whole_by : (o : Option Command) → command_of words ≡ o → (x y : Reply)
+  whole_by : (o : Option Command) → program_command_of words ≡ o → (x y : Reply)
       → IsReplyBy jobs table o s t x → IsReplyBy jobs table o s t y
-      → FrontIsWhole (reply_text x) (reply_text y)
+      → FrontIsWhole (program_reply_text x) (program_reply_text y)
   whole_by None named x y a b =
-      same_is_whole (reply_text x) (reply_text y) (ap reply_text (a ∙ sym b))
+      same_is_whole (program_reply_text x) (program_reply_text y) (ap program_reply_text (a ∙ sym b))
   whole_by (Some command) named x y a b =
       whole_due s t one.bytes one.told jobs table command one.counts
       (λ is. one.no_run (named ∙ ap Some is)) x y
@@ -259,9 +259,9 @@ module _ (jobs : Replies) (table : ℕ) (words : List (String Global)) (s t : So
 
 -- a front that isn't all of one text that is due is all of none
 pub front_of_none : (jobs : Replies) (table : ℕ) (words : List (String Global)) (s t : SourceSeen)
-    (reply : Reply) (count : ℕ) → IsReply jobs table words s t reply
-    → count < length (reply_text reply) → IsOneDue words s
-    → IsAllOfNone jobs table words s t (take count (reply_text reply))
+    (reply : Reply) (count : ℕ) → IsProgramReply jobs table words s t reply
+    → count < length (program_reply_text reply) → IsOneDue words s
+    → IsAllOfNone jobs table words s t (take count (program_reply_text reply))
 front_of_none jobs table words s t reply count is less one other due_too same =
-    absurd (front_apart (reply_text other) (reply_text reply) count less
-    (whole_by jobs table words s t one (command_of words) refl other reply due_too is) same)
+    absurd (front_apart (program_reply_text other) (program_reply_text reply) count less
+    (whole_by jobs table words s t one (program_command_of words) refl other reply due_too is) same)

@@ -11,7 +11,8 @@ use Rattle.program_texts.specs.declared.inputs.Form.TheVariants as forms
 use Rattle.program_texts.specs.declared.inputs.Input.{Input}
 use Rattle.program_texts.specs.declared.inputs.Input.TheVariants as inputs
 use Rattle.program_texts.specs.Inputs.{SpellsInput}
-use Rattle.program_texts.specs.Words.{command_of, form_of, recipe_in, Reads, ReadsAs, HasJobsRun}
+use Rattle.program_texts.specs.Words.{HasJobsRun, Reads, ReadsAs, form_of, program_command_of}
+use Rattle.program_texts.specs.Words.{recipe_in}
 use Rattle.program_texts.specs.Words.{IsPlayer}
 use Rattle.program_texts.specs.Brought.{script_by}
 use Rattle.program_replies.specs.Scripts.{EndsBy, KnowsJobs, spent_by}
@@ -37,8 +38,8 @@ pub record IsRefusedAs (form : Form) (words : List (String Global)) (left : Opti
   pub spells_none : (input : Input) → SpellsInput form bytes input → ⊥
 
 -- script refused: a command that reads a script, and bytes that spell none
-abbrev pub IsRefused : List (String Global) → Option (List ℕ) → Type 0
-IsRefused words left = IsRefusedAs forms.Script words left
+abbrev pub IsScriptRefused : List (String Global) → Option (List ℕ) → Type 0
+IsScriptRefused words left = IsRefusedAs forms.Script words left
 
 -- trace refused: a command that reads a trace, and bytes that spell none
 abbrev pub IsTraceRefused : List (String Global) → Option (List ℕ) → Type 0
@@ -60,9 +61,9 @@ IsInputBy None form left input = HasText form left input
 IsInputBy (Some recipe) form left input = input ≡ inputs.Script (script_by recipe)
 
 -- the words name a command, and this is its input: what the source spells, or what its recipe makes
-pub record Asks (words : List (String Global)) (left : Option (List ℕ)) (command : Command)
+pub record AsksCommand (words : List (String Global)) (left : Option (List ℕ)) (command : Command)
     (input : Input) : Type 0 where
-  pub named : command_of words ≡ Some command
+  pub named : program_command_of words ≡ Some command
   pub input_is : IsInputBy (recipe_in command) (form_of command) left input
 
 -- job unknown: an input whose jobs are to be run names a job that the table hasn't
@@ -70,7 +71,7 @@ pub record IsJobUnknown (table : ℕ) (words : List (String Global)) (left : Opt
     : Type 0 where
   pub command : Command
   pub input : Input
-  pub asks : Asks words left command input
+  pub asks : AsksCommand words left command input
   pub plays : HasJobsRun command
   pub unknown : KnowsJobs table input → ⊥
 
@@ -80,7 +81,7 @@ pub record IsWorkSpent (jobs : Replies) (table : ℕ) (words : List (String Glob
     (left : Option (List ℕ)) : Type 0 where
   pub command : Command
   pub input : Input
-  pub asks : Asks words left command input
+  pub asks : AsksCommand words left command input
   pub plays : IsPlayer command
   pub known : KnowsJobs table input
   pub spent : spent_by jobs input ≢ None
@@ -90,5 +91,5 @@ pub record IsFine (jobs : Replies) (table : ℕ) (words : List (String Global))
     (left : Option (List ℕ)) : Type 0 where
   pub command : Command
   pub input : Input
-  pub asks : Asks words left command input
+  pub asks : AsksCommand words left command input
   pub plays : HasJobsRun command → EndsBy jobs table command input

@@ -11,9 +11,9 @@ use Rattle.program_texts.specs.declared.replies.Reply.{Reply}
 use Rattle.program_texts.specs.declared.replies.Reply.TheVariants.{Usage, ReadFault, TooLong}
 use Rattle.program_texts.specs.declared.replies.Reply.TheVariants.{Refused, JobUnknown, WorkSpent}
 use Rattle.program_texts.specs.declared.replies.Reply.TheVariants.{Played, Made}
-use Rattle.program_texts.specs.Words.{command_of, form_of, HasJobsRun}
+use Rattle.program_texts.specs.Words.{HasJobsRun, form_of, program_command_of}
 use Rattle.program_texts.specs.Brought.{Brings, IsReader, ReadsNone}
-use Rattle.program_replies.specs.Scripts.{IsOutput, LacksJob, SpendsBy}
+use Rattle.program_replies.specs.Scripts.{IsScriptOutput, LacksJob, SpendsBy}
 
 -- THE REPLY TO AN INPUT, by the command
 abbrev pub IsReplyTo : Replies → (table : ℕ) → Command → Input → Reply → Type 0
@@ -21,8 +21,8 @@ IsReplyTo jobs table command input (JobUnknown line job) =
     HasJobsRun command × LacksJob table input line job
 IsReplyTo jobs table command input (WorkSpent count) =
     HasJobsRun command × SpendsBy jobs table command input count
-IsReplyTo jobs table command input (Played text) = IsOutput jobs table command input text
-IsReplyTo jobs table command input (Made text) = IsOutput jobs table command input text.items
+IsReplyTo jobs table command input (Played text) = IsScriptOutput jobs table command input text
+IsReplyTo jobs table command input (Made text) = IsScriptOutput jobs table command input text.items
 IsReplyTo jobs table command input _ = ⊥
 
 -- the command has this input, and the reply is that to the input
@@ -51,6 +51,7 @@ IsReplyBy jobs table None s t reply = reply ≡ Usage
 IsReplyBy jobs table (Some command) s t reply = IsReplyOf jobs table command s t reply
 
 -- the reply that these words and the source call for
-abbrev pub IsReply : Replies → (table : ℕ) → List (String Global) → SourceSeen → SourceSeen
+abbrev pub IsProgramReply : Replies → (table : ℕ) → List (String Global) → SourceSeen → SourceSeen
     → Reply → Type 0
-IsReply jobs table words s t reply = IsReplyBy jobs table (command_of words) s t reply
+IsProgramReply jobs table words s t reply =
+    IsReplyBy jobs table (program_command_of words) s t reply

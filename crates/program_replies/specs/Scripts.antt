@@ -93,8 +93,8 @@ EndsBy jobs table command input = CanEnd jobs table input
 
 -- the text is that of a story of the script, which was run to its end; the story's last moment
 -- leaves a core
-abbrev pub IsRunOf : Replies → (table : ℕ) → List ℕ → Script → Type 0
-IsRunOf jobs table text script = (core : World) × RunsToEnd jobs table script [] text core
+abbrev pub IsRunOfScript : Replies → (table : ℕ) → List ℕ → Script → Type 0
+IsRunOfScript jobs table text script = (core : World) × RunsToEnd jobs table script [] text core
 
 -- the text is that of the play of the script, which can be played to its end; and the laws hold of
 -- that play, by Play's state and by the core's own groups
@@ -128,13 +128,13 @@ pub record IsWorksOf (jobs : Replies) (table : ℕ) (text : List ℕ) (works : W
     pub played : text ≡ works_text jobs works
 
 -- WHAT A COMMAND WRITES of its input, where all goes well
-abbrev pub IsOutput : Replies → (table : ℕ) → Command → Input → List ℕ → Type 0
-IsOutput jobs table Play input text = OfScript (IsPlayOf jobs table text) input
-IsOutput jobs table Run input text = OfScript (IsRunOf jobs table text) input
-IsOutput jobs table Tree input text = OfScript (IsTreeOf text) input
-IsOutput jobs table (Generate recipe) input text =
+abbrev pub IsScriptOutput : Replies → (table : ℕ) → Command → Input → List ℕ → Type 0
+IsScriptOutput jobs table Play input text = OfScript (IsPlayOf jobs table text) input
+IsScriptOutput jobs table Run input text = OfScript (IsRunOfScript jobs table text) input
+IsScriptOutput jobs table Tree input text = OfScript (IsTreeOf text) input
+IsScriptOutput jobs table (Generate recipe) input text =
     OfScript (λ script. text ≡ script_text script) input
-IsOutput jobs table (Day recipe) input text = OfScript (IsDayOf jobs table text) input
-IsOutput jobs table Check input text = OfTrace (λ trace. IsCheckText trace text) input
-IsOutput jobs table Deep input text = OfScript (IsDeepOf jobs table text) input
-IsOutput jobs table Works input text = OfWorks (IsWorksOf jobs table text) input
+IsScriptOutput jobs table (Day recipe) input text = OfScript (IsDayOf jobs table text) input
+IsScriptOutput jobs table Check input text = OfTrace (λ trace. IsCheckText trace text) input
+IsScriptOutput jobs table Deep input text = OfScript (IsDeepOf jobs table text) input
+IsScriptOutput jobs table Works input text = OfWorks (IsWorksOf jobs table text) input

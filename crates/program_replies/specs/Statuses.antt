@@ -16,19 +16,20 @@ use Rattle.program_texts.specs.declared.inputs.Form.{Form}
 use Rattle.program_texts.specs.declared.inputs.Form.TheVariants as forms
 use Rattle.program_texts.specs.declared.inputs.Input.{Input}
 use Rattle.program_texts.specs.declared.replies.Reply.{Reply}
-use Rattle.program_texts.specs.Words.{command_of, Reads, ReadsAs, HasJobsRun}
-use Rattle.program_texts.specs.Texts.{usage_text, read_fault_text, too_long_text, refused_text}
+use Rattle.program_texts.specs.Words.{HasJobsRun, Reads, ReadsAs, program_command_of}
+use Rattle.program_texts.specs.Texts.{program_read_fault_text, program_too_long_text}
+use Rattle.program_texts.specs.Texts.{program_usage_text, refused_input_text}
 use Rattle.program_texts.specs.Texts.{job_unknown_text, work_spent_text}
 use Rattle.program_texts.specs.Brought.{Brings, ReadsNone}
-use Rattle.program_texts.specs.Replies.{reply_text}
+use Rattle.program_texts.specs.Replies.{program_reply_text}
 use Rattle.program_texts.specs.Ends.{SinkSound, Writes, WritesAll, WritesFront}
-use Rattle.program_replies.specs.Scripts.{IsOutput, LacksJob, SpendsBy}
-use Rattle.program_replies.specs.Replies.{IsReply}
+use Rattle.program_replies.specs.Scripts.{IsScriptOutput, LacksJob, SpendsBy}
+use Rattle.program_replies.specs.Replies.{IsProgramReply}
 
 -- the words name a command, it has this input, and the source didn't fail
 pub record HasInput (words : List (String Global)) (s t : SourceSeen) (command : Command)
     (input : Input) : Type 0 where
-  pub named : command_of words ≡ Some command
+  pub named : program_command_of words ≡ Some command
   pub brought : Brings command s t input
   pub unbroken : SourceUnbroken s t
 
@@ -39,7 +40,7 @@ pub record SaysDone (jobs : Replies) (table : ℕ) (words : List (String Global)
   pub input : Input
   pub has : HasInput words s t command input
   pub text : List ℕ
-  pub output : IsOutput jobs table command input text
+  pub output : IsScriptOutput jobs table command input text
   pub writes : WritesAll text k m
 
 -- what was read to its end spells no input of this form; the text tells the first fault
@@ -49,7 +50,7 @@ pub record SaysRefusedAs (form : Form) (words : List (String Global)) (s t : Sou
   pub unbroken : SourceUnbroken s t
   pub fault : ScriptFault
   pub read : ReadsNone form s t fault
-  pub writes : Writes (refused_text form fault) k m
+  pub writes : Writes (refused_input_text form fault) k m
 
 -- 1: a script was to be read, and what was read to its end spells none
 abbrev pub SaysRefused : List (String Global) → SourceSeen → SourceSeen → SinkSeen → SinkSeen
@@ -58,8 +59,8 @@ SaysRefused words s t k m = SaysRefusedAs forms.Script words s t k m
 
 -- 2: the words stand in no table
 pub record SaysUsage (words : List (String Global)) (k m : SinkSeen) : Type 0 where
-  pub words_are : command_of words ≡ None
-  pub writes : Writes usage_text k m
+  pub words_are : program_command_of words ≡ None
+  pub writes : Writes program_usage_text k m
 
 -- 3: the source failed
 pub record SaysReadFault (words : List (String Global)) (s t : SourceSeen) (k m : SinkSeen)
@@ -67,7 +68,7 @@ pub record SaysReadFault (words : List (String Global)) (s t : SourceSeen) (k m 
   pub reads : Reads words
   pub cause : SourceFailed s t
   pub read : TakesUpTo s t MOST_BYTES
-  pub writes : Writes read_fault_text k m
+  pub writes : Writes program_read_fault_text k m
 
 -- 4: all was done, and the sink broke before all of the output was written
 pub record SaysWriteFault (jobs : Replies) (table : ℕ) (words : List (String Global))
@@ -76,7 +77,7 @@ pub record SaysWriteFault (jobs : Replies) (table : ℕ) (words : List (String G
   pub input : Input
   pub has : HasInput words s t command input
   pub text : List ℕ
-  pub output : IsOutput jobs table command input text
+  pub output : IsScriptOutput jobs table command input text
   pub writes : WritesFront text k m
 
 -- ONE TEXT IS DUE, or of `check`, which may show who answers in more than one way, one of texts
@@ -86,30 +87,30 @@ pub record IsOneDue (words : List (String Global)) (s : SourceSeen) : Type 0 whe
   pub bytes : List ℕ
   pub told : s.left ≡ Some bytes
   pub counts : s.faults ≢ 2 ^ 64 - 1
-  pub no_run : command_of words ≢ Some Run
+  pub no_run : program_command_of words ≢ Some Run
 
 -- these bytes are all of no text of a reply that the words and the source call for
 abbrev pub IsAllOfNone : Replies → (table : ℕ) → List (String Global) → SourceSeen → SourceSeen
     → List ℕ → Type 0
 IsAllOfNone jobs table words s t bytes =
-    (reply : Reply) → IsReply jobs table words s t reply → bytes ≢ reply_text reply
+    (reply : Reply) → IsProgramReply jobs table words s t reply → bytes ≢ program_reply_text reply
 
 -- a front, and not all, of the text of a reply that the words and the source call for; where one
 -- text is due it is all of no such text
 pub record WritesReplyFront (jobs : Replies) (table : ℕ) (words : List (String Global))
     (s t : SourceSeen) (k m : SinkSeen) : Type 0 where
   pub reply : Reply
-  pub called_for : IsReply jobs table words s t reply
+  pub called_for : IsProgramReply jobs table words s t reply
   pub count : ℕ
-  pub front : AppendsFront k m count (reply_text reply)
+  pub front : AppendsFront k m count (program_reply_text reply)
   pub not_all : IsOneDue words s
-      → IsAllOfNone jobs table words s t (take count (reply_text reply))
+      → IsAllOfNone jobs table words s t (take count (program_reply_text reply))
 
 -- the words name a command, the source didn't fail, and no more was read of it than a script may
 -- have
 pub record HasRead (words : List (String Global)) (s t : SourceSeen) : Type 0 where
   pub command : Command
-  pub named : command_of words ≡ Some command
+  pub named : program_command_of words ≡ Some command
   pub unbroken : SourceUnbroken s t
   pub read : TakesUpTo s t MOST_BYTES
 
@@ -147,7 +148,7 @@ pub record SaysTooLong (words : List (String Global)) (s t : SourceSeen) (k m : 
   pub reads : Reads words
   pub unbroken : SourceUnbroken s t
   pub read : TakesCount s t (MOST_BYTES + 1)
-  pub writes : Writes too_long_text k m
+  pub writes : Writes program_too_long_text k m
 
 -- 8: a line of the input names a job that the table hasn't; nothing was played or run
 pub record SaysJobUnknown (table : ℕ) (words : List (String Global))

@@ -9,7 +9,7 @@ ghost use Rattle.run_moments.specs.Rounds.{MakesRounds};
 ghost use Rattle.program_texts.specs.Inputs.{IsInput};
 ghost use Rattle.program_texts.specs.Words.{IsRecipe, Reads, form_of, recipe_in};
 ghost use Rattle.program_texts.specs.Brought.{script_by};
-ghost use Rattle.program_replies.specs.Replies.{IsReply, IsReplyOf, IsReplyTo};
+ghost use Rattle.program_replies.specs.Replies.{IsProgramReply, IsReplyOf, IsReplyTo};
 ghost use Rattle.program_replies.specs.Statuses.{HasRead};
 ghost use Rattle.program_replies.specs.Steps.{IsReplyToBytes};
 
@@ -173,7 +173,7 @@ pub fn reply_to<S: Source, J: Jobs, F: Fn(Core<WheelBase>, &CpuSet, &[Op]) -> Ro
     round: &F,
 ) -> Result<Reply, NoMemory>
     requires rounds { MakesRounds (J.replies jobs.now) (F.pre round.now) (F.post round.now) }
-    ensures reply { IfOk result (IsReply (J.replies jobs.now) (J.count jobs.now) words.now
+    ensures reply { IfOk result (IsProgramReply (J.replies jobs.now) (J.count jobs.now) words.now
         (S.seen source.old) (S.seen source.new)) }
     ensures has_read { OnErr result
         (HasRead words.now (S.seen source.old) (S.seen source.new)) }

@@ -7,7 +7,7 @@ use Rattle.std.specs.Io.KnownBytes.{Appends}
 use Rattle.tm_io.specs.Seen.{SinkSeen}
 use Rattle.program_texts.specs.declared.statuses.TheConstants.{DONE, NO_MEMORY, WRITE_FAULT}
 use Rattle.program_texts.specs.Ends.{EndsUnwritten, EndsWith, WritesAll, WritesFront, whole, part}
-use Rattle.program_texts.specs.Ends.{wanting, unwritten, Breaks}
+use Rattle.program_texts.specs.Ends.{wanting, unwritten, SinkBreaks}
 use Rattle.program_texts.specs.Statuses.{IsEither}
 
 -- nothing was put
@@ -59,7 +59,7 @@ module _ (text : List ℕ) (k m : SinkSeen) (status : ℕ) where
   out_ends (wanting count front sound e) = inr (inr e)
   out_ends (unwritten e) = inr (inr e.1)
 
-  pub out_whole : EndsWith text DONE WRITE_FAULT k m status → (Breaks k m → ⊥)
+  pub out_whole : EndsWith text DONE WRITE_FAULT k m status → (SinkBreaks k m → ⊥)
       → IsEither status DONE NO_MEMORY
   out_whole (whole w e) sound = inl e
   out_whole (part w e) sound = absurd (sound w.broke)

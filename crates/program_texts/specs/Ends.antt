@@ -5,12 +5,12 @@ use Rattle.tm_io.specs.Seen.{SinkSeen, SinkFailed, SinkUnbroken, SinkRefused, Si
 use Rattle.tm_io.specs.Sinks.{AppendsFront}
 use Rattle.program_texts.specs.declared.replies.Reply.{Reply}
 use Rattle.program_texts.specs.declared.statuses.TheConstants.{NO_MEMORY}
-use Rattle.program_texts.specs.Replies.{reply_text}
+use Rattle.program_texts.specs.Replies.{program_reply_text}
 use Rattle.program_texts.specs.Statuses.{status_broken, status_written}
 
 -- the sink failed, or took nothing of a piece: one of its two counts rose
-abbrev pub Breaks : SinkSeen → SinkSeen → Type 0
-Breaks old new = SinkFailed old new ⊎ SinkRefused old new
+abbrev pub SinkBreaks : SinkSeen → SinkSeen → Type 0
+SinkBreaks old new = SinkFailed old new ⊎ SinkRefused old new
 
 -- both of the sink's counts are as they were
 abbrev pub SinkSound : SinkSeen → SinkSeen → Type 0
@@ -23,7 +23,7 @@ pub record WritesAll (text : List ℕ) (old new : SinkSeen) : Type 0 where
 
 -- the sink broke, and has gained a front of a text and not all of it
 pub record WritesFront (text : List ℕ) (old new : SinkSeen) : Type 0 where
-  pub broke : Breaks old new
+  pub broke : SinkBreaks old new
   pub count : ℕ
   pub front : AppendsFront old new count text
 
@@ -48,4 +48,4 @@ pub data EndsWith (text : List ℕ) (all broken : ℕ) (old new : SinkSeen) (sta
 -- how writing a reply ended: all of it was taken, or the sink broke, with the status of each
 abbrev pub EndsAs : Reply → SinkSeen → SinkSeen → (status : ℕ) → Type 0
 EndsAs reply old new status =
-    EndsWith (reply_text reply) (status_written reply) (status_broken reply) old new status
+    EndsWith (program_reply_text reply) (status_written reply) (status_broken reply) old new status

@@ -8,8 +8,8 @@ use Rattle.tm_script.specs.Grammar.{IsScript, Spells}
 use Rattle.tm_script.specs.Reader.{IsRefusalOf}
 use Rattle.trace_text.specs.declared.answers.ReadTrace.TheVariants as traces
 use Rattle.trace_text.specs.declared.traces.Trace.{Trace}
-use Rattle.trace_text.specs.Texts.{IsTrace, Spells as SpellsTrace}
-use Rattle.trace_text.specs.Reader.{IsRefusalOf as IsTraceRefusalOf}
+use Rattle.trace_text.specs.Texts.{IsTrace, SpellsTrace}
+use Rattle.trace_text.specs.Reader.{IsTraceRefusalOf}
 use Rattle.work_script.specs.declared.syntax.WorkScript.{WorkScript}
 use Rattle.work_script.specs.Grammar.{IsWorkScript, SpellsWorks}
 use Rattle.work_script.specs.Reader.{IsWorksRefusalOf}

@@ -9,18 +9,18 @@ use Rattle.program_texts.specs.declared.inputs.Form.{Form}
 use Rattle.program_texts.specs.declared.inputs.Form.TheVariants as forms
 
 -- the text of status 2
-abbrev pub usage_text : List ℕ
-usage_text =
+abbrev pub program_usage_text : List ℕ
+program_usage_text =
     codes "usage: tmig play | run | tree | generate NUMBER CPUS TIMERS MOMENTS"
     ++ codes " | day NUMBER CPUS TIMERS MOMENTS | check | deep | works\n"
 
 -- the text of status 3
-abbrev pub read_fault_text : List ℕ
-read_fault_text = codes "read fault\n"
+abbrev pub program_read_fault_text : List ℕ
+program_read_fault_text = codes "read fault\n"
 
 -- the text of status 7
-abbrev pub too_long_text : List ℕ
-too_long_text = codes "input too long\n"
+abbrev pub program_too_long_text : List ℕ
+program_too_long_text = codes "input too long\n"
 
 -- the number of a kind of fault
 abbrev pub kind_number : Kind → ℕ
@@ -39,8 +39,8 @@ form_name forms.Works = codes "works"
 
 -- the text of statuses 1, 10 and 11: what was to be read, the line at fault, and the kind of the
 -- fault
-abbrev pub refused_text : Form → ScriptFault → List ℕ
-refused_text form fault =
+abbrev pub refused_input_text : Form → ScriptFault → List ℕ
+refused_input_text form fault =
     form_name form ++ codes " refused line " ++ decimal fault.line
     ++ codes " kind " ++ decimal (kind_number fault.kind) ++ codes "\n"
 

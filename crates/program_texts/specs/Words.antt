@@ -55,12 +55,12 @@ making_command word recipe =
     else None
 
 -- THE COMMAND that words name, where they stand in the table
-abbrev pub command_of : List (String Global) → Option Command
-command_of (word ∷ []) = lone_command (string_bytes word)
-command_of (word ∷ number ∷ cpus ∷ timers ∷ moments ∷ []) =
+abbrev pub program_command_of : List (String Global) → Option Command
+program_command_of (word ∷ []) = lone_command (string_bytes word)
+program_command_of (word ∷ number ∷ cpus ∷ timers ∷ moments ∷ []) =
     recipe_of (string_bytes number) (string_bytes cpus) (string_bytes timers) (string_bytes moments)
     >>= making_command (string_bytes word)
-command_of _ = None
+program_command_of _ = None
 
 -- a recipe within the limits of `generate`
 pub record IsRecipe (r : Recipe) : Type 0 where
@@ -95,12 +95,13 @@ form_of Works = forms.Works
 
 -- the words name a command that reads its input from the source
 abbrev pub Reads : List (String Global) → Type 0
-Reads words = (command : Command) × (command_of words ≡ Some command) × (recipe_in command ≡ None)
+Reads words =
+    (command : Command) × (program_command_of words ≡ Some command) × (recipe_in command ≡ None)
 
 -- the words name a command that reads an input of this form from the source
 abbrev pub ReadsAs : Form → List (String Global) → Type 0
 ReadsAs form words =
-    (command : Command) × (command_of words ≡ Some command) × (recipe_in command ≡ None)
+    (command : Command) × (program_command_of words ≡ Some command) × (recipe_in command ≡ None)
     × (form_of command ≡ form)
 
 -- the command has the jobs of its input run: it plays it, or runs it by threads

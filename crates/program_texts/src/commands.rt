@@ -1,7 +1,7 @@
 //! The words of the command line.
 
 ghost use Rattle.std.specs.Prelude.{◌≡◌, ◌≤◌, IfSome};
-ghost use Rattle.program_texts.specs.Words.{IsRecipe, command_of, form_of, lone_command};
+ghost use Rattle.program_texts.specs.Words.{IsRecipe, form_of, lone_command, program_command_of};
 ghost use Rattle.program_texts.specs.Words.{making_command, number_within, recipe_in, recipe_of};
 
 use crate::inputs::Form;
@@ -143,7 +143,7 @@ fn making_command(word: &[u8], recipe: Recipe) -> Option<Command>
 /// The command that the words name, where they stand in the table; what it is to generate a script
 /// from is within the limits of `generate`.
 pub fn read_command(words: &[String]) -> Option<Command>
-    ensures value { result ≡ command_of words.now }
+    ensures value { result ≡ program_command_of words.now }
     ensures limits { IfSome result (λ command. IfSome (recipe_in command) IsRecipe) }
 {
     match words {

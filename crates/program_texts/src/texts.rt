@@ -2,8 +2,9 @@
 
 ghost use Rattle.std.specs.Prelude.{◌≡◌, IfOk};
 ghost use Rattle.program_texts.specs.Texts.{form_name, job_unknown_text, kind_number};
-ghost use Rattle.program_texts.specs.Texts.{read_fault_text, refused_text, too_long_text};
-ghost use Rattle.program_texts.specs.Texts.{usage_text, work_spent_text};
+ghost use Rattle.program_texts.specs.Texts.{program_read_fault_text, program_too_long_text};
+ghost use Rattle.program_texts.specs.Texts.{refused_input_text};
+ghost use Rattle.program_texts.specs.Texts.{program_usage_text, work_spent_text};
 
 use crate::inputs::Form;
 use std::alloc::Global;
@@ -12,20 +13,20 @@ use tm_base::NoMemory;
 use tm_script::{Kind, ScriptFault};
 
 pub(crate) fn usage_text() -> &'static [u8]
-    ensures { result.now ≡ usage_text }
+    ensures { result.now ≡ program_usage_text }
 {
     b"usage: tmig play | run | tree | generate NUMBER CPUS TIMERS MOMENTS \
       | day NUMBER CPUS TIMERS MOMENTS | check | deep | works\n"
 }
 
 pub(crate) fn read_fault_text() -> &'static [u8]
-    ensures { result.now ≡ read_fault_text }
+    ensures { result.now ≡ program_read_fault_text }
 {
     b"read fault\n"
 }
 
 pub(crate) fn too_long_text() -> &'static [u8]
-    ensures { result.now ≡ too_long_text }
+    ensures { result.now ≡ program_too_long_text }
 {
     b"input too long\n"
 }
@@ -61,7 +62,7 @@ pub(crate) fn refused_text(
     form: Form,
     fault: ScriptFault,
 ) -> Result<Vec<u8>, NoMemory>
-    ensures { IfOk result (λ text. text.items ≡ refused_text form fault) }
+    ensures { IfOk result (λ text. text.items ≡ refused_input_text form fault) }
 {
     let mut text = Vec::new(alloc);
     push_bytes(&mut text, form_name(form))?;

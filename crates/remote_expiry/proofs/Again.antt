@@ -31,12 +31,12 @@ use Rattle.walk_inactive.proofs.shared_rule.Visits.{knows}
 use Rattle.shared_acts.specs.shared_timers.declared.arming.Arming.{Arming}
 use Rattle.shared_acts.specs.shared_timers.Entries.{pair_changed}
 use Rattle.shared_acts.specs.shared_timers.Exchanging.{timer_word}
-use Rattle.shared_calls.specs.Arms.{HasArmed, IsQueued, MetBy, NotArmed, arming_of, met}
+use Rattle.shared_calls.specs.Arms.{HasArmed, IsQueued, MetBy, NotArmed, timer_arming_of, met}
 use Rattle.shared_calls.specs.Arms.{roomy}
 use Rattle.shared_acts.specs.declared.runs.RanReply.TheVariants as ran
-use Rattle.shared_acts.specs.Pieces.{Gains, HeldInside, Piece}
+use Rattle.shared_acts.specs.Pieces.{PassGains, HeldInside, Piece}
 use Rattle.shared_acts.proofs.Gaining.{begins_then, known_more, no_piece, none_gained, piece_of}
-use Rattle.remote_expiry.specs.Running.{HasAnswered, holder_told}
+use Rattle.remote_expiry.specs.Running.{HasAnsweredJob, holder_told}
 
 -- a pass inside its interrupt, and the part of its CPU as it met it
 module _ (table : TableId) (o : World) (now : ℕ) (now_is : now ≡ o.clock) (held : HeldPass)
@@ -88,7 +88,7 @@ module _ (table : TableId) (o : World) (now : ℕ) (now_is : now ≡ o.clock) (h
   module _ (i : Item) (class : Class) (delay : ℕ) (after : HeldPass) where
     -- ARMED
     abbrev arming : Arming
-    arming = arming_of (record { 0 = i.id }) class (now + delay) i.job i.arg 0
+    arming = timer_arming_of (record { 0 = i.id }) class (now + delay) i.job i.arg 0
 
     abbrev entry : Entry
     entry =
@@ -120,7 +120,7 @@ module _ (table : TableId) (o : World) (now : ℕ) (now_is : now ≡ o.clock) (h
         (omega (arith, long))
     one_place (suc k) r at mine = absurd (none-some r at)
 
-    armed_gains : Gains p (armed true) (receipt ∷ []) [] 0
+    armed_gains : PassGains p (armed true) (receipt ∷ []) [] 0
     armed_gains =
         let begins = begins_then (journal ++ entry ∷ []) journal p.journal begun
         (entry ∷ [], refl) in
@@ -141,7 +141,7 @@ module _ (table : TableId) (o : World) (now : ℕ) (now_is : now ≡ o.clock) (h
         }
 
     pub armed_again : (wheel : ℕ) → HasArmed table now arming part held after wheel
-        → HasAnswered table o i (replies.Again class delay) held after (ran.Again class wheel)
+        → HasAnsweredJob table o i (replies.Again class delay) held after (ran.Again class wheel)
     armed_again wheel a =
         let is : after ≡ parted (kept ∷ []) = a.armed.pass_is ∙ ap parted (ap passes_of there) in
         let seated : IsPassIn table after (armed (eqb p.cpu part.box.cpu)) =
@@ -180,7 +180,7 @@ module _ (table : TableId) (o : World) (now : ℕ) (now_is : now ≡ o.clock) (h
     abbrev look : (found : ℕ) → Did
     look found = record { held = length p.receipts; deed = deeds.Saw (timer_word o i.id) found }
 
-    seen_gains : (found : ℕ) → Gains p (seen found) [] (look found ∷ []) 0
+    seen_gains : (found : ℕ) → PassGains p (seen found) [] (look found ∷ []) 0
     seen_gains found = record {
       opening = refl;
       cpu = refl;
@@ -204,7 +204,7 @@ module _ (table : TableId) (o : World) (now : ℕ) (now_is : now ≡ o.clock) (h
 
     pub skipped : i.id < o.timers → (cpu : CpuId)
         → NotArmed table o i.id part held after (faults.Queued cpu)
-        → HasAnswered table o i (replies.Again class delay) held after (ran.Skip cpu)
+        → HasAnsweredJob table o i (replies.Again class delay) held after (ran.Skip cpu)
     skipped known cpu not =
         let q : IsQueued table o i.id part (met part held) after (faults.Queued cpu) = not.left in
         let f = q.found in
@@ -242,9 +242,9 @@ module _ (table : TableId) (o : World) (now : ℕ) (now_is : now ≡ o.clock) (h
     -- the CPU that the refusal names
     pub skipped_at : i.id < o.timers → (fault : OpFault) (cpu : CpuId) → Some cpu ≡ holder_told fault
         → NotArmed table o i.id part held after fault
-        → HasAnswered table o i (replies.Again class delay) held after (ran.Skip cpu)
+        → HasAnsweredJob table o i (replies.Again class delay) held after (ran.Skip cpu)
     skipped_at known (faults.Queued c) cpu is not =
-        subst (λ d. HasAnswered table o i (replies.Again class delay) held after (ran.Skip d))
+        subst (λ d. HasAnsweredJob table o i (replies.Again class delay) held after (ran.Skip d))
         (sym (same_Some cpu c is)) (skipped known c not)
     skipped_at known faults.NoMemory cpu is not = absurd (none-some cpu (sym is))
     skipped_at known faults.NotActive cpu is not = absurd (none-some cpu (sym is))
@@ -257,7 +257,7 @@ module _ (table : TableId) (o : World) (now : ℕ) (now_is : now ≡ o.clock) (h
 -- a job that asks for nothing
 module _ (table : TableId) (o : World) (i : Item) (held : HeldPass)
     (inside : HeldInside table o held) where
-  pub done : HasAnswered table o i replies.Done held held ran.Done
+  pub done : HasAnsweredJob table o i replies.Done held held ran.Done
   done = record {
     receipts = [];
     did = [];
@@ -266,7 +266,7 @@ module _ (table : TableId) (o : World) (i : Item) (held : HeldPass)
     arms = refl;
   }
 
-  pub marked : (m : ℕ) → HasAnswered table o i (replies.Mark m) held held (ran.Mark m)
+  pub marked : (m : ℕ) → HasAnsweredJob table o i (replies.Mark m) held held (ran.Mark m)
   marked m = record {
     receipts = [];
     did = [];

@@ -20,7 +20,7 @@ use Rattle.walk_inactive.specs.shared_rule.Passes.{walks_of}
 use Rattle.walk_inactive.specs.shared_rule.Turns.{entered_box, entered_pass}
 use Rattle.walk_inactive.specs.shared_cpus.Pairs.{by_pair, of_box}
 use Rattle.walk_inactive.specs.shared_rule.Free.{IsFree}
-use Rattle.walk_inactive.specs.Ends.{HasWalked, is_marked_by, reevaluated, retells_with, retold}
+use Rattle.walk_inactive.specs.Ends.{HasWalked, is_mark_of, cpu_reevaluated, retells_with, pass_retold}
 use Rattle.shared_acts.specs.Interrupts.{own_walk}
 use Rattle.shared_acts.specs.Tries.{HasClosed}
 use Rattle.shared_acts.proofs.Trials.{goes_on, known_by, no_mark, off_gains, place_in}
@@ -28,7 +28,7 @@ use Rattle.shared_acts.proofs.Closing.{has_mark, online_by}
 use Rattle.remote_expiry.specs.Interrupts.{interrupt_fault, interrupt_fault_of}
 use Rattle.remote_expiry.specs.Trying.{HasEntered}
 
-not_marked : (m : Option ℕ) (cpu : ℕ) → (m ≡ Some cpu → ⊥) → is_marked_by m cpu ≡ false
+not_marked : (m : Option ℕ) (cpu : ℕ) → (m ≡ Some cpu → ⊥) → is_mark_of m cpu ≡ false
 not_marked None cpu free = refl
 not_marked (Some c) cpu free = ne_eqb c cpu (λ is. free (ap (λ n. Some n) is))
 
@@ -49,7 +49,7 @@ module _ (table : TableId) (part : HeldPart) (held : HeldPass) (p : PassView)
       (agree.marks.0 (marked ∙ ap (λ n. Some n) (sym own))) in
       ap (retells_with both.box) brought
       ∙ ((λ i. eq-eqb p.cpu part.box.cpu own i
-      && not (is_marked_by part.box.own.mark part.box.cpu))
+      && not (is_mark_of part.box.own.mark part.box.cpu))
       ∙ ap not (not_marked part.box.own.mark part.box.cpu free_of))
 
   -- MARKED by the CPU of the pass alone
@@ -64,11 +64,11 @@ module _ (table : TableId) (part : HeldPart) (held : HeldPass) (p : PassView)
         ∙ elim (cases_eq p.cpu part.box.cpu) [
           | inl own ↦
               (λ i. eq-eqb p.cpu part.box.cpu own i
-              && not (is_marked_by (marked i) part.box.cpu))
+              && not (is_mark_of (marked i) part.box.cpu))
               ∙ ap not (eq-eqb p.cpu part.box.cpu own)
           | inr ne ↦
               (λ i. ne_eqb p.cpu part.box.cpu ne i
-              && not (is_marked_by part.box.own.mark part.box.cpu))
+              && not (is_mark_of part.box.own.mark part.box.cpu))
         ]
 
   -- ENTERED
@@ -92,7 +92,7 @@ module _ (table : TableId) (part : HeldPart) (held : HeldPass) (p : PassView)
 
   -- or RE-EVALUATED
   pub told_anew : (new : HeldPart) (after : HeldPass) → p.idle ≡ true
-      → HasWalked kinds.Reeval reevaluated retold both new
+      → HasWalked kinds.Reeval cpu_reevaluated pass_retold both new
       → after ≡ pass_parted table held.cpu new → HasClosed table held after
   told_anew new after idle h same =
       let c = new.box.cpu in
@@ -104,13 +104,13 @@ module _ (table : TableId) (part : HeldPart) (held : HeldPass) (p : PassView)
       λ own. subst (λ j. BeginsWith j p.journal) (sym journal_is) (agree.journal (own ∙ cpu)) in
       record {
         before = p;
-        later = with_journal new.box (retold new.box p);
+        later = with_journal new.box (pass_retold new.box p);
         had = is;
         has =
             ap (λ (z : HeldPass). z.seated) same
             ∙ ap (λ ps. seated_of table (renewed (new.box ∷ []) ps))
             (ap (λ (z : HeldPart). z.brought) h.rest
-            ∙ ap (λ s. head_pass (retold new.box) (passes_of s)) is);
+            ∙ ap (λ s. head_pass (pass_retold new.box) (passes_of s)) is);
         cpu = ap (λ (z : HeldPass). z.cpu) same;
         opening = refl;
         same_cpu = refl;

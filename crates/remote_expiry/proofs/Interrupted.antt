@@ -22,11 +22,11 @@ use Rattle.shared_acts.specs.declared.runs.Ran.{Ran}
 use Rattle.shared_acts.specs.Following.{Follows}
 use Rattle.shared_acts.specs.Interrupts.{HasTicked, own_walk}
 use Rattle.shared_acts.specs.Looks.{LooksFrom}
-use Rattle.shared_acts.specs.Pieces.{Gains, Piece, deeds_of}
-use Rattle.shared_acts.specs.Tries.{AtWork, BreaksOff, HasClosed}
-use Rattle.remote_expiry.specs.Interrupts.{HasGained, IsAtRest, NotInterrupted, Tells}
+use Rattle.shared_acts.specs.Pieces.{PassGains, Piece, deeds_of}
+use Rattle.shared_acts.specs.Tries.{AtWork, BreaksOffPass, HasClosed}
+use Rattle.remote_expiry.specs.Interrupts.{HasGained, IsPassAtRest, NotInterrupted, Tells}
 use Rattle.remote_expiry.specs.Interrupts.{interrupt_fault, interrupt_fault_of}
-use Rattle.remote_expiry.specs.Trying.{HasEntered, HasWorked, IsDone, IsEnterable, IsRefusedIn}
+use Rattle.remote_expiry.specs.Trying.{HasEntered, HasWorked, IsExpiryDone, IsEnterable, IsRefusedIn}
 use Rattle.shared_acts.proofs.Gaining as gaining
 use Rattle.shared_acts.proofs.Served.{still_at_work}
 
@@ -82,7 +82,7 @@ entered_work table o held after may entered =
     let p = entered.before in
     let q = entered.later in
     let same = gaining.same_pass table held may.pass p may.seated entered.had in
-    let rest = subst (IsAtRest o) same may.rest in
+    let rest = subst (IsPassAtRest o) same may.rest in
     let free = not_refused (cpu_of p.opening p.cpu).online p.walks entered.free in
     let gains = entered.gains in
     record {
@@ -111,7 +111,7 @@ at_most_one false = omega arith
 
 -- FROM BEGINNING TO END
 module _ (table : TableId) (o : World) (held inside mid after : HeldPass)
-    (entered : HasEntered table o held inside) (rest : IsAtRest o entered.before)
+    (entered : HasEntered table o held inside) (rest : IsPassAtRest o entered.before)
     (receipts : List Receipt) (did : List Did) (walks : ℕ)
     (piece : Piece table inside mid receipts did walks) (few : walks ≤ 1536)
     (closed : HasClosed table mid after) where
@@ -121,14 +121,14 @@ module _ (table : TableId) (o : World) (held inside mid after : HeldPass)
   abbrev new : PassView
   new = closed.later
 
-  work : Gains (record old { inside = true }) closed.before receipts did (0 + walks)
+  work : PassGains (record old { inside = true }) closed.before receipts did (0 + walks)
   work =
       let same = gaining.same_pass table inside piece.before entered.later piece.had entered.has in
       let later = gaining.same_pass table mid piece.later closed.before piece.has closed.had in
       gaining.gains_then (record old { inside = true }) entered.later closed.before [] receipts [] did 0
       walks entered.gains
-      (subst (λ (x : PassView). Gains entered.later x receipts did walks) later
-      (subst (λ (x : PassView). Gains x piece.later receipts did walks) same piece.gains))
+      (subst (λ (x : PassView). PassGains entered.later x receipts did walks) later
+      (subst (λ (x : PassView). PassGains x piece.later receipts did walks) same piece.gains))
 
   all : new.walks ≡ closed.before.walks + own_walk old.idle
   all = subst (λ b. new.walks ≡ closed.before.walks + own_walk b) work.idle closed.walks_are
@@ -173,7 +173,7 @@ pub interrupted : (table : TableId) (o : World) (jobs : ℕ → JobCall → JobR
     → Tells table o jobs held after first last (Ok tt)
 interrupted table o jobs held inside mid after first last may entered own worked closed =
     let same = gaining.same_pass table held may.pass entered.before may.seated entered.had in
-    let rest = subst (IsAtRest o) same may.rest in
+    let rest = subst (IsPassAtRest o) same may.rest in
     let cpu : inside.cpu ≡ entered.before.cpu = entered.cpu ∙ sym own in
     record {
       old = entered.before;
@@ -206,12 +206,12 @@ interrupted table o jobs held inside mid after first last may entered own worked
 -- WANT OF MEMORY
 pub stopped : (table : TableId) (o : World) (jobs : ℕ → JobCall → JobReply)
     (held inside mid after : HeldPass) (first last : List Ran) → IsEnterable table o held
-    → HasEntered table o held inside → BreaksOff table 1536 inside mid first last
+    → HasEntered table o held inside → BreaksOffPass table 1536 inside mid first last
     → HasClosed table mid after
     → Tells table o jobs held after first last (Err faults.NoMemory)
 stopped table o jobs held inside mid after first last may entered off closed =
     let same = gaining.same_pass table held may.pass entered.before may.seated entered.had in
-    let rest = subst (IsAtRest o) same may.rest in
+    let rest = subst (IsPassAtRest o) same may.rest in
     let breaks = off.breaks in
     record {
       old = entered.before;
@@ -238,7 +238,7 @@ pub told : (table : TableId) (o : World) (jobs : ℕ → JobCall → JobReply)
     (held inside after : HeldPass) (first last : List Ran)
     (result : Result (Unit {0}) OpFault) → IsEnterable table o held
     → (entered : HasEntered table o held inside) → entered.before.cpu ≡ held.cpu
-    → IsDone table o jobs inside after first last result
+    → IsExpiryDone table o jobs inside after first last result
     → Tells table o jobs held after first last result
 told table o jobs held inside after first last (Ok done) may entered own (mid, worked, closed) =
     interrupted table o jobs held inside mid after first last may entered own worked closed
@@ -262,7 +262,7 @@ not_interrupted table o jobs held after runs f is = record {
 pub work_left : (table : TableId) (o : World) (jobs : ℕ → JobCall → JobReply)
     (held mid : HeldPass) (first last : List Ran) (result : Result (Unit {0}) NoMemory)
     → MatchResult result (λ done. HasWorked table o jobs held mid first last)
-    (λ e. BreaksOff table 1536 held mid first last) → AtWork table o [] 1537 held
+    (λ e. BreaksOffPass table 1536 held mid first last) → AtWork table o [] 1537 held
     → AtWork table o [] 1 mid
 work_left table o jobs held mid first last (Ok done) worked was =
     still_at_work table o [] 1537 1 held mid worked.receipts worked.did worked.walks was

@@ -21,7 +21,7 @@ use Rattle.shared_acts.specs.Following.{Follows}
 use Rattle.shared_acts.specs.Pieces.{Piece, RanAll, RanSome}
 use Rattle.shared_acts.proofs.Follow.{told_wider}
 use Rattle.shared_acts.proofs.Gaining.{no_piece, piece_then, receipts_then}
-use Rattle.remote_expiry.specs.Running.{Arms, HasAnswered, HasRun, HasToldNone, HasToldRun, IsOf}
+use Rattle.remote_expiry.specs.Running.{ArmsAgain, HasAnsweredJob, HasRunJob, HasToldNone, HasToldRun, IsRunFromBase}
 use Rattle.remote_expiry.specs.Running.{IsRan, call_to}
 use Rattle.remote_expiry.proofs.Running.{AllOf, SomeOf, all_more, all_run, all_wider, some_more}
 use Rattle.remote_expiry.proofs.Running.{some_run, some_skip}
@@ -29,11 +29,11 @@ use Rattle.remote_expiry.proofs.Running.{some_run, some_skip}
 -- A JOB whose reply was done was run
 pub was_run : (table : TableId) (o : World) (jobs : ℕ → JobCall → JobReply) (home : ℕ) (i : Item)
     (held after : HeldPass) (job : JobReply) (x : Ran)
-    → job ≡ jobs i.job (call_to o.clock held.cpu i) → IsOf home i x
-    → HasAnswered table o i job held after x.reply
-    → HasRun table o jobs home i held after x
+    → job ≡ jobs i.job (call_to o.clock held.cpu i) → IsRunFromBase home i x
+    → HasAnsweredJob table o i job held after x.reply
+    → HasRunJob table o jobs home i held after x
 was_run table o jobs home i held after job x same is answered =
-    let a = subst (λ (j : JobReply). HasAnswered table o i j held after x.reply) same answered in
+    let a = subst (λ (j : JobReply). HasAnsweredJob table o i j held after x.reply) same answered in
     record {
       receipts = a.receipts;
       did = a.did;
@@ -81,7 +81,7 @@ module _ (table : TableId) (o : World) (jobs : ℕ → JobCall → JobReply) (ho
     first = length h.piece.before.receipts
 
     -- one more that is told, after an answer so far
-    all_told : (ended : Result Unit NoMemory) (x : Ran) (r : HasRun table o jobs home i now next x)
+    all_told : (ended : Result Unit NoMemory) (x : Ran) (r : HasRunJob table o jobs home i now next x)
         → OnOk ended (AllOf o jobs home held.cpu first h.did items h.told h.receipts)
         → OnOk ended (AllOf o jobs home held.cpu first (h.did ++ r.did) (items ++ i ∷ [])
         (h.told ++ x ∷ []) (h.receipts ++ r.receipts))
@@ -92,7 +92,7 @@ module _ (table : TableId) (o : World) (jobs : ℕ → JobCall → JobReply) (ho
         let is : IsRan o jobs home held.cpu count r.did i x =
         subst (λ n. IsRan o jobs home n count r.did i x) h.piece.cpu r.is in
         let arms =
-        subst (λ n. Arms o.clock n i (jobs i.job (call_to o.clock n i)) x.reply r.receipts)
+        subst (λ n. ArmsAgain o.clock n i (jobs i.job (call_to o.clock n i)) x.reply r.receipts)
         h.piece.cpu r.arms in
         let grown : count ≡ first + length h.receipts =
         receipts_then table held now next h.receipts r.receipts h.did r.did 0 0 h.piece r.piece in
@@ -107,7 +107,7 @@ module _ (table : TableId) (o : World) (jobs : ℕ → JobCall → JobReply) (ho
         })
         arms
 
-    one_told : (x : Ran) (more : List Ran) → HasRun table o jobs home i now next x
+    one_told : (x : Ran) (more : List Ran) → HasRunJob table o jobs home i now next x
         → more ≡ runs ++ x ∷ []
         → RunsSoFar table o jobs home (items ++ i ∷ []) held next before more ended
     one_told x more r is = record {

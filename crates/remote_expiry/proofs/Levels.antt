@@ -21,11 +21,11 @@ use Rattle.walk_inactive.specs.shared_rule.declared.parts.Did.{Did}
 use Rattle.walk_inactive.specs.shared_rule.declared.parts.Receipt.{Receipt}
 use Rattle.walk_inactive.specs.shared_rule.Passes.{HeldPass}
 use Rattle.shared_acts.specs.declared.runs.Ran.{Ran}
-use Rattle.shared_acts.specs.Looks.{HasEnded, HasLooked, IsClosed, IsLeft, IsServed, IsTried}
+use Rattle.shared_acts.specs.Looks.{HasLookEnded, HasLookedAtGroup, IsClosed, IsLeftAlone, IsServed, IsTried}
 use Rattle.shared_acts.specs.Looks.{LooksFrom, saw}
 use Rattle.shared_acts.specs.Pieces.{Piece, Works, deeds_of}
-use Rattle.shared_acts.specs.Tries.{AtWork, BreaksOff}
-use Rattle.remote_expiry.specs.Trying.{BreaksRound, HasClimbed, HasRounds, SeesEnd, SeesNothing}
+use Rattle.shared_acts.specs.Tries.{AtWork, BreaksOffPass}
+use Rattle.remote_expiry.specs.Trying.{BreaksRound, HasClimbedLevels, HasRounds, SeesEnd, SeesNothing}
 use Rattle.remote_expiry.specs.Trying.{TriesOne}
 use Rattle.walk_rules.specs.Hierarchy.{side}
 use Rattle.walk_inactive.specs.shared_cpus.Pairs.{cpu_place}
@@ -75,8 +75,8 @@ among : (did front behind : List Deed) (x : Deed) → Contains did x
 among did front behind x has =
     Contains-append_right front (did ++ behind) x (Contains-append_left did behind x has)
 
-left_among : (o : World) (looker d : ℕ) (did front behind : List Deed) → IsLeft o looker d did
-    → IsLeft o looker d (front ++ (did ++ behind))
+left_among : (o : World) (looker d : ℕ) (did front behind : List Deed) → IsLeftAlone o looker d did
+    → IsLeftAlone o looker d (front ++ (did ++ behind))
 left_among o looker d did front behind (IsLeft.by_word found s has state be) =
     IsLeft.by_word found s (among did front behind _ has) state be
 left_among o looker d did front behind (IsLeft.by_slot found has none) =
@@ -222,7 +222,7 @@ round_work table o jobs turns tried held now first runs was many at_work =
 pub rounds_off : (table : TableId) (o : World) (jobs : ℕ → JobCall → JobReply) (turns : ℕ)
     (tried : cpus.Cpus) (held now after : HeldPass) (first runs last : List Ran)
     → RoundsSoFar table o jobs turns tried held now first runs → length o.cpus ≤ 512
-    → BreaksRound table o tried now after runs last → BreaksOff table 512 held after first last
+    → BreaksRound table o tried now after runs last → BreaksOffPass table 512 held after first last
 rounds_off table o jobs turns tried held now after first runs last was many round =
     let d = round.due in
     let n = length o.cpus in
@@ -275,7 +275,7 @@ rounds_up table o jobs turns level tried held now after first runs last was many
 
 -- a look that ends is so behind other deeds
 ended_behind : (o : World) (looker level : ℕ) (front did : List Deed)
-    → HasEnded o looker level did → HasEnded o looker level (front ++ did)
+    → HasLookEnded o looker level did → HasLookEnded o looker level (front ++ did)
 ended_behind o looker level front did ended = record {
   before = front ++ ended.before;
   group = ended.group;
@@ -311,18 +311,18 @@ rounds_done table o jobs turns level tried held now after first runs last was ma
           ⊎_elim
           (λ (none : group_at_of o.tree now.cpu level ≡ None).
           inl (ap (λ n. group_at_of o.tree n level) (sym same) ∙ none))
-          (λ (ended : HasEnded o now.cpu level (deeds_of sees.did)).
-          inr (subst (HasEnded o held.cpu level) (sym (deeds_behind was.did sees.did))
+          (λ (ended : HasLookEnded o now.cpu level (deeds_of sees.did)).
+          inr (subst (HasLookEnded o held.cpu level) (sym (deeds_behind was.did sees.did))
           (ended_behind o held.cpu level (deeds_of was.did) (deeds_of sees.did)
-          (subst (λ n. HasEnded o n level (deeds_of sees.did)) same ended))))
+          (subst (λ n. HasLookEnded o n level (deeds_of sees.did)) same ended))))
           sees.end;
     }
 
 -- LOOKS among more: deeds before them, and more receipts
 looked_with : (o : World) (looker level : ℕ) (receipts more : List Receipt)
     (front did rest behind : List Deed) → Within receipts more
-    → HasLooked o looker level receipts did rest
-    → HasLooked o looker level more (front ++ (did ++ behind)) (rest ++ behind)
+    → HasLookedAtGroup o looker level receipts did rest
+    → HasLookedAtGroup o looker level more (front ++ (did ++ behind)) (rest ++ behind)
 looked_with o looker level receipts more front did rest behind within looked =
     let loads = map saw (state_look o looked.group looked.word
     ∷ slot_looks o looked.group 0 looked.founds) in
@@ -358,7 +358,7 @@ looks_behind o looker rs more (suc n) level front did within (inr (inl ended)) =
 looks_behind o looker rs more (suc n) level front did within (inr (inr (rest, looked, above))) =
     inr (inr (
       rest ++ [],
-      subst (λ l. HasLooked o looker level more (front ++ l) (rest ++ [])) (append-nil did)
+      subst (λ l. HasLookedAtGroup o looker level more (front ++ l) (rest ++ [])) (append-nil did)
           (looked_with o looker level rs more front did rest [] within looked),
       subst (LooksFrom o looker more n (suc level)) (sym (append-nil rest))
           (looks_behind o looker rs more n (suc level) [] rest within above),
@@ -414,9 +414,9 @@ one_level table o jobs level next held now after first runs last was low rounds 
           λ r has. within r (within_right was.receipts rounds.receipts r has) in
           let less : Within was.receipts rs =
           λ r has. within r (within_left was.receipts rounds.receipts r has) in
-          let looked = subst (λ n. HasLooked o n level rounds.receipts (deeds_of rounds.did) []) same
+          let looked = subst (λ n. HasLookedAtGroup o n level rounds.receipts (deeds_of rounds.did) []) same
           rounds.looked in
-          let here : HasLooked o held.cpu level rs (deeds_of rounds.did ++ rest) rest =
+          let here : HasLookedAtGroup o held.cpu level rs (deeds_of rounds.did ++ rest) rest =
           looked_with o held.cpu level rounds.receipts rs [] (deeds_of rounds.did) [] rest more looked in
           let further : LooksFrom o held.cpu rs (level_count_of o.tree - suc level) (suc level) rest =
           subst (λ n. LooksFrom o held.cpu rs (level_count_of o.tree - n) n rest) is above in
@@ -436,7 +436,7 @@ pub last_level : (table : TableId) (o : World) (jobs : ℕ → JobCall → JobRe
     (held now after : HeldPass) (first runs last : List Ran)
     → LevelsSoFar table o jobs level held now first runs → level < level_count_of o.tree
     → level_count_of o.tree ≤ 3 → HasRounds table o jobs level now after runs last false
-    → HasClimbed table o jobs held after first last
+    → HasClimbedLevels table o jobs held after first last
 unfolding LooksFrom
 last_level table o jobs level held now after first runs last was low three rounds =
     let same : now.cpu ≡ held.cpu = was.works.piece.cpu in
@@ -454,8 +454,8 @@ last_level table o jobs level held now after first runs last was low three round
           (deeds_of rounds.did) = ⊎_elim
           (λ (none : group_at_of o.tree now.cpu level ≡ None).
           inl (ap (λ n. group_at_of o.tree n level) (sym same) ∙ none))
-          (λ (ended : HasEnded o now.cpu level (deeds_of rounds.did)).
-          inr (inl (subst (λ n. HasEnded o n level (deeds_of rounds.did)) same ended)))
+          (λ (ended : HasLookEnded o now.cpu level (deeds_of rounds.did)).
+          inr (inl (subst (λ n. HasLookEnded o n level (deeds_of rounds.did)) same ended)))
           rounds.looked in
           subst (LooksFrom o held.cpu rs (level_count_of o.tree) 0)
           (sym (deeds_behind was.did rounds.did))
@@ -500,8 +500,8 @@ level_work table o jobs level held now first runs was low three at_work =
 pub level_off : (table : TableId) (o : World) (jobs : ℕ → JobCall → JobReply) (level : ℕ)
     (held now after : HeldPass) (first runs last : List Ran)
     → LevelsSoFar table o jobs level held now first runs → level < level_count_of o.tree
-    → level_count_of o.tree ≤ 3 → BreaksOff table 512 now after runs last
-    → BreaksOff table 1536 held after first last
+    → level_count_of o.tree ≤ 3 → BreaksOffPass table 512 now after runs last
+    → BreaksOffPass table 1536 held after first last
 level_off table o jobs level held now after first runs last was low three off =
     works_break table o jobs held now after first runs last was.walks 512 1536 was.receipts was.did
     was.works off (let a = was.few in omega (arith, a, low, three))
@@ -510,7 +510,7 @@ level_off table o jobs level held now after first runs last was low three off =
 pub all_levels : (table : TableId) (o : World) (jobs : ℕ → JobCall → JobReply) (level : ℕ)
     (held now : HeldPass) (first runs : List Ran)
     → LevelsSoFar table o jobs level held now first runs → level ≡ level_count_of o.tree
-    → level_count_of o.tree ≤ 3 → HasClimbed table o jobs held now first runs
+    → level_count_of o.tree ≤ 3 → HasClimbedLevels table o jobs held now first runs
 unfolding LooksFrom
 all_levels table o jobs level held now first runs was is three =
     let none : LooksFrom o held.cpu was.receipts zero level [] = tt in

@@ -24,7 +24,7 @@ use Rattle.shared_acts.specs.declared.runs.Ran.{Ran}
 use Rattle.shared_acts.specs.Interrupts.{walks_by}
 use Rattle.shared_acts.specs.Looks.{IsTried, saw}
 use Rattle.shared_acts.specs.Pieces.{Piece, deeds_of}
-use Rattle.shared_acts.specs.Tries.{BreaksOff, HasTried}
+use Rattle.shared_acts.specs.Tries.{BreaksOffPass, HasTried}
 use Rattle.remote_expiry.specs.Trying.{BreaksRound, SeesEnd, SeesNothing, TriesOne}
 use Rattle.shared_acts.proofs.Gaining as gaining
 use Rattle.shared_acts.proofs.Served.{idle_work, works_break, works_then}
@@ -187,7 +187,7 @@ pub round_off : (table : TableId) (o : World) (jobs : ℕ → JobCall → JobRep
     (old : cpus.Cpus) (held mid after : HeldPass) (first last : List Ran) (due : CpuId)
     (p : PassView) → IsPassIn table held p → p.opening ≡ o
     → ShowsDue table o now old held.cpu level held mid due
-    → BreaksOff table 1 mid after first last → BreaksRound table o old held after first last
+    → BreaksOffPass table 1 mid after first last → BreaksRound table o old held after first last
 round_off table o jobs now level old held mid after first last due p is opening shows off =
     let piece = due_piece table o now level old held mid due p is shows in
     record {

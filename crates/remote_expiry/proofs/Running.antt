@@ -17,17 +17,17 @@ use Rattle.walk_inactive.specs.shared_rule.declared.parts.Receipt.{Receipt}
 use Rattle.shared_acts.specs.declared.runs.Ran.{Ran}
 use Rattle.shared_acts.specs.declared.runs.RanReply.{RanReply}
 use Rattle.shared_acts.specs.declared.runs.RanReply.TheVariants as ran
-use Rattle.shared_acts.specs.Following.{Follows, FollowsBy, IsOwed, IsRunOf, IsTold, Owed}
+use Rattle.shared_acts.specs.Following.{Follows, FollowsBy, IsOwed, IsRunOfReceipt, IsHandOutTold, Owed}
 use Rattle.shared_acts.specs.Following.{RunsOfSome, call_of, owed_by}
-use Rattle.shared_acts.specs.Pieces.{HandsOut, IsHandOut}
+use Rattle.shared_acts.specs.Pieces.{HandsOutItems, IsHandOut}
 use Rattle.shared_acts.proofs.Follow.{Wider, told_wider}
-use Rattle.remote_expiry.specs.Running.{Arms, IsOf, IsRan, call_to}
+use Rattle.remote_expiry.specs.Running.{ArmsAgain, IsRunFromBase, IsRan, call_to}
 
 -- SOME of these timers are told, in their order
 unfoldable pub SomeOf : (home : ℕ) → List Item → List Ran → Type 0
 SomeOf home [] told = told ≡ []
 SomeOf home (i ∷ is) [] = ⊤
-SomeOf home (i ∷ is) (x ∷ xs) = (IsOf home i x × SomeOf home is xs) ⊎ SomeOf home is (x ∷ xs)
+SomeOf home (i ∷ is) (x ∷ xs) = (IsRunFromBase home i x × SomeOf home is xs) ⊎ SomeOf home is (x ∷ xs)
 
 -- one more, which isn't told
 pub some_skip : (home : ℕ) (is : List Item) (i : Item) (told : List Ran) → SomeOf home is told
@@ -41,13 +41,13 @@ some_skip home (j ∷ is) i (x ∷ xs) (inr h) = inr (some_skip home is i (x ∷
 
 -- one more, which is
 pub some_more : (home : ℕ) (is : List Item) (i : Item) (told : List Ran) (x : Ran)
-    → SomeOf home is told → IsOf home i x → SomeOf home (is ++ i ∷ []) (told ++ x ∷ [])
+    → SomeOf home is told → IsRunFromBase home i x → SomeOf home (is ++ i ∷ []) (told ++ x ∷ [])
 unfolding SomeOf
 some_more home [] i told x h new =
     subst (λ xs. SomeOf home (i ∷ []) (xs ++ x ∷ [])) (sym h) (inl (new, refl))
 some_more home (j ∷ is) i [] x h new = inr (some_all home is i x new)
   where
-    some_all : (home : ℕ) (is : List Item) (i : Item) (x : Ran) → IsOf home i x
+    some_all : (home : ℕ) (is : List Item) (i : Item) (x : Ran) → IsRunFromBase home i x
         → SomeOf home (is ++ i ∷ []) (x ∷ [])
     some_all home [] i x new = inl (new, refl)
     some_all home (j ∷ is) i x new = inr (some_all home is i x new)
@@ -63,7 +63,7 @@ AllOf o jobs home runner count seen (i ∷ is) [] rs = ⊥
 AllOf o jobs home runner count seen (i ∷ is) (x ∷ xs) rs =
     (mine : List Receipt) × (later : List Receipt) × (rs ≡ mine ++ later)
     × IsRan o jobs home runner count seen i x
-    × Arms o.clock runner i (jobs i.job (call_to o.clock runner i)) x.reply mine
+    × ArmsAgain o.clock runner i (jobs i.job (call_to o.clock runner i)) x.reply mine
     × AllOf o jobs home runner count seen is xs later
 
 module _ (o : World) (jobs : ℕ → JobCall → JobReply) (home runner : ℕ) where
@@ -74,7 +74,7 @@ module _ (o : World) (jobs : ℕ → JobCall → JobReply) (home runner : ℕ) w
   -- one more
   pub all_more : (count : ℕ) (seen : List Did) (is : List Item) (i : Item) (told : List Ran)
       (x : Ran) (rs mine : List Receipt) → AllOf o jobs home runner count seen is told rs
-      → IsRan o jobs home runner count seen i x → Arms o.clock runner i (said i) x.reply mine
+      → IsRan o jobs home runner count seen i x → ArmsAgain o.clock runner i (said i) x.reply mine
       → AllOf o jobs home runner count seen (is ++ i ∷ []) (told ++ x ∷ []) (rs ++ mine)
   unfolding AllOf
   all_more count seen [] i told x rs mine h new arms =
@@ -114,7 +114,7 @@ module _ (o : World) (jobs : ℕ → JobCall → JobReply) (home runner : ℕ) w
 
   -- the receipt of a hand-out, and the item
   run_of : (class : Class) (i : Item) (r : Receipt) (x : Ran)
-      → IsHandOut home runner class i r → IsOf home i x → IsRunOf r x
+      → IsHandOut home runner class i r → IsRunFromBase home i x → IsRunOfReceipt r x
   run_of class i r x out is = record {
     timer = ap (λ n. record { 0 = n }) (is.timer ∙ sym out.timer);
     home = ap (λ n. record { 0 = n }) (is.at ∙ sym out.cpu);
@@ -137,9 +137,9 @@ module _ (o : World) (jobs : ℕ → JobCall → JobReply) (home runner : ℕ) w
   none_left (r ∷ rs) = tt
 
   pub some_run : (class : Class) (is : List Item) (outs more : List Receipt) (told : List Ran)
-      → HandsOut home runner class is outs → SomeOf home is told
+      → HandsOutItems home runner class is outs → SomeOf home is told
       → RunsOfSome (outs ++ more) told
-  unfolding HandsOut SomeOf RunsOfSome
+  unfolding HandsOutItems SomeOf RunsOfSome
   some_run class [] outs more told hands h =
       subst (RunsOfSome (outs ++ more)) (sym h) (none_left (outs ++ more))
   some_run class (i ∷ is) [] more told hands h = absurd hands
@@ -165,7 +165,7 @@ module _ (o : World) (jobs : ℕ → JobCall → JobReply) (home runner : ℕ) w
   -- what a hand-out leaves to be armed is what its item does
   paid_by : (class : Class) (i : Item) (r : Receipt) (reply : JobReply) (told : RanReply)
       (mine : List Receipt) → IsHandOut home runner class i r
-      → Arms o.clock runner i reply told mine → ArePaid (owed_by reply told r.entry) mine
+      → ArmsAgain o.clock runner i reply told mine → ArePaid (owed_by reply told r.entry) mine
   paid_by class i r replies.Done told mine out arms = arms
   paid_by class i r (replies.Mark m) told mine out arms = arms
   paid_by class i r (replies.Again c delay) ran.Done mine out arms = arms
@@ -204,10 +204,10 @@ module _ (o : World) (jobs : ℕ → JobCall → JobReply) (home runner : ℕ) w
   -- ALL RUN: behind the hand-outs, from this place on, and the tick come the armings
   pub all_run : (class : Class) (count : ℕ) (seen : List Did) (place : ℕ) (is : List Item)
       (outs pre rs : List Receipt) (told : List Ran) (owed : List Owed)
-      → place + length outs ≤ count → HandsOut home runner class is outs
+      → place + length outs ≤ count → HandsOutItems home runner class is outs
       → AllOf o jobs home runner count seen is told rs → ArePaid owed pre
       → Follows o jobs runner seen place (outs ++ (pre ++ rs)) owed told
-  unfolding HandsOut AllOf Follows
+  unfolding HandsOutItems AllOf Follows
   all_run class count seen place [] outs pre rs told owed low hands h paid =
       let tick = hands.0 in
       let armings : Follows o jobs runner seen (suc place) (pre ++ rs) owed told =
@@ -226,13 +226,13 @@ module _ (o : World) (jobs : ℕ → JobCall → JobReply) (home runner : ℕ) w
       let more = owed_by reply x.reply r.entry in
       let has : place < count = omega (arith, low) in
       let next : suc place + length outs ≤ count = omega (arith, low) in
-      let told : IsTold o r.entry.timer.0 place seen reply x.reply =
-      subst (λ n. IsTold o n place seen reply x.reply) (sym hands.0.timer)
-      (subst (λ (y : JobReply). IsTold o i.id place seen y x.reply) (sym same)
+      let told : IsHandOutTold o r.entry.timer.0 place seen reply x.reply =
+      subst (λ n. IsHandOutTold o n place seen reply x.reply) (sym hands.0.timer)
+      (subst (λ (y : JobReply). IsHandOutTold o i.id place seen y x.reply) (sym same)
       (h.3.told place has)) in
       let arms : ArePaid more h.0 =
       paid_by class i r reply x.reply h.0 hands.0
-      (subst (λ (y : JobReply). Arms o.clock runner i y x.reply h.0) (sym same) h.4) in
+      (subst (λ (y : JobReply). ArmsAgain o.clock runner i y x.reply h.0) (sym same) h.4) in
       let rest : Follows o jobs runner seen (suc place) (outs ++ (pre ++ rs)) (owed ++ more) xs =
       subst (λ (y : List Receipt). Follows o jobs runner seen (suc place) (outs ++ y)
       (owed ++ more) xs)

@@ -15,9 +15,9 @@ use Rattle.shared_acts.specs.declared.runs.Ran.{Ran}
 use Rattle.shared_acts.specs.Interrupts.{HasTicked}
 use Rattle.shared_acts.specs.Looks.{LooksFrom}
 use Rattle.shared_acts.specs.Pieces.{Breaks, HasDrained, deeds_of}
-use Rattle.shared_acts.specs.Tries.{BreaksOff}
+use Rattle.shared_acts.specs.Tries.{BreaksOffPass}
 use Rattle.shared_acts.proofs.Served.{deeds_behind, works_break, works_then}
-use Rattle.remote_expiry.specs.Trying.{HasClimbed, HasDrainedAll, HasWorked}
+use Rattle.remote_expiry.specs.Trying.{HasClimbedLevels, HasDrainedAll, HasWorked}
 use Rattle.remote_expiry.proofs.Levels.{Within, looks_behind, within_left, within_right}
 
 -- a drain is among more receipts
@@ -34,7 +34,7 @@ ticked_among cpu class rs more within t = record {
 
 -- broken off in a drain
 pub drain_off : (table : TableId) (held after : HeldPass) (first last : List Ran)
-    → Breaks table held after first last 0 → BreaksOff table 0 held after first last
+    → Breaks table held after first last 0 → BreaksOffPass table 0 held after first last
 drain_off table held after first last breaks =
     record { walks = 0; few = omega arith; breaks = breaks }
 
@@ -42,7 +42,7 @@ drain_off table held after first last breaks =
 module _ (table : TableId) (o : World) (jobs : ℕ → JobCall → JobReply) (held a : HeldPass)
     (first second : List Ran) (pinned : HasDrained table o jobs Pinned held a first second) where
   pub second_off : (after : HeldPass) (last : List Ran) → Breaks table a after second last 0
-      → BreaksOff table 0 held after first last
+      → BreaksOffPass table 0 held after first last
   second_off after last breaks =
       works_break table o jobs held a after first second last 0 0 0 pinned.receipts pinned.did
       pinned.works (drain_off table a after second last breaks) (omega arith)
@@ -87,14 +87,14 @@ module _ (table : TableId) (o : World) (jobs : ℕ → JobCall → JobReply) (he
         by_class rs one two three Deferrable = three
 
     pub third_off : (after : HeldPass) (last : List Ran) → Breaks table b after third last 0
-        → BreaksOff table 0 held after first last
+        → BreaksOffPass table 0 held after first last
     third_off after last breaks =
         second_then after last
         (works_break table o jobs a b after second third last 0 0 0 global.receipts global.did
         global.works (drain_off table b after third last breaks) (omega arith))
       where
-        second_then : (after : HeldPass) (last : List Ran) → BreaksOff table 0 a after second last
-            → BreaksOff table 0 held after first last
+        second_then : (after : HeldPass) (last : List Ran) → BreaksOffPass table 0 a after second last
+            → BreaksOffPass table 0 held after first last
         second_then after last off =
             works_break table o jobs held a after first second last 0 0 0 pinned.receipts pinned.did
             pinned.works off (omega arith)
@@ -103,7 +103,7 @@ module _ (table : TableId) (o : World) (jobs : ℕ → JobCall → JobReply) (he
         → MatchResult result (λ done. HasDrained table o jobs Deferrable b after third last)
         (λ e. Breaks table b after third last 0)
         → MatchResult result (λ done. HasDrainedAll table o jobs held after first last)
-        (λ e. BreaksOff table 0 held after first last)
+        (λ e. BreaksOffPass table 0 held after first last)
     drained_last after last (Ok done) deferrable = all_three after last deferrable
     drained_last after last (Err e) breaks = third_off after last breaks
 
@@ -111,10 +111,10 @@ module _ (table : TableId) (o : World) (jobs : ℕ → JobCall → JobReply) (he
 pub worked_last : (table : TableId) (o : World) (jobs : ℕ → JobCall → JobReply)
     (held mid after : HeldPass) (first now last : List Ran)
     (result : Result (Unit {0}) NoMemory) → HasDrainedAll table o jobs held mid first now
-    → MatchResult result (λ done. HasClimbed table o jobs mid after now last)
-    (λ e. BreaksOff table 1536 mid after now last)
+    → MatchResult result (λ done. HasClimbedLevels table o jobs mid after now last)
+    (λ e. BreaksOffPass table 1536 mid after now last)
     → MatchResult result (λ done. HasWorked table o jobs held after first last)
-    (λ e. BreaksOff table 1536 held after first last)
+    (λ e. BreaksOffPass table 1536 held after first last)
 worked_last table o jobs held mid after first now last (Ok done) drains climbed =
     let same : mid.cpu ≡ held.cpu = drains.works.piece.cpu in
     let rs = drains.receipts ++ climbed.receipts in

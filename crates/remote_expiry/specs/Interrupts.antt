@@ -65,7 +65,7 @@ pub record HasStopped (p q : PassView) (before after : List Ran) : Type 0 where
   pub some : RunsOfSome receipts runs
 
 -- AT REST: a pass of the run, whose CPU isn't inside an interrupt, and has set no mark
-pub record IsAtRest (o : World) (p : PassView) : Type 0 where
+pub record IsPassAtRest (o : World) (p : PassView) : Type 0 where
   pub opening : p.opening ≡ o
   pub outside : p.inside ≡ false
   pub goes_on : p.reeval ≡ false

@@ -18,7 +18,7 @@ use Rattle.walk_inactive.specs.shared_rule.Passes.{HeldPass}
 use Rattle.shared_acts.specs.declared.runs.Ran.{Ran}
 use Rattle.shared_acts.specs.declared.runs.RanReply.{RanReply}
 use Rattle.shared_acts.specs.declared.runs.RanReply.TheVariants as ran
-use Rattle.shared_acts.specs.Following.{IsTold}
+use Rattle.shared_acts.specs.Following.{IsHandOutTold}
 use Rattle.shared_acts.specs.Pieces.{Piece}
 
 -- the CPU that a refusal to arm names
@@ -51,28 +51,28 @@ pub record IsRearmed (now runner : ℕ) (i : Item) (class : Class) (delay wheel 
   pub arg : r.entry.arg ≡ i.arg
 
 -- what is written after a job's reply: a receipt exactly where the timer was armed again
-abbrev pub Arms : (now runner : ℕ) → Item → JobReply → RanReply → List Receipt → Type 0
-Arms now runner i replies.Done reply rs = rs ≡ []
-Arms now runner i (replies.Mark m) reply rs = rs ≡ []
-Arms now runner i (replies.Again class delay) ran.Done rs = rs ≡ []
-Arms now runner i (replies.Again class delay) (ran.Mark m) rs = rs ≡ []
-Arms now runner i (replies.Again class delay) (ran.Again c wheel) rs =
+abbrev pub ArmsAgain : (now runner : ℕ) → Item → JobReply → RanReply → List Receipt → Type 0
+ArmsAgain now runner i replies.Done reply rs = rs ≡ []
+ArmsAgain now runner i (replies.Mark m) reply rs = rs ≡ []
+ArmsAgain now runner i (replies.Again class delay) ran.Done rs = rs ≡ []
+ArmsAgain now runner i (replies.Again class delay) (ran.Mark m) rs = rs ≡ []
+ArmsAgain now runner i (replies.Again class delay) (ran.Again c wheel) rs =
     (r : Receipt) × (rs ≡ r ∷ []) × IsRearmed now runner i c delay wheel r
-Arms now runner i (replies.Again class delay) (ran.Skip cpu) rs = rs ≡ []
+ArmsAgain now runner i (replies.Again class delay) (ran.Skip cpu) rs = rs ≡ []
 
 -- ANSWERED: what a job replied was done, and this is to be told of a hand-out whose receipt the
 -- pass had before; where the timer was queued by then the pass saw on which CPU
-pub record HasAnswered (table : TableId) (o : World) (i : Item) (job : JobReply)
+pub record HasAnsweredJob (table : TableId) (o : World) (i : Item) (job : JobReply)
     (held after : HeldPass) (reply : RanReply) : Type 0 where
   pub receipts : List Receipt
   pub did : List Did
   pub piece : Piece table held after receipts did 0
   pub told : (place : ℕ) → place < length piece.before.receipts →
-      IsTold o i.id place did job reply
-  pub arms : Arms o.clock held.cpu i job reply receipts
+      IsHandOutTold o i.id place did job reply
+  pub arms : ArmsAgain o.clock held.cpu i job reply receipts
 
 -- a run is told of a timer that went out of a CPU's base
-pub record IsOf (home : ℕ) (i : Item) (x : Ran) : Type 0 where
+pub record IsRunFromBase (home : ℕ) (i : Item) (x : Ran) : Type 0 where
   pub timer : x.timer.0 ≡ i.id
   pub at : x.home.0 ≡ home
   pub wheel : x.wheel ≡ i.wheel
@@ -80,25 +80,25 @@ pub record IsOf (home : ℕ) (i : Item) (x : Ran) : Type 0 where
 -- and it tells what the job replied, after a hand-out whose receipt is one of the first so many
 pub record IsRan (o : World) (jobs : ℕ → JobCall → JobReply) (home runner count : ℕ)
     (seen : List Did) (i : Item) (x : Ran) : Type 0 where
-  pub is : IsOf home i x
+  pub is : IsRunFromBase home i x
   pub told : (place : ℕ) → place < count →
-      IsTold o i.id place seen (jobs i.job (call_to o.clock runner i)) x.reply
+      IsHandOutTold o i.id place seen (jobs i.job (call_to o.clock runner i)) x.reply
 
 -- ONE JOB was run, and told
-pub record HasRun (table : TableId) (o : World) (jobs : ℕ → JobCall → JobReply) (home : ℕ)
+pub record HasRunJob (table : TableId) (o : World) (jobs : ℕ → JobCall → JobReply) (home : ℕ)
     (i : Item) (held after : HeldPass) (x : Ran) : Type 0 where
   pub receipts : List Receipt
   pub did : List Did
   pub piece : Piece table held after receipts did 0
   pub is : IsRan o jobs home held.cpu (length piece.before.receipts) did i x
   pub arms :
-      Arms o.clock held.cpu i (jobs i.job (call_to o.clock held.cpu i)) x.reply receipts
+      ArmsAgain o.clock held.cpu i (jobs i.job (call_to o.clock held.cpu i)) x.reply receipts
 
 -- and the run is the last of the list
 pub record HasToldRun (table : TableId) (o : World) (jobs : ℕ → JobCall → JobReply) (home : ℕ)
     (i : Item) (held after : HeldPass) (before now : List Ran) : Type 0 where
   pub run : Ran
-  pub has : HasRun table o jobs home i held after run
+  pub has : HasRunJob table o jobs home i held after run
   pub runs_are : now ≡ before ++ run ∷ []
 
 -- WANT OF MEMORY: nothing was armed, and nothing is told

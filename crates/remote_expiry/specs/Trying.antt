@@ -24,10 +24,10 @@ use Rattle.walk_inactive.specs.shared_rule.declared.parts.Receipt.{Receipt}
 use Rattle.walk_inactive.specs.shared_rule.Passes.{HeldPass, IsPassIn}
 use Rattle.shared_acts.specs.declared.runs.Ran.{Ran}
 use Rattle.shared_acts.specs.Interrupts.{HasTicked}
-use Rattle.shared_acts.specs.Looks.{HasEnded, HasLooked, IsTried, LooksFrom, saw}
-use Rattle.shared_acts.specs.Pieces.{Gains, Piece, Works, deeds_of}
-use Rattle.shared_acts.specs.Tries.{BreaksOff, HasClosed}
-use Rattle.remote_expiry.specs.Interrupts.{IsAtRest, interrupt_fault}
+use Rattle.shared_acts.specs.Looks.{HasLookEnded, HasLookedAtGroup, IsTried, LooksFrom, saw}
+use Rattle.shared_acts.specs.Pieces.{PassGains, Piece, Works, deeds_of}
+use Rattle.shared_acts.specs.Tries.{BreaksOffPass, HasClosed}
+use Rattle.remote_expiry.specs.Interrupts.{IsPassAtRest, interrupt_fault}
 
 -- ONE ROUND of a look: a CPU of the run that wasn't tried yet was tried, after loads
 pub record TriesOne (table : TableId) (o : World) (jobs : ℕ → JobCall → JobReply)
@@ -49,7 +49,7 @@ pub record BreaksRound (table : TableId) (o : World) (old : Cpus) (held after : 
   pub due : ℕ
   pub of_run : due < length o.cpus
   pub untried : Contains old due → ⊥
-  pub off : BreaksOff table 1 held after before now
+  pub off : BreaksOffPass table 1 held after before now
 
 -- the last round showed nothing due and untried
 pub record SeesNothing (table : TableId) (o : World) (level : ℕ) (tried : Cpus)
@@ -69,25 +69,26 @@ pub record SeesNothing (table : TableId) (o : World) (level : ℕ) (tried : Cpus
 pub record SeesEnd (table : TableId) (o : World) (level : ℕ) (held after : HeldPass) : Type 0 where
   pub did : List Did
   pub piece : Piece table held after [] did 0
-  pub end : (group_at_of o.tree held.cpu level ≡ None) ⊎ HasEnded o held.cpu level (deeds_of did)
+  pub end : (group_at_of o.tree held.cpu level ≡ None)
+      ⊎ HasLookEnded o held.cpu level (deeds_of did)
 
 -- what a round came to
-abbrev pub IsRound : TableId → World → (ℕ → JobCall → JobReply) → (level : ℕ) → (old new : Cpus)
+abbrev pub IsLookRound : TableId → World → (ℕ → JobCall → JobReply) → (level : ℕ) → (old new : Cpus)
     → (held after : HeldPass) → (before now : List Ran) → Round → Type 0
-IsRound table o jobs level old new held after before now rounds.Again =
+IsLookRound table o jobs level old new held after before now rounds.Again =
     TriesOne table o jobs old new held after before now
-IsRound table o jobs level old new held after before now rounds.Up =
+IsLookRound table o jobs level old new held after before now rounds.Up =
     SeesNothing table o level old held after × (now ≡ before)
-IsRound table o jobs level old new held after before now rounds.Done =
+IsLookRound table o jobs level old new held after before now rounds.Done =
     SeesEnd table o level held after × (now ≡ before)
 
 -- a look at the group of a level has come to its end: it goes on further upwards, or there is no
 -- group, or another CPU looks after it
-abbrev pub LooksAt : World → (looker level : ℕ) → List Receipt → List Deed → (further : Bool)
+abbrev pub LooksAtLevel : World → (looker level : ℕ) → List Receipt → List Deed → (further : Bool)
     → Type 0
-LooksAt o looker level receipts did true = HasLooked o looker level receipts did []
-LooksAt o looker level receipts did false =
-    (group_at_of o.tree looker level ≡ None) ⊎ HasEnded o looker level did
+LooksAtLevel o looker level receipts did true = HasLookedAtGroup o looker level receipts did []
+LooksAtLevel o looker level receipts did false =
+    (group_at_of o.tree looker level ≡ None) ⊎ HasLookEnded o looker level did
 
 -- THE ROUNDS of a level: at most as many CPUs were tried as there are
 pub record HasRounds (table : TableId) (o : World) (jobs : ℕ → JobCall → JobReply) (level : ℕ)
@@ -97,10 +98,10 @@ pub record HasRounds (table : TableId) (o : World) (jobs : ℕ → JobCall → J
   pub did : List Did
   pub few : walks ≤ 512
   pub works : Works table o jobs held after before now walks receipts did
-  pub looked : LooksAt o held.cpu level receipts (deeds_of did) further
+  pub looked : LooksAtLevel o held.cpu level receipts (deeds_of did) further
 
 -- THE LEVELS, from the leaf upwards
-pub record HasClimbed (table : TableId) (o : World) (jobs : ℕ → JobCall → JobReply)
+pub record HasClimbedLevels (table : TableId) (o : World) (jobs : ℕ → JobCall → JobReply)
     (held after : HeldPass) (before now : List Ran) : Type 0 where
   pub walks : ℕ
   pub receipts : List Receipt
@@ -132,7 +133,7 @@ pub record HasWorked (table : TableId) (o : World) (jobs : ℕ → JobCall → J
 pub record IsEnterable (table : TableId) (o : World) (held : HeldPass) : Type 0 where
   pub pass : PassView
   pub seated : IsPassIn table held pass
-  pub rest : IsAtRest o pass
+  pub rest : IsPassAtRest o pass
   pub cpu : pass.cpu < length o.cpus
 
 -- ENTERED: nothing refuses it, and the CPU is inside its interrupt
@@ -143,7 +144,7 @@ pub record HasEntered (table : TableId) (o : World) (held after : HeldPass) : Ty
   pub has : IsPassIn table after later
   pub cpu : after.cpu ≡ held.cpu
   pub free : interrupt_fault before ≡ None
-  pub gains : Gains (record before { inside = true }) later [] [] 0
+  pub gains : PassGains (record before { inside = true }) later [] [] 0
 
 -- or the pass is as it was, and this refuses the interrupt
 pub record IsRefusedIn (table : TableId) (held after : HeldPass) (fault : OpFault) : Type 0 where
@@ -159,11 +160,11 @@ IsEntered table o held after result =
     MatchResult result (λ done. HasEntered table o held after) (IsRefusedIn table held after)
 
 -- DONE: all work and then the end, or work that was broken off, and the end all the same
-abbrev pub IsDone : TableId → World → (ℕ → JobCall → JobReply) → (held after : HeldPass)
+abbrev pub IsExpiryDone : TableId → World → (ℕ → JobCall → JobReply) → (held after : HeldPass)
     → (before now : List Ran) → Result (Unit {0}) OpFault → Type 0
-IsDone table o jobs held after before now result =
+IsExpiryDone table o jobs held after before now result =
     MatchResult result
     (λ done. (mid : HeldPass) × HasWorked table o jobs held mid before now
     × HasClosed table mid after)
-    (λ e. (e ≡ faults.NoMemory) × ((mid : HeldPass) × BreaksOff table 1536 held mid before now
+    (λ e. (e ≡ faults.NoMemory) × ((mid : HeldPass) × BreaksOffPass table 1536 held mid before now
     × HasClosed table mid after))

@@ -5,9 +5,9 @@ ghost use Rattle.tm_base.specs.declared.names.TheConstants.{TIME_LIMIT};
 ghost use Rattle.walk_inactive.specs.shared_rule.declared.parts.PassView.{PassView};
 ghost use Rattle.walk_inactive.specs.shared_rule.Passes.{IsOfRun, IsPassIn};
 ghost use Rattle.walk_inactive.specs.shared_table.Begun.{IsFree};
-ghost use Rattle.shared_acts.specs.Tries.{AtWork, BreaksOff, HasClosed};
-ghost use Rattle.remote_expiry.specs.Interrupts.{IsAtRest, Tells, interrupt_fault_of};
-ghost use Rattle.remote_expiry.specs.Trying.{HasDrainedAll, HasWorked, IsDone, IsEnterable};
+ghost use Rattle.shared_acts.specs.Tries.{AtWork, BreaksOffPass, HasClosed};
+ghost use Rattle.remote_expiry.specs.Interrupts.{IsPassAtRest, Tells, interrupt_fault_of};
+ghost use Rattle.remote_expiry.specs.Trying.{HasDrainedAll, HasWorked, IsEnterable, IsExpiryDone};
 ghost use Rattle.remote_expiry.specs.Trying.{IsEntered};
 
 use crate::draining::drain_own;
@@ -177,7 +177,7 @@ fn drain_all<N: RunName, B: TimerBase, J: Jobs, R: Wait>(
     ensures { MatchResult result
         (λ done. HasDrainedAll N.table N.opening (J.replies jobs.now) pass.old pass.new
         runs.old.runs runs.new.runs)
-        (λ e. BreaksOff N.table 0 pass.old pass.new runs.old.runs runs.new.runs) }
+        (λ e. BreaksOffPass N.table 0 pass.old pass.new runs.old.runs runs.new.runs) }
 {
     drain_own(rt, alloc, shared, pass, now, Class::Pinned, jobs, runs)?;
     drain_own(rt, alloc, shared, pass, now, Class::Global, jobs, runs)?;
@@ -201,7 +201,7 @@ fn work<N: RunName, B: TimerBase, J: Jobs, G: Gate, R: Wait>(
     ensures { MatchResult result
         (λ done. HasWorked N.table N.opening (J.replies jobs.now) pass.old pass.new runs.old.runs
         runs.new.runs)
-        (λ e. BreaksOff N.table 1536 pass.old pass.new runs.old.runs runs.new.runs) }
+        (λ e. BreaksOffPass N.table 1536 pass.old pass.new runs.old.runs runs.new.runs) }
 {
     drain_all(rt, alloc, shared, pass, now, jobs, runs)?;
     look_up(rt, alloc, shared, pass, now, jobs, gate, runs)
@@ -221,7 +221,7 @@ fn inside<N: RunName, B: TimerBase, J: Jobs, G: Gate, R: Wait>(
     requires at_work { AtWork N.table N.opening [] 1537 pass.old }
     requires now { now ≡ N.opening.clock }
     requires in_time { now ≤ TIME_LIMIT - 2 ^ 32 }
-    ensures { IsDone N.table N.opening (J.replies jobs.now) pass.old pass.new runs.old.runs
+    ensures { IsExpiryDone N.table N.opening (J.replies jobs.now) pass.old pass.new runs.old.runs
         runs.new.runs result }
 {
     let worked = work(rt, alloc, shared, pass, now, jobs, gate, runs);
@@ -257,7 +257,7 @@ pub fn interrupt<N: RunName, B: TimerBase, J: Jobs, G: Gate, R: Wait>(
     requires cpu { pass.old.cpu < length N.opening.cpus }
     requires now { now ≡ N.opening.clock }
     requires in_time { now ≤ TIME_LIMIT - 2 ^ 32 }
-    requires rest { (p : PassView) → IsPassIn N.table pass.old p → IsAtRest N.opening p }
+    requires rest { (p : PassView) → IsPassIn N.table pass.old p → IsPassAtRest N.opening p }
     ensures { Tells N.table N.opening (J.replies jobs.now) pass.old pass.new runs.old.runs
         runs.new.runs result }
 {

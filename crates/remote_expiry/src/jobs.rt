@@ -2,8 +2,8 @@
 
 ghost use Rattle.std.specs.Prelude.{◌≡◌, ◌+◌, ◌-◌, ◌^◌, ◌<◌, ◌≤◌, [], All, MatchResult, length};
 ghost use Rattle.tm_base.specs.declared.names.TheConstants.{TIME_LIMIT};
-ghost use Rattle.shared_acts.specs.Pieces.{HeldInside, IsTimerOf, Piece, RanAll, RanSome};
-ghost use Rattle.remote_expiry.specs.Running.{HasAnswered, HasRun, HasToldNone, HasToldRun};
+ghost use Rattle.shared_acts.specs.Pieces.{HeldInside, IsTimerOfRun, Piece, RanAll, RanSome};
+ghost use Rattle.remote_expiry.specs.Running.{HasAnsweredJob, HasRunJob, HasToldNone, HasToldRun};
 ghost use Rattle.remote_expiry.specs.Running.{holder_told};
 
 use job_table::{JobCall, JobReply, Jobs};
@@ -37,9 +37,9 @@ fn again<N: RunName, B: TimerBase, R: Wait>(
     requires inside { HeldInside N.table N.opening pass.old }
     requires now { now ≡ N.opening.clock }
     requires in_time { now ≤ TIME_LIMIT - 2 ^ 32 }
-    requires timer { IsTimerOf N.opening item.now }
+    requires timer { IsTimerOfRun N.opening item.now }
     ensures { MatchResult result
-        (HasAnswered N.table N.opening item.now (JobReply.Again class delay) pass.old pass.new)
+        (HasAnsweredJob N.table N.opening item.now (JobReply.Again class delay) pass.old pass.new)
         (λ e. Piece N.table pass.old pass.new [] [] 0) }
 {
     pass.law();
@@ -67,9 +67,9 @@ fn answer<N: RunName, B: TimerBase, R: Wait>(
     requires inside { HeldInside N.table N.opening pass.old }
     requires now { now ≡ N.opening.clock }
     requires in_time { now ≤ TIME_LIMIT - 2 ^ 32 }
-    requires timer { IsTimerOf N.opening item.now }
+    requires timer { IsTimerOfRun N.opening item.now }
     ensures { MatchResult result
-        (HasAnswered N.table N.opening item.now reply pass.old pass.new)
+        (HasAnsweredJob N.table N.opening item.now reply pass.old pass.new)
         (λ e. Piece N.table pass.old pass.new [] [] 0) }
 {
     match reply {
@@ -92,9 +92,9 @@ fn run_one<N: RunName, B: TimerBase, J: Jobs, R: Wait>(
     requires inside { HeldInside N.table N.opening pass.old }
     requires now { now ≡ N.opening.clock }
     requires in_time { now ≤ TIME_LIMIT - 2 ^ 32 }
-    requires timer { IsTimerOf N.opening item.now }
+    requires timer { IsTimerOfRun N.opening item.now }
     ensures { MatchResult result
-        (HasRun N.table N.opening (J.replies jobs.now) home.0 item.now pass.old pass.new)
+        (HasRunJob N.table N.opening (J.replies jobs.now) home.0 item.now pass.old pass.new)
         (λ e. Piece N.table pass.old pass.new [] [] 0) }
 {
     let timer = TimerId(item.id as u16);
@@ -128,7 +128,7 @@ fn run_told<N: RunName, B: TimerBase, J: Jobs, R: Wait>(
     requires inside { HeldInside N.table N.opening pass.old }
     requires now { now ≡ N.opening.clock }
     requires in_time { now ≤ TIME_LIMIT - 2 ^ 32 }
-    requires timer { IsTimerOf N.opening item.now }
+    requires timer { IsTimerOfRun N.opening item.now }
     requires room { length runs.old.runs < runs.old.capacity }
     ensures told { MatchResult result
         (λ done. HasToldRun N.table N.opening (J.replies jobs.now) home.0 item.now pass.old
@@ -156,7 +156,7 @@ pub(crate) fn run_all<N: RunName, B: TimerBase, J: Jobs, R: Wait>(
     requires inside { HeldInside N.table N.opening pass.old }
     requires now { now ≡ N.opening.clock }
     requires in_time { now ≤ TIME_LIMIT - 2 ^ 32 }
-    requires timers { All (IsTimerOf N.opening) items.now }
+    requires timers { All (IsTimerOfRun N.opening) items.now }
     requires room { length runs.old.runs + length items.now ≤ runs.old.capacity }
     ensures { MatchResult result
         (λ done. RanAll N.table N.opening (J.replies jobs.now) home.0 items.now pass.old pass.new

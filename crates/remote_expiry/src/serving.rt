@@ -7,7 +7,7 @@ ghost use Rattle.walk_rules.specs.Hierarchy.{HasGroup};
 ghost use Rattle.walk_inactive.specs.shared_rule.Slots.{IsGrouped};
 ghost use Rattle.walk_inactive.specs.shared_table.Begun.{IsFree};
 ghost use Rattle.shared_acts.specs.Pieces.{Piece};
-ghost use Rattle.shared_acts.specs.Tries.{AtWork, BreaksOff, HasLetGo, HasTried, IsRunnable};
+ghost use Rattle.shared_acts.specs.Tries.{AtWork, BreaksOffPass, HasLetGo, HasTried, IsRunnable};
 ghost use Rattle.shared_acts.specs.Tries.{TakesOrLeaves};
 
 use crate::jobs::run_all;
@@ -154,7 +154,7 @@ pub(crate) fn serve<N: RunName, B: TimerBase, J: Jobs, G: Gate, R: Wait>(
     ensures { MatchResult result
         (λ done. HasTried N.table N.opening (J.replies jobs.now) due.0 pass.old pass.new
         runs.old.runs runs.new.runs)
-        (λ e. BreaksOff N.table 1 pass.old pass.new runs.old.runs runs.new.runs) }
+        (λ e. BreaksOffPass N.table 1 pass.old pass.new runs.old.runs runs.new.runs) }
 {
     let mut items = Vec::new(alloc);
     if !take(rt, shared, pass, now, due, gate, &mut items, runs)? {

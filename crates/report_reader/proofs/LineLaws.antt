@@ -9,10 +9,10 @@ use Rattle.text_words.proofs.Cuts.{split_some}
 use Rattle.tm_report.specs.Lines.{words_text}
 use Rattle.tm_report.specs.declared.lines.Line.{Line}
 use Rattle.report_reader.specs.declared.names.Name.{Name}
-use Rattle.report_reader.specs.Names.{name_of}
-use Rattle.report_reader.specs.Candidates.{later_of, line_of, is_over, words_left}
+use Rattle.report_reader.specs.Names.{line_name_of}
+use Rattle.report_reader.specs.Candidates.{later_of, line_for, is_over, words_left}
 use Rattle.report_reader.specs.Names.{head_word}
-use Rattle.report_reader.specs.Widths.{Fits}
+use Rattle.report_reader.specs.Widths.{FitsWidths}
 use Rattle.report_reader.specs.Reader.{IsNoLine, is_named}
 use Rattle.report_reader.specs.Reading.{IsLineOf}
 use Rattle.report_reader.proofs.Spelled.{words_cut}
@@ -20,31 +20,31 @@ use Rattle.report_reader.proofs.Named.{name, name_again, line_again}
 use Rattle.report_reader.proofs.Widths.{line_fits}
 
 -- a line with these words has the name that the first word spells, and is what they are read as
-named : (text : List ℕ) (l : Line) → Fits l → words_text l ≡ text → name_of (head_word (words_of text)) ≡ Some (name l)
-named text l h e = ap (λ (t : List ℕ). name_of (head_word (words_of t))) (sym e) ∙ ap (λ (ws : List (List ℕ)). name_of (head_word ws)) (words_cut l h) ∙ name_again l
+named : (text : List ℕ) (l : Line) → FitsWidths l → words_text l ≡ text → line_name_of (head_word (words_of text)) ≡ Some (name l)
+named text l h e = ap (λ (t : List ℕ). line_name_of (head_word (words_of t))) (sym e) ∙ ap (λ (ws : List (List ℕ)). line_name_of (head_word ws)) (words_cut l h) ∙ name_again l
 
-read_as : (text : List ℕ) (l : Line) → Fits l → words_text l ≡ text → line_of (name l) (later_of (words_of text)) ≡ l
+read_as : (text : List ℕ) (l : Line) → FitsWidths l → words_text l ≡ text → line_for (name l) (later_of (words_of text)) ≡ l
 read_as text l h e =
-    ap (λ (t : List ℕ). line_of (name l) (later_of (words_of t))) (sym e)
-    ∙ ap (λ (ws : List (List ℕ)). line_of (name l) (later_of ws)) (words_cut l h) ∙ line_again l h
+    ap (λ (t : List ℕ). line_for (name l) (later_of (words_of t))) (sym e)
+    ∙ ap (λ (ws : List (List ℕ)). line_for (name l) (later_of ws)) (words_cut l h) ∙ line_again l h
 
-pub unnamed : (text : List ℕ) → name_of (head_word (words_of text)) ≡ None → IsNoLine text × (is_named text ≡ false)
+pub unnamed : (text : List ℕ) → line_name_of (head_word (words_of text)) ≡ None → IsNoLine text × (is_named text ≡ false)
 unfolding IsNoLine is_named
 unnamed text none = (λ l h e. let clash = sym none ∙ named text l h e in absurd cc, ap (λ (o : Option Name). is_some o) none)
 
-module _ (text : List ℕ) (n : Name) (found : name_of (head_word (words_of text)) ≡ Some n) where
-  only : (l : Line) → Fits l → words_text l ≡ text → l ≡ line_of n (later_of (words_of text))
+module _ (text : List ℕ) (n : Name) (found : line_name_of (head_word (words_of text)) ≡ Some n) where
+  only : (l : Line) → FitsWidths l → words_text l ≡ text → l ≡ line_for n (later_of (words_of text))
   only l h e =
       let same : name l ≡ n = let both = sym (named text l h e) ∙ found in cc in
-      sym (read_as text l h e) ∙ ap (λ (m : Name). line_of m (later_of (words_of text))) same
+      sym (read_as text l h e) ∙ ap (λ (m : Name). line_for m (later_of (words_of text))) same
 
-  pub is_line : bytes_eq text (words_text (line_of n (later_of (words_of text)))) ≡ true → IsLineOf text (line_of n (later_of (words_of text)))
-  is_line same = record { fits = line_fits n (later_of (words_of text)); words = sym ((bytes_eq-Decides text (words_text (line_of n (later_of (words_of text))))).0 same); only = only }
+  pub is_line : bytes_eq text (words_text (line_for n (later_of (words_of text)))) ≡ true → IsLineOf text (line_for n (later_of (words_of text)))
+  is_line same = record { fits = line_fits n (later_of (words_of text)); words = sym ((bytes_eq-Decides text (words_text (line_for n (later_of (words_of text))))).0 same); only = only }
 
-  pub no_line : bytes_eq text (words_text (line_of n (later_of (words_of text)))) ≡ false → IsNoLine text × (is_named text ≡ true)
+  pub no_line : bytes_eq text (words_text (line_for n (later_of (words_of text)))) ≡ false → IsNoLine text × (is_named text ≡ true)
   unfolding IsNoLine is_named
   no_line other = (
-    λ l h e. false≢true (sym other ∙ (bytes_eq-Decides text (words_text (line_of n (later_of (words_of text))))).1 (sym e ∙ ap words_text (only l h e))),
+    λ l h e. false≢true (sym other ∙ (bytes_eq-Decides text (words_text (line_for n (later_of (words_of text))))).1 (sym e ∙ ap words_text (only l h e))),
     ap (λ (o : Option Name). is_some o) found,
   )
 

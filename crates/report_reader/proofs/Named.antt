@@ -10,9 +10,9 @@ use Rattle.tm_report.specs.declared.lines.ShownReason.{ShownReason}
 use Rattle.tm_report.specs.declared.lines.ShownReason.TheVariants as reason
 use Rattle.report_reader.specs.declared.names.Name.{Name}
 use Rattle.report_reader.specs.declared.names.Name.TheVariants.{Arm, Run, Cancel, NotQueued, Idle, Stay, Wake, Offline, Handed, Online, Control, Moved, Cover, Refused, Left, End, Why, Yes, No, Device}
-use Rattle.report_reader.specs.Names.{name_of}
-use Rattle.report_reader.specs.Candidates.{reply_of, cover_of, reason_of, refusal_of, line_of}
-use Rattle.report_reader.specs.Widths.{Fits, FitsReply, FitsCover, FitsReason}
+use Rattle.report_reader.specs.Names.{line_name_of}
+use Rattle.report_reader.specs.Candidates.{reply_of, cover_read, reason_of, refusal_of, line_for}
+use Rattle.report_reader.specs.Widths.{FitsWidths, FitsReply, FitsCover, FitsReason}
 use Rattle.report_reader.proofs.Numbers.{number_again, count_again, byte_again, cpu_again, timer_again}
 use Rattle.report_reader.proofs.Times.{time_again, class_again, level_again, place_again}
 use Rattle.report_reader.proofs.LineWords.{first_word, later_words, reply_first, reply_later, cover_first, cover_later, reason_first, reason_later}
@@ -40,8 +40,8 @@ name (line.Yes steps) = Yes
 name (line.No index) = No
 name (line.Device now until) = Device
 
-pub name_again : (l : Line) → name_of (first_word l) ≡ Some (name l)
-unfolding name_of
+pub name_again : (l : Line) → line_name_of (first_word l) ≡ Some (name l)
+unfolding line_name_of
 name_again (line.Arm now cpu timer class wheel) = refl
 name_again (line.Run now runner timer home wheel shown) = refl
 name_again (line.Cancel now cpu timer home) = refl
@@ -71,8 +71,8 @@ reply_again (reply.Mark number) h = λ i. reply.Mark (count_again number h i)
 reply_again (reply.Again class wheel) h = λ i. reply.Again (class_again class i) (time_again wheel h i)
 reply_again (reply.Skip cpu) h = λ i. reply.Skip (cpu_again cpu h i)
 
-cover_again : (shown : ShownCover) → FitsCover shown → cover_of (cover_first shown ∷ cover_later shown) ≡ shown
-unfolding cover_of
+cover_again : (shown : ShownCover) → FitsCover shown → cover_read (cover_first shown ∷ cover_later shown) ≡ shown
+unfolding cover_read
 cover_again (cover.Migrator level place cpu) h = λ i. cover.Migrator (level_again level place h.0 i) (place_again level place h.0 i) (cpu_again cpu h.1 i)
 cover_again (cover.Wake cpu at) h = λ i. cover.Wake (cpu_again cpu h.0 i) (time_again at h.1 i)
 
@@ -83,8 +83,8 @@ reason_again (reason.Woken cpu at) h = λ i. reason.Woken (cpu_again cpu h.0 i) 
 reason_again (reason.Carried number) h = λ i. reason.Carried (byte_again number h i)
 reason_again reason.Nothing h = refl
 
-pub line_again : (l : Line) → Fits l → line_of (name l) (later_words l) ≡ l
-unfolding line_of refusal_of Fits
+pub line_again : (l : Line) → FitsWidths l → line_for (name l) (later_words l) ≡ l
+unfolding line_for refusal_of FitsWidths
 line_again (line.Arm now cpu timer class wheel) h =
     λ i. line.Arm (number_again now h.0 i) (cpu_again cpu h.1 i) (timer_again timer h.2 i) (class_again class i) (time_again wheel h.3 i)
 line_again (line.Run now runner timer home wheel shown) h =

@@ -7,7 +7,7 @@ use Rattle.text_words.specs.Numbers.{value_from}
 use Rattle.text_words.proofs.Digits.{own}
 use Rattle.tm_base.specs.declared.names.CpuId.{CpuId}
 use Rattle.tm_base.specs.declared.names.TimerId.{TimerId}
-use Rattle.report_reader.specs.Candidates.{with_digit, number_from, number_of, count_of, short_of, byte_of, cpu_of, timer_of}
+use Rattle.report_reader.specs.Candidates.{with_read_digit, number_from, number_read, count_read, short_of, byte_of, cpu_read, timer_read}
 use Rattle.report_reader.specs.Widths.{FitsTime, FitsCount, FitsByte, FitsCpu, FitsTimer}
 
 -- further digits make no number smaller
@@ -15,7 +15,7 @@ grows : (n : ℕ) (cs : List ℕ) → n ≤ value_from n cs
 grows n [] = omega arith
 grows n (c ∷ cs) = let more = grows (n * 10 + (c - 48)) cs in omega (arith, more)
 
-digit_exact : (n c : ℕ) → n * 10 + (c - 48) < 2 ^ 64 → with_digit n c ≡ n * 10 + (c - 48)
+digit_exact : (n c : ℕ) → n * 10 + (c - 48) < 2 ^ 64 → with_read_digit n c ≡ n * 10 + (c - 48)
 digit_exact n c h =
     let tens : min (n * 10) (2 ^ 64 - 1) ≡ n * 10 = min-eq_left (omega arith) in
     ap (λ m. min (m + (c - 48)) (2 ^ 64 - 1)) tens ∙ min-eq_left (omega arith)
@@ -30,16 +30,16 @@ bounded : (n : ℕ) (cs : List ℕ) → n < 2 ^ 64 → number_from n cs < 2 ^ 64
 bounded n [] h = h
 bounded n (c ∷ cs) h =
     let most = min-le_right (min (n * 10) (2 ^ 64 - 1) + (c - 48)) (2 ^ 64 - 1) in
-    bounded (with_digit n c) cs (omega (arith, most))
+    bounded (with_read_digit n c) cs (omega (arith, most))
 
-pub number_again : (n : ℕ) → FitsTime n → number_of (decimal n) ≡ n
-unfolding number_of
+pub number_again : (n : ℕ) → FitsTime n → number_read (decimal n) ≡ n
+unfolding number_read
 number_again n h =
     let is = digits_value-decimal own n h in
     exact 0 (decimal n) (rw is h) ∙ is
 
-pub count_again : (n : ℕ) → FitsCount n → count_of (decimal n) ≡ n
-unfolding count_of
+pub count_again : (n : ℕ) → FitsCount n → count_read (decimal n) ≡ n
+unfolding count_read
 count_again n h = ap (λ m. min m (2 ^ 32 - 1)) (number_again n (omega (arith, h))) ∙ min-eq_left (omega (arith, h))
 
 pub short_again : (n : ℕ) → n < 2 ^ 16 → short_of (decimal n) ≡ n
@@ -50,26 +50,26 @@ pub byte_again : (n : ℕ) → FitsByte n → byte_of (decimal n) ≡ n
 unfolding byte_of
 byte_again n h = ap (λ m. min m (2 ^ 8 - 1)) (number_again n (omega (arith, h))) ∙ min-eq_left (omega (arith, h))
 
-pub cpu_again : (cpu : CpuId) → FitsCpu cpu → cpu_of (decimal cpu.0) ≡ cpu
+pub cpu_again : (cpu : CpuId) → FitsCpu cpu → cpu_read (decimal cpu.0) ≡ cpu
 cpu_again cpu h = let f : ℕ → CpuId = λ n. record { 0 = n } in ap f (short_again cpu.0 h)
 
-pub timer_again : (timer : TimerId) → FitsTimer timer → timer_of (decimal timer.0) ≡ timer
+pub timer_again : (timer : TimerId) → FitsTimer timer → timer_read (decimal timer.0) ≡ timer
 timer_again timer h = let f : ℕ → TimerId = λ n. record { 0 = n } in ap f (short_again timer.0 h)
 
 -- ---- widths
 
-pub number_fits : (word : List ℕ) → FitsTime (number_of word)
-unfolding number_of
+pub number_fits : (word : List ℕ) → FitsTime (number_read word)
+unfolding number_read
 number_fits word = bounded 0 word (omega arith)
 
-pub count_fits : (word : List ℕ) → FitsCount (count_of word)
-unfolding count_of
-count_fits word = let most = min-le_right (number_of word) (2 ^ 32 - 1) in omega (arith, most)
+pub count_fits : (word : List ℕ) → FitsCount (count_read word)
+unfolding count_read
+count_fits word = let most = min-le_right (number_read word) (2 ^ 32 - 1) in omega (arith, most)
 
 pub short_fits : (word : List ℕ) → short_of word < 2 ^ 16
 unfolding short_of
-short_fits word = let most = min-le_right (number_of word) (2 ^ 16 - 1) in omega (arith, most)
+short_fits word = let most = min-le_right (number_read word) (2 ^ 16 - 1) in omega (arith, most)
 
 pub byte_fits : (word : List ℕ) → FitsByte (byte_of word)
 unfolding byte_of
-byte_fits word = let most = min-le_right (number_of word) (2 ^ 8 - 1) in omega (arith, most)
+byte_fits word = let most = min-le_right (number_read word) (2 ^ 8 - 1) in omega (arith, most)

@@ -12,8 +12,8 @@ use Rattle.report_reader.specs.declared.faults.Kind.{Kind}
 use Rattle.report_reader.specs.declared.faults.Kind.TheVariants.{UnknownName, WrongWords, NoLineFeed}
 use Rattle.report_reader.specs.Candidates.{later_of}
 use Rattle.report_reader.specs.Names.{head_word}
-use Rattle.report_reader.specs.Widths.{Fits}
-use Rattle.report_reader.specs.Reader.{IsReportOf, AreOnlyLinesOf, IsNoLine, IsCause, IsFirstFault}
+use Rattle.report_reader.specs.Widths.{FitsWidths}
+use Rattle.report_reader.specs.Reader.{IsReportOf, AreOnlyLinesOf, IsNoLine, IsFaultCause, IsFirstFault}
 use Rattle.report_reader.specs.Reading.{IsLineOf, ReadsLine}
 use Rattle.report_reader.proofs.Spelled.{line_clear}
 
@@ -45,12 +45,12 @@ read_more bytes lines rest text after l so_far cut is =
       read = are_more lines l so_far.read (own_line text l is);
     }
 
-fit_read : (ls : List Line) → AreRead ls → AllByRecursion Fits ls
+fit_read : (ls : List Line) → AreRead ls → AllByRecursion FitsWidths ls
 fit_read [] h = tt
 fit_read (l ∷ ls) h = (h.0.fits, fit_read ls h.1)
 
-pub all_fit : (ls : List Line) → AreRead ls → All Fits ls
-all_fit ls h = All-from_recursion Fits ls (fit_read ls h)
+pub all_fit : (ls : List Line) → AreRead ls → All FitsWidths ls
+all_fit ls h = All-from_recursion FitsWidths ls (fit_read ls h)
 
 -- the text of a report is its lines, each ended
 ended_lines : (ls : List Line) → flat_map ended (map words_text ls) ≡ report_text ls
@@ -58,7 +58,7 @@ unfolding line_text
 ended_lines [] = refl
 ended_lines (l ∷ ls) = ap (λ (r : List ℕ). (words_text l ++ 10 ∷ []) ++ r) (ended_lines ls)
 
-clear_lines : (ls : List Line) → AllByRecursion Fits ls → AreClear 10 (map words_text ls)
+clear_lines : (ls : List Line) → AllByRecursion FitsWidths ls → AreClear 10 (map words_text ls)
 clear_lines [] h = tt
 clear_lines (l ∷ ls) h = (line_clear l h.0, clear_lines ls h.1)
 
@@ -66,7 +66,7 @@ clear_lines (l ∷ ls) h = (line_clear l h.0, clear_lines ls h.1)
 parts : (bytes : List ℕ) (ls : List Line) → IsReportOf bytes ls → lines_of bytes ≡ map words_text ls ++ [] ∷ []
 parts bytes ls is =
     ap lines_of (sym is.text ∙ sym (ended_lines ls))
-    ∙ lines_again (map words_text ls) (clear_lines ls (recursion_from_All Fits ls is.fit))
+    ∙ lines_again (map words_text ls) (clear_lines ls (recursion_from_All FitsWidths ls is.fit))
 
 pub report_read : (bytes : List ℕ) (lines : List Line) → ReadSoFar bytes lines [] → IsReportOf bytes lines
 report_read bytes lines so_far =
@@ -79,7 +79,7 @@ no_end : (xs : List (List ℕ)) (y : List ℕ) (ys : List (List ℕ)) → [] ≢
 no_end [] y ys e = absurd cc
 no_end (x ∷ xs) y ys e = absurd cc
 
-same_lines : (ks ls : List Line) → AllByRecursion Fits ks → AreRead ls → map words_text ks ++ [] ∷ [] ≡ map words_text ls ++ [] ∷ [] → ks ≡ ls
+same_lines : (ks ls : List Line) → AllByRecursion FitsWidths ks → AreRead ls → map words_text ks ++ [] ∷ [] ≡ map words_text ls ++ [] ∷ [] → ks ≡ ls
 same_lines [] [] h g e = refl
 same_lines [] (l ∷ ls) h g e = absurd (no_end (map words_text ls) [] [] (ap later_of e))
 same_lines (k ∷ ks) [] h g e = absurd (no_end (map words_text ks) [] [] (sym (ap later_of e)))
@@ -90,14 +90,14 @@ same_lines (k ∷ ks) (l ∷ ls) h g e =
 
 pub only_lines : (bytes : List ℕ) (lines : List Line) → ReadSoFar bytes lines [] → AreOnlyLinesOf bytes lines
 only_lines bytes lines so_far ks is =
-    same_lines ks lines (recursion_from_All Fits ks is.fit) so_far.read (sym (parts bytes ks is) ∙ so_far.parted)
+    same_lines ks lines (recursion_from_All FitsWidths ks is.fit) so_far.read (sym (parts bytes ks is) ∙ so_far.parted)
 
 -- ---- refusals
 
 abbrev pub Stops : List ℕ → List (List ℕ) → Type 0
 Stops text behind = (IsNoLine text × (behind ≢ [])) ⊎ ((behind ≡ []) × (text ≢ []))
 
-stopped : (ks ls : List Line) (text : List ℕ) (behind : List (List ℕ)) → Stops text behind → AllByRecursion Fits ks → map words_text ks ++ [] ∷ [] ≢ map words_text ls ++ text ∷ behind
+stopped : (ks ls : List Line) (text : List ℕ) (behind : List (List ℕ)) → Stops text behind → AllByRecursion FitsWidths ks → map words_text ks ++ [] ∷ [] ≢ map words_text ls ++ text ∷ behind
 unfolding IsNoLine
 stopped [] [] text behind (inl h) fit e = h.1 (sym (ap later_of e))
 stopped [] [] text behind (inr h) fit e = h.1 (sym (ap head_word e))
@@ -106,25 +106,25 @@ stopped (k ∷ ks) [] text behind (inl h) fit e = h.0 k fit.0 (ap head_word e)
 stopped (k ∷ ks) [] text behind (inr h) fit e = no_end (map words_text ks) [] [] (sym (ap later_of e ∙ h.0))
 stopped (k ∷ ks) (l ∷ ls) text behind h fit e = stopped ks ls text behind h fit.1 (ap later_of e)
 
-stops : (kind : Kind) (text : List ℕ) (behind : List (List ℕ)) → IsCause kind text behind → Stops text behind
+stops : (kind : Kind) (text : List ℕ) (behind : List (List ℕ)) → IsFaultCause kind text behind → Stops text behind
 stops UnknownName text behind h = inl (h.1, h.0)
 stops WrongWords text behind h = inl (h.1, h.0)
 stops NoLineFeed text behind h = inr h
 
 -- a fault behind the lines read so far
-pub fault_behind : (bytes : List ℕ) (lines : List Line) (rest text : List ℕ) (behind : List (List ℕ)) (kind : Kind) → ReadSoFar bytes lines rest → lines_of rest ≡ text ∷ behind → IsCause kind text behind
+pub fault_behind : (bytes : List ℕ) (lines : List Line) (rest text : List ℕ) (behind : List (List ℕ)) (kind : Kind) → ReadSoFar bytes lines rest → lines_of rest ≡ text ∷ behind → IsFaultCause kind text behind
     → IsFirstFault bytes (record { line = length lines + 1; kind = kind }) × ((ks : List Line) → IsReportOf bytes ks → ⊥)
 fault_behind bytes lines rest text behind kind so_far cut cause =
     let parted = so_far.parted ∙ ap (λ (ts : List (List ℕ)). map words_text lines ++ ts) cut in (
       record { before = lines; fit = all_fit lines so_far.read; text = text; behind = behind; parted = parted; number = refl; cause = cause },
-      λ ks is. stopped ks lines text behind (stops kind text behind cause) (recursion_from_All Fits ks is.fit) (sym (parts bytes ks is) ∙ parted),
+      λ ks is. stopped ks lines text behind (stops kind text behind cause) (recursion_from_All FitsWidths ks is.fit) (sym (parts bytes ks is) ∙ parted),
     )
 
 some_behind : (after : List ℕ) → lines_of after ≢ []
 some_behind after e = let some = split_some 10 after in let clash = sym e ∙ some.2 in absurd cc
 
 -- why a line isn't read, where a line feed ends it
-pub cause_of : (kind : Kind) (text after : List ℕ) → ReadsLine text (Err kind) → IsCause kind text (lines_of after)
+pub cause_of : (kind : Kind) (text after : List ℕ) → ReadsLine text (Err kind) → IsFaultCause kind text (lines_of after)
 cause_of UnknownName text after h = (some_behind after, h.0, h.1)
 cause_of WrongWords text after h = (some_behind after, h.0, h.1)
 cause_of NoLineFeed text after h = absurd h

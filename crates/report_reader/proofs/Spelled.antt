@@ -17,7 +17,7 @@ use Rattle.tm_report.specs.declared.lines.ShownCover.{ShownCover}
 use Rattle.tm_report.specs.declared.lines.ShownCover.TheVariants as cover
 use Rattle.tm_report.specs.declared.lines.ShownReason.{ShownReason}
 use Rattle.tm_report.specs.declared.lines.ShownReason.TheVariants as reason
-use Rattle.report_reader.specs.Widths.{Fits, FitsCount, FitsByte, FitsCpu, FitsTimer, FitsReply, FitsCover, FitsReason}
+use Rattle.report_reader.specs.Widths.{FitsWidths, FitsCount, FitsByte, FitsCpu, FitsTimer, FitsReply, FitsCover, FitsReason}
 use Rattle.report_reader.proofs.Times.{IsWord, number_word, time_is_word, class_is_word, group_is_word}
 use Rattle.report_reader.proofs.LineWords.{first_word, later_words, line_spaced, reply_first, reply_later, cover_first, cover_later, reason_first, reason_later}
 
@@ -52,8 +52,8 @@ reason_words_are (reason.Woken cpu at) h = ((refl, refl), (cpu_word cpu h.0, (ti
 reason_words_are (reason.Carried number) h = ((refl, refl), (byte_word number h, tt))
 reason_words_are reason.Nothing h = ((refl, refl), tt)
 
-words_are : (l : Line) → Fits l → AreWords (first_word l ∷ later_words l)
-unfolding Fits
+words_are : (l : Line) → FitsWidths l → AreWords (first_word l ∷ later_words l)
+unfolding FitsWidths
 words_are (line.Arm now cpu timer class wheel) h = ((refl, refl), (number_word now h.0, (cpu_word cpu h.1, (timer_word timer h.2, (class_is_word class, (time_is_word wheel h.3, tt))))))
 words_are (line.Run now runner timer home wheel shown) h =
     ((refl, refl), (number_word now h.0, (cpu_word runner h.1, (timer_word timer h.2, (cpu_word home h.3, (time_is_word wheel h.4, reply_words_are shown h.5))))))
@@ -87,9 +87,9 @@ no_line_feed first [] h = h.0.1
 no_line_feed first (w ∷ ws) h = rw list_all-append (and_from _ _ h.0.1 (no_line_feed w ws h.1))
 
 -- a line is cut into its words
-pub words_cut : (l : Line) → Fits l → words_of (words_text l) ≡ first_word l ∷ later_words l
+pub words_cut : (l : Line) → FitsWidths l → words_of (words_text l) ≡ first_word l ∷ later_words l
 words_cut l h = ap words_of (line_spaced l) ∙ words_again (first_word l) (later_words l) (no_space (first_word l ∷ later_words l) (words_are l h))
 
 -- and holds no line feed
-pub line_clear : (l : Line) → Fits l → is_clear 10 (words_text l) ≡ true
+pub line_clear : (l : Line) → FitsWidths l → is_clear 10 (words_text l) ≡ true
 line_clear l h = ap (is_clear 10) (line_spaced l) ∙ no_line_feed (first_word l) (later_words l) (words_are l h)

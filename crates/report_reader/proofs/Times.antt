@@ -17,7 +17,7 @@ use Rattle.tm_base.specs.declared.names.Class.{Class}
 use Rattle.tm_base.specs.declared.names.Class.TheVariants.{Pinned, Global, Deferrable}
 use Rattle.tm_base.specs.declared.names.TheConstants.{NEVER}
 use Rattle.tm_report.specs.Words.{time_word, group_text}
-use Rattle.report_reader.specs.Candidates.{later_of, number_of, time_of, class_of, level_of, place_of, byte_of, short_of}
+use Rattle.report_reader.specs.Candidates.{later_of, number_read, jiffy_read, class_read, level_for, place_for, byte_of, short_of}
 use Rattle.report_reader.specs.Names.{head_word}
 use Rattle.report_reader.specs.Widths.{FitsTime, FitsGroup}
 use Rattle.report_reader.proofs.Numbers.{number_again, number_fits, byte_again, short_again}
@@ -54,20 +54,20 @@ not_never n h =
       | inr other ↦ other
     ]
 
-time_read : (t : Bool) (at : ℕ) → FitsTime at → eqb at NEVER ≡ t → time_of (cond t (codes "never") (decimal at)) ≡ at
-unfolding time_of
+time_read : (t : Bool) (at : ℕ) → FitsTime at → eqb at NEVER ≡ t → jiffy_read (cond t (codes "never") (decimal at)) ≡ at
+unfolding jiffy_read
 time_read true at h e = sym (eqb-true at NEVER e)
-time_read false at h e = cond-false (bytes_eq (decimal at) (codes "never")) NEVER (number_of (decimal at)) (not_never at h) ∙ number_again at h
+time_read false at h e = cond-false (bytes_eq (decimal at) (codes "never")) NEVER (number_read (decimal at)) (not_never at h) ∙ number_again at h
 
-pub time_again : (at : ℕ) → FitsTime at → time_of (time_text at) ≡ at
+pub time_again : (at : ℕ) → FitsTime at → jiffy_read (time_text at) ≡ at
 time_again at h = time_read (eqb at NEVER) at h refl
 
-time_within : (t : Bool) (word : List ℕ) → FitsTime (cond t NEVER (number_of word))
+time_within : (t : Bool) (word : List ℕ) → FitsTime (cond t NEVER (number_read word))
 time_within true word = omega arith
 time_within false word = number_fits word
 
-pub time_fits : (word : List ℕ) → FitsTime (time_of word)
-unfolding time_of
+pub time_fits : (word : List ℕ) → FitsTime (jiffy_read word)
+unfolding jiffy_read
 time_fits word = time_within (bytes_eq word (codes "never")) word
 
 pub class_is_word : (class : Class) → IsWord (class_text class)
@@ -75,8 +75,8 @@ class_is_word Pinned = (refl, refl)
 class_is_word Global = (refl, refl)
 class_is_word Deferrable = (refl, refl)
 
-pub class_again : (class : Class) → class_of (class_text class) ≡ class
-unfolding class_of
+pub class_again : (class : Class) → class_read (class_text class) ≡ class
+unfolding class_read
 class_again Pinned = refl
 class_again Global = refl
 class_again Deferrable = refl
@@ -97,10 +97,10 @@ group_split level place h =
     ∙ split_again 58 (decimal level) (decimal place) (clear_decimal 58 level refl (omega (arith, h.0)))
     ∙ ap (λ (r : List (List ℕ)). decimal level ∷ r) (split_clear 58 (decimal place) (clear_decimal 58 place refl (omega (arith, h.1))))
 
-pub level_again : (level place : ℕ) → FitsGroup level place → level_of (group_text level place) ≡ level
-unfolding level_of
+pub level_again : (level place : ℕ) → FitsGroup level place → level_for (group_text level place) ≡ level
+unfolding level_for
 level_again level place h = ap (λ (ws : List (List ℕ)). byte_of (head_word ws)) (group_split level place h) ∙ byte_again level h.0
 
-pub place_again : (level place : ℕ) → FitsGroup level place → place_of (group_text level place) ≡ place
-unfolding place_of
+pub place_again : (level place : ℕ) → FitsGroup level place → place_for (group_text level place) ≡ place
+unfolding place_for
 place_again level place h = ap (λ (ws : List (List ℕ)). short_of (head_word (later_of ws))) (group_split level place h) ∙ short_again place h.1

@@ -14,27 +14,27 @@ head_word [] = []
 head_word (w ∷ ws) = w
 
 -- the first word of a line of this name
-abbrev pub word_of : Name → List ℕ
-word_of Arm = codes "arm"
-word_of Run = codes "run"
-word_of Cancel = codes "cancel"
-word_of NotQueued = codes "none"
-word_of Idle = codes "idle"
-word_of Stay = codes "stay"
-word_of Wake = codes "wake"
-word_of Offline = codes "offline"
-word_of Handed = codes "handed"
-word_of Online = codes "online"
-word_of Control = codes "control"
-word_of Moved = codes "moved"
-word_of Cover = codes "cover"
-word_of Refused = codes "refused"
-word_of Left = codes "left"
-word_of End = codes "end"
-word_of Why = codes "why"
-word_of Yes = codes "yes"
-word_of No = codes "no"
-word_of Device = codes "device"
+abbrev pub line_word_of : Name → List ℕ
+line_word_of Arm = codes "arm"
+line_word_of Run = codes "run"
+line_word_of Cancel = codes "cancel"
+line_word_of NotQueued = codes "none"
+line_word_of Idle = codes "idle"
+line_word_of Stay = codes "stay"
+line_word_of Wake = codes "wake"
+line_word_of Offline = codes "offline"
+line_word_of Handed = codes "handed"
+line_word_of Online = codes "online"
+line_word_of Control = codes "control"
+line_word_of Moved = codes "moved"
+line_word_of Cover = codes "cover"
+line_word_of Refused = codes "refused"
+line_word_of Left = codes "left"
+line_word_of End = codes "end"
+line_word_of Why = codes "why"
+line_word_of Yes = codes "yes"
+line_word_of No = codes "no"
+line_word_of Device = codes "device"
 
 -- the names of lines on CPUs that go idle, wake and go offline, and of what is left
 abbrev pub state_names : List Name
@@ -48,8 +48,8 @@ all_names =
 
 -- the name among these that is spelled so
 abbrev pub name_among : List Name → List ℕ → Option Name
-name_among names word = find (λ name. bytes_eq word (word_of name)) names
+name_among names word = find (λ name. bytes_eq word (line_word_of name)) names
 
 -- the name that is spelled so
-unfoldable pub name_of : List ℕ → Option Name
-name_of word = name_among all_names word
+unfoldable pub line_name_of : List ℕ → Option Name
+line_name_of word = name_among all_names word

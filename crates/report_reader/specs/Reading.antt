@@ -6,13 +6,13 @@ use Rattle.report_reader.specs.declared.faults.Kind.{Kind}
 use Rattle.report_reader.specs.declared.faults.Kind.TheVariants.{UnknownName, WrongWords}
 use Rattle.report_reader.specs.declared.faults.Kind.TheVariants.{NoLineFeed}
 use Rattle.report_reader.specs.Reader.{IsNoLine, is_named}
-use Rattle.report_reader.specs.Widths.{Fits}
+use Rattle.report_reader.specs.Widths.{FitsWidths}
 
 -- the line has these words, and no other has
 pub record IsLineOf (text : List ℕ) (line : Line) : Type 0 where
-  pub fits : Fits line
+  pub fits : FitsWidths line
   pub words : words_text line ≡ text
-  pub only : (other : Line) → Fits other → words_text other ≡ text → other ≡ line
+  pub only : (other : Line) → FitsWidths other → words_text other ≡ text → other ≡ line
 
 -- the line that has these words, or why none has
 abbrev pub ReadsLine : List ℕ → Result Line Kind → Type 0

@@ -55,34 +55,34 @@ FitsReason (reason.Carried number) = FitsByte number
 FitsReason reason.Nothing = Unit {0}
 
 -- a line
-unfoldable pub Fits : Line → Type 0
-Fits (line.Arm now cpu timer class wheel) =
+unfoldable pub FitsWidths : Line → Type 0
+FitsWidths (line.Arm now cpu timer class wheel) =
     FitsTime now × FitsCpu cpu × FitsTimer timer × FitsTime wheel
-Fits (line.Run now runner timer home wheel shown) =
+FitsWidths (line.Run now runner timer home wheel shown) =
     FitsTime now × FitsCpu runner × FitsTimer timer × FitsCpu home × FitsTime wheel
     × FitsReply shown
-Fits (line.Cancel now cpu timer home) =
+FitsWidths (line.Cancel now cpu timer home) =
     FitsTime now × FitsCpu cpu × FitsTimer timer × FitsCpu home
-Fits (line.NotQueued now cpu timer) = FitsTime now × FitsCpu cpu × FitsTimer timer
-Fits (line.Idle now cpu until) = FitsTime now × FitsCpu cpu × FitsTime until
-Fits (line.Stay now cpu first) = FitsTime now × FitsCpu cpu × FitsTime first
-Fits (line.Wake now cpu) = FitsTime now × FitsCpu cpu
-Fits (line.Offline now cpu) = FitsTime now × FitsCpu cpu
-Fits (line.Handed now cpu to) = FitsTime now × FitsCpu cpu × FitsCpu to
-Fits (line.Online now cpu) = FitsTime now × FitsCpu cpu
-Fits (line.Control now cpu) = FitsTime now × FitsCpu cpu
-Fits (line.Moved now timer from to wheel) =
+FitsWidths (line.NotQueued now cpu timer) = FitsTime now × FitsCpu cpu × FitsTimer timer
+FitsWidths (line.Idle now cpu until) = FitsTime now × FitsCpu cpu × FitsTime until
+FitsWidths (line.Stay now cpu first) = FitsTime now × FitsCpu cpu × FitsTime first
+FitsWidths (line.Wake now cpu) = FitsTime now × FitsCpu cpu
+FitsWidths (line.Offline now cpu) = FitsTime now × FitsCpu cpu
+FitsWidths (line.Handed now cpu to) = FitsTime now × FitsCpu cpu × FitsCpu to
+FitsWidths (line.Online now cpu) = FitsTime now × FitsCpu cpu
+FitsWidths (line.Control now cpu) = FitsTime now × FitsCpu cpu
+FitsWidths (line.Moved now timer from to wheel) =
     FitsTime now × FitsTimer timer × FitsCpu from × FitsCpu to × FitsTime wheel
-Fits (line.Cover now cpu wheel shown) =
+FitsWidths (line.Cover now cpu wheel shown) =
     FitsTime now × FitsCpu cpu × FitsTime wheel × FitsCover shown
-Fits (line.Refused now cpu place number) =
+FitsWidths (line.Refused now cpu place number) =
     FitsTime now × FitsCpu cpu × FitsCount place × FitsByte number
-Fits (line.RefusedQueued now cpu place number holder) =
+FitsWidths (line.RefusedQueued now cpu place number holder) =
     FitsTime now × FitsCpu cpu × FitsCount place × FitsByte number × FitsCpu holder
-Fits (line.Left timer cpu class wheel) = FitsTimer timer × FitsCpu cpu × FitsTime wheel
-Fits (line.End now) = FitsTime now
-Fits (line.Why steps cpu timer shown) =
+FitsWidths (line.Left timer cpu class wheel) = FitsTimer timer × FitsCpu cpu × FitsTime wheel
+FitsWidths (line.End now) = FitsTime now
+FitsWidths (line.Why steps cpu timer shown) =
     FitsCount steps × FitsCpu cpu × FitsTimer timer × FitsReason shown
-Fits (line.Yes steps) = FitsCount steps
-Fits (line.No index) = FitsCount index
-Fits (line.Device now until) = FitsTime now × FitsTime until
+FitsWidths (line.Yes steps) = FitsCount steps
+FitsWidths (line.No index) = FitsCount index
+FitsWidths (line.Device now until) = FitsTime now × FitsTime until

@@ -1,7 +1,7 @@
 //! The one line whose text some words can be.
 
 ghost use Rattle.std.specs.Prelude.{◌≡◌};
-ghost use Rattle.report_reader.specs.Candidates.{line_of, reply_of, cover_of, reason_of};
+ghost use Rattle.report_reader.specs.Candidates.{cover_read, line_for, reason_of, reply_of};
 ghost use Rattle.report_reader.specs.declared.names.Name.TheVariants as names;
 
 use crate::names::Name;
@@ -10,7 +10,7 @@ use tm_report::{Line, ShownCover, ShownReason, ShownReply};
 
 /// The line of this name, by the words behind it.
 pub fn line_of(name: Name, words: &mut Words) -> Line
-    ensures { result ≡ line_of name words.old }
+    ensures { result ≡ line_for name words.old }
 {
     match name {
         Name::Arm => arm(words),
@@ -36,9 +36,9 @@ pub fn line_of(name: Name, words: &mut Words) -> Line
     }
 }
 
-#[tactic(auto, unfolding(crate::specs::Candidates::line_of))]
+#[tactic(auto, unfolding(crate::specs::Candidates::line_for))]
 fn arm(words: &mut Words) -> Line
-    ensures { result ≡ line_of names.Arm words.old }
+    ensures { result ≡ line_for names.Arm words.old }
 {
     Line::Arm {
         now: words.number(),
@@ -49,9 +49,9 @@ fn arm(words: &mut Words) -> Line
     }
 }
 
-#[tactic(auto, unfolding(crate::specs::Candidates::line_of))]
+#[tactic(auto, unfolding(crate::specs::Candidates::line_for))]
 fn run(words: &mut Words) -> Line
-    ensures { result ≡ line_of names.Run words.old }
+    ensures { result ≡ line_for names.Run words.old }
 {
     Line::Run {
         now: words.number(),
@@ -63,9 +63,9 @@ fn run(words: &mut Words) -> Line
     }
 }
 
-#[tactic(auto, unfolding(crate::specs::Candidates::line_of))]
+#[tactic(auto, unfolding(crate::specs::Candidates::line_for))]
 fn cancel(words: &mut Words) -> Line
-    ensures { result ≡ line_of names.Cancel words.old }
+    ensures { result ≡ line_for names.Cancel words.old }
 {
     Line::Cancel {
         now: words.number(),
@@ -75,9 +75,9 @@ fn cancel(words: &mut Words) -> Line
     }
 }
 
-#[tactic(auto, unfolding(crate::specs::Candidates::line_of))]
+#[tactic(auto, unfolding(crate::specs::Candidates::line_for))]
 fn not_queued(words: &mut Words) -> Line
-    ensures { result ≡ line_of names.NotQueued words.old }
+    ensures { result ≡ line_for names.NotQueued words.old }
 {
     Line::NotQueued {
         now: words.number(),
@@ -86,9 +86,9 @@ fn not_queued(words: &mut Words) -> Line
     }
 }
 
-#[tactic(auto, unfolding(crate::specs::Candidates::line_of))]
+#[tactic(auto, unfolding(crate::specs::Candidates::line_for))]
 fn idle(words: &mut Words) -> Line
-    ensures { result ≡ line_of names.Idle words.old }
+    ensures { result ≡ line_for names.Idle words.old }
 {
     Line::Idle {
         now: words.number(),
@@ -97,9 +97,9 @@ fn idle(words: &mut Words) -> Line
     }
 }
 
-#[tactic(auto, unfolding(crate::specs::Candidates::line_of))]
+#[tactic(auto, unfolding(crate::specs::Candidates::line_for))]
 fn stay(words: &mut Words) -> Line
-    ensures { result ≡ line_of names.Stay words.old }
+    ensures { result ≡ line_for names.Stay words.old }
 {
     Line::Stay {
         now: words.number(),
@@ -108,9 +108,9 @@ fn stay(words: &mut Words) -> Line
     }
 }
 
-#[tactic(auto, unfolding(crate::specs::Candidates::line_of))]
+#[tactic(auto, unfolding(crate::specs::Candidates::line_for))]
 fn wake(words: &mut Words) -> Line
-    ensures { result ≡ line_of names.Wake words.old }
+    ensures { result ≡ line_for names.Wake words.old }
 {
     Line::Wake {
         now: words.number(),
@@ -118,9 +118,9 @@ fn wake(words: &mut Words) -> Line
     }
 }
 
-#[tactic(auto, unfolding(crate::specs::Candidates::line_of))]
+#[tactic(auto, unfolding(crate::specs::Candidates::line_for))]
 fn offline(words: &mut Words) -> Line
-    ensures { result ≡ line_of names.Offline words.old }
+    ensures { result ≡ line_for names.Offline words.old }
 {
     Line::Offline {
         now: words.number(),
@@ -128,9 +128,9 @@ fn offline(words: &mut Words) -> Line
     }
 }
 
-#[tactic(auto, unfolding(crate::specs::Candidates::line_of))]
+#[tactic(auto, unfolding(crate::specs::Candidates::line_for))]
 fn handed(words: &mut Words) -> Line
-    ensures { result ≡ line_of names.Handed words.old }
+    ensures { result ≡ line_for names.Handed words.old }
 {
     Line::Handed {
         now: words.number(),
@@ -139,9 +139,9 @@ fn handed(words: &mut Words) -> Line
     }
 }
 
-#[tactic(auto, unfolding(crate::specs::Candidates::line_of))]
+#[tactic(auto, unfolding(crate::specs::Candidates::line_for))]
 fn online(words: &mut Words) -> Line
-    ensures { result ≡ line_of names.Online words.old }
+    ensures { result ≡ line_for names.Online words.old }
 {
     Line::Online {
         now: words.number(),
@@ -149,9 +149,9 @@ fn online(words: &mut Words) -> Line
     }
 }
 
-#[tactic(auto, unfolding(crate::specs::Candidates::line_of))]
+#[tactic(auto, unfolding(crate::specs::Candidates::line_for))]
 fn control(words: &mut Words) -> Line
-    ensures { result ≡ line_of names.Control words.old }
+    ensures { result ≡ line_for names.Control words.old }
 {
     Line::Control {
         now: words.number(),
@@ -159,9 +159,9 @@ fn control(words: &mut Words) -> Line
     }
 }
 
-#[tactic(auto, unfolding(crate::specs::Candidates::line_of))]
+#[tactic(auto, unfolding(crate::specs::Candidates::line_for))]
 fn moved_timer(words: &mut Words) -> Line
-    ensures { result ≡ line_of names.Moved words.old }
+    ensures { result ≡ line_for names.Moved words.old }
 {
     Line::Moved {
         now: words.number(),
@@ -172,9 +172,9 @@ fn moved_timer(words: &mut Words) -> Line
     }
 }
 
-#[tactic(auto, unfolding(crate::specs::Candidates::line_of))]
+#[tactic(auto, unfolding(crate::specs::Candidates::line_for))]
 fn cover(words: &mut Words) -> Line
-    ensures { result ≡ line_of names.Cover words.old }
+    ensures { result ≡ line_for names.Cover words.old }
 {
     Line::Cover {
         now: words.number(),
@@ -184,9 +184,9 @@ fn cover(words: &mut Words) -> Line
     }
 }
 
-#[tactic(auto, unfolding(crate::specs::Candidates::line_of))]
+#[tactic(auto, unfolding(crate::specs::Candidates::line_for))]
 fn left(words: &mut Words) -> Line
-    ensures { result ≡ line_of names.Left words.old }
+    ensures { result ≡ line_for names.Left words.old }
 {
     Line::Left {
         timer: words.timer(),
@@ -196,18 +196,18 @@ fn left(words: &mut Words) -> Line
     }
 }
 
-#[tactic(auto, unfolding(crate::specs::Candidates::line_of))]
+#[tactic(auto, unfolding(crate::specs::Candidates::line_for))]
 fn end(words: &mut Words) -> Line
-    ensures { result ≡ line_of names.End words.old }
+    ensures { result ≡ line_for names.End words.old }
 {
     Line::End {
         now: words.number(),
     }
 }
 
-#[tactic(auto, unfolding(crate::specs::Candidates::line_of))]
+#[tactic(auto, unfolding(crate::specs::Candidates::line_for))]
 fn why(words: &mut Words) -> Line
-    ensures { result ≡ line_of names.Why words.old }
+    ensures { result ≡ line_for names.Why words.old }
 {
     Line::Why {
         steps: words.count(),
@@ -217,27 +217,27 @@ fn why(words: &mut Words) -> Line
     }
 }
 
-#[tactic(auto, unfolding(crate::specs::Candidates::line_of))]
+#[tactic(auto, unfolding(crate::specs::Candidates::line_for))]
 fn yes(words: &mut Words) -> Line
-    ensures { result ≡ line_of names.Yes words.old }
+    ensures { result ≡ line_for names.Yes words.old }
 {
     Line::Yes {
         steps: words.count(),
     }
 }
 
-#[tactic(auto, unfolding(crate::specs::Candidates::line_of))]
+#[tactic(auto, unfolding(crate::specs::Candidates::line_for))]
 fn no(words: &mut Words) -> Line
-    ensures { result ≡ line_of names.No words.old }
+    ensures { result ≡ line_for names.No words.old }
 {
     Line::No {
         index: words.count(),
     }
 }
 
-#[tactic(auto, unfolding(crate::specs::Candidates::line_of))]
+#[tactic(auto, unfolding(crate::specs::Candidates::line_for))]
 fn device(words: &mut Words) -> Line
-    ensures { result ≡ line_of names.Device words.old }
+    ensures { result ≡ line_for names.Device words.old }
 {
     Line::Device {
         now: words.number(),
@@ -245,9 +245,9 @@ fn device(words: &mut Words) -> Line
     }
 }
 
-#[tactic(auto, unfolding(crate::specs::Candidates::line_of, crate::specs::Candidates::refusal_of))]
+#[tactic(auto, unfolding(crate::specs::Candidates::line_for, crate::specs::Candidates::refusal_of))]
 fn refusal(words: &mut Words) -> Line
-    ensures { result ≡ line_of names.Refused words.old }
+    ensures { result ≡ line_for names.Refused words.old }
 {
     let now = words.number();
     let cpu = words.cpu();
@@ -289,9 +289,9 @@ fn reply(words: &mut Words) -> ShownReply
     }
 }
 
-#[tactic(auto, unfolding(crate::specs::Candidates::cover_of))]
+#[tactic(auto, unfolding(crate::specs::Candidates::cover_read))]
 fn shown_cover(words: &mut Words) -> ShownCover
-    ensures { result ≡ cover_of words.old }
+    ensures { result ≡ cover_read words.old }
 {
     if words.word() == b"migrator".as_slice() {
         let (level, place) = words.group();

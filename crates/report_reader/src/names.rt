@@ -1,7 +1,7 @@
 //! The names of lines.
 
 ghost use Rattle.std.specs.Prelude.{◌≡◌};
-ghost use Rattle.report_reader.specs.Names.{name_of, name_among, state_names};
+ghost use Rattle.report_reader.specs.Names.{line_name_of, name_among, state_names};
 
 /// The name of a line, by its first word. A timer that is queued nowhere is told by `none`, every
 /// other name is spelled as it is called here.
@@ -30,9 +30,9 @@ pub enum Name {
 }
 
 /// The name that a word spells.
-#[tactic(auto, unfolding(crate::specs::Names::name_of))]
+#[tactic(auto, unfolding(crate::specs::Names::line_name_of))]
 pub fn name_of(word: &[u8]) -> Option<Name>
-    ensures { result ≡ name_of word.now }
+    ensures { result ≡ line_name_of word.now }
 {
     if word == b"arm".as_slice() {
         Some(Name::Arm)

@@ -3,7 +3,7 @@
 ghost use Rattle.std.specs.Prelude.{◌≡◌, ◌+◌, ◌<◌, ◌^◌, IfOk, IfErr};
 ghost use Rattle.std.specs.Str.{bytes_eq};
 ghost use Rattle.tm_report.specs.Lines.{words_text};
-ghost use Rattle.report_reader.specs.Reader.{IsReportOf, AreOnlyLinesOf, IsRefusalOf};
+ghost use Rattle.report_reader.specs.Reader.{AreOnlyLinesOf, IsReportOf, IsReportRefusalOf};
 ghost use Rattle.report_reader.specs.Reading.{ReadsLine};
 
 use crate::candidates::line_of;
@@ -48,7 +48,7 @@ fn read_line(draft: &mut Report, words: &[u8]) -> Result<Result<Line, Kind>, NoM
 pub fn read_report(alloc: Global, bytes: &[u8]) -> Result<Vec<Line>, ReadReport>
     ensures lines { IfOk result (λ lines. IsReportOf bytes.now lines.items) }
     ensures only { IfOk result (λ lines. AreOnlyLinesOf bytes.now lines.items) }
-    ensures refused { IfErr result (IsRefusalOf bytes.now) }
+    ensures refused { IfErr result (IsReportRefusalOf bytes.now) }
 {
     let mut lines = Vec::new(alloc);
     let mut draft = Report::new(alloc);

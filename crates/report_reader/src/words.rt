@@ -3,10 +3,11 @@
 
 ghost use Rattle.std.specs.Prelude.{◌≡◌};
 ghost use Rattle.text_words.specs.Words.{words_of};
-ghost use Rattle.report_reader.specs.Candidates.{later_of, number_of, count_of, short_of};
+ghost use Rattle.report_reader.specs.Candidates.{count_read, later_of, number_read, short_of};
 ghost use Rattle.report_reader.specs.Names.{head_word};
-ghost use Rattle.report_reader.specs.Candidates.{byte_of, cpu_of, timer_of, time_of, class_of};
-ghost use Rattle.report_reader.specs.Candidates.{level_of, place_of, with_digit, is_over};
+ghost use Rattle.report_reader.specs.Candidates.{byte_of, class_read, cpu_read, jiffy_read};
+ghost use Rattle.report_reader.specs.Candidates.{timer_read};
+ghost use Rattle.report_reader.specs.Candidates.{is_over, level_for, place_for, with_read_digit};
 
 use std::marker::Model;
 use text_words::cut;
@@ -68,7 +69,7 @@ impl<'a> Words<'a> {
 
     /// A number of 64 bits.
     pub fn number(&mut self) -> u64
-        ensures value { result ≡ number_of (head_word self.old) }
+        ensures value { result ≡ number_read (head_word self.old) }
         ensures later { self.new ≡ later_of self.old }
     {
         number(self.word())
@@ -76,7 +77,7 @@ impl<'a> Words<'a> {
 
     /// A number of 32 bits.
     pub fn count(&mut self) -> u32
-        ensures value { result ≡ count_of (head_word self.old) }
+        ensures value { result ≡ count_read (head_word self.old) }
         ensures later { self.new ≡ later_of self.old }
     {
         count(self.word())
@@ -92,7 +93,7 @@ impl<'a> Words<'a> {
 
     /// A CPU.
     pub fn cpu(&mut self) -> CpuId
-        ensures value { result ≡ cpu_of (head_word self.old) }
+        ensures value { result ≡ cpu_read (head_word self.old) }
         ensures later { self.new ≡ later_of self.old }
     {
         CpuId(short(self.word()))
@@ -100,7 +101,7 @@ impl<'a> Words<'a> {
 
     /// A timer.
     pub fn timer(&mut self) -> TimerId
-        ensures value { result ≡ timer_of (head_word self.old) }
+        ensures value { result ≡ timer_read (head_word self.old) }
         ensures later { self.new ≡ later_of self.old }
     {
         TimerId(short(self.word()))
@@ -108,7 +109,7 @@ impl<'a> Words<'a> {
 
     /// A wakeup or an expiry, in jiffies.
     pub fn time(&mut self) -> Jiffy
-        ensures value { result ≡ time_of (head_word self.old) }
+        ensures value { result ≡ jiffy_read (head_word self.old) }
         ensures later { self.new ≡ later_of self.old }
     {
         time(self.word())
@@ -116,7 +117,7 @@ impl<'a> Words<'a> {
 
     /// A class.
     pub fn class(&mut self) -> Class
-        ensures value { result ≡ class_of (head_word self.old) }
+        ensures value { result ≡ class_read (head_word self.old) }
         ensures later { self.new ≡ later_of self.old }
     {
         class(self.word())
@@ -124,17 +125,17 @@ impl<'a> Words<'a> {
 
     /// The level of a group, and its place there.
     pub fn group(&mut self) -> (u8, u16)
-        ensures level { result.0 ≡ level_of (head_word self.old) }
-        ensures place { result.1 ≡ place_of (head_word self.old) }
+        ensures level { result.0 ≡ level_for (head_word self.old) }
+        ensures place { result.1 ≡ place_for (head_word self.old) }
         ensures later { self.new ≡ later_of self.old }
     {
         group(self.word())
     }
 }
 
-#[tactic(auto, unfolding(crate::specs::Candidates::number_of))]
+#[tactic(auto, unfolding(crate::specs::Candidates::number_read))]
 fn number(word: &[u8]) -> u64
-    ensures { result ≡ number_of word.now }
+    ensures { result ≡ number_read word.now }
 {
     let mut number = 0;
     for byte in word {
@@ -145,16 +146,16 @@ fn number(word: &[u8]) -> u64
 
 // A number with one more digit.
 fn with_digit(number: u64, byte: u8) -> u64
-    ensures { result ≡ with_digit number byte }
+    ensures { result ≡ with_read_digit number byte }
 {
     number
         .saturating_mul(10)
         .saturating_add(u64::from(byte.saturating_sub(b'0')))
 }
 
-#[tactic(auto, unfolding(crate::specs::Candidates::count_of))]
+#[tactic(auto, unfolding(crate::specs::Candidates::count_read))]
 fn count(word: &[u8]) -> u32
-    ensures { result ≡ count_of word.now }
+    ensures { result ≡ count_read word.now }
 {
     number(word).min(4_294_967_295) as u32
 }
@@ -173,9 +174,9 @@ fn byte(word: &[u8]) -> u8
     number(word).min(255) as u8
 }
 
-#[tactic(auto, unfolding(crate::specs::Candidates::time_of))]
+#[tactic(auto, unfolding(crate::specs::Candidates::jiffy_read))]
 fn time(word: &[u8]) -> Jiffy
-    ensures { result ≡ time_of word.now }
+    ensures { result ≡ jiffy_read word.now }
 {
     if word == b"never".as_slice() {
         NEVER
@@ -184,9 +185,9 @@ fn time(word: &[u8]) -> Jiffy
     }
 }
 
-#[tactic(auto, unfolding(crate::specs::Candidates::class_of))]
+#[tactic(auto, unfolding(crate::specs::Candidates::class_read))]
 fn class(word: &[u8]) -> Class
-    ensures { result ≡ class_of word.now }
+    ensures { result ≡ class_read word.now }
 {
     if word == b"pinned".as_slice() {
         Class::Pinned
@@ -197,10 +198,10 @@ fn class(word: &[u8]) -> Class
     }
 }
 
-#[tactic(auto, unfolding(crate::specs::Candidates::level_of, crate::specs::Candidates::place_of))]
+#[tactic(auto, unfolding(crate::specs::Candidates::level_for, crate::specs::Candidates::place_for))]
 fn group(word: &[u8]) -> (u8, u16)
-    ensures level { result.0 ≡ level_of word.now }
-    ensures place { result.1 ≡ place_of word.now }
+    ensures level { result.0 ≡ level_for word.now }
+    ensures place { result.1 ≡ place_for word.now }
 {
     match cut(word, b':') {
         Some((level, rest)) => match cut(rest, b':') {

@@ -19,19 +19,19 @@ use Rattle.run_plain.specs.core_facts.Cover.Headline.{EachSettled}
 use Rattle.run_plain.specs.step_play.Rules.Seen.{InRun, resting}
 use Rattle.run_plain.specs.step_play.Rules.StepRules.{step_rules}
 use Rattle.run_plain.specs.step_play.SamePlay.{core_start}
-use Rattle.run_plain.specs.run_story.Stories.{BrokenFrom, IsTurn, StoryFrom}
+use Rattle.run_plain.specs.run_story.Stories.{BrokenFrom, IsTurnInTime, StoryFrom}
 use Rattle.core_plays.specs.OnCore.{EachIsAnsweredFor}
 use Rattle.play_driver.specs.Outcomes.{work_limit}
 use Rattle.play_driver.specs.declared.outcomes.DriveFault.{DriveFault}
 use Rattle.play_driver.specs.declared.outcomes.DriveFault.TheVariants.{BadJob, NoMemory, WorkSpent}
-use Rattle.run_moments.specs.Runs.{BreaksRun, BreaksStory, EachRests, EndsRunEarly, RunsOut}
+use Rattle.run_moments.specs.Runs.{BreaksRun, BreaksStory, EachTurnRests, EndsRunEarly, RunsOut}
 use Rattle.run_moments.specs.Runs.{RunsToEnd}
 use Rattle.run_moments.specs.Runs.{RunsWhole, TellsMoment, work_of}
 use Rattle.core_plays.proofs.BySteps.{at_rest}
 use Rattle.play_driver.proofs.Turns.{below_test, last_push, spent_more, turn_lines_push, work_more}
 
 module _ (jobs : Replies) (end : ℕ) (ms : List Moment) (now : ℕ) (w : World) (t : Turn World)
-    (turn_is : IsTurn jobs end ms now w t) where
+    (turn_is : IsTurnInTime jobs end ms now w t) where
   -- a moment before the end, and those of a story behind it
   story_more : now ≢ end → (ts : List (Turn World))
       → StoryFrom jobs end (moments_after now ms) (next_moment step_rules end (moments_after now ms) t.played.state) t.played.state ts
@@ -68,7 +68,7 @@ pub record SoFar (jobs : Replies) (end limit : ℕ) (whole : List Moment) (start
   pub state : s ≡ last_state start done
   pub spent : (t : Turn World) (ts : List (Turn World)) →
       spent_at limit 0 (done ++ t ∷ ts) ≡ spent_at limit (work_of done) (t ∷ ts)
-  pub rests : EachRests done
+  pub rests : EachTurnRests done
 
 module _ (jobs : Replies) (end limit : ℕ) (whole : List Moment) (start : World) where
   pub nothing_yet : (told : Progress) → told.work ≡ 0 →
@@ -94,7 +94,7 @@ module _ (jobs : Replies) (end limit : ℕ) (whole : List Moment) (start : World
     abbrev here : Turn World
     here = record { at = now; played = tells.played }
 
-    is_turn : IsTurn jobs end ms now s here
+    is_turn : IsTurnInTime jobs end ms now s here
     is_turn = (refl, tells.is_moment)
 
     text_then : new.text ≡ old ++ report_text (turn_lines (far.done ++ here ∷ []))
@@ -115,7 +115,7 @@ module _ (jobs : Replies) (end limit : ℕ) (whole : List Moment) (start : World
     state_then : next ≡ last_state start (far.done ++ here ∷ [])
     state_then = tells.tells.state ∙ sym (last_push start far.done here)
 
-    rests_then : EachRests (far.done ++ here ∷ [])
+    rests_then : EachTurnRests (far.done ++ here ∷ [])
     rests_then =
         let run : InRun resting tells.played.state = subst (InRun resting) tells.tells.state rest in record {
           rests = All-push (λ (t : Turn World). InRun resting t.played.state) far.done here far.rests.rests run;

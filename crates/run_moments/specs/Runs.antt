@@ -18,7 +18,8 @@ use Rattle.run_plain.specs.step_play.Rules.Seen.{InRun, resting}
 use Rattle.run_plain.specs.step_play.Rules.StepRules.{step_rules}
 use Rattle.run_plain.specs.step_play.SamePlay.{core_start}
 use Rattle.run_plain.specs.run_story.Rounds.{IsRound}
-use Rattle.run_plain.specs.run_story.Stories.{IsBrokenOff, IsMoment, IsStory, IsThreaded, count_due}
+use Rattle.run_plain.specs.run_story.Stories.{IsBrokenOff, IsPlayedMoment, IsStory, IsThreaded}
+use Rattle.run_plain.specs.run_story.Stories.{count_due}
 use Rattle.run_plain.specs.run_story.Stories.{ops_of}
 use Rattle.play_driver.specs.Conditions.{IsMomentInRange}
 use Rattle.core_plays.specs.OnCore.{EachIsAnsweredFor}
@@ -33,7 +34,7 @@ work_of ts = sum_by (λ t. t.played.work) ts
 
 -- AT REST: after each of these moments the core is in a run and at rest, and the headline holds of
 -- it, so that each global timer that is queued on an online idle CPU is held or woken for
-pub record EachRests (ts : List (Turn World)) : Type 0 where
+pub record EachTurnRests (ts : List (Turn World)) : Type 0 where
   pub rests : AfterEach (InRun resting) ts
   pub answered : AfterEach EachIsAnsweredFor ts
 
@@ -48,7 +49,7 @@ pub record RunsToEnd (jobs : Replies) (table : ℕ) (script : Script) (old new :
   pub core_is : core ≡ last_state (core_start script) story
   pub known : first_unknown_job table script.moments ≡ None
   pub within : spent_at (work_limit script.version) 0 story ≡ None
-  pub rests : EachRests story
+  pub rests : EachTurnRests story
 
 -- the report has gained the lines of a story that is broken off where its work has reached the
 -- limit: after its last moment, and not before
@@ -60,7 +61,7 @@ pub record BreaksStory (jobs : Replies) (script : Script) (count : ℕ) (old new
     pub reached : work_limit script.version ≤ work_of story
     pub not_before : spent_at (work_limit script.version) 0 story ≡ None
     pub count_is : count ≡ counted (work_of story)
-    pub rests : EachRests story
+    pub rests : EachTurnRests story
 
 -- why it isn't run to its end, and what the report has gained: the first unknown job, and nothing;
 -- the work that was enough, and the finished moments; want of memory, and nothing
@@ -101,7 +102,7 @@ TellsRound interrupts m after lines old new =
 pub record TellsMoment (jobs : Replies) (ms : List Moment) (now : ℕ) (start : World)
     (old new : Progress) (after : World) : Type 0 where
   pub played : Played World
-  pub is_moment : IsMoment jobs (moment_at now ms) (step_rules.at_clock now start) played
+  pub is_moment : IsPlayedMoment jobs (moment_at now ms) (step_rules.at_clock now start) played
   pub tells : Tells played old new after
 
 -- all moments of a run were told, and the work stayed below its limit (no public clause cites it)
@@ -112,7 +113,7 @@ pub record RunsOut (jobs : Replies) (script : Script) (old new : List ℕ) (afte
     pub text : new ≡ old ++ report_text (turn_lines story)
     pub state : after ≡ last_state (core_start script) story
     pub within : spent_at (work_limit script.version) 0 story ≡ None
-    pub rests : EachRests story
+    pub rests : EachTurnRests story
 
 -- and so were the lines of the end (no public clause cites it)
 pub record RunsWhole (jobs : Replies) (script : Script) (old new : List ℕ) (after : World) : Type 0
@@ -123,7 +124,7 @@ pub record RunsWhole (jobs : Replies) (script : Script) (old new : List ℕ) (af
         old ++ report_text (whole_lines step_rules script.end (core_start script) story)
     pub state : after ≡ last_state (core_start script) story
     pub within : spent_at (work_limit script.version) 0 story ≡ None
-    pub rests : EachRests story
+    pub rests : EachTurnRests story
 
 -- the moments of a run were broken off by their work, or by want of memory (no public clause cites
 -- it)

@@ -6,7 +6,7 @@ use Rattle.core_world.specs.World.{World}
 use Rattle.play_rules.specs.Interrupts.{Replies}
 use Rattle.run_shares.specs.shared_rule.Passes.{HeldPass}
 use Rattle.run_shares.specs.run_story.Shares.{own_ops}
-use Rattle.run_shares.specs.Tasks.{IsTaskOf, Plan}
+use Rattle.run_shares.specs.Tasks.{IsTaskOf, RoundPlan}
 use Rattle.run_shares.specs.Progress.{IsDoneAt, MayShare}
 use Rattle.run_shares.specs.declared.shares.Share.{Share}
 use Rattle.run_shares.specs.declared.tasks.Task.{Task}
@@ -17,7 +17,7 @@ use Rattle.run_rounds.specs.declared.threads.Begun.{Begun}
 
 -- UNDER WAY: by the plan
 pub begun_at : {N J : Type 0} (table : TableId) (o : World) (replies : J → Replies)
-    (jobs : Replies) (plan : Plan) (c : ℕ) (x : Task) (b : Begun N J) → IsTaskOf table o plan c x
+    (jobs : Replies) (plan : RoundPlan) (c : ℕ) (x : Task) (b : Begun N J) → IsTaskOf table o plan c x
     → IsBegun table o replies jobs x.due x.ops.items x.pass.cpu b
     → IsBegunAt table o replies jobs plan c b
 begun_at table o replies jobs plan c x b h is =

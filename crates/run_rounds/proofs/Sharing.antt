@@ -11,14 +11,14 @@ use Rattle.run_shares.specs.shared_rule.Passes.{HeldPass, IsPassIn}
 use Rattle.run_shares.specs.shared_rule.Starts.{first_pass_of}
 use Rattle.run_shares.specs.shared_table.Begun.{begun_pass}
 use Rattle.run_shares.specs.shared_table.declared.ready.TheConstants.{MOST_MADE}
-use Rattle.remote_expiry.specs.Interrupts.{IsAtRest, most_walks}
+use Rattle.remote_expiry.specs.Interrupts.{IsPassAtRest, most_walks}
 use Rattle.remote_expiry.proofs.Gaining.{same_pass}
 use Rattle.play_rules.specs.Interrupts.{Replies}
 use Rattle.run_shares.specs.run_story.Rounds.{standing_at}
 use Rattle.run_shares.specs.run_story.Shares.{TellsOps, TellsIfDue}
 use Rattle.run_shares.proofs.run_story.Knowing.{due_more}
 use Rattle.run_shares.specs.Doing.{HasDone, by_pass}
-use Rattle.run_shares.specs.Standing.{Grows, HasRun, HaveAnswered, MayAnswer, StandsBy}
+use Rattle.run_shares.specs.Standing.{PassGrows, HasRun, HaveAnswered, MayAnswer, StandsBy}
 use Rattle.run_shares.proofs.Growing.{knows_more}
 
 -- after the interrupt it may answer so many operations
@@ -68,9 +68,9 @@ module _ (table : TableId) (o : World) (held : HeldPass)
 
   -- its pass is at rest
   pub at_rest : (cpu_of o held.cpu).inside ≡ false → (p : PassView) → IsPassIn table held p
-      → IsAtRest o p
+      → IsPassAtRest o p
   at_rest outside p is =
-      subst (IsAtRest o) (same_pass table held begun p had is)
+      subst (IsPassAtRest o) (same_pass table held begun p had is)
       (record { opening = refl; outside = outside; goes_on = refl; marks = refl })
 
   -- and says that the CPU stands as the moment finds it
@@ -97,8 +97,8 @@ module _ (table : TableId) (o : World) (held : HeldPass)
       let one : p ≡ begun = same_pass table held p begun ran.stepped.had had in
       let two : done.stepped.before ≡ q =
       same_pass table mid done.stepped.before q done.stepped.had ran.stepped.has in
-      let grows : Grows (length ops) q r =
-      subst (λ (z : PassView). Grows (length ops) z r) two done.stepped.grows in
+      let grows : PassGrows (length ops) q r =
+      subst (λ (z : PassView). PassGrows (length ops) z r) two done.stepped.grows in
       let s = standing_at o held.cpu in
       let a = ran.stepped.goes s (subst (λ (z : PassView). StandsBy z s) (sym one) stands) in
       let b =

@@ -21,14 +21,14 @@ use Rattle.run_shares.proofs.run_story.Knowing.{AreQueued, interrupt_more}
 use Rattle.run_shares.specs.run_story.Shares.{with_written}
 use Rattle.run_shares.specs.Doing.{SawQueued, written_of}
 use Rattle.run_shares.specs.Lines.{ran_line}
-use Rattle.run_shares.specs.Standing.{Grows, HasRun, MayAnswer}
+use Rattle.run_shares.specs.Standing.{PassGrows, HasRun, MayAnswer}
 use Rattle.run_shares.proofs.Growing.{grown_none, grown_within}
 use Rattle.run_shares.proofs.Running.{runs_told, ticked_told}
 use Rattle.run_shares.proofs.Stands.{stands_more}
 
 -- what an interrupt gains lets a pass grow
 gained : (p q : PassView) (receipts : List Receipt) (did : List Did) → p.inside ≡ false
-    → HasGained p q receipts did → Grows most_walks p q
+    → HasGained p q receipts did → PassGrows most_walks p q
 gained p q receipts did outside h = record {
   opening = h.opening;
   cpu = h.cpu;

@@ -7,8 +7,8 @@ use Rattle.core_world.specs.World.{World}
 use Rattle.run_shares.specs.shared_rule.Rule.{Each}
 use Rattle.play_rules.specs.Interrupts.{Replies}
 use Rattle.run_shares.specs.run_story.Shares.{own_ops}
-use Rattle.run_shares.specs.Tasks.{EachFrom, IsTaskOf, Plan}
-use Rattle.run_shares.specs.Progress.{IsDone, IsDoneAt, MayShare, MovedSoFar}
+use Rattle.run_shares.specs.Tasks.{EachFrom, IsTaskOf, RoundPlan}
+use Rattle.run_shares.specs.Progress.{IsDoneAt, IsShareDone, MayShare, MovedSoFar}
 use Rattle.run_shares.specs.declared.shares.Share.{Share}
 use Rattle.run_shares.specs.declared.tasks.Task.{Task}
 use Rattle.run_rounds.specs.declared.threads.Begun.{Begun}
@@ -28,10 +28,10 @@ abbrev pub IsBegun : {N J : Type 0} → TableId → World → (J → Replies) �
     → List Op → (cpu : ℕ) → Begun N J → Type 0
 IsBegun table o replies jobs due ops cpu (There child) =
     Promises replies jobs due ops cpu child.promise
-IsBegun table o replies jobs due ops cpu (Here share) = IsDone table o jobs due ops cpu share
+IsBegun table o replies jobs due ops cpu (Here share) = IsShareDone table o jobs due ops cpu share
 
 -- the same of CPU c by a plan
-abbrev pub IsBegunAt : {N J : Type 0} → TableId → World → (J → Replies) → Replies → Plan
+abbrev pub IsBegunAt : {N J : Type 0} → TableId → World → (J → Replies) → Replies → RoundPlan
     → (c : ℕ) → Begun N J → Type 0
 IsBegunAt table o replies jobs plan c b =
     IsBegun table o replies jobs (contains plan.due c) (own_ops c plan.ops) c b
@@ -40,20 +40,20 @@ IsBegunAt table o replies jobs plan c b =
 abbrev pub IsKept : {N J : Type 0} → TableId → World → (J → Replies) → Begun N J → Share → Type 0
 IsKept table o replies begun s =
     (jobs : Replies) (due : Bool) (ops : List Op) (cpu : ℕ)
-    → IsBegun table o replies jobs due ops cpu begun → IsDone table o jobs due ops cpu s
+    → IsBegun table o replies jobs due ops cpu begun → IsShareDone table o jobs due ops cpu s
 
 -- all tasks are under way, whatever the plan was
 abbrev pub AllBegun : {N J : Type 0} → TableId → World → (J → Replies) → Replies → List Task
     → List (Begun N J) → Type 0
 AllBegun table o replies jobs tasks begun =
-    (plan : Plan) → EachFrom (IsTaskOf table o plan) 0 tasks
+    (plan : RoundPlan) → EachFrom (IsTaskOf table o plan) 0 tasks
     → EachFrom (IsBegunAt table o replies jobs plan) 0 begun
 
 -- and all that were under way are done
 abbrev pub AllEnded : {N J : Type 0} → TableId → World → (J → Replies) → List (Begun N J)
     → List Share → Type 0
 AllEnded table o replies begun shares =
-    (jobs : Replies) (plan : Plan) → EachFrom (IsBegunAt table o replies jobs plan) 0 begun
+    (jobs : Replies) (plan : RoundPlan) → EachFrom (IsBegunAt table o replies jobs plan) 0 begun
     → EachFrom (IsDoneAt table o jobs plan) 0 shares
 
 -- BEGUN SO FAR: the tasks that are left may be done, and the others are under way
@@ -61,7 +61,7 @@ pub record BegunSoFar {N J : Type 0} (table : TableId) (o : World) (replies : J 
     (jobs : Replies) (all rest : List Task) (begun : List (Begun N J)) : Type 0 where
   pub may : Each (MayShare table o) rest
   pub all_are : length begun + length rest ≡ length all
-  pub moved : (plan : Plan) → EachFrom (IsTaskOf table o plan) 0 all
+  pub moved : (plan : RoundPlan) → EachFrom (IsTaskOf table o plan) 0 all
       → MovedSoFar (IsTaskOf table o plan) (IsBegunAt table o replies jobs plan) (length all) rest
       begun
 
@@ -69,6 +69,7 @@ pub record BegunSoFar {N J : Type 0} (table : TableId) (o : World) (replies : J 
 pub record EndedSoFar {N J : Type 0} (table : TableId) (o : World) (replies : J → Replies)
     (all rest : List (Begun N J)) (shares : List Share) : Type 0 where
   pub all_are : length shares + length rest ≡ length all
-  pub moved : (jobs : Replies) (plan : Plan) → EachFrom (IsBegunAt table o replies jobs plan) 0 all
+  pub moved : (jobs : Replies) (plan : RoundPlan)
+      → EachFrom (IsBegunAt table o replies jobs plan) 0 all
       → MovedSoFar (IsBegunAt table o replies jobs plan) (IsDoneAt table o jobs plan)
       (length all) rest shares

@@ -5,7 +5,7 @@ ghost use Rattle.tm_base.specs.declared.names.TheConstants.{TIME_LIMIT};
 ghost use Rattle.core_world.specs.World.{cpu_of};
 ghost use Rattle.run_shares.specs.shared_rule.declared.parts.PassView.{PassView};
 ghost use Rattle.run_shares.specs.shared_rule.Passes.{IsPassIn};
-ghost use Rattle.remote_expiry.specs.Interrupts.{IsAtRest, most_walks};
+ghost use Rattle.remote_expiry.specs.Interrupts.{IsPassAtRest, most_walks};
 ghost use Rattle.run_shares.specs.Standing.{HasRun, MayAnswer};
 
 use job_table::Jobs;
@@ -29,7 +29,7 @@ fn run_due<N: RunName, B: TimerBase, J: Jobs, G: Gate, R: Wait>(
     lines: &mut Vec<Line>,
 ) -> Result<(), NoMemory>
     requires may { MayAnswer N.table N.opening most_walks pass.old }
-    requires rest { (p : PassView) → IsPassIn N.table pass.old p → IsAtRest N.opening p }
+    requires rest { (p : PassView) → IsPassIn N.table pass.old p → IsPassAtRest N.opening p }
     requires now { now ≡ N.opening.clock }
     requires in_time { now ≤ TIME_LIMIT - 2 ^ 32 }
     requires online { (cpu_of N.opening pass.old.cpu).online ≡ true }
@@ -60,7 +60,7 @@ pub(crate) fn run_if_due<N: RunName, B: TimerBase, J: Jobs, G: Gate, R: Wait>(
     lines: &mut Vec<Line>,
 ) -> Result<(), NoMemory>
     requires may { MayAnswer N.table N.opening most_walks pass.old }
-    requires rest { (p : PassView) → IsPassIn N.table pass.old p → IsAtRest N.opening p }
+    requires rest { (p : PassView) → IsPassIn N.table pass.old p → IsPassAtRest N.opening p }
     requires now { now ≡ N.opening.clock }
     requires in_time { now ≤ TIME_LIMIT - 2 ^ 32 }
     requires online { due ≡ true → (cpu_of N.opening pass.old.cpu).online ≡ true }

@@ -5,7 +5,7 @@ ghost use Rattle.std.specs.Thread.{IsSend, IsSync};
 ghost use Rattle.tm_base.specs.declared.names.TheConstants.{TIME_LIMIT};
 ghost use Rattle.play_rules.specs.Interrupts.{Replies};
 ghost use Rattle.run_shares.specs.shared_rule.Rule.{Each};
-ghost use Rattle.run_shares.specs.Progress.{AllDone, IsDone, MayShare};
+ghost use Rattle.run_shares.specs.Progress.{AllDone, IsShareDone, MayShare};
 ghost use Rattle.run_rounds.specs.UnderWay.{AllBegun, AllEnded, IsBegun, IsKept};
 
 use crate::shares::do_share;
@@ -32,7 +32,7 @@ pub(crate) struct Does<N: RunName, J: Jobs> {
 }
 
 impl<N: RunName, J: Jobs> Promise<Share> for Does<N, J> {
-    ghost kept_by = { λ p s. IsDone N.table N.opening (J.replies p.jobs.value) p.due
+    ghost kept_by = { λ p s. IsShareDone N.table N.opening (J.replies p.jobs.value) p.due
         p.ops.value.items p.cpu.0 s };
 }
 
@@ -49,7 +49,7 @@ fn idle_share<N: RunName>(alloc: Global, task: Task) -> Share
     requires may { MayShare N.table N.opening task }
     requires not_due { task.due ≡ false }
     requires no_ops { task.ops.items ≡ [] }
-    ensures { (jobs : Replies) → IsDone N.table N.opening jobs task.due task.ops.items
+    ensures { (jobs : Replies) → IsShareDone N.table N.opening jobs task.due task.ops.items
         task.pass.cpu result }
 {
     Share {
@@ -99,8 +99,8 @@ fn begin_busy<
             requires { MayShare N.table N.opening
                 (record { pass = pass; due = due; ops = ops }) × (now ≡ N.opening.clock)
                 × (now ≤ TIME_LIMIT - 2 ^ 32) }
-            ensures { IsDone N.table N.opening (J.replies jobs.entry.now) due ops.items pass.cpu
-                result }
+            ensures { IsShareDone N.table N.opening (J.replies jobs.entry.now) due ops.items
+                pass.cpu result }
         {
             do_share(
                 rt,

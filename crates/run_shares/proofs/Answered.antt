@@ -17,9 +17,9 @@ use Rattle.idle_wakeup.specs.shared_rule.Shows.{BeginsWith}
 use Rattle.idle_wakeup.specs.shared_table.declared.ready.TheConstants.{MOST_MADE}
 use Rattle.play_rules.specs.Interrupts.{cpu_id}
 use Rattle.play_rules.specs.Operations.{refused_line}
-use Rattle.run_story.specs.Shares.{Standing, TellsBy, TellsDone, fault_of}
+use Rattle.run_story.specs.Shares.{Standing, TellsByRefusal, TellsDone, fault_of}
 use Rattle.run_shares.specs.Doing.{by_pass}
-use Rattle.run_shares.specs.Standing.{Grows, HasAnswered, MayAnswer, StandsBy}
+use Rattle.run_shares.specs.Standing.{PassGrows, HasAnswered, MayAnswer, StandsBy}
 use Rattle.run_shares.proofs.Stands.{stands_as}
 
 -- WHAT IS KNOWN before a line of a CPU
@@ -38,9 +38,9 @@ module _ (table : TableId) (o : World) (now line : ℕ) (what : What) (held afte
     (told : Line) where
   -- by what the CPU refuses, as the pass knows it
   by_fault : (fault : Option OpFault) → fault_of what (cpu_of o held.cpu).online p.idle ≡ fault
-      → Grows 1 p q
+      → PassGrows 1 p q
       → ((s : Standing) → StandsBy p s →
-      (t : Standing) × StandsBy q t × TellsBy (by_pass o q) now held.cpu fault what line s t told)
+      (t : Standing) × StandsBy q t × TellsByRefusal (by_pass o q) now held.cpu fault what line s t told)
       → HasAnswered table o now what line held after told
   by_fault fault is grows goes = record {
     before = p;
@@ -53,13 +53,13 @@ module _ (table : TableId) (o : World) (now line : ℕ) (what : What) (held afte
         let t = goes s by in (
           t.0,
           t.1,
-          subst (λ (m : Option OpFault). TellsBy (by_pass o q) now held.cpu m what line s t.0 told)
+          subst (λ (m : Option OpFault). TellsByRefusal (by_pass o q) now held.cpu m what line s t.0 told)
               (sym is ∙ ap (λ (b : Bool). fault_of what (cpu_of o held.cpu).online b) by.idle) t.2,
         );
   }
 
   -- it refuses nothing
-  pub answered : fault_of what (cpu_of o held.cpu).online p.idle ≡ None → Grows 1 p q
+  pub answered : fault_of what (cpu_of o held.cpu).online p.idle ≡ None → PassGrows 1 p q
       → ((s : Standing) → StandsBy p s →
       (t : Standing) × StandsBy q t × TellsDone (by_pass o q) now held.cpu what line s t told)
       → HasAnswered table o now what line held after told
@@ -67,7 +67,7 @@ module _ (table : TableId) (o : World) (now line : ℕ) (what : What) (held afte
 
 -- a pass that just knows its CPU's journal further has grown
 pub grown_knowing : (p : PassView) (journal : List Entry) → BeginsWith journal p.journal
-    → Grows 1 p (knowing journal p)
+    → PassGrows 1 p (knowing journal p)
 grown_knowing p journal begins = record {
   opening = refl;
   cpu = refl;

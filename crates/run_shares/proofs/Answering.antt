@@ -14,7 +14,7 @@ use Rattle.run_story.specs.Shares.{TellsOp}
 use Rattle.run_story.proofs.Going as going
 use Rattle.run_story.proofs.Knowing.{ops_more}
 use Rattle.run_shares.specs.Doing.{by_pass}
-use Rattle.run_shares.specs.Standing.{Grows, HasAnswered, HaveAnswered, MayAnswer, StandsBy}
+use Rattle.run_shares.specs.Standing.{PassGrows, HasAnswered, HaveAnswered, MayAnswer, StandsBy}
 use Rattle.run_shares.proofs.Growing.{grown_none, grown_then, knows_more}
 
 -- no operation
@@ -47,7 +47,7 @@ one_answered table o now ops op held mid after before lines l first next =
     let q = first.stepped.later in
     let r = next.later in
     let same : next.before ≡ q = same_pass table mid next.before q next.had first.stepped.has in
-    let grows : Grows 1 q r = subst (λ (z : PassView). Grows 1 z r) same next.grows in
+    let grows : PassGrows 1 q r = subst (λ (z : PassView). PassGrows 1 z r) same next.grows in
     let online = (cpu_of o held.cpu).online in
     record {
       told = first.told ++ l ∷ [];
@@ -61,7 +61,7 @@ one_answered table o now ops op held mid after before lines l first next =
         has = next.has;
         same_cpu = next.same_cpu ∙ first.stepped.same_cpu;
         grows =
-            subst (λ n. Grows n p r) (sym (length-append ops (op ∷ [])))
+            subst (λ n. PassGrows n p r) (sym (length-append ops (op ∷ [])))
             (grown_then (length ops) 1 p q r first.stepped.grows grows);
         goes = λ s stood.
             let a = first.stepped.goes s stood in

@@ -29,13 +29,13 @@ use Rattle.idle_wakeup.proofs.shared_rule.Visits.{knows}
 use Rattle.shared_acts.specs.shared_timers.Exchanging.{timer_word}
 use Rattle.shared_acts.specs.shared_timers.Queueing.{armed_part}
 use Rattle.shared_calls.specs.Arms.{HasArmed, IsQueued, MetBy, NotArmed}
-use Rattle.shared_calls.specs.Arms.{arm_fault_of, arming_of, fault_by, met, roomy}
+use Rattle.shared_calls.specs.Arms.{arm_fault_of, timer_arming_of, arm_fault_by, met, roomy}
 use Rattle.shared_acts.proofs.Gaining.{begins_then}
 use Rattle.play_rules.specs.Interrupts.{cpu_id}
 use Rattle.play_rules.specs.Operations.{refused_line}
 use Rattle.run_story.specs.Shares.{fault_of, with_written}
 use Rattle.run_shares.specs.Doing.{written_of}
-use Rattle.run_shares.specs.Standing.{Grows, HasAnswered}
+use Rattle.run_shares.specs.Standing.{PassGrows, HasAnswered}
 use Rattle.run_shares.proofs.Answered.{IsBefore, answered, refused}
 use Rattle.run_shares.proofs.Stands.{knows_one_more, stands_as, stands_more}
 
@@ -65,7 +65,7 @@ module _ (table : TableId) (o : World) (now line : ℕ) (timer : TimerId) (class
   begins : BeginsWith journal p.journal
   begins = agree.journal own
 
-  fault_is : fault_by p
+  fault_is : arm_fault_by p
       ≡ fault_of (whats.Arm timer class delay job arg) (cpu_of o held.cpu).online p.idle
   fault_is =
       (λ i. arm_fault_of (cpu_of (before.opening i) (before.own i)).online p.idle (outside i))
@@ -90,7 +90,7 @@ module _ (table : TableId) (o : World) (now line : ℕ) (timer : TimerId) (class
   abbrev seat_armed : Option Seated → Option Seated
   seat_armed s =
       (pass_parted table held.cpu
-      (armed_part (arming_of timer class (now + delay) job arg line)
+      (armed_part (timer_arming_of timer class (now + delay) job arg line)
       (roomy part (met part (record held { seated = s }))))).seated
 
   armed_journal : armed.journal ≡ journal ++ entry ∷ []
@@ -101,7 +101,7 @@ module _ (table : TableId) (o : World) (now line : ℕ) (timer : TimerId) (class
   armed_begins =
       begins_then armed.journal journal p.journal begins (entry ∷ [], armed_journal)
 
-  armed_grows : Grows 1 p armed
+  armed_grows : PassGrows 1 p armed
   armed_grows = record {
     opening = refl;
     cpu = refl;
@@ -128,7 +128,7 @@ module _ (table : TableId) (o : World) (now line : ℕ) (timer : TimerId) (class
       (is_now ∙ ap (λ (w : World). w.clock) (sym before.opening ∙ agree.opening))
 
   pub arm_told : (wheel : ℕ) (id : CpuId) → id.0 ≡ held.cpu
-      → HasArmed table now (arming_of timer class (now + delay) job arg line) part held after wheel
+      → HasArmed table now (timer_arming_of timer class (now + delay) job arg line) part held after wheel
       → HasAnswered table o now (whats.Arm timer class delay job arg) line held after
       (lines.Arm now id timer class wheel)
   arm_told wheel id same is =
@@ -181,7 +181,7 @@ module _ (table : TableId) (o : World) (now line : ℕ) (timer : TimerId) (class
   seen found =
       record { held = length p.receipts; deed = deeds.Saw (timer_word o timer.0) found }
 
-  found_grows : (found : ℕ) → Grows 1 p (found_pass found)
+  found_grows : (found : ℕ) → PassGrows 1 p (found_pass found)
   found_grows found = record {
     opening = refl;
     cpu = refl;
@@ -204,7 +204,7 @@ module _ (table : TableId) (o : World) (now line : ℕ) (timer : TimerId) (class
       })).seated
 
   queued_told : timer.0 < o.timers → (fault : OpFault)
-      → fault_by p ≡ None → IsQueued table o timer.0 part (met part held) after fault
+      → arm_fault_by p ≡ None → IsQueued table o timer.0 part (met part held) after fault
       → HasAnswered table o now (whats.Arm timer class delay job arg) line held after
       (refused_line fault now line (cpu_id held.cpu))
   queued_told there fault none is =
@@ -239,7 +239,7 @@ module _ (table : TableId) (o : World) (now line : ℕ) (timer : TimerId) (class
       ))
 
   -- or REFUSED by the CPU
-  cpu_told : (fault : OpFault) → fault_by p ≡ Some fault → after ≡ met part held
+  cpu_told : (fault : OpFault) → arm_fault_by p ≡ Some fault → after ≡ met part held
       → HasAnswered table o now (whats.Arm timer class delay job arg) line held after
       (refused_line fault now line (cpu_id held.cpu))
   cpu_told fault refuses is =

@@ -37,7 +37,7 @@ use Rattle.idle_wakeup.proofs.shared_rule.Visits.{knows}
 use Rattle.shared_acts.specs.shared_timers.Exchanging.{timer_word}
 use Rattle.shared_acts.specs.shared_timers.Queueing.{cancelled_part}
 use Rattle.shared_calls.specs.Arms.{MetBy, met}
-use Rattle.shared_calls.specs.Cancels.{HasCancelled, HasEnded, IsCancelled, IsNowhere}
+use Rattle.shared_calls.specs.Cancels.{HasCancelled, HasCancelEnded, IsCancelled, IsNowhere}
 use Rattle.shared_calls.specs.Cancels.{NotCancelled}
 use Rattle.shared_calls.specs.Cancels.{cancel_fault_by, cancel_fault_of}
 use Rattle.shared_calls.specs.Looks.{seen_all}
@@ -48,7 +48,7 @@ use Rattle.play_rules.specs.Operations.{refused_line}
 use Rattle.run_story.specs.Shares.{fault_of, with_written}
 use Rattle.run_shares.specs.Doing.{written_of}
 use Rattle.run_shares.specs.Lines.{cancel_line}
-use Rattle.run_shares.specs.Standing.{Grows, HasAnswered}
+use Rattle.run_shares.specs.Standing.{PassGrows, HasAnswered}
 use Rattle.run_shares.proofs.Answered.{IsAfter, IsBefore, answered, refused}
 use Rattle.run_shares.proofs.Stands.{knows_one_more, stands_as, stands_more}
 
@@ -121,7 +121,7 @@ module _ (table : TableId) (o : World) (now line : ℕ) (timer : TimerId) (held 
       })) (all_seen looks (knowing journal p)).1
 
   -- NOWHERE
-  nowhere_grows : (dids : List Did) → Grows 1 p (loaded dids 0)
+  nowhere_grows : (dids : List Did) → PassGrows 1 p (loaded dids 0)
   nowhere_grows dids = record {
     opening = refl;
     cpu = refl;
@@ -200,7 +200,7 @@ module _ (table : TableId) (o : World) (now line : ℕ) (timer : TimerId) (held 
         (eq-eqb p.cpu home.cpu (sym own)) ∙ length-append home.own.bases.journal (entry ∷ []) in
         omega (arith, long)
 
-    taken_grows : Grows 1 p taken
+    taken_grows : PassGrows 1 p taken
     taken_grows = record {
       opening = refl;
       cpu = refl;
@@ -277,7 +277,7 @@ module _ (table : TableId) (o : World) (now line : ℕ) (timer : TimerId) (held 
 
   ended_told : timer.0 < o.timers → cancel_fault_by p ≡ None → (looks : List Look)
       (answer : Option CpuId)
-      → HasEnded table o timer.0 line (with_pass (seen_all looks) (met part held)) after answer
+      → HasCancelEnded table o timer.0 line (with_pass (seen_all looks) (met part held)) after answer
       → HasAnswered table o now (whats.Cancel timer) line held after
       (cancel_line answer now (cpu_id held.cpu) timer)
   ended_told there none looks None is = nowhere_told there none looks is

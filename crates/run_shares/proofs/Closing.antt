@@ -22,7 +22,7 @@ use Rattle.run_story.specs.Rounds.{HasShare, IsRound, by_journals, standing_at}
 use Rattle.run_story.specs.Shares.{TellsShare, own_ops}
 use Rattle.run_story.proofs.Knowing.{share_more}
 use Rattle.run_shares.specs.Doing.{HasDone, by_pass, written_of}
-use Rattle.run_shares.specs.Tasks.{AreGathered, EachFrom, HasEnded, Plan, pass_of, told_of}
+use Rattle.run_shares.specs.Tasks.{AreGathered, EachFrom, HasShareEnded, RoundPlan, pass_of, told_of}
 use Rattle.run_shares.specs.Progress.{IsDoneAt}
 use Rattle.run_shares.specs.declared.shares.Share.{Share}
 use Rattle.run_shares.proofs.Journals.{are_written, pass_known}
@@ -37,14 +37,14 @@ abbrev told_in : Option Share → List Line
 told_in None = []
 told_in (Some s) = told_of s
 
-module _ (table : TableId) (o : World) (jobs : Replies) (plan : Plan) where
+module _ (table : TableId) (o : World) (jobs : Replies) (plan : RoundPlan) where
   -- memory was enough
   abbrev Did : ℕ → Share → Type 0
   Did c s =
       HasDone table o jobs (contains plan.due c) (own_ops c plan.ops) c s.pass s.lines.items
 
   pub each_did : (k : ℕ) (ss : List Share) → EachFrom (IsDoneAt table o jobs plan) k ss
-      → Each HasEnded ss → EachFrom Did k ss
+      → Each HasShareEnded ss → EachFrom Did k ss
   each_did k [] each ended = tt
   each_did k (s ∷ ss) each ended = (
     of_ok s.ended (Did k s) each.0 ended.0,

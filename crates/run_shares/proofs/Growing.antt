@@ -13,12 +13,12 @@ use Rattle.idle_wakeup.specs.shared_rule.declared.parts.Did.{Did}
 use Rattle.idle_wakeup.specs.shared_rule.declared.parts.PassView.{PassView}
 use Rattle.idle_wakeup.specs.shared_rule.declared.parts.Receipt.{Receipt}
 use Rattle.shared_acts.proofs.Gaining.{begins, begins_then}
-use Rattle.run_story.specs.Written.{Written}
+use Rattle.run_story.specs.Written.{WrittenEntry}
 use Rattle.run_story.proofs.Knowing.{IsKnown}
 use Rattle.run_shares.specs.Doing.{KnewFirst, SawNowhere, SawQueued, by_pass, written_of}
-use Rattle.run_shares.specs.Standing.{Grows}
+use Rattle.run_shares.specs.Standing.{PassGrows}
 
-module _ (o : World) (walks : ℕ) (p q : PassView) (grows : Grows walks p q) where
+module _ (o : World) (walks : ℕ) (p q : PassView) (grows : PassGrows walks p q) where
   queued_more : (timer cpu : ℕ) → SawQueued o p.did timer cpu → SawQueued o q.did timer cpu
   queued_more timer cpu h = record {
     there = h.there;
@@ -32,7 +32,7 @@ module _ (o : World) (walks : ℕ) (p q : PassView) (grows : Grows walks p q) wh
     named = h.named;
   }
 
-  nowhere_more : (timer : ℕ) (earlier : List Written) → SawNowhere o p timer earlier
+  nowhere_more : (timer : ℕ) (earlier : List WrittenEntry) → SawNowhere o p timer earlier
       → SawNowhere o q timer earlier
   nowhere_more timer earlier h = record {
     there = h.there;
@@ -45,7 +45,7 @@ module _ (o : World) (walks : ℕ) (p q : PassView) (grows : Grows walks p q) wh
     front =
         ap (map written_of) grows.receipts_are
         ∙ (map-append written_of p.receipts grows.receipts
-        ∙ (ap (λ (l : List Written). l ++ map written_of grows.receipts) h.front
+        ∙ (ap (λ (l : List WrittenEntry). l ++ map written_of grows.receipts) h.front
         ∙ append_assoc earlier h.rest (map written_of grows.receipts)));
   }
 
@@ -72,7 +72,7 @@ module _ (o : World) (walks : ℕ) (p q : PassView) (grows : Grows walks p q) wh
   knows_more = record { queues = queued_more; nowhere = nowhere_more; first = first_more }
 
 -- nothing was done
-pub grown_none : (p : PassView) → Grows 0 p p
+pub grown_none : (p : PassView) → PassGrows 0 p p
 grown_none p = record {
   opening = refl;
   cpu = refl;
@@ -86,7 +86,7 @@ grown_none p = record {
 }
 
 -- one behind the other
-pub grown_then : (a b : ℕ) (p q r : PassView) → Grows a p q → Grows b q r → Grows (a + b) p r
+pub grown_then : (a b : ℕ) (p q r : PassView) → PassGrows a p q → PassGrows b q r → PassGrows (a + b) p r
 grown_then a b p q r first next = record {
   opening = next.opening ∙ first.opening;
   cpu = next.cpu ∙ first.cpu;
@@ -106,7 +106,7 @@ grown_then a b p q r first next = record {
 }
 
 -- with fewer walks than so many
-pub grown_within : (few many : ℕ) (p q : PassView) → few ≤ many → Grows few p q → Grows many p q
+pub grown_within : (few many : ℕ) (p q : PassView) → few ≤ many → PassGrows few p q → PassGrows many p q
 grown_within few many p q low grows = record {
   opening = grows.opening;
   cpu = grows.cpu;

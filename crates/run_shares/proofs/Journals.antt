@@ -18,12 +18,12 @@ use Rattle.idle_wakeup.specs.shared_rule.declared.parts.Receipt.{Receipt}
 use Rattle.idle_wakeup.specs.shared_rule.Shows.{DidRight, HasNewEnd, IsShown, Noted, journal_of}
 use Rattle.idle_wakeup.specs.shared_rule.Whole.{Whole}
 use Rattle.run_story.specs.Rounds.{WasFirst, by_journals}
-use Rattle.run_story.specs.Written.{AreWritten, HasEnded, Stands, WasNowhere, WasQueued, Written}
+use Rattle.run_story.specs.Written.{AreWritten, HasTimerEnded, StandsWritten, WasNowhere, WasQueuedSince, WrittenEntry}
 use Rattle.run_story.proofs.Knowing.{IsKnown}
 use Rattle.run_shares.specs.Doing.{KnewFirst, SawNowhere, SawQueued, by_pass, written_of}
 
 -- the receipt of what was written there
-receipt_behind : (rs : List Receipt) (i : ℕ) (x : Written)
+receipt_behind : (rs : List Receipt) (i : ℕ) (x : WrittenEntry)
     → slice_get (map written_of rs) i ≡ Some x
     → (r : Receipt) × (slice_get rs i ≡ Some r) × (x ≡ written_of r)
 receipt_behind [] i x at = absurd (none-some x at)
@@ -43,7 +43,7 @@ are_written o w pass holder noted = record {
   stand = λ c i x at.
       let r = receipt_behind (pass c).receipts i x at in
       let h = noted.true c i r.0 r.1 in
-      subst (Stands o w holder c i) (sym r.2) (record {
+      subst (StandsWritten o w holder c i) (sym r.2) (record {
         stands = h.stands;
         later = h.later;
         at = h.at;
@@ -61,7 +61,7 @@ are_written o w pass holder noted = record {
       let r = receipt_behind (pass c).receipts i x one in
       let q = receipt_behind (pass c).receipts j y other in
       let homes : (r.0).cpu.0 ≡ (q.0).cpu.0
-      = ap (λ (z : Written). z.home) (sym r.2) ∙ (same ∙ ap (λ (z : Written). z.home) q.2) in
+      = ap (λ (z : WrittenEntry). z.home) (sym r.2) ∙ (same ∙ ap (λ (z : WrittenEntry). z.home) q.2) in
       let places = noted.order c i j r.0 q.0 r.1 q.1 homes before in
       subst (λ z. z.place < y.place) (sym r.2)
       (subst (λ z. (r.0).place < z.place) (sym q.2) places);
@@ -95,17 +95,17 @@ module _ (o : World) (s : Whole) (shown : IsShown o s) (c : ℕ) where
       let at = index_in (s.pass c).did x has in shown.seen c at.0 x at.1
 
   queues : (timer cpu : ℕ) → SawQueued o (s.pass c).did timer cpu
-      → WasQueued o s.world timer cpu
+      → WasQueuedSince o s.world timer cpu
   queues timer cpu h =
       let was = (right h.seen h.has).named h.found timer h.spot h.deed h.there h.spelled in
-      subst (WasQueued o s.world timer) h.named (record {
+      subst (WasQueuedSince o s.world timer) h.named (record {
         count = was.after;
         since = was.since;
         within = was.within;
         queued = was.queued;
       })
 
-  nowhere : (timer : ℕ) (earlier : List Written) → SawNowhere o (s.pass c) timer earlier
+  nowhere : (timer : ℕ) (earlier : List WrittenEntry) → SawNowhere o (s.pass c) timer earlier
       → WasNowhere o s.world timer earlier
   nowhere timer earlier h = record {
     armed = λ i x at act is.
@@ -120,7 +120,7 @@ module _ (o : World) (s : Whole) (shown : IsShown o s) (c : ℕ) where
   }
     where
       ended : ((d : ℕ) → class_in timer (cpu_of o d).bases ≡ None) ⊎ HasNewEnd o s.world timer
-          → ((d : ℕ) → class_in timer (cpu_of o d).bases ≡ None) ⊎ HasEnded o s.world timer
+          → ((d : ℕ) → class_in timer (cpu_of o d).bases ≡ None) ⊎ HasTimerEnded o s.world timer
       ended (inl none) = inl none
       ended (inr new) = inr (record {
         cpu = new.cpu;

@@ -9,7 +9,7 @@ use Rattle.tm_base.specs.CpuSet.{Cpus}
 use Rattle.tm_report.specs.declared.lines.Line.{Line}
 use Rattle.idle_wakeup.specs.shared_rule.Passes.{HeldPass}
 use Rattle.idle_wakeup.specs.shared_rule.Rule.{Each}
-use Rattle.run_shares.specs.Tasks.{HasEnded, IsTaskOf, Plan, pass_of, told_of}
+use Rattle.run_shares.specs.Tasks.{HasShareEnded, IsTaskOf, RoundPlan, pass_of, told_of}
 use Rattle.run_shares.specs.Progress.{GatheredSoFar, IsFirstPass, TasksSoFar}
 use Rattle.run_shares.specs.declared.shares.Share.{Share}
 use Rattle.run_shares.specs.declared.tasks.Task.{Task}
@@ -42,7 +42,7 @@ pub task_one : (due : Cpus) (all rest later : List HeldPass) (tasks new : List T
 task_one due all rest later tasks new pass task steps pushed pass_is due_is ops_are so_far table o
     first =
     let moved = so_far table o first in
-    let plan : Plan = record { due = due; ops = [] } in
+    let plan : RoundPlan = record { due = due; ops = [] } in
     let is = next_is (IsFirstPass table o) (IsTaskOf table o plan) (length all) rest tasks moved
     pass later steps in
     one_moved (IsFirstPass table o) (IsTaskOf table o plan) (length all) rest tasks moved pass later
@@ -66,5 +66,5 @@ gathered_one all rest later passes more lines longer share steps pushed appended
           ∙ (append_assoc lines share.lines.items (flat_map told_of later)
           ∙ (ap (λ l. lines ++ flat_map told_of l) (sym steps) ∙ so_far.lines_are));
       ended = λ later_ended.
-          so_far.ended (subst (Each HasEnded) (sym steps) (ended, later_ended));
+          so_far.ended (subst (Each HasShareEnded) (sym steps) (ended, later_ended));
     }

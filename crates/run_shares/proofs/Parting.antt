@@ -22,7 +22,7 @@ use Rattle.run_story.specs.Shares.{TellsOps, own_ops}
 use Rattle.run_story.specs.Asked.{IsRoundOp}
 use Rattle.run_shares.specs.Doing.{HasDone, IsShareOp}
 use Rattle.run_shares.specs.Progress.{GivenSoFar, IsFirstPass, IsGiven, MayRound, MayShare}
-use Rattle.run_shares.specs.Tasks.{AreTasks, EachFrom, IsTaskOf, Plan}
+use Rattle.run_shares.specs.Tasks.{AreTasks, EachFrom, IsTaskOf, RoundPlan}
 use Rattle.run_shares.specs.declared.tasks.Task.{Task}
 use Rattle.run_shares.proofs.Rows.{each_alone, each_follows}
 
@@ -178,7 +178,7 @@ pub each_has_task : (o : World) (ops : List Op) (tasks : List Task) → length t
 each_has_task o ops tasks count each k d low =
     subst (λ n. (slice_index_or ops k d).cpu.0 < n) (sym count) (each k d low).cpu
 
-module _ (table : TableId) (o : World) (now : ℕ) (plan : Plan) (may : MayRound o now plan) where
+module _ (table : TableId) (o : World) (now : ℕ) (plan : RoundPlan) (may : MayRound o now plan) where
   share_op : (c : ℕ) (op : Op) → op.cpu.0 ≡ c → IsRoundOp (length o.cpus) o.timers op
       → IsShareOp c o.timers op
   share_op c op own h = record { own = own; timer = h.timer; stays = h.stays }

@@ -24,12 +24,12 @@ use Rattle.idle_wakeup.specs.declared.idling.IdleAnswer.{IdleAnswer}
 use Rattle.idle_wakeup.specs.declared.idling.IdleAnswer.TheVariants as answers
 use Rattle.idle_wakeup.specs.Calls.{Renews, awake, idle_fault_of, known_journal, refusal, spent}
 use Rattle.idle_wakeup.specs.Calls.{wake_fault_of}
-use Rattle.idle_wakeup.specs.Resting.{IsAnswer, IsStay, IsUntil, resting}
+use Rattle.idle_wakeup.specs.Resting.{IsIdleAnswer, IsStay, IsUntil, resting_pass}
 use Rattle.play_rules.specs.Interrupts.{cpu_id}
 use Rattle.play_rules.specs.Operations.{refused_line}
 use Rattle.run_story.specs.Shares.{fault_of}
 use Rattle.run_shares.specs.Lines.{idle_line}
-use Rattle.run_shares.specs.Standing.{Grows, HasAnswered}
+use Rattle.run_shares.specs.Standing.{PassGrows, HasAnswered}
 use Rattle.run_shares.proofs.Answered.{IsAfter, IsBefore, answered, grown_knowing, refused}
 use Rattle.run_shares.proofs.Stands.{stands_as}
 
@@ -128,7 +128,7 @@ module _ (table : TableId) (o : World) (now line : ℕ) (held after : HeldPass) 
   -- a walk more was begun
   walked : (q : PassView) → q.opening ≡ p.opening → q.cpu ≡ p.cpu
       → q.inside ≡ p.inside → q.receipts ≡ p.receipts → q.did ≡ p.did → q.walks ≡ suc p.walks
-      → BeginsWith q.journal p.journal → Grows 1 p q
+      → BeginsWith q.journal p.journal → PassGrows 1 p q
   walked q opening cpu inside receipts did walks begins = record {
     opening = opening;
     cpu = cpu;
@@ -146,9 +146,9 @@ module _ (table : TableId) (o : World) (now line : ℕ) (held after : HeldPass) 
       → HasAnswered table o now whats.Idle line held after (lines.Idle now (cpu_id held.cpu) t)
   until_told t none is =
       let r = is.renews in
-      let begins = renewed_begins (resting t) r in
-      let q = knowing r.0 (resting t p) in
-      answered table o now line whats.Idle held after p q before (renewed_later (resting t) r)
+      let begins = renewed_begins (resting_pass t) r in
+      let q = knowing r.0 (resting_pass t p) in
+      answered table o now line whats.Idle held after p q before (renewed_later (resting_pass t) r)
       (lines.Idle now (cpu_id held.cpu) t) none
       (walked q refl refl refl refl refl refl begins)
       (λ s stood. (
@@ -159,7 +159,7 @@ module _ (table : TableId) (o : World) (now line : ℕ) (held after : HeldPass) 
 
   answer_told : now ≡ o.clock → (answer : IdleAnswer)
       → fault_of whats.Idle (cpu_of o held.cpu).online p.idle ≡ None
-      → IsAnswer o answer held after
+      → IsIdleAnswer o answer held after
       → HasAnswered table o now whats.Idle line held after
       (idle_line answer now (cpu_id held.cpu))
   answer_told is_now (answers.Stay t) none is = stay_told is_now t none is
@@ -167,7 +167,7 @@ module _ (table : TableId) (o : World) (now line : ℕ) (held after : HeldPass) 
 
   -- IDLE
   pub idle_told : now ≡ o.clock → (answer : IdleAnswer)
-      → refusal idle_fault_of held.seated ≡ None → IsAnswer o answer held after
+      → refusal idle_fault_of held.seated ≡ None → IsIdleAnswer o answer held after
       → HasAnswered table o now whats.Idle line held after
       (idle_line answer now (cpu_id held.cpu))
   idle_told is_now answer none is =

@@ -21,13 +21,13 @@ use Rattle.shared_acts.specs.declared.runs.Ran.{Ran}
 use Rattle.shared_acts.specs.declared.runs.RanReply.{RanReply}
 use Rattle.shared_acts.specs.declared.runs.RanReply.TheVariants as ran
 use Rattle.shared_acts.specs.Following.{Follows, FollowsArmed, FollowsBy, FollowsOut, FoundOn}
-use Rattle.shared_acts.specs.Following.{IsTold, call_of}
+use Rattle.shared_acts.specs.Following.{IsHandOutTold, call_of}
 use Rattle.shared_acts.specs.Following as from
 use Rattle.shared_acts.specs.Interrupts as interrupts
 use Rattle.play_rules.specs.Interrupts.{Replies, cpu_id}
-use Rattle.run_story.specs.Runs.{HasTicked, Owed, ShowsReply, TellsBy, TellsRuns, owed_by}
+use Rattle.run_story.specs.Runs.{HasTickedWriting, OwedTimer, ShowsReply, TellsByAct, TellsRuns, timers_owed_by}
 use Rattle.run_shares.specs.Doing.{SawQueued, written_of}
-use Rattle.run_shares.specs.Lines.{ran_line, shown_of}
+use Rattle.run_shares.specs.Lines.{ran_line, reply_shown_of}
 
 -- the value of an element is an element of the values
 into_map : {X Y : Type 0} (f : X → Y) (xs : List X) (x : X) → Contains xs x
@@ -39,12 +39,12 @@ into_map f (y ∷ xs) x (suc k, low, at) =
     (suc rest.0, omega (arith, rest.1), rest.2)
 
 -- what is owed, as the story has it
-abbrev owed_as : from.Owed → Owed
+abbrev owed_as : from.Owed → OwedTimer
 owed_as x =
     record { class = x.class; wheel = x.wheel; delay = x.delay; out = x.out }
 
 owed_same : (job : JobReply) (reply : RanReply) (e : Entry)
-    → map owed_as (from.owed_by job reply e) ≡ owed_by job (shown_of reply) e
+    → map owed_as (from.owed_by job reply e) ≡ timers_owed_by job (reply_shown_of reply) e
 owed_same replies.Done reply e = refl
 owed_same (replies.Mark m) reply e = refl
 owed_same (replies.Again class delay) ran.Done e = refl
@@ -67,10 +67,10 @@ module _ (o : World) (jobs : Replies) (runner : ℕ) (did : List Did) where
   }
 
   reply_told : (timer place : ℕ) (job : JobReply) (reply : RanReply)
-      → IsTold o timer place did job reply
-      → ShowsReply (SawQueued o did) timer job (shown_of reply)
-  reply_told timer place replies.Done reply h = ap shown_of h
-  reply_told timer place (replies.Mark m) reply h = ap shown_of h
+      → IsHandOutTold o timer place did job reply
+      → ShowsReply (SawQueued o did) timer job (reply_shown_of reply)
+  reply_told timer place replies.Done reply h = ap reply_shown_of h
+  reply_told timer place (replies.Mark m) reply h = ap reply_shown_of h
   reply_told timer place (replies.Again class delay) ran.Done h = absurd h
   reply_told timer place (replies.Again class delay) (ran.Mark m) h = absurd h
   reply_told timer place (replies.Again class delay) (ran.Again c wheel) h = h
@@ -79,36 +79,36 @@ module _ (o : World) (jobs : Replies) (runner : ℕ) (did : List Did) where
 
   -- what comes behind is told, whatever is owed by then
   abbrev GoesOn : (rest : List from.Owed → List Ran → Type 0)
-      → (more : List Owed → List Line → Type 0) → Type 0
+      → (more : List OwedTimer → List Line → Type 0) → Type 0
   GoesOn rest more = (owed : List from.Owed) (runs : List Ran) → rest owed runs
       → more (map owed_as owed) (map (ran_line o.clock (cpu_id runner)) runs)
 
   out_told : (place : ℕ) (r : Receipt) (rest : List from.Owed → List Ran → Type 0)
-      (more : List Owed → List Line → Type 0) (owed : List from.Owed) (runs : List Ran)
+      (more : List OwedTimer → List Line → Type 0) (owed : List from.Owed) (runs : List Ran)
       → GoesOn rest more → FollowsOut o jobs runner did place r rest owed runs
-      → TellsBy (SawQueued o did) jobs o.clock runner Handed (written_of r) more
+      → TellsByAct (SawQueued o did) jobs o.clock runner Handed (written_of r) more
       (map owed_as owed) (map (ran_line o.clock (cpu_id runner)) runs)
   out_told place r rest more owed [] on h = absurd h
   out_told place r rest more owed (x ∷ xs) on h =
       let job = jobs r.entry.job (call_of o.clock runner r.entry) in
       record {
-        reply = shown_of x.reply;
+        reply = reply_shown_of x.reply;
         behind = map (ran_line o.clock (cpu_id runner)) xs;
         line = λ i.
             lines.Run o.clock (cpu_id runner) (h.0.timer i) (h.0.home i) (h.0.wheel i)
-            (shown_of x.reply) ∷ map (ran_line o.clock (cpu_id runner)) xs;
+            (reply_shown_of x.reply) ∷ map (ran_line o.clock (cpu_id runner)) xs;
         shows = reply_told r.entry.timer.0 place job x.reply h.1;
         goes_on =
-            subst (λ (l : List Owed). more l (map (ran_line o.clock (cpu_id runner)) xs))
+            subst (λ (l : List OwedTimer). more l (map (ran_line o.clock (cpu_id runner)) xs))
             (map-append owed_as owed (from.owed_by job x.reply r.entry)
-            ∙ ap (λ (l : List Owed). map owed_as owed ++ l) (owed_same job x.reply r.entry))
+            ∙ ap (λ (l : List OwedTimer). map owed_as owed ++ l) (owed_same job x.reply r.entry))
             (on _ xs h.2);
       }
 
   armed_told : (r : Receipt) (rest : List from.Owed → List Ran → Type 0)
-      (more : List Owed → List Line → Type 0) (owed : List from.Owed) (runs : List Ran)
+      (more : List OwedTimer → List Line → Type 0) (owed : List from.Owed) (runs : List Ran)
       → GoesOn rest more → FollowsArmed o.clock runner r rest owed runs
-      → TellsBy (SawQueued o did) jobs o.clock runner Armed (written_of r) more
+      → TellsByAct (SawQueued o did) jobs o.clock runner Armed (written_of r) more
       (map owed_as owed) (map (ran_line o.clock (cpu_id runner)) runs)
   armed_told r rest more [] runs on h = absurd h
   armed_told r rest more (x ∷ owed) runs on h = record {
@@ -129,9 +129,9 @@ module _ (o : World) (jobs : Replies) (runner : ℕ) (did : List Did) where
   }
 
   act_told : (place : ℕ) (act : Act) (r : Receipt) (rest : List from.Owed → List Ran → Type 0)
-      (more : List Owed → List Line → Type 0) (owed : List from.Owed) (runs : List Ran)
+      (more : List OwedTimer → List Line → Type 0) (owed : List from.Owed) (runs : List Ran)
       → GoesOn rest more → FollowsBy o jobs runner did place act r rest owed runs
-      → TellsBy (SawQueued o did) jobs o.clock runner act (written_of r) more
+      → TellsByAct (SawQueued o did) jobs o.clock runner act (written_of r) more
       (map owed_as owed) (map (ran_line o.clock (cpu_id runner)) runs)
   act_told place Armed r rest more owed runs on h = armed_told r rest more owed runs on h
   act_told place Handed r rest more owed runs on h = out_told place r rest more owed runs on h
@@ -155,7 +155,7 @@ module _ (o : World) (jobs : Replies) (runner : ℕ) (did : List Did) where
 
 -- a drain that a receipt tells
 pub ticked_told : (cpu : ℕ) (class : Class) (rs : List Receipt)
-    → interrupts.HasTicked cpu class rs → HasTicked cpu class (map written_of rs)
+    → interrupts.HasTicked cpu class rs → HasTickedWriting cpu class (map written_of rs)
 ticked_told cpu class rs h = record {
   drain = written_of h.receipt;
   has = into_map written_of rs h.receipt h.has;

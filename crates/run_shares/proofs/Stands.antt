@@ -11,7 +11,7 @@ use Rattle.idle_wakeup.specs.shared_rule.declared.parts.Receipt.{Receipt}
 use Rattle.idle_wakeup.specs.shared_rule.Shows.{BeginsWith}
 use Rattle.shared_acts.specs.Interrupts.{KnowsOwn}
 use Rattle.shared_acts.proofs.Gaining.{known_more}
-use Rattle.run_story.specs.Written.{Written}
+use Rattle.run_story.specs.Written.{WrittenEntry}
 use Rattle.run_story.specs.Shares.{Standing, behind_all, behind_own, with_written}
 use Rattle.run_shares.specs.Doing.{written_of}
 use Rattle.run_shares.specs.Standing.{StandsBy}
@@ -25,8 +25,8 @@ own_below true since place n low below =
 own_below false since place n low below = low
 
 -- behind all that it wrote
-behind_below : (cpu : ℕ) (ws : List Written) (since n : ℕ) → since ≤ n
-    → ((i : ℕ) (x : Written) → slice_get ws i ≡ Some x → x.home ≡ cpu → x.place < n)
+behind_below : (cpu : ℕ) (ws : List WrittenEntry) (since n : ℕ) → since ≤ n
+    → ((i : ℕ) (x : WrittenEntry) → slice_get ws i ≡ Some x → x.home ≡ cpu → x.place < n)
     → behind_all cpu ws since ≤ n
 unfolding behind_all
 behind_below cpu [] since n low below = low
@@ -36,7 +36,7 @@ behind_below cpu (x ∷ ws) since n low below =
     (λ own. below zero x refl (eqb-true x.home cpu own))) (λ i y at. below (suc i) y at)
 
 -- what receipts say, one by one
-written_at : (rs : List Receipt) (i : ℕ) (x : Written) → slice_get (map written_of rs) i ≡ Some x
+written_at : (rs : List Receipt) (i : ℕ) (x : WrittenEntry) → slice_get (map written_of rs) i ≡ Some x
     → (r : Receipt) × (slice_get rs i ≡ Some r) × (written_of r ≡ x)
 written_at [] i x at = absurd (none-some x at)
 written_at (r ∷ rs) zero x at = (r, refl, same_Some (written_of r) x at)
@@ -77,7 +77,7 @@ pub stands_more : (p q : PassView) (s : Standing) (more : List Receipt)
     (record (with_written p.cpu (map written_of more) s) { idle = q.idle; wakeup = q.wakeup })
 stands_more p q s more begins cpu are known by = record {
   wrote =
-      ap (λ (l : List Written). l ++ map written_of more) by.wrote
+      ap (λ (l : List WrittenEntry). l ++ map written_of more) by.wrote
       ∙ (sym (map-append written_of p.receipts more) ∙ ap (map written_of) (sym are));
   idle = refl;
   wakeup = refl;
@@ -87,9 +87,9 @@ stands_more p q s more begins cpu are known by = record {
       (λ i x at own.
       let r = written_at more i x at in
       let place = later_at p.receipts more i r.0 r.1 in
-      subst (λ (z : Written). z.place < length q.journal) r.2
+      subst (λ (z : WrittenEntry). z.place < length q.journal) r.2
       (known place.0 r.0 (ap (λ (l : List Receipt). slice_get l place.0) are ∙ place.1)
-      (ap (λ (z : Written). z.home) r.2 ∙ (own ∙ sym cpu))));
+      (ap (λ (z : WrittenEntry). z.home) r.2 ∙ (own ∙ sym cpu))));
   known = known;
 }
 

@@ -15,14 +15,14 @@ use Rattle.idle_wakeup.specs.shared_rule.declared.parts.Receipt.{Receipt}
 use Rattle.idle_wakeup.specs.shared_rule.Passes.{HeldPass, IsPassIn}
 use Rattle.shared_acts.specs.shared_timers.Exchanging.{timer_word}
 use Rattle.play_rules.specs.Interrupts.{Replies}
-use Rattle.run_story.specs.Written.{Written, bases_after}
+use Rattle.run_story.specs.Written.{WrittenEntry, bases_after}
 use Rattle.run_story.specs.Rounds.{standing_at}
 use Rattle.run_story.specs.Shares.{Known, Standing, TellsShare}
 use Rattle.run_story.specs.Stories.{is_hotplug}
 use Rattle.run_story.specs.Asked.{IsTimerThere}
 
 -- what a receipt says was written
-abbrev pub written_of : Receipt → Written
+abbrev pub written_of : Receipt → WrittenEntry
 written_of r = record { home = r.cpu.0; place = r.place; entry = r.entry }
 
 -- a load of a timer's word, or a try to exchange it, found that a CPU has it
@@ -38,14 +38,14 @@ pub record SawQueued (o : World) (did : List Did) (timer cpu : ℕ) : Type 0 whe
 
 -- a load of a timer's word found that no CPU has it, when the pass had all these receipts, which
 -- are its first ones
-pub record SawNowhere (o : World) (p : PassView) (timer : ℕ) (earlier : List Written) : Type 0
+pub record SawNowhere (o : World) (p : PassView) (timer : ℕ) (earlier : List WrittenEntry) : Type 0
   where
     pub there : timer < o.timers
     pub seen : Did
     pub has : Contains p.did seen
     pub deed : seen.deed ≡ deeds.Saw (timer_word o timer) 0
     pub held : length earlier ≤ seen.held
-    pub rest : List Written
+    pub rest : List WrittenEntry
     pub front : map written_of p.receipts ≡ earlier ++ rest
 
 -- the first event of the pass's CPU, behind so many entries of the journal that the pass knows

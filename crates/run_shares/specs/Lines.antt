@@ -13,15 +13,15 @@ use Rattle.shared_acts.specs.declared.runs.RanReply.{RanReply}
 use Rattle.shared_acts.specs.declared.runs.RanReply.TheVariants as ran
 
 -- what a line shows of what became of a timer
-abbrev pub shown_of : RanReply → ShownReply
-shown_of ran.Done = shown.Done
-shown_of (ran.Mark m) = shown.Mark m
-shown_of (ran.Again class wheel) = shown.Again class wheel
-shown_of (ran.Skip cpu) = shown.Skip cpu
+abbrev pub reply_shown_of : RanReply → ShownReply
+reply_shown_of ran.Done = shown.Done
+reply_shown_of (ran.Mark m) = shown.Mark m
+reply_shown_of (ran.Again class wheel) = shown.Again class wheel
+reply_shown_of (ran.Skip cpu) = shown.Skip cpu
 
 -- the line of a timer that was run
 abbrev pub ran_line : (now : ℕ) → (runner : CpuId) → Ran → Line
-ran_line now runner x = lines.Run now runner x.timer x.home x.wheel (shown_of x.reply)
+ran_line now runner x = lines.Run now runner x.timer x.home x.wheel (reply_shown_of x.reply)
 
 -- the line of a cancelling (no public clause cites it)
 abbrev pub cancel_line : Option CpuId → (now : ℕ) → CpuId → TimerId → Line

@@ -20,11 +20,12 @@ use Rattle.run_story.specs.Asked.{IsRoundOp}
 use Rattle.run_shares.specs.Doing.{HasDone, IsShareOp}
 use Rattle.run_shares.specs.declared.shares.Share.{Share}
 use Rattle.run_shares.specs.declared.tasks.Task.{Task}
-use Rattle.run_shares.specs.Tasks.{AreGathered, AreTasks, EachFrom, HasEnded, IsTaskOf, Plan}
+use Rattle.run_shares.specs.Tasks.{AreGathered, AreTasks, EachFrom, HasShareEnded, IsTaskOf}
+use Rattle.run_shares.specs.Tasks.{RoundPlan}
 use Rattle.run_shares.specs.Tasks.{pass_of, told_of}
 
 -- a plan that a core allows, at its time
-pub record MayRound (o : World) (now : ℕ) (plan : Plan) : Type 0 where
+pub record MayRound (o : World) (now : ℕ) (plan : RoundPlan) : Type 0 where
   pub settled : IsSettled o
   pub now_is : now ≡ o.clock
   pub in_time : now ≤ TIME_LIMIT - 2 ^ 32
@@ -65,18 +66,20 @@ pub record MayShare (table : TableId) (o : World) (x : Task) : Type 0 where
   pub few : length x.ops.items ≤ MOST_OPS
 
 -- DONE: what came of a share, where memory was enough for it
-abbrev pub IsDone : TableId → World → Replies → (due : Bool) → List Op → (cpu : ℕ) → Share → Type 0
-IsDone table o jobs due ops cpu s =
+abbrev pub IsShareDone : TableId → World → Replies → (due : Bool) → List Op → (cpu : ℕ) → Share
+    → Type 0
+IsShareDone table o jobs due ops cpu s =
     OnOk s.ended (HasDone table o jobs due ops cpu s.pass s.lines.items)
 
 -- the same of CPU c by a plan
-abbrev pub IsDoneAt : TableId → World → Replies → Plan → (c : ℕ) → Share → Type 0
-IsDoneAt table o jobs plan c s = IsDone table o jobs (contains plan.due c) (own_ops c plan.ops) c s
+abbrev pub IsDoneAt : TableId → World → Replies → RoundPlan → (c : ℕ) → Share → Type 0
+IsDoneAt table o jobs plan c s =
+    IsShareDone table o jobs (contains plan.due c) (own_ops c plan.ops) c s
 
 -- from tasks to shares
 abbrev pub AllDone : TableId → World → Replies → List Task → List Share → Type 0
 AllDone table o jobs tasks shares =
-    (plan : Plan) → EachFrom (IsTaskOf table o plan) 0 tasks
+    (plan : RoundPlan) → EachFrom (IsTaskOf table o plan) 0 tasks
     → EachFrom (IsDoneAt table o jobs plan) 0 shares
 
 -- MOVED SO FAR: of so many elements, those that are left are still as they were, and what was made
@@ -99,10 +102,10 @@ pub record GatheredSoFar (all rest : List Share) (passes : List HeldPass) (lines
     Type 0 where
   pub passes_are : passes ++ map pass_of rest ≡ map pass_of all
   pub lines_are : lines ++ flat_map told_of rest ≡ flat_map told_of all
-  pub ended : Each HasEnded rest → Each HasEnded all
+  pub ended : Each HasShareEnded rest → Each HasShareEnded all
 
 -- ALL DONE: what came of the shares of all CPUs, with the passes and the lines that they leave
-pub record AreAllDone (table : TableId) (o : World) (jobs : Replies) (plan : Plan)
+pub record AreAllDone (table : TableId) (o : World) (jobs : Replies) (plan : RoundPlan)
     (passes : List HeldPass) (lines : List Line) : Type 0 where
   pub shares : List Share
   pub count : length shares ≡ length o.cpus

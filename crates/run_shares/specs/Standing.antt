@@ -13,7 +13,7 @@ use Rattle.idle_wakeup.specs.shared_rule.Shows.{BeginsWith}
 use Rattle.idle_wakeup.specs.shared_table.declared.ready.TheConstants.{MOST_MADE}
 use Rattle.shared_acts.specs.Interrupts.{KnowsOwn, most_walks}
 use Rattle.play_rules.specs.Interrupts.{Replies}
-use Rattle.run_story.specs.Shares.{Standing, TellsBy, TellsIfDue, TellsOps, fault_of}
+use Rattle.run_story.specs.Shares.{Standing, TellsByRefusal, TellsIfDue, TellsOps, fault_of}
 use Rattle.run_shares.specs.Doing.{by_pass, written_of}
 
 -- STANDS: so the pass says that its CPU stands
@@ -26,7 +26,7 @@ pub record StandsBy (p : PassView) (s : Standing) : Type 0 where
 
 -- GROWS: the pass knows all that it knew, its CPU is as much inside an interrupt as before, and so
 -- many walks more were begun at most
-pub record Grows (walks : ℕ) (p q : PassView) : Type 0 where
+pub record PassGrows (walks : ℕ) (p q : PassView) : Type 0 where
   pub opening : q.opening ≡ p.opening
   pub cpu : q.cpu ≡ p.cpu
   pub inside : q.inside ≡ p.inside
@@ -50,14 +50,14 @@ pub record MayAnswer (table : TableId) (o : World) (walks : ℕ) (held : HeldPas
 
 -- A STEP of a CPU along its share: the pass has grown, and however the CPU stood before, it stands
 -- so that what was told tells it
-pub record HasStepped (table : TableId) (walks : ℕ) (held after : HeldPass)
+pub record HasSteppedAlong (table : TableId) (walks : ℕ) (held after : HeldPass)
     (tells : (later : PassView) → (old new : Standing) → Type 0) : Type 0 where
   pub before : PassView
   pub later : PassView
   pub had : IsPassIn table held before
   pub has : IsPassIn table after later
   pub same_cpu : after.cpu ≡ held.cpu
-  pub grows : Grows walks before later
+  pub grows : PassGrows walks before later
   pub goes : (s : Standing) → StandsBy before s →
       (t : Standing) × StandsBy later t × tells later s t
 
@@ -65,8 +65,8 @@ pub record HasStepped (table : TableId) (walks : ℕ) (held after : HeldPass)
 abbrev pub HasAnswered : TableId → World → (now : ℕ) → What → (line : ℕ) → (held after : HeldPass)
     → Line → Type 0
 HasAnswered table o now what line held after told =
-    HasStepped table 1 held after
-    (λ q s t. TellsBy (by_pass o q) now held.cpu
+    HasSteppedAlong table 1 held after
+    (λ q s t. TellsByRefusal (by_pass o q) now held.cpu
     (fault_of what (cpu_of o held.cpu).online s.idle) what line s t told)
 
 -- OPERATIONS are answered, by these lines behind others
@@ -74,7 +74,7 @@ pub record HaveAnswered (table : TableId) (o : World) (now : ℕ) (ops : List Op
     (held after : HeldPass) (before lines : List Line) : Type 0 where
   pub told : List Line
   pub lines_are : lines ≡ before ++ told
-  pub stepped : HasStepped table (length ops) held after
+  pub stepped : HasSteppedAlong table (length ops) held after
       (λ q s t. TellsOps (by_pass o q) now held.cpu (cpu_of o held.cpu).online ops s t told)
 
 -- AN INTERRUPT, where the CPU has one, is told (no public clause cites it)
@@ -82,5 +82,5 @@ pub record HasRun (table : TableId) (o : World) (now : ℕ) (jobs : Replies) (du
     (held after : HeldPass) (before lines : List Line) : Type 0 where
   pub told : List Line
   pub lines_are : lines ≡ before ++ told
-  pub stepped : HasStepped table most_walks held after
+  pub stepped : HasSteppedAlong table most_walks held after
       (λ q s t. TellsIfDue (by_pass o q) now held.cpu due jobs s t told)

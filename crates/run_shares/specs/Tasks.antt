@@ -20,18 +20,20 @@ EachFrom P k [] = Unit {0}
 EachFrom P k (x ∷ xs) = P k x × EachFrom P (suc k) xs
 
 -- THE PLAN of a round: which CPUs are due an interrupt, and the operations of all
-pub record Plan : Type 0 where
+pub record RoundPlan : Type 0 where
   pub due : Cpus
   pub ops : List Op
 
 -- THE TASK of CPU c by a plan, with the pass with which it begins
-pub record IsTaskOf (table : TableId) (o : World) (plan : Plan) (c : ℕ) (x : Task) : Type 0 where
+pub record IsTaskOf (table : TableId) (o : World) (plan : RoundPlan) (c : ℕ) (x : Task)
+    : Type 0 where
   pub pass : x.pass ≡ begun_pass table o 0 c
   pub due : x.due ≡ contains plan.due c
   pub ops : x.ops.items ≡ own_ops c plan.ops
 
 -- the tasks of the first so many CPUs
-pub record AreTasks (table : TableId) (o : World) (plan : Plan) (n : ℕ) (xs : List Task) : Type 0
+pub record AreTasks (table : TableId) (o : World) (plan : RoundPlan) (n : ℕ) (xs : List Task)
+    : Type 0
   where
     pub count : length xs ≡ n
     pub each : EachFrom (IsTaskOf table o plan) 0 xs
@@ -45,12 +47,12 @@ abbrev pub told_of : Share → List Line
 told_of s = s.lines.items
 
 -- a share for which memory wasn't wanting
-abbrev pub HasEnded : Share → Type 0
-HasEnded s = IsOk s.ended
+abbrev pub HasShareEnded : Share → Type 0
+HasShareEnded s = IsOk s.ended
 
 -- GATHERED: the passes and the lines of shares, in their order, where memory was enough for all
 pub record AreGathered (shares : List Share) (passes : List HeldPass) (lines : List Line) : Type 0
   where
     pub passes_are : passes ≡ map pass_of shares
     pub lines_are : lines ≡ flat_map told_of shares
-    pub ended : Each HasEnded shares
+    pub ended : Each HasShareEnded shares

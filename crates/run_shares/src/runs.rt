@@ -1,7 +1,7 @@
 //! The lines that tell what an interrupt ran.
 
 ghost use Rattle.std.specs.Prelude.{◌≡◌, ◌++◌, OnOk, map};
-ghost use Rattle.run_shares.specs.Lines.{ran_line, shown_of};
+ghost use Rattle.run_shares.specs.Lines.{ran_line, reply_shown_of};
 
 use shared_acts::{Ran, RanReply, Runs};
 use tm_base::{CpuId, Jiffy, NoMemory};
@@ -9,7 +9,7 @@ use tm_report::{Line, ShownReply};
 
 /// What a line shows of what became of a timer.
 fn shown_of(reply: RanReply) -> ShownReply
-    ensures { result ≡ shown_of reply }
+    ensures { result ≡ reply_shown_of reply }
 {
     match reply {
         RanReply::Done => ShownReply::Done,

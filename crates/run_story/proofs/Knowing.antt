@@ -14,12 +14,12 @@ use Rattle.tm_report.specs.declared.lines.Line.{Line}
 use Rattle.tm_report.specs.declared.lines.ShownReply.{ShownReply}
 use Rattle.tm_report.specs.declared.lines.ShownReply.TheVariants as shown
 use Rattle.play_rules.specs.Interrupts.{Replies}
-use Rattle.run_story.specs.Written.{Written}
-use Rattle.run_story.specs.Runs.{Owed, Queues, ShowsAgain, ShowsReply, TellsBy, TellsInterrupt}
+use Rattle.run_story.specs.Written.{WrittenEntry}
+use Rattle.run_story.specs.Runs.{OwedTimer, Queues, ShowsAgain, ShowsReply, TellsByAct, TellsInterrupt}
 use Rattle.run_story.specs.Runs.{TellsRuns}
 use Rattle.run_story.specs.Shares.{Known, Standing, TellsDone, TellsIfDue, TellsOp, TellsOps}
 use Rattle.run_story.specs.Shares.{TellsShare}
-use Rattle.run_story.specs.Shares.{TellsBy as AnswersBy}
+use Rattle.run_story.specs.Shares.{TellsByRefusal as AnswersBy}
 
 -- all that is known of where timers were queued
 abbrev pub AreQueued : (a b : Queues) → Type 0
@@ -28,7 +28,7 @@ AreQueued a b = (timer cpu : ℕ) → a timer cpu → b timer cpu
 -- all that the one knows, the other knows
 pub record IsKnown (a b : Known) : Type 0 where
   pub queues : AreQueued a.queues b.queues
-  pub nowhere : (timer : ℕ) (earlier : List Written) → a.nowhere timer earlier
+  pub nowhere : (timer : ℕ) (earlier : List WrittenEntry) → a.nowhere timer earlier
       → b.nowhere timer earlier
   pub first : (cpu since first : ℕ) → a.first cpu since first → b.first cpu since first
 
@@ -47,13 +47,13 @@ reply_more a b timer (replies.Again class delay) told more h =
     again_more a b timer class told more h
 
 -- what comes behind is told with more known, whatever is owed by then
-abbrev GoesOn : (rest more : List Owed → List Line → Type 0) → Type 0
-GoesOn rest more = (owed : List Owed) (told : List Line) → rest owed told → more owed told
+abbrev GoesOn : (rest more : List OwedTimer → List Line → Type 0) → Type 0
+GoesOn rest more = (owed : List OwedTimer) (told : List Line) → rest owed told → more owed told
 
-act_more : (a b : Queues) (jobs : Replies) (now runner : ℕ) (act : Act) (x : Written)
-    (rest more : List Owed → List Line → Type 0) (owed : List Owed) (told : List Line)
-    → AreQueued a b → GoesOn rest more → TellsBy a jobs now runner act x rest owed told
-    → TellsBy b jobs now runner act x more owed told
+act_more : (a b : Queues) (jobs : Replies) (now runner : ℕ) (act : Act) (x : WrittenEntry)
+    (rest more : List OwedTimer → List Line → Type 0) (owed : List OwedTimer) (told : List Line)
+    → AreQueued a b → GoesOn rest more → TellsByAct a jobs now runner act x rest owed told
+    → TellsByAct b jobs now runner act x more owed told
 act_more a b jobs now runner Armed x rest more owed told known on h = record {
   first = h.first;
   others = h.others;
@@ -73,8 +73,8 @@ act_more a b jobs now runner MovedOut x rest more owed told known on h = absurd 
 act_more a b jobs now runner MovedIn x rest more owed told known on h = absurd h
 act_more a b jobs now runner Ticked x rest more owed told known on h = on owed told h
 
-runs_more : (a b : Queues) (jobs : Replies) (now runner : ℕ) (wrote : List Written)
-    (owed : List Owed) (told : List Line) → AreQueued a b
+runs_more : (a b : Queues) (jobs : Replies) (now runner : ℕ) (wrote : List WrittenEntry)
+    (owed : List OwedTimer) (told : List Line) → AreQueued a b
     → TellsRuns a jobs now runner wrote owed told → TellsRuns b jobs now runner wrote owed told
 unfolding TellsRuns
 runs_more a b jobs now runner [] owed told known h = h
@@ -84,7 +84,7 @@ runs_more a b jobs now runner (x ∷ xs) owed told known h =
     (λ o t i. runs_more a b jobs now runner xs o t known i) h
 
 -- an interrupt
-pub interrupt_more : (a b : Queues) (jobs : Replies) (now cpu : ℕ) (wrote : List Written)
+pub interrupt_more : (a b : Queues) (jobs : Replies) (now cpu : ℕ) (wrote : List WrittenEntry)
     (told : List Line) → AreQueued a b → TellsInterrupt a jobs now cpu wrote told
     → TellsInterrupt b jobs now cpu wrote told
 interrupt_more a b jobs now cpu wrote told known h = record {

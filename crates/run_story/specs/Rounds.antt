@@ -11,7 +11,8 @@ use Rattle.play_rules.specs.Interrupts.{Replies}
 use Rattle.core_world.specs.Enabled.{first_event}
 use Rattle.core_world.specs.World.{World, cpu_of}
 use Rattle.step_play.specs.Rules.Seen.{InRun, resting}
-use Rattle.run_story.specs.Written.{AreWritten, WasNowhere, WasQueued, Written, bases_after, journal_of}
+use Rattle.run_story.specs.Written.{AreWritten, WasNowhere, WasQueuedSince, WrittenEntry}
+use Rattle.run_story.specs.Written.{bases_after, world_journal_of}
 use Rattle.run_story.specs.Shares.{Known, Standing, TellsShare, own_ops}
 
 -- FIRST EVENT: that of the CPU was at this time behind some number of entries of its journal, not
@@ -19,13 +20,13 @@ use Rattle.run_story.specs.Shares.{Known, Standing, TellsShare, own_ops}
 pub record WasFirst (w : World) (cpu since first : ℕ) : Type 0 where
   pub count : ℕ
   pub since_then : since ≤ count
-  pub within : count ≤ length (journal_of w cpu)
-  pub first_is : first ≡ first_event (bases_after (journal_of w cpu) count)
+  pub within : count ≤ length (world_journal_of w cpu)
+  pub first_is : first ≡ first_event (bases_after (world_journal_of w cpu) count)
 
 -- what the journals of the core after the moment say
 abbrev pub by_journals : (o w : World) → Known
 by_journals o w = record {
-  queues = WasQueued o w;
+  queues = WasQueuedSince o w;
   nowhere = WasNowhere o w;
   first = WasFirst w;
 }
@@ -36,12 +37,12 @@ standing_at o cpu = record {
   idle = (cpu_of o cpu).idle;
   wakeup = (cpu_of o cpu).wakeup;
   wrote = [];
-  since = length (journal_of o cpu);
+  since = length (world_journal_of o cpu);
 }
 
 -- THE SHARE of a CPU: its lines tell what it wrote, and how it stands in the core after
 pub record HasShare (jobs : Replies) (o w : World) (due : set.FinSet nat_cmp) (ops : List Op)
-    (cpu : ℕ) (wrote : List Written) (told : List Line) : Type 0 where
+    (cpu : ℕ) (wrote : List WrittenEntry) (told : List Line) : Type 0 where
   pub last : Standing
   pub tells : TellsShare (by_journals o w) o.clock cpu jobs (set.contains due cpu)
       (cpu_of o cpu).online (own_ops cpu ops) (standing_at o cpu) last told
@@ -56,7 +57,7 @@ pub record HasShare (jobs : Replies) (o w : World) (due : set.FinSet nat_cmp) (o
 -- for; no CPU has come or gone, and none that is offline has got a timer
 pub record IsRound (jobs : Replies) (o : World) (due : set.FinSet nat_cmp) (ops : List Op)
     (w : World) (told : List Line) : Type 0 where
-  pub wrote : ℕ → List Written
+  pub wrote : ℕ → List WrittenEntry
   pub lines_of : ℕ → List Line
   pub written : AreWritten o w wrote
   pub shares : (cpu : ℕ) → cpu < length o.cpus →

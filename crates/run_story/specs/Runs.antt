@@ -14,16 +14,16 @@ use Rattle.tm_report.specs.declared.lines.Line.TheVariants as lines
 use Rattle.tm_report.specs.declared.lines.ShownReply.{ShownReply}
 use Rattle.tm_report.specs.declared.lines.ShownReply.TheVariants as shown
 use Rattle.play_rules.specs.Interrupts.{Replies, cpu_id}
-use Rattle.run_story.specs.Written.{Written}
+use Rattle.run_story.specs.Written.{WrittenEntry}
 
 -- what the job of a timer that was handed out is told
-abbrev pub call_of : (now runner : ℕ) → Entry → JobCall
-call_of now runner e =
+abbrev pub job_call_of : (now runner : ℕ) → Entry → JobCall
+job_call_of now runner e =
     record { timer = e.timer; arg = e.arg; now = now; runner = cpu_id runner }
 
 -- a timer that is still to be armed again: in which class, with which wheel expiry as its line
 -- says, how far ahead, and how it was handed out
-pub record Owed : Type 0 where
+pub record OwedTimer : Type 0 where
   pub class : Class
   pub wheel : ℕ
   pub delay : ℕ
@@ -32,7 +32,7 @@ pub record Owed : Type 0 where
 -- ARMED AGAIN: an entry is the arming that was owed: on the CPU that ran the timer, by no line of
 -- the script, for its delay from now, with the class and wheel expiry that its line says, and the
 -- job and number with which it was handed out
-pub record Pays (now runner : ℕ) (o : Owed) (x : Written) : Type 0 where
+pub record Pays (now runner : ℕ) (o : OwedTimer) (x : WrittenEntry) : Type 0 where
   pub home : x.home ≡ runner
   pub line : x.entry.line ≡ 0
   pub timer : x.entry.timer ≡ o.out.timer
@@ -62,62 +62,67 @@ module _ (queues : Queues) where
   ShowsReply timer (replies.Again class delay) reply = ShowsAgain timer class reply
 
 -- what is owed behind a line
-abbrev pub owed_by : JobReply → ShownReply → Entry → List Owed
-owed_by replies.Done reply e = []
-owed_by (replies.Mark m) reply e = []
-owed_by (replies.Again class delay) shown.Done e = []
-owed_by (replies.Again class delay) (shown.Mark m) e = []
-owed_by (replies.Again class delay) (shown.Again c wheel) e =
+abbrev pub timers_owed_by : JobReply → ShownReply → Entry → List OwedTimer
+timers_owed_by replies.Done reply e = []
+timers_owed_by (replies.Mark m) reply e = []
+timers_owed_by (replies.Again class delay) shown.Done e = []
+timers_owed_by (replies.Again class delay) (shown.Mark m) e = []
+timers_owed_by (replies.Again class delay) (shown.Again c wheel) e =
     record { class = c; wheel = wheel; delay = delay; out = e } ∷ []
-owed_by (replies.Again class delay) (shown.Skip cpu) e = []
+timers_owed_by (replies.Again class delay) (shown.Skip cpu) e = []
 
 -- the line of a timer that was handed out
-abbrev pub run_line : (now runner : ℕ) → Written → ShownReply → Line
-run_line now runner x reply =
+abbrev pub handed_out_line : (now runner : ℕ) → WrittenEntry → ShownReply → Line
+handed_out_line now runner x reply =
     lines.Run now (cpu_id runner) x.entry.timer (cpu_id x.home) x.entry.wheel reply
 
 module _ (queues : Queues) (jobs : Replies) (now runner : ℕ) where
   -- a timer was handed out: it has the next line, which shows what its job replied, and what that
   -- leaves to be armed comes last
-  pub record TellsOut (x : Written) (rest : List Owed → List Line → Type 0) (owed : List Owed)
+  pub record TellsOut (x : WrittenEntry) (rest : List OwedTimer → List Line → Type 0)
+      (owed : List OwedTimer)
       (told : List Line) : Type 0 where
     pub reply : ShownReply
     pub behind : List Line
-    pub line : told ≡ run_line now runner x reply ∷ behind
-    pub shows : ShowsReply queues x.entry.timer.0 (jobs x.entry.job (call_of now runner x.entry))
+    pub line : told ≡ handed_out_line now runner x reply ∷ behind
+    pub shows : ShowsReply queues x.entry.timer.0
+        (jobs x.entry.job (job_call_of now runner x.entry))
         reply
     pub goes_on : rest
-        (owed ++ owed_by (jobs x.entry.job (call_of now runner x.entry)) reply x.entry) behind
+        (owed ++ timers_owed_by (jobs x.entry.job (job_call_of now runner x.entry)) reply x.entry)
+        behind
 
   -- a timer was armed: it is the first of those that are owed
-  pub record TellsArmed (x : Written) (rest : List Owed → List Line → Type 0) (owed : List Owed)
+  pub record TellsArmed (x : WrittenEntry) (rest : List OwedTimer → List Line → Type 0)
+      (owed : List OwedTimer)
       (told : List Line) : Type 0 where
-    pub first : Owed
-    pub others : List Owed
+    pub first : OwedTimer
+    pub others : List OwedTimer
     pub owed_are : owed ≡ first ∷ others
     pub pays : Pays now runner first x
     pub goes_on : rest others told
 
   -- by what was done
-  abbrev pub TellsBy : Act → Written → (rest : List Owed → List Line → Type 0) → List Owed
+  abbrev pub TellsByAct : Act → WrittenEntry → (rest : List OwedTimer → List Line → Type 0)
+      → List OwedTimer
       → List Line → Type 0
-  TellsBy Armed x rest owed told = TellsArmed x rest owed told
-  TellsBy Handed x rest owed told = TellsOut x rest owed told
-  TellsBy Cancelled x rest owed told = ⊥
-  TellsBy MovedOut x rest owed told = ⊥
-  TellsBy MovedIn x rest owed told = ⊥
-  TellsBy Ticked x rest owed told = rest owed told
+  TellsByAct Armed x rest owed told = TellsArmed x rest owed told
+  TellsByAct Handed x rest owed told = TellsOut x rest owed told
+  TellsByAct Cancelled x rest owed told = ⊥
+  TellsByAct MovedOut x rest owed told = ⊥
+  TellsByAct MovedIn x rest owed told = ⊥
+  TellsByAct Ticked x rest owed told = rest owed told
 
   -- THE RUNS of an interrupt: what its CPU wrote, from the first entry on, with the armings that
   -- are still owed and the lines that are still to be told. Each timer that was handed out has the
   -- next line, each arming is the first one owed, and besides there are drains alone
-  unfoldable pub TellsRuns : List Written → List Owed → List Line → Type 0
+  unfoldable pub TellsRuns : List WrittenEntry → List OwedTimer → List Line → Type 0
   TellsRuns [] owed told = (owed ≡ []) × (told ≡ [])
-  TellsRuns (x ∷ xs) owed told = TellsBy x.entry.act x (TellsRuns xs) owed told
+  TellsRuns (x ∷ xs) owed told = TellsByAct x.entry.act x (TellsRuns xs) owed told
 
 -- a CPU drained its own base of a class
-pub record HasTicked (cpu : ℕ) (class : Class) (wrote : List Written) : Type 0 where
-  pub drain : Written
+pub record HasTickedWriting (cpu : ℕ) (class : Class) (wrote : List WrittenEntry) : Type 0 where
+  pub drain : WrittenEntry
   pub has : Contains wrote drain
   pub home : drain.home ≡ cpu
   pub act : drain.entry.act ≡ Ticked
@@ -125,7 +130,8 @@ pub record HasTicked (cpu : ℕ) (class : Class) (wrote : List Written) : Type 0
 
 -- AN INTERRUPT: what its CPU wrote, with a drain of each of its own bases, and the lines that tell
 -- it
-pub record TellsInterrupt (queues : Queues) (jobs : Replies) (now cpu : ℕ) (wrote : List Written)
+pub record TellsInterrupt (queues : Queues) (jobs : Replies) (now cpu : ℕ)
+    (wrote : List WrittenEntry)
     (told : List Line) : Type 0 where
-  pub drained : (class : Class) → HasTicked cpu class wrote
+  pub drained : (class : Class) → HasTickedWriting cpu class wrote
   pub runs : TellsRuns queues jobs now cpu wrote [] told

@@ -16,7 +16,7 @@ use Rattle.tm_report.specs.declared.lines.Line.{Line}
 use Rattle.tm_report.specs.declared.lines.Line.TheVariants as lines
 use Rattle.play_rules.specs.Interrupts.{Replies, cpu_id}
 use Rattle.play_rules.specs.Operations.{refused_line}
-use Rattle.run_story.specs.Written.{Written}
+use Rattle.run_story.specs.Written.{WrittenEntry}
 use Rattle.run_story.specs.Runs.{Queues, TellsInterrupt}
 
 -- a CPU as it stands between two of its lines: whether it is idle, its wakeup, what it has written
@@ -24,20 +24,20 @@ use Rattle.run_story.specs.Runs.{Queues, TellsInterrupt}
 pub record Standing : Type 0 where
   pub idle : Bool
   pub wakeup : ℕ
-  pub wrote : List Written
+  pub wrote : List WrittenEntry
   pub since : ℕ
 
 -- behind what a CPU wrote into its own journal
-abbrev pub behind_own : (cpu : ℕ) → Written → (since : ℕ) → ℕ
+abbrev pub behind_own : (cpu : ℕ) → WrittenEntry → (since : ℕ) → ℕ
 behind_own cpu x since = if x.home == cpu then max since (suc x.place) else since
 
 -- behind all of that
-unfoldable pub behind_all : (cpu : ℕ) → List Written → (since : ℕ) → ℕ
+unfoldable pub behind_all : (cpu : ℕ) → List WrittenEntry → (since : ℕ) → ℕ
 behind_all cpu [] since = since
 behind_all cpu (x ∷ xs) since = behind_all cpu xs (behind_own cpu x since)
 
 -- a CPU that has written this besides
-abbrev pub with_written : (cpu : ℕ) → List Written → Standing → Standing
+abbrev pub with_written : (cpu : ℕ) → List WrittenEntry → Standing → Standing
 with_written cpu more s = record s {
   wrote = s.wrote ++ more;
   since = behind_all cpu more s.since;
@@ -60,12 +60,12 @@ fault_of whats.Online true idle = Some faults.AlreadyOnline
 -- CPU was at a time, somewhere behind so many entries of its journal
 pub record Known : Type 1 where
   pub queues : Queues
-  pub nowhere : (timer : ℕ) → List Written → Type 0
+  pub nowhere : (timer : ℕ) → List WrittenEntry → Type 0
   pub first : (cpu since first : ℕ) → Type 0
 
 -- an entry of an arming by a line of the script
 pub record IsArmingBy (now cpu line : ℕ) (timer : TimerId) (class : Class) (delay job arg : ℕ)
-    (x : Written) : Type 0 where
+    (x : WrittenEntry) : Type 0 where
   pub act : x.entry.act ≡ Armed
   pub home : x.home ≡ cpu
   pub line_is : x.entry.line ≡ line
@@ -76,7 +76,7 @@ pub record IsArmingBy (now cpu line : ℕ) (timer : TimerId) (class : Class) (de
   pub arg_is : x.entry.arg ≡ arg
 
 -- an entry of a cancelling by a line of the script
-pub record IsCancellingBy (line : ℕ) (timer : TimerId) (x : Written) : Type 0 where
+pub record IsCancellingBy (line : ℕ) (timer : TimerId) (x : WrittenEntry) : Type 0 where
   pub act : x.entry.act ≡ Cancelled
   pub line_is : x.entry.line ≡ line
   pub timer_is : x.entry.timer ≡ timer
@@ -85,7 +85,7 @@ module _ (known : Known) (now cpu : ℕ) where
   -- ARM: the timer is armed, and the line shows its wheel expiry
   pub record TellsArm (line : ℕ) (timer : TimerId) (class : Class) (delay job arg : ℕ)
       (old new : Standing) (told : Line) : Type 0 where
-    pub entry : Written
+    pub entry : WrittenEntry
     pub arming : IsArmingBy now cpu line timer class delay job arg entry
     pub line_is : told ≡ lines.Arm now (cpu_id cpu) timer class entry.entry.wheel
     pub new_is : new ≡ with_written cpu (entry ∷ []) old
@@ -101,7 +101,7 @@ module _ (known : Known) (now cpu : ℕ) where
   -- CANCEL: the timer is cancelled where it was queued
   pub record TellsCancel (line : ℕ) (timer : TimerId) (old new : Standing) (told : Line) : Type 0
     where
-      pub entry : Written
+      pub entry : WrittenEntry
       pub cancelling : IsCancellingBy line timer entry
       pub line_is : told ≡ lines.Cancel now (cpu_id cpu) timer (cpu_id entry.home)
       pub new_is : new ≡ with_written cpu (entry ∷ []) old
@@ -150,14 +150,15 @@ module _ (known : Known) (now cpu : ℕ) where
       pub new_is : new ≡ old
 
   -- by what the CPU refuses
-  abbrev pub TellsBy : Option OpFault → What → (line : ℕ) → (old new : Standing) → Line → Type 0
-  TellsBy None what line old new told = TellsDone what line old new told
-  TellsBy (Some fault) what line old new told = TellsRefused fault line old new told
+  abbrev pub TellsByRefusal : Option OpFault → What → (line : ℕ) → (old new : Standing) → Line
+      → Type 0
+  TellsByRefusal None what line old new told = TellsDone what line old new told
+  TellsByRefusal (Some fault) what line old new told = TellsRefused fault line old new told
 
   -- AN OPERATION and its answer
   abbrev pub TellsOp : (online : Bool) → Op → (old new : Standing) → Line → Type 0
   TellsOp online op old new told =
-      TellsBy (fault_of op.what online old.idle) op.what op.line old new told
+      TellsByRefusal (fault_of op.what online old.idle) op.what op.line old new told
 
   -- THE OPERATIONS of a CPU in line order, each with exactly one line
   unfoldable pub TellsOps : (online : Bool) → List Op → (old new : Standing) → List Line → Type 0
@@ -168,7 +169,7 @@ module _ (known : Known) (now cpu : ℕ) where
 
   -- AN INTERRUPT, where the CPU has one: it stays as idle as it was, and may tell its wakeup anew
   pub record TellsDue (jobs : Replies) (old new : Standing) (told : List Line) : Type 0 where
-    pub more : List Written
+    pub more : List WrittenEntry
     pub interrupt : TellsInterrupt known.queues jobs now cpu more told
     pub wakeup : ℕ
     pub new_is : new ≡ record (with_written cpu more old) { wakeup = wakeup }

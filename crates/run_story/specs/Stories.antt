@@ -115,8 +115,8 @@ IsMomentBy true jobs due m o p = IsPlain jobs due m o p
 IsMomentBy false jobs due m o p = IsThreaded jobs due m o p
 
 -- .. plain, or with threads, by what the core and the script have for it
-abbrev pub IsMoment : Replies → Option Moment → (o : World) → Played World → Type 0
-IsMoment jobs m o p =
+abbrev pub IsPlayedMoment : Replies → Option Moment → (o : World) → Played World → Type 0
+IsPlayedMoment jobs m o p =
     IsMomentBy (is_plain (length o.cpus) (having_interrupt step_rules o) (ops_of m)) jobs
     (having_interrupt step_rules o) m o p
 
@@ -124,9 +124,9 @@ IsMoment jobs m o p =
 -- to that at the end
 module _ (jobs : Replies) (end : ℕ) where
   -- one moment, which comes at its time
-  abbrev pub IsTurn : (ms : List Moment) (now : ℕ) → World → Turn World → Type 0
-  IsTurn ms now w t =
-      (t.at ≡ now) × IsMoment jobs (moment_at now ms) (step_rules.at_clock now w) t.played
+  abbrev pub IsTurnInTime : (ms : List Moment) (now : ℕ) → World → Turn World → Type 0
+  IsTurnInTime ms now w t =
+      (t.at ≡ now) × IsPlayedMoment jobs (moment_at now ms) (step_rules.at_clock now w) t.played
 
   -- what comes behind a moment: nothing where it is the last
   abbrev pub Behind : (is_last : Bool) → (rest : Type 0) → List (Turn World) → Type 0
@@ -137,7 +137,7 @@ module _ (jobs : Replies) (end : ℕ) where
   unfoldable pub StoryFrom : (ms : List Moment) (now : ℕ) → World → List (Turn World) → Type 0
   StoryFrom ms now w [] = ⊥
   StoryFrom ms now w (t ∷ ts) =
-      IsTurn ms now w t
+      IsTurnInTime ms now w t
       × Behind (now == end)
       (StoryFrom (moments_after now ms)
       (next_moment step_rules end (moments_after now ms) t.played.state) t.played.state ts) ts
@@ -146,7 +146,7 @@ module _ (jobs : Replies) (end : ℕ) where
   unfoldable pub BrokenFrom : (ms : List Moment) (now : ℕ) → World → List (Turn World) → Type 0
   BrokenFrom ms now w [] = Unit {0}
   BrokenFrom ms now w (t ∷ ts) =
-      (now ≢ end) × IsTurn ms now w t
+      (now ≢ end) × IsTurnInTime ms now w t
       × BrokenFrom (moments_after now ms)
       (next_moment step_rules end (moments_after now ms) t.played.state) t.played.state ts
 

@@ -9,27 +9,29 @@ use Rattle.cpu_bases.specs.Replay.{replay}
 use Rattle.core_world.specs.World.{World, cpu_of}
 
 -- an entry that a CPU wrote: in whose journal it stands, and where
-pub record Written : Type 0 where
+pub record WrittenEntry : Type 0 where
   pub home : ℕ
   pub place : ℕ
   pub entry : Entry
 
 -- the journal of a CPU
-abbrev pub journal_of : World → ℕ → List Entry
-journal_of w c = (cpu_of w c).bases.journal
+abbrev pub world_journal_of : World → ℕ → List Entry
+world_journal_of w c = (cpu_of w c).bases.journal
 
 -- what CPU c wrote as number i stands where it says, is new since the moment began, and was written
 -- at its time, where it arms in its own journal; and of that place nothing else was written
-pub record Stands (o w : World) (writer : ℕ → ℕ → ℕ × ℕ) (c i : ℕ) (x : Written) : Type 0 where
-  pub stands : slice_get (journal_of w x.home) x.place ≡ Some x.entry
-  pub later : length (journal_of o x.home) ≤ x.place
+pub record StandsWritten (o w : World) (writer : ℕ → ℕ → ℕ × ℕ) (c i : ℕ) (x : WrittenEntry)
+    : Type 0 where
+  pub stands : slice_get (world_journal_of w x.home) x.place ≡ Some x.entry
+  pub later : length (world_journal_of o x.home) ≤ x.place
   pub at : x.entry.at ≡ o.clock
   pub by : x.entry.by.0 ≡ c
   pub armed : x.entry.act ≡ Armed → x.home ≡ c
   pub once : writer x.home x.place ≡ (c, i)
 
 -- a new entry was written by a CPU that there is
-pub record WasWritten (cpus : ℕ) (wrote : ℕ → List Written) (at : ℕ × ℕ) (x : Written) : Type 0
+pub record WasWritten (cpus : ℕ) (wrote : ℕ → List WrittenEntry) (at : ℕ × ℕ) (x : WrittenEntry)
+    : Type 0
   where
     pub in_range : at.0 < cpus
     pub among : slice_get (wrote at.0) at.1 ≡ Some x
@@ -37,15 +39,15 @@ pub record WasWritten (cpus : ℕ) (wrote : ℕ → List Written) (at : ℕ × �
 -- WRITTEN: what each CPU wrote stands in the journals, each new entry was written by one CPU, and
 -- what a CPU wrote into one journal stands there in its order; of each place `writer` tells which
 -- CPU wrote its entry, and as which of its own
-pub record AreWritten (o w : World) (wrote : ℕ → List Written) : Type 0 where
+pub record AreWritten (o w : World) (wrote : ℕ → List WrittenEntry) : Type 0 where
   pub writer : ℕ → ℕ → ℕ × ℕ
-  pub stand : (c i : ℕ) (x : Written) → slice_get (wrote c) i ≡ Some x →
-      Stands o w writer c i x
-  pub all : (d place : ℕ) (e : Entry) → slice_get (journal_of w d) place ≡ Some e →
-      length (journal_of o d) ≤ place →
+  pub stand : (c i : ℕ) (x : WrittenEntry) → slice_get (wrote c) i ≡ Some x →
+      StandsWritten o w writer c i x
+  pub all : (d place : ℕ) (e : Entry) → slice_get (world_journal_of w d) place ≡ Some e →
+      length (world_journal_of o d) ≤ place →
       WasWritten (length o.cpus) wrote (writer d place)
       (record { home = d; place = place; entry = e })
-  pub order : (c i j : ℕ) (x y : Written) → slice_get (wrote c) i ≡ Some x →
+  pub order : (c i j : ℕ) (x y : WrittenEntry) → slice_get (wrote c) i ≡ Some x →
       slice_get (wrote c) j ≡ Some y → x.home ≡ y.home → i < j → x.place < y.place
 
 -- the bases of a CPU as its first so many entries make them
@@ -57,26 +59,26 @@ bases_after journal count = record {
 
 -- QUEUED: the timer was queued on CPU d after some number of d's entries, not fewer than when the
 -- moment began
-pub record WasQueued (o w : World) (timer d : ℕ) : Type 0 where
+pub record WasQueuedSince (o w : World) (timer d : ℕ) : Type 0 where
   pub count : ℕ
-  pub since : length (journal_of o d) ≤ count
-  pub within : count ≤ length (journal_of w d)
-  pub queued : is_some (class_in timer (bases_after (journal_of w d) count)) ≡ true
+  pub since : length (world_journal_of o d) ≤ count
+  pub within : count ≤ length (world_journal_of w d)
+  pub queued : is_some (class_in timer (bases_after (world_journal_of w d) count)) ≡ true
 
 -- a new entry is an end of the timer
-pub record HasEnded (o w : World) (timer : ℕ) : Type 0 where
+pub record HasTimerEnded (o w : World) (timer : ℕ) : Type 0 where
   pub cpu : ℕ
   pub place : ℕ
   pub ending : Entry
-  pub stands : slice_get (journal_of w cpu) place ≡ Some ending
-  pub later : length (journal_of o cpu) ≤ place
+  pub stands : slice_get (world_journal_of w cpu) place ≡ Some ending
+  pub later : length (world_journal_of o cpu) ≤ place
   pub timer_is : ending.timer.0 ≡ timer
   pub ends : is_end ending.act ≡ true
 
 -- NOT QUEUED: each arming of the timer among these entries has an end; and the timer was queued
 -- nowhere when the moment began, or has a new end
-pub record WasNowhere (o w : World) (timer : ℕ) (earlier : List Written) : Type 0 where
-  pub armed : (i : ℕ) (x : Written) → slice_get earlier i ≡ Some x → x.entry.act ≡ Armed →
-      x.entry.timer.0 ≡ timer → HasEnd (journal_of w x.home) x.place x.entry
+pub record WasNowhere (o w : World) (timer : ℕ) (earlier : List WrittenEntry) : Type 0 where
+  pub armed : (i : ℕ) (x : WrittenEntry) → slice_get earlier i ≡ Some x → x.entry.act ≡ Armed →
+      x.entry.timer.0 ≡ timer → HasEnd (world_journal_of w x.home) x.place x.entry
   pub opening :
-      ((d : ℕ) → class_in timer (cpu_of o d).bases ≡ None) ⊎ HasEnded o w timer
+      ((d : ℕ) → class_in timer (cpu_of o d).bases ≡ None) ⊎ HasTimerEnded o w timer

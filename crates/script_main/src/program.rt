@@ -5,14 +5,14 @@ ghost use Rattle.std.specs.Thread.{IsSync};
 ghost use Rattle.tm_io.specs.Seen.{SourceFailed, SourceUnbroken};
 ghost use Rattle.run_moments.specs.run_story.Asked.{AsksRound};
 ghost use Rattle.run_moments.specs.run_story.Rounds.{IsRound};
-ghost use Rattle.program_texts.specs.Words.{Reads, command_of};
-ghost use Rattle.program_texts.specs.Ends.{Breaks};
+ghost use Rattle.program_texts.specs.Words.{Reads, program_command_of};
+ghost use Rattle.program_texts.specs.Ends.{SinkBreaks};
 ghost use Rattle.program_texts.specs.Statuses.{IsEither, IsStatus};
 ghost use Rattle.program_replies.specs.Statuses.{IsShortDay, SaysDone, SaysJobUnknown, SaysNoMemory};
 ghost use Rattle.program_replies.specs.Statuses.{SaysTraceRefused, SaysWorksRefused, SaysReadFault};
 ghost use Rattle.program_replies.specs.Statuses.{SaysRefused, SaysTooLong, SaysUsage, SaysWorkSpent};
 ghost use Rattle.program_replies.specs.Statuses.{SaysWriteFault};
-ghost use Rattle.program_replies.specs.Causes.{IsFine, IsJobUnknown, IsRefused, IsTooLong};
+ghost use Rattle.program_replies.specs.Causes.{IsFine, IsJobUnknown, IsScriptRefused, IsTooLong};
 ghost use Rattle.program_replies.specs.Causes.{IsTraceRefused, IsWorkSpent, IsWorksRefused};
 
 use job_table::Jobs;
@@ -86,7 +86,8 @@ pub fn run_program<S: Source, K: Sink, J: Jobs + Sync, G: Gate + Sync, R: Thread
     ensures no_other { IsStatus result.0 }
 
     // When they come, in the order of the causes. Each yields to want of memory alone.
-    ensures usage_exactly { command_of words.now ≡ None → IsEither result.0 USAGE NO_MEMORY }
+    ensures usage_exactly { program_command_of words.now ≡ None
+        → IsEither result.0 USAGE NO_MEMORY }
     ensures untouched { ¬ Reads words.now → source.new ≡ source.old }
     ensures read_fault_exactly { ¬ SourceUnbroken (S.seen source.old) (S.seen source.new)
         → IsEither result.0 READ_FAULT NO_MEMORY }
@@ -94,7 +95,7 @@ pub fn run_program<S: Source, K: Sink, J: Jobs + Sync, G: Gate + Sync, R: Thread
         → IsTooLong words.now (S.seen source.old).left
         → IsEither result.0 TOO_LONG NO_MEMORY }
     ensures refused_exactly { result.0 ≢ READ_FAULT
-        → IsRefused words.now (S.seen source.old).left
+        → IsScriptRefused words.now (S.seen source.old).left
         → IsEither result.0 SCRIPT_REFUSED NO_MEMORY }
     ensures trace_refused_exactly { result.0 ≢ READ_FAULT
         → IsTraceRefused words.now (S.seen source.old).left
@@ -105,7 +106,7 @@ pub fn run_program<S: Source, K: Sink, J: Jobs + Sync, G: Gate + Sync, R: Thread
     ensures job_unknown_exactly { result.0 ≢ READ_FAULT
         → IsJobUnknown (J.count jobs.now) words.now (S.seen source.old).left
         → IsEither result.0 JOB_UNKNOWN NO_MEMORY }
-    ensures day_ends { (recipe : Recipe) → command_of words.now ≡ Some (Command.Day recipe)
+    ensures day_ends { (recipe : Recipe) → program_command_of words.now ≡ Some (Command.Day recipe)
         → IsShortDay recipe → result.0 ≢ WORK_SPENT }
     ensures work_spent_exactly { result.0 ≢ READ_FAULT
         → IsWorkSpent (J.replies jobs.now) (J.count jobs.now) words.now (S.seen source.old).left
@@ -114,7 +115,7 @@ pub fn run_program<S: Source, K: Sink, J: Jobs + Sync, G: Gate + Sync, R: Thread
         → IsFine (J.replies jobs.now) (J.count jobs.now) words.now (S.seen source.old).left
         → (result.0 ≡ WRITE_FAULT) ⊎ IsEither result.0 DONE NO_MEMORY }
     ensures complete { ¬ SourceFailed (S.seen source.old) (S.seen source.new)
-        → ¬ Breaks (K.seen sink.old) (K.seen sink.new)
+        → ¬ SinkBreaks (K.seen sink.old) (K.seen sink.new)
         → IsFine (J.replies jobs.now) (J.count jobs.now) words.now (S.seen source.old).left
         → IsEither result.0 DONE NO_MEMORY }
 {

@@ -16,7 +16,7 @@ use Rattle.shared_acts.specs.declared.runs.Ran.{Ran}
 use Rattle.shared_acts.specs.declared.runs.RanReply.{RanReply}
 use Rattle.shared_acts.specs.declared.runs.RanReply.TheVariants as ran
 use Rattle.shared_acts.specs.Following.{FollowsArmed, FollowsBy, Follows, FollowsOut, IsAgain}
-use Rattle.shared_acts.specs.Following.{IsTold, Owed}
+use Rattle.shared_acts.specs.Following.{IsHandOutTold, Owed}
 
 -- what follows after a piece, whatever is owed by then
 abbrev GoesOn : (rest more : List Owed → List Ran → Type 0) → List Ran → Type 0
@@ -93,8 +93,8 @@ again_wider o timer place seen wider class (ran.Skip cpu) w h = record {
 }
 
 pub told_wider : (o : World) (timer place : ℕ) (seen wider : List Did) (job : JobReply)
-    (reply : RanReply) → Wider seen wider → IsTold o timer place seen job reply
-    → IsTold o timer place wider job reply
+    (reply : RanReply) → Wider seen wider → IsHandOutTold o timer place seen job reply
+    → IsHandOutTold o timer place wider job reply
 told_wider o timer place seen wider replies.Done reply w h = h
 told_wider o timer place seen wider (replies.Mark m) reply w h = h
 told_wider o timer place seen wider (replies.Again class delay) reply w h =

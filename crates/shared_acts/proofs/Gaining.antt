@@ -16,7 +16,7 @@ use Rattle.shared_timers.specs.shared_rule.declared.parts.Receipt.{Receipt}
 use Rattle.shared_timers.specs.shared_rule.Passes.{HeldPass, IsPassIn, Seated}
 use Rattle.shared_timers.specs.shared_rule.Shows.{BeginsWith}
 use Rattle.shared_acts.specs.Interrupts.{KnowsOwn, walks_by}
-use Rattle.shared_acts.specs.Pieces.{Gains, HeldInside, Piece, deeds_of}
+use Rattle.shared_acts.specs.Pieces.{PassGains, HeldInside, Piece, deeds_of}
 
 -- a journal begins with itself
 pub begins : (j : List Entry) → BeginsWith j j
@@ -67,7 +67,7 @@ walks_of_both (deeds.Released cpu ∷ xs) ys = walks_of_both xs ys
 
 -- NOTHING: a pass that knows its CPU's journal further has gained nothing
 pub none_gained : (p : PassView) (journal : List Entry) → BeginsWith journal p.journal
-    → Gains p (record p { journal = journal }) [] [] 0
+    → PassGains p (record p { journal = journal }) [] [] 0
 none_gained p journal begins = record {
   opening = refl;
   cpu = refl;
@@ -86,8 +86,8 @@ none_gained p journal begins = record {
 
 -- ONE BEHIND THE OTHER
 pub gains_then : (p q s : PassView) (receipts more : List Receipt) (did later : List Did)
-    (walks others : ℕ) → Gains p q receipts did walks → Gains q s more later others
-    → Gains p s (receipts ++ more) (did ++ later) (walks + others)
+    (walks others : ℕ) → PassGains p q receipts did walks → PassGains q s more later others
+    → PassGains p s (receipts ++ more) (did ++ later) (walks + others)
 gains_then p q s receipts more did later walks others first next = record {
   opening = next.opening ∙ first.opening;
   cpu = next.cpu ∙ first.cpu;
@@ -124,7 +124,7 @@ same_pass table held p q is it =
 -- A PIECE of which this is the pass before and after
 abbrev pub piece_of : (table : TableId) (held after : HeldPass) (p q : PassView)
     (receipts : List Receipt) (did : List Did) (walks : ℕ) → IsPassIn table held p
-    → IsPassIn table after q → after.cpu ≡ held.cpu → Gains p q receipts did walks
+    → IsPassIn table after q → after.cpu ≡ held.cpu → PassGains p q receipts did walks
     → Piece table held after receipts did walks
 piece_of table held after p q receipts did walks is later cpu gains =
     record { before = p; later = q; had = is; has = later; cpu = cpu; gains = gains }
@@ -150,7 +150,7 @@ piece_then table held mid after receipts more did later walks others first next 
       gains =
           gains_then first.before first.later next.later receipts more did later walks others
           first.gains
-          (subst (λ (x : PassView). Gains x next.later more later others) same next.gains);
+          (subst (λ (x : PassView). PassGains x next.later more later others) same next.gains);
     }
 
 -- and before the second one the pass has the receipts of the first one more
@@ -171,7 +171,7 @@ still_inside table o held after receipts did walks was piece =
     let same = same_pass table held piece.before was.pass piece.had was.seated in
     let p = was.pass in
     let q = piece.later in
-    let gains = subst (λ (x : PassView). Gains x q receipts did walks) same piece.gains in
+    let gains = subst (λ (x : PassView). PassGains x q receipts did walks) same piece.gains in
     record {
       pass = q;
       seated = piece.has;

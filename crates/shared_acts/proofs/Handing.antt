@@ -27,9 +27,9 @@ use Rattle.shared_timers.specs.shared_rule.Shows.{receipt_of}
 use Rattle.shared_timers.specs.shared_rule.Turns.{MayRunOf}
 use Rattle.shared_timers.specs.Draining.{MayDrain, drained_part, out_noted}
 use Rattle.shared_timers.specs.Entries.{pair_changed}
-use Rattle.shared_acts.specs.Handing.{ArePlaced, Drains, HandsEach, HandsNone, HandsOne}
+use Rattle.shared_acts.specs.Handing.{ArePlaced, DrainsClass, HandsEach, HandsNone, HandsOne}
 use Rattle.shared_acts.specs.Handing.{MayHandEach, rebased, with_receipts}
-use Rattle.shared_acts.specs.Pieces.{HandsOut, IsHandOut, IsTick, IsTimerOf}
+use Rattle.shared_acts.specs.Pieces.{HandsOutItems, IsHandOut, IsTick, IsTimerOfRun}
 use Rattle.shared_acts.proofs.Gaining.{begins, begins_then, each_of_both}
 
 -- a drain step of a part in which this pass is, by what goes out
@@ -174,8 +174,8 @@ front_more home runner class (j ∷ is) (q ∷ rs) i r h new =
 
 front_done : (home runner : ℕ) (class : Class) (is : List Item) (rs : List Receipt) (t : Receipt)
     → HandsFront home runner class is rs → IsTick home runner class t
-    → HandsOut home runner class is (rs ++ t ∷ [])
-unfolding HandsFront HandsOut
+    → HandsOutItems home runner class is (rs ++ t ∷ [])
+unfolding HandsFront HandsOutItems
 front_done home runner class [] rs t h tick = (t, ap (λ x. x ++ t ∷ []) h, tick)
 front_done home runner class (j ∷ is) [] t h tick = absurd h
 front_done home runner class (j ∷ is) (q ∷ rs) t h tick =
@@ -221,9 +221,9 @@ pub record HandsSoFar (o : World) (class : Class) (start now : HeldPart) (items 
   pub bases : CpuBases
   pub was : start.brought ≡ pass ∷ []
   pub part_is : now ≡ rebased start bases (with_receipts receipts pass)
-  pub drains : Drains class start.box.own.bases bases
+  pub drains : DrainsClass class start.box.own.bases bases
   pub hands : HandsFront start.box.cpu pass.cpu class items receipts
-  pub timers : All (IsTimerOf o) items
+  pub timers : All (IsTimerOfRun o) items
   pub count : length items + length (base_of class bases).items
       ≡ length (base_of class start.box.own.bases).items
   pub written : length bases.journal ≡ length start.box.own.bases.journal + length items
@@ -314,7 +314,7 @@ module _ (o : World) (class : Class) (start : HeldPart) where
         hands = front_more start.box.cpu h.pass.cpu class items h.receipts item at.receipt h.hands
             (subst (λ (x : PassView). IsHandOut start.box.cpu x.cpu class item at.receipt) is
             at.hand);
-        timers = All-push (IsTimerOf o) items item h.timers at.timer;
+        timers = All-push (IsTimerOfRun o) items item h.timers at.timer;
         count = (let l = length_push items item in let n = h.count in let f = at.fewer in
             omega (arith, l, n, f));
         written = (let l = length_push items item in let n = h.written in let f = at.written in

@@ -19,7 +19,7 @@ use Rattle.shared_timers.specs.shared_rule.Turns.{MayRunOf}
 use Rattle.shared_acts.specs.declared.runs.Ran.{Ran}
 use Rattle.shared_acts.specs.Following.{Follows, RunsOfSome}
 use Rattle.shared_acts.specs.Handing.{HasHanded}
-use Rattle.shared_acts.specs.Pieces.{Breaks, HandsOut, HasDrained, HeldInside, IsTick, IsTimerOf}
+use Rattle.shared_acts.specs.Pieces.{Breaks, HandsOutItems, HasDrained, HeldInside, IsTick, IsTimerOfRun}
 use Rattle.shared_acts.specs.Pieces.{Piece, RanAll, RanSome}
 use Rattle.shared_acts.proofs.Gaining.{no_piece, piece_then, receipts_then, same_pass}
 
@@ -64,8 +64,8 @@ pub handed : (table : TableId) (o : World) (class : Class) (held mid after : Hel
     (home : ℕ) (items : List Item) (queued capacity : ℕ) (told : List Ran)
     → mid.seated ≡ held.seated → mid.cpu ≡ held.cpu → home ≡ held.cpu
     → (receipts : List Receipt) × Piece table mid after receipts [] 0
-    × HandsOut home mid.cpu class items receipts
-    → All (IsTimerOf o) items → length items ≤ queued → length told + queued ≤ capacity
+    × HandsOutItems home mid.cpu class items receipts
+    → All (IsTimerOfRun o) items → length items ≤ queued → length told + queued ≤ capacity
     → HasHanded table o class held after items capacity told
 handed table o class held mid after home items queued capacity told same cpu own pass timers fewer
     room =
@@ -73,17 +73,17 @@ handed table o class held mid after home items queued capacity told same cpu own
       receipts = pass.0;
       piece = roomed table held mid after pass.0 same cpu pass.1;
       hands =
-          subst (λ n. HandsOut n held.cpu class items pass.0) own
-          (subst (λ n. HandsOut home n class items pass.0) cpu pass.2);
+          subst (λ n. HandsOutItems n held.cpu class items pass.0) own
+          (subst (λ n. HandsOutItems home n class items pass.0) cpu pass.2);
       timers = timers;
       room = omega (arith, fewer, room);
     }
 
 -- a drain ends with the base's being drained
 pub tick_of : (home runner : ℕ) (class : Class) (is : List Item) (outs : List Receipt)
-    → HandsOut home runner class is outs
+    → HandsOutItems home runner class is outs
     → (r : Receipt) × Contains outs r × IsTick home runner class r
-unfolding HandsOut
+unfolding HandsOutItems
 tick_of home runner class [] outs h =
     (h.0, subst (λ rs. Contains rs h.0) (sym h.1) (zero, omega arith, refl), h.2)
 tick_of home runner class (i ∷ is) [] h = absurd h
@@ -113,9 +113,9 @@ module _ (table : TableId) (o : World) (jobs : ℕ → JobCall → JobReply) (cl
       → HasDrained table o jobs class held after before now
   all_done home own ran =
       let same : mid.cpu ≡ held.cpu = out.piece.cpu in
-      let hands : HandsOut home mid.cpu class items out.receipts =
-      subst (λ n. HandsOut n mid.cpu class items out.receipts) (sym own)
-      (subst (λ n. HandsOut held.cpu n class items out.receipts) (sym same) out.hands) in
+      let hands : HandsOutItems home mid.cpu class items out.receipts =
+      subst (λ n. HandsOutItems n mid.cpu class items out.receipts) (sym own)
+      (subst (λ n. HandsOutItems held.cpu n class items out.receipts) (sym same) out.hands) in
       let t = tick_of held.cpu held.cpu class items out.receipts out.hands in
       record {
         receipts = out.receipts ++ ran.receipts;
@@ -148,9 +148,9 @@ module _ (table : TableId) (o : World) (jobs : ℕ → JobCall → JobReply) (cl
       → Breaks table held after before now 0
   some_done home own ran =
       let same : mid.cpu ≡ held.cpu = out.piece.cpu in
-      let hands : HandsOut home mid.cpu class items out.receipts =
-      subst (λ n. HandsOut n mid.cpu class items out.receipts) (sym own)
-      (subst (λ n. HandsOut held.cpu n class items out.receipts) (sym same) out.hands) in
+      let hands : HandsOutItems home mid.cpu class items out.receipts =
+      subst (λ n. HandsOutItems n mid.cpu class items out.receipts) (sym own)
+      (subst (λ n. HandsOutItems held.cpu n class items out.receipts) (sym same) out.hands) in
       record {
         receipts = out.receipts ++ ran.receipts;
         did = ran.did;

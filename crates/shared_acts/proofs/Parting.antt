@@ -25,9 +25,9 @@ use Rattle.shared_timers.specs.shared_rule.Plays.{Agree}
 use Rattle.shared_timers.specs.shared_rule.Shows.{BeginsWith}
 use Rattle.shared_timers.specs.shared_rule.Turns.{MayRunOf}
 use Rattle.shared_timers.specs.shared_rule.Free.{HasNoneBehind}
-use Rattle.shared_acts.specs.Handing.{Drains, HandsEach, MayHandEach, with_receipts}
+use Rattle.shared_acts.specs.Handing.{DrainsClass, HandsEach, MayHandEach, with_receipts}
 use Rattle.shared_acts.specs.Interrupts.{KnowsOwn}
-use Rattle.shared_acts.specs.Pieces.{HandsOut, HasDrainRoom, IsTimerOf, Piece, but_for_bases}
+use Rattle.shared_acts.specs.Pieces.{HandsOutItems, HasDrainRoom, IsTimerOfRun, Piece, but_for_bases}
 use Rattle.shared_acts.proofs.Gaining.{begins, begins_then, known_more}
 
 -- WHOLE: where no base was behind, none is
@@ -43,7 +43,7 @@ by_class P Deferrable Pinned apart mine = apart refl
 by_class P Deferrable Global apart mine = apart refl
 by_class P Deferrable Deferrable apart mine = mine
 
-pub still_whole : (class : Class) (old new : CpuBases) → Drains class old new
+pub still_whole : (class : Class) (old new : CpuBases) → DrainsClass class old new
     → NoneBehind (base_of class new) → HasNoneBehind old → HasNoneBehind new
 still_whole class old new drains mine whole other =
     by_class (λ c. NoneBehind (base_of c new)) class other
@@ -151,7 +151,7 @@ module _ (table : TableId) (o : World) (class : Class) (part : HeldPart) (held :
       }
 
   -- these timers went out
-  pub all_timers : All (IsTimerOf o) items
+  pub all_timers : All (IsTimerOfRun o) items
   all_timers = h.timers
 
   pub few_out : length items ≤ length (base_of class part.box.own.bases).items
@@ -185,9 +185,9 @@ module _ (table : TableId) (o : World) (class : Class) (part : HeldPart) (held :
 
   pub off_pass : (cpu : ℕ) (off : HeldPass) → cpu ≡ held.cpu → off ≡ pass_parted table cpu new
       → (receipts : List Receipt) × Piece table held off receipts [] 0
-      × HandsOut part.box.cpu held.cpu class items receipts
+      × HandsOutItems part.box.cpu held.cpu class items receipts
   off_pass cpu off same there = (
     h.receipts,
     gone_piece off (there ∙ ap (λ n. pass_parted table n new) same),
-    subst (λ n. HandsOut part.box.cpu n class items h.receipts) own h.hands,
+    subst (λ n. HandsOutItems part.box.cpu n class items h.receipts) own h.hands,
   )

@@ -29,9 +29,9 @@ use Rattle.shared_acts.specs.declared.runs.Ran.{Ran}
 use Rattle.shared_acts.specs.Following.{Follows, FollowsArmed, FollowsBy, FollowsOut, Owed}
 use Rattle.shared_acts.specs.Following.{RunsOfSome}
 use Rattle.shared_acts.specs.Looks.{IsClosed, IsServed}
-use Rattle.shared_acts.specs.Pieces.{Gains, HandsOut, HeldInside, IsInside, IsTick, Piece, RanAll}
+use Rattle.shared_acts.specs.Pieces.{PassGains, HandsOutItems, HeldInside, IsInside, IsTick, Piece, RanAll}
 use Rattle.shared_acts.specs.Pieces.{RanSome, Works, deeds_of}
-use Rattle.shared_acts.specs.Tries.{AtWork, BreaksOff, HasLeft, HasLetGo, HasTaken, HasTried}
+use Rattle.shared_acts.specs.Tries.{AtWork, BreaksOffPass, HasLeftAlone, HasLetGo, HasTakenTimers, HasTried}
 use Rattle.shared_acts.specs.Tries.{TakesOrLeaves, with_marks}
 use Rattle.shared_acts.proofs.Follow.{Wider, follow, follow_wider}
 use Rattle.shared_acts.proofs.Gaining as gaining
@@ -48,7 +48,7 @@ pub still_at_work : (table : TableId) (o : World) (marks : List ℕ) (left more 
     → walks + more ≤ left → AtWork table o marks more after
 still_at_work table o marks left more held after receipts did walks was piece room =
     let same = gaining.same_pass table held piece.before was.pass piece.had was.seated in
-    let gains = subst (λ (x : PassView). Gains x piece.later receipts did walks) same piece.gains in
+    let gains = subst (λ (x : PassView). PassGains x piece.later receipts did walks) same piece.gains in
     let inside = gaining.still_inside table o held after receipts did walks
     (record { pass = was.pass; seated = was.seated; is = was.is }) piece in
     let it = gaining.same_pass table after inside.pass piece.later inside.seated piece.has in
@@ -170,8 +170,8 @@ pub works_break : (table : TableId) (o : World) (jobs : ℕ → JobCall → JobR
     (held mid after : HeldPass) (first next last : List Ran) (walks most all : ℕ)
     (receipts : List Receipt) (did : List Did)
     → Works table o jobs held mid first next walks receipts did
-    → BreaksOff table most mid after next last → walks + most ≤ all
-    → BreaksOff table all held after first last
+    → BreaksOffPass table most mid after next last → walks + most ≤ all
+    → BreaksOffPass table all held after first last
 works_break table o jobs held mid after first next last walks most all receipts did was off room =
     let breaks = off.breaks in
     record {
@@ -196,8 +196,8 @@ works_break table o jobs held mid after first next last walks most all receipts 
 
 -- with more walks at most
 pub more_off : (table : TableId) (held after : HeldPass) (first last : List Ran) (most all : ℕ)
-    → most ≤ all → BreaksOff table most held after first last
-    → BreaksOff table all held after first last
+    → most ≤ all → BreaksOffPass table most held after first last
+    → BreaksOffPass table all held after first last
 more_off table held after first last most all less off = record {
   walks = off.walks;
   few = (let few = off.few in omega (arith, few, less));
@@ -219,7 +219,7 @@ idle_work table o jobs held after did walks first last same piece = record {
 
 -- nothing done, for want of memory
 pub no_work : (table : TableId) (held after : HeldPass) (most : ℕ) (first last : List Ran)
-    → last ≡ first → Piece table held after [] [] 0 → BreaksOff table most held after first last
+    → last ≡ first → Piece table held after [] [] 0 → BreaksOffPass table most held after first last
 unfolding RunsOfSome
 no_work table held after most first last same piece = record {
   walks = 0;
@@ -237,9 +237,9 @@ no_work table held after most first last same piece = record {
 
 -- THE DRAIN of a hand-out
 pub tick_of : (home runner : ℕ) (class : Class) (items : List Item) (rs : List Receipt)
-    → HandsOut home runner class items rs
+    → HandsOutItems home runner class items rs
     → (r : Receipt) × Contains rs r × IsTick home runner class r
-unfolding HandsOut
+unfolding HandsOutItems
 tick_of home runner class [] rs h =
     (h.0, subst (λ l. Contains l h.0) (sym h.1) (Contains-push [] h.0), h.2)
 tick_of home runner class (i ∷ is) [] h = absurd h
@@ -249,7 +249,7 @@ tick_of home runner class (i ∷ is) (r ∷ rs) h =
 
 -- LEFT ALONE, a CPU was tried
 pub tried_left : (table : TableId) (o : World) (jobs : ℕ → JobCall → JobReply) (d : ℕ)
-    (held after : HeldPass) (first last : List Ran) → last ≡ first → HasLeft table o d held after
+    (held after : HeldPass) (first last : List Ran) → last ≡ first → HasLeftAlone table o d held after
     → HasTried table o jobs d held after first last
 tried_left table o jobs d held after first last same left = record {
   walks = 0;
@@ -263,7 +263,7 @@ tried_left table o jobs d held after first last same left = record {
 -- with the mark that a pass had set gone it has gained this
 module _ (table : TableId) (o : World) (jobs : ℕ → JobCall → JobReply) (d : ℕ)
     (items : List Item) (held mid ran after : HeldPass) (was : AtWork table o [] 1 held)
-    (taken : HasTaken table o d items held mid) (receipts : List Receipt) (did : List Did)
+    (taken : HasTakenTimers table o d items held mid) (receipts : List Receipt) (did : List Did)
     (piece : Piece table mid ran receipts did 0) (gone : HasLetGo table o d ran after) where
   abbrev all : List Did
   all = (taken.did ++ did) ++ gone.did
@@ -280,11 +280,11 @@ module _ (table : TableId) (o : World) (jobs : ℕ → JobCall → JobReply) (d 
       let one = gains_with [] (with_marks (d ∷ []) p) taken.later taken.receipts taken.did 0
       taken.gains in
       let two = gains_with [] q r receipts did 0 piece.gains in
-      let three = subst (λ (x : PassView). Gains (with_marks [] x) gone.later [] gone.did gone.walks)
+      let three = subst (λ (x : PassView). PassGains (with_marks [] x) gone.later [] gone.did gone.walks)
       later gone.gains in
       let both = gaining.gains_then (with_marks [] p) (with_marks [] taken.later) (with_marks [] r)
       taken.receipts receipts taken.did did 0 0 one
-      (subst (λ (x : PassView). Gains (with_marks [] x) (with_marks [] r) receipts did 0) same two) in
+      (subst (λ (x : PassView). PassGains (with_marks [] x) (with_marks [] r) receipts did 0) same two) in
       let gains = gaining.gains_then (with_marks [] p) (with_marks [] r) gone.later
       (taken.receipts ++ receipts) [] (taken.did ++ did) gone.did (0 + 0) gone.walks both three in
       record {
@@ -294,9 +294,9 @@ module _ (table : TableId) (o : World) (jobs : ℕ → JobCall → JobReply) (d 
         has = gone.has;
         cpu = gone.cpu ∙ (piece.cpu ∙ taken.cpu);
         gains =
-            subst (λ (l : List Receipt). Gains p gone.later l all (0 + 0 + gone.walks))
+            subst (λ (l : List Receipt). PassGains p gone.later l all (0 + 0 + gone.walks))
             (append-nil (taken.receipts ++ receipts))
-            (subst (λ (m : List ℕ). Gains (record p { marks = m }) gone.later
+            (subst (λ (m : List ℕ). PassGains (record p { marks = m }) gone.later
             ((taken.receipts ++ receipts) ++ []) all (0 + 0 + gone.walks)) (sym none) gains);
       }
 
@@ -345,7 +345,7 @@ module _ (table : TableId) (o : World) (jobs : ℕ → JobCall → JobReply) (d 
   tried_served : (first last told : List Ran) → last ≡ first ++ told
       → ((class : Class) (outs : List Receipt) (place : ℕ)
       → place + length outs ≡ length piece.before.receipts
-      → HandsOut d mid.cpu class items outs
+      → HandsOutItems d mid.cpu class items outs
       → Follows o jobs mid.cpu did place (outs ++ receipts) [] told)
       → HasTried table o jobs d held after first last
   tried_served first last told runs_are follows = record {
@@ -361,7 +361,7 @@ module _ (table : TableId) (o : World) (jobs : ℕ → JobCall → JobReply) (d 
           follows =
               follow_wider o jobs held.cpu did all (length taken.before.receipts)
               (taken.receipts ++ receipts) [] told wider
-              (subst (λ n. HandsOut d n Global items taken.receipts →
+              (subst (λ n. HandsOutItems d n Global items taken.receipts →
               Follows o jobs n did (length taken.before.receipts) (taken.receipts ++ receipts) []
               told) taken.cpu
               (follows Global taken.receipts (length taken.before.receipts) stood_last)
@@ -372,8 +372,8 @@ module _ (table : TableId) (o : World) (jobs : ℕ → JobCall → JobReply) (d 
 
   -- and where memory was wanting
   served_some : (first last told : List Ran) → last ≡ first ++ told
-      → ((class : Class) (outs : List Receipt) → HandsOut d mid.cpu class items outs →
-      RunsOfSome (outs ++ receipts) told) → BreaksOff table 1 held after first last
+      → ((class : Class) (outs : List Receipt) → HandsOutItems d mid.cpu class items outs →
+      RunsOfSome (outs ++ receipts) told) → BreaksOffPass table 1 held after first last
   served_some first last told runs_are some = record {
     walks = 0 + 0 + gone.walks;
     few = few;
@@ -386,7 +386,7 @@ module _ (table : TableId) (o : World) (jobs : ℕ → JobCall → JobReply) (d 
           runs_are = runs_are;
           some =
               some Global taken.receipts
-              (subst (λ n. HandsOut d n Global items taken.receipts) (sym taken.cpu) taken.outs);
+              (subst (λ n. HandsOutItems d n Global items taken.receipts) (sym taken.cpu) taken.outs);
         };
   }
 
@@ -394,11 +394,11 @@ module _ (table : TableId) (o : World) (jobs : ℕ → JobCall → JobReply) (d 
 pub served_either : (table : TableId) (o : World) (jobs : ℕ → JobCall → JobReply) (d : ℕ)
     (items : List Item) (held mid ran after : HeldPass) (first now last : List Ran)
     (result : Result (Unit {0}) NoMemory) → AtWork table o [] 1 held
-    → HasTaken table o d items held mid → now ≡ first
+    → HasTakenTimers table o d items held mid → now ≡ first
     → MatchResult result (λ done. RanAll table o jobs d items mid ran now last)
     (λ e. RanSome table d items mid ran now last) → HasLetGo table o d ran after
     → MatchResult result (λ done. HasTried table o jobs d held after first last)
-    (λ e. BreaksOff table 1 held after first last)
+    (λ e. BreaksOffPass table 1 held after first last)
 served_either table o jobs d items held mid ran after first now last (Ok done) was taken same all gone =
     tried_served table o jobs d items held mid ran after was taken all.receipts all.did all.piece gone
     first last all.told (all.runs_are ∙ ap (λ (l : List Ran). l ++ all.told) same) all.follows
@@ -409,19 +409,19 @@ served_either table o jobs d items held mid ran after first now last (Err e) was
 -- THE STEPS of a try
 pub has_taken : (table : TableId) (o : World) (d : ℕ) (items : List Item) (held mid : HeldPass)
     (taken : Bool) → not taken ≡ false → TakesOrLeaves table o d items held mid taken
-    → HasTaken table o d items held mid
+    → HasTakenTimers table o d items held mid
 has_taken table o d items held mid true is has = has
 has_taken table o d items held mid false is has = cc
 
 pub has_left : (table : TableId) (o : World) (d : ℕ) (items : List Item) (held mid : HeldPass)
     (taken : Bool) → not taken ≡ true → TakesOrLeaves table o d items held mid taken
-    → HasLeft table o d held mid
+    → HasLeftAlone table o d held mid
 has_left table o d items held mid true is has = cc
 has_left table o d items held mid false is has = has
 
 -- with the mark set the CPU is still at work
 pub taken_work : (table : TableId) (o : World) (d : ℕ) (items : List Item) (held mid : HeldPass)
-    → AtWork table o [] 1 held → HasTaken table o d items held mid
+    → AtWork table o [] 1 held → HasTakenTimers table o d items held mid
     → AtWork table o (d ∷ []) 1 mid
 taken_work table o d items held mid was taken =
     let same = gaining.same_pass table held was.pass taken.before was.seated taken.had in

@@ -24,9 +24,9 @@ use Rattle.shared_timers.specs.shared_rule.Turns.{MayRunOf}
 use Rattle.shared_timers.specs.shared_rule.Whole.{own_word}
 use Rattle.shared_looks.specs.shared_cpus.Pairs.{cpu_place}
 use Rattle.shared_looks.specs.Marks.{IsTakable}
-use Rattle.shared_acts.specs.Looks.{IsLeft}
-use Rattle.shared_acts.specs.Pieces.{Gains, HandsOut, HasDrainRoom, Piece, deeds_of}
-use Rattle.shared_acts.specs.Tries.{AtWork, HasLeft, HasLetGo, HasMarked, HasTaken, HasUnmarked}
+use Rattle.shared_acts.specs.Looks.{IsLeftAlone}
+use Rattle.shared_acts.specs.Pieces.{PassGains, HandsOutItems, HasDrainRoom, Piece, deeds_of}
+use Rattle.shared_acts.specs.Tries.{AtWork, HasLeftAlone, HasLetGo, HasMarked, HasTakenTimers, HasUnmarked}
 use Rattle.shared_acts.specs.Tries.{with_marks}
 use Rattle.shared_acts.proofs.Gaining as gaining
 use Rattle.shared_acts.proofs.Served.{deeds_behind, still_at_work}
@@ -50,14 +50,14 @@ roomed_look table held mid after did same cpu piece = record {
 pub left_there : (table : TableId) (o : World) (b : BoxView) (held mid after : HeldPass)
     (was : AtWork table o [] 1 held) → mid.seated ≡ held.seated → mid.cpu ≡ held.cpu
     → was.pass.cpu ≡ held.cpu → PartFits b → Agree b was.pass → HasGroup o.tree b.cpu
-    → (IsTakable b → ⊥) → IsNoted table b mid after → HasLeft table o b.cpu held after
+    → (IsTakable b → ⊥) → IsNoted table b mid after → HasLeftAlone table o b.cpu held after
 left_there table o b held mid after was same cpu own fits agree group kept n =
     let opening : b.opening ≡ o = sym agree.opening ∙ was.is.opening in
     record {
       did = n.did;
       piece = roomed_look table held mid after n.did same cpu n.piece;
       left =
-          subst (λ c. IsLeft o c b.cpu (deeds_of n.did)) own
+          subst (λ c. IsLeftAlone o c b.cpu (deeds_of n.did)) own
           (left_alone o b was.pass opening fits agree was.marked
           (subst (λ (w : World). HasGroup w.tree b.cpu) (sym opening) group) kept (deeds_of n.did)
           n.rest n.seen n.leaf);
@@ -129,16 +129,16 @@ pub taken : (table : TableId) (o : World) (d : ℕ) (items : List Item)
     (held seen mark after : HeldPass) (did : List Did) → Piece table held seen [] did 0
     → HasMarked table d seen mark
     → (receipts : List Receipt) × Piece table mark after receipts [] 0
-    × HandsOut d mark.cpu Global items receipts → HasTaken table o d items held after
+    × HandsOutItems d mark.cpu Global items receipts → HasTakenTimers table o d items held after
 taken table o d items held seen mark after did piece marked out =
     let hand = out.1 in
     let receipts = out.0 in
     let one = gains_with (d ∷ []) piece.before piece.later [] did 0 piece.gains in
     let first = gaining.same_pass table seen marked.before piece.later marked.had piece.has in
-    let two = subst (λ (x : PassView). Gains (with_marks (d ∷ []) x) marked.later [] marked.did 0)
+    let two = subst (λ (x : PassView). PassGains (with_marks (d ∷ []) x) marked.later [] marked.did 0)
     first marked.gains in
     let then = gaining.same_pass table mark hand.before marked.later hand.had marked.has in
-    let three = subst (λ (x : PassView). Gains x hand.later receipts [] 0) then hand.gains in
+    let three = subst (λ (x : PassView). PassGains x hand.later receipts [] 0) then hand.gains in
     let both = gaining.gains_then (with_marks (d ∷ []) piece.before)
     (with_marks (d ∷ []) piece.later) marked.later [] [] did marked.did 0 0 one two in
     record {
@@ -153,7 +153,7 @@ taken table o d items held seen mark after did piece marked out =
           gaining.gains_then (with_marks (d ∷ []) piece.before) marked.later hand.later [] receipts
           (did ++ marked.did) [] 0 0 both three;
       outs =
-          subst (λ n. HandsOut d n Global items receipts) (marked.cpu ∙ piece.cpu) out.2;
+          subst (λ n. HandsOutItems d n Global items receipts) (marked.cpu ∙ piece.cpu) out.2;
       loads = deeds_of did;
       ends =
           ap deeds_of (append-nil (did ++ marked.did))

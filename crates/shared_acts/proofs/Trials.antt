@@ -40,10 +40,10 @@ use Rattle.shared_timers.specs.shared_rule.Turns.{marks_without, released_box, r
 use Rattle.shared_timers.specs.shared_rule.Turns.{taken_box}
 use Rattle.shared_timers.specs.shared_rule.Turns.{taken_pass}
 use Rattle.shared_looks.specs.shared_cpus.Pairs.{by_pair, cpu_place, leaf_place}
-use Rattle.shared_looks.specs.Marks.{HasNoticed, IsTakable, cpu_seen, leaf_seen}
+use Rattle.shared_looks.specs.Marks.{HasNoticed, IsTakable, cpu_word_seen, leaf_seen}
 use Rattle.shared_acts.specs.Interrupts.{walks_by}
-use Rattle.shared_acts.specs.Looks.{IsClosed, IsLeft, IsNoneDue, is_for_others, is_let_be}
-use Rattle.shared_acts.specs.Pieces.{Gains, Piece, deeds_of}
+use Rattle.shared_acts.specs.Looks.{IsClosed, IsLeftAlone, IsNoneDue, is_for_others, is_let_be}
+use Rattle.shared_acts.specs.Pieces.{PassGains, Piece, deeds_of}
 use Rattle.shared_acts.specs.Tries.{HasLetGo, HasMarked, HasUnmarked, with_marks}
 use Rattle.shared_acts.proofs.Gaining as gaining
 
@@ -78,7 +78,7 @@ module _ (p : PassView) (c : ℕ) (journal : List Entry)
   -- what it has gained besides
   pub off_gains : (did all : List Did) (m marks : List ℕ) (w walks : ℕ) → all ≡ p.did ++ did
       → m ≡ marks → w ≡ p.walks + walks → walks ≡ walks_by (deeds_of did)
-      → Gains (with_marks marks p)
+      → PassGains (with_marks marks p)
       (record p { walks = w; did = all; marks = m; journal = known_by }) [] did walks
   off_gains did all m marks w walks did_is marks_is walks_is ended = record {
     opening = refl;
@@ -167,7 +167,7 @@ module _ (table : TableId) (part : HeldPart) (held after : HeldPass) (p : PassVi
   -- its word alone
   noted_alone : (word : ℕ) → word ≡ own_word part.box.own
       → (HasGroup part.box.opening.tree part.box.cpu → ⊥)
-      → after ≡ pass_parted table held.cpu (cpu_seen word (with_guest part held))
+      → after ≡ pass_parted table held.cpu (cpu_word_seen word (with_guest part held))
       → IsNoted table part.box held after
   noted_alone word word_is alone same =
       let place = cpu_place part.box.opening part.box.cpu in
@@ -182,7 +182,7 @@ module _ (table : TableId) (part : HeldPart) (held after : HeldPass) (p : PassVi
               has =
                   ap (λ (z : HeldPass). z.seated) same
                   ∙ ap (λ s. (pass_parted table held.cpu
-                  (cpu_seen word (with_guest part (record held { seated = s })))).seated) is;
+                  (cpu_word_seen word (with_guest part (record held { seated = s })))).seated) is;
               cpu = ap (λ (z : HeldPass). z.cpu) same;
               gains =
                   off_gains p part.box.cpu part.box.own.bases.journal agree.journal did
@@ -233,7 +233,7 @@ module _ (table : TableId) (part : HeldPart) (held after : HeldPass) (p : PassVi
       let seen = has.noticed in
       ⊎_elim
       (λ (one : (group_at_of part.box.opening.tree part.box.cpu 0 ≡ None)
-      × (has.seen ≡ cpu_seen seen.word (with_guest part held))).
+      × (has.seen ≡ cpu_word_seen seen.word (with_guest part held))).
       noted_alone seen.word seen.word_is
       (λ group. absurd (none-some group.0 (sym one.0 ∙ group.1)))
       (has.pass_is ∙ ap (pass_parted table held.cpu) one.1))
@@ -278,7 +278,7 @@ module _ (o : World) (b : BoxView) (p : PassView) (opening : b.opening ≡ o) (f
     (agree : Agree b p) (none : p.marks ≡ []) (group : HasGroup b.opening.tree b.cpu)
     (kept : IsTakable b → ⊥) (did rest : List Deed)
     (seen : did ≡ deeds.Saw (cpu_place b.opening b.cpu) (own_word b.own) ∷ rest) where
-  by_state : is_let_be p.cpu (shown_cpu b.own) ≡ true → IsLeft o p.cpu b.cpu did
+  by_state : is_let_be p.cpu (shown_cpu b.own) ≡ true → IsLeftAlone o p.cpu b.cpu did
   by_state shows =
       IsLeft.by_word (own_word b.own) (shown_cpu b.own)
       (subst (λ (w : World). Contains did (deeds.Saw (cpu_place w b.cpu) (own_word b.own))) opening
@@ -289,7 +289,7 @@ module _ (o : World) (b : BoxView) (p : PassView) (opening : b.opening ≡ o) (f
 
   by_leaf : (slot : ℕ) → slot_of slot ≡ b.leaf
       → Contains rest (deeds.Saw (leaf_place b.opening b.cpu) slot) → b.own.online ≡ true
-      → b.own.idle ≡ true → b.own.mark ≡ None → IsLeft o p.cpu b.cpu did
+      → b.own.idle ≡ true → b.own.mark ≡ None → IsLeftAlone o p.cpu b.cpu did
   by_leaf slot slot_is has online idle unmarked =
       IsLeft.by_slot slot
       (subst (λ (w : World). Contains did (deeds.Saw (leaf_place w b.cpu) slot)) opening
@@ -314,7 +314,7 @@ module _ (o : World) (b : BoxView) (p : PassView) (opening : b.opening ≡ o) (f
   left_by : (slot : ℕ) → slot_of slot ≡ b.leaf
       → Contains rest (deeds.Saw (leaf_place b.opening b.cpu) slot) → (online idle : Bool)
       → (mark : Option ℕ) → b.own.online ≡ online → b.own.idle ≡ idle → b.own.mark ≡ mark
-      → IsLeft o p.cpu b.cpu did
+      → IsLeftAlone o p.cpu b.cpu did
   left_by slot slot_is has false idle mark on rests marks =
       by_state (ap (λ t. not t || not b.own.idle
       || is_for_others p.cpu (option_map as_cpu b.own.mark)) on)
@@ -334,7 +334,7 @@ module _ (o : World) (b : BoxView) (p : PassView) (opening : b.opening ≡ o) (f
       by_leaf slot slot_is has on rests marks
 
   pub left_alone : (HasGroup b.opening.tree b.cpu → (slot : ℕ) × (slot_of slot ≡ b.leaf)
-      × Contains rest (deeds.Saw (leaf_place b.opening b.cpu) slot)) → IsLeft o p.cpu b.cpu did
+      × Contains rest (deeds.Saw (leaf_place b.opening b.cpu) slot)) → IsLeftAlone o p.cpu b.cpu did
   left_alone leaf =
       let there = leaf group in
       left_by there.0 there.1 there.2 b.own.online b.own.idle b.own.mark refl refl refl
@@ -365,8 +365,8 @@ module _ (o : World) (d : ℕ) (noted later : List Deed) where
 
 -- a pass gains as much with other marks
 pub gains_with : (marks : List ℕ) (p q : PassView) (receipts : List Receipt) (did : List Did)
-    (walks : ℕ) → Gains p q receipts did walks
-    → Gains (with_marks marks p) (with_marks marks q) receipts did walks
+    (walks : ℕ) → PassGains p q receipts did walks
+    → PassGains (with_marks marks p) (with_marks marks q) receipts did walks
 gains_with marks p q receipts did walks gains = record {
   opening = gains.opening;
   cpu = gains.cpu;
@@ -405,7 +405,7 @@ let_go table o b held mid after by noted unmarked closed =
           gaining.gains_then (with_marks [] piece.before) (with_marks [] piece.later) unmarked.later []
           [] noted.did unmarked.did 0 unmarked.walks
           (gains_with [] piece.before piece.later [] noted.did 0 piece.gains)
-          (subst (λ (x : PassView). Gains (with_marks [] x) unmarked.later [] unmarked.did
+          (subst (λ (x : PassView). PassGains (with_marks [] x) unmarked.later [] unmarked.did
           unmarked.walks) same unmarked.gains);
       closed = λ front between.
           subst (λ (l : List Deed). IsClosed o b.cpu (front ++ deeds.Took b.cpu ∷ between ++ l))

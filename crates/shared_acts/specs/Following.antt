@@ -28,7 +28,7 @@ call_of now runner e =
     record { timer = e.timer; arg = e.arg; now = now; runner = as_cpu runner }
 
 -- a run is that of a timer that was handed out
-pub record IsRunOf (r : Receipt) (x : Ran) : Type 0 where
+pub record IsRunOfReceipt (r : Receipt) (x : Ran) : Type 0 where
   pub timer : x.timer ≡ r.entry.timer
   pub home : x.home ≡ r.cpu
   pub wheel : x.wheel ≡ r.entry.wheel
@@ -61,10 +61,10 @@ IsAgain o timer place seen class (ran.Skip cpu) = FoundOn o timer cpu.0 place se
 
 -- REPLIES: what a run tells is what the job replied, after the hand-out whose receipt has this
 -- place
-abbrev pub IsTold : World → (timer place : ℕ) → List Did → JobReply → RanReply → Type 0
-IsTold o timer place seen replies.Done reply = reply ≡ ran.Done
-IsTold o timer place seen (replies.Mark m) reply = reply ≡ ran.Mark m
-IsTold o timer place seen (replies.Again class delay) reply =
+abbrev pub IsHandOutTold : World → (timer place : ℕ) → List Did → JobReply → RanReply → Type 0
+IsHandOutTold o timer place seen replies.Done reply = reply ≡ ran.Done
+IsHandOutTold o timer place seen (replies.Mark m) reply = reply ≡ ran.Mark m
+IsHandOutTold o timer place seen (replies.Again class delay) reply =
     IsAgain o timer place seen class reply
 
 -- a timer that is still to be armed again: its run's reply, and how it was handed out
@@ -102,8 +102,8 @@ abbrev pub FollowsOut : World → (ℕ → JobCall → JobReply) → (runner : �
     → Receipt → (rest : List Owed → List Ran → Type 0) → List Owed → List Ran → Type 0
 FollowsOut o jobs runner seen place r rest owed [] = ⊥
 FollowsOut o jobs runner seen place r rest owed (x ∷ xs) =
-    IsRunOf r x
-    × IsTold o r.entry.timer.0 place seen (jobs r.entry.job (call_of o.clock runner r.entry))
+    IsRunOfReceipt r x
+    × IsHandOutTold o r.entry.timer.0 place seen (jobs r.entry.job (call_of o.clock runner r.entry))
     x.reply
     × rest
     (owed ++ owed_by (jobs r.entry.job (call_of o.clock runner r.entry)) x.reply r.entry) xs
@@ -142,4 +142,4 @@ unfoldable pub RunsOfSome : List Receipt → List Ran → Type 0
 RunsOfSome [] runs = runs ≡ []
 RunsOfSome (r ∷ rs) [] = ⊤
 RunsOfSome (r ∷ rs) (x ∷ xs) =
-    ((r.entry.act ≡ Handed) × IsRunOf r x × RunsOfSome rs xs) ⊎ RunsOfSome rs (x ∷ xs)
+    ((r.entry.act ≡ Handed) × IsRunOfReceipt r x × RunsOfSome rs xs) ⊎ RunsOfSome rs (x ∷ xs)

@@ -15,7 +15,7 @@ use Rattle.shared_timers.specs.shared_rule.Passes.{HeldPass}
 use Rattle.shared_timers.specs.shared_rule.Shows.{BeginsWith}
 use Rattle.shared_timers.specs.shared_rule.Turns.{MayRunOf}
 use Rattle.shared_acts.specs.declared.runs.Ran.{Ran}
-use Rattle.shared_acts.specs.Pieces.{HandsOut, IsHandOut, IsTick, IsTimerOf, Piece}
+use Rattle.shared_acts.specs.Pieces.{HandsOutItems, IsHandOut, IsTick, IsTimerOfRun, Piece}
 
 -- a pass with these receipts behind its own
 abbrev pub with_receipts : List Receipt → PassView → PassView
@@ -42,7 +42,7 @@ pub record MayHandEach (class : Class) (part : HeldPart) (places : ℕ) : Type 0
   pub listed : length (base_of class part.box.own.bases).items ≤ places
 
 -- the bases after some of a drain: the journal goes on, and the other classes stay
-pub record Drains (class : Class) (old new : CpuBases) : Type 0 where
+pub record DrainsClass (class : Class) (old new : CpuBases) : Type 0 where
   pub journal : BeginsWith new.journal old.journal
   pub others : (other : Class) → same_class class other ≡ false →
       base_of other new ≡ base_of other old
@@ -59,9 +59,9 @@ pub record HandsOne (o : World) (class : Class) (old new : HeldPart) (item : Ite
   pub receipt : Receipt
   pub was : old.brought ≡ pass ∷ []
   pub part_is : new ≡ rebased old bases (with_receipts (receipt ∷ []) pass)
-  pub drains : Drains class old.box.own.bases bases
+  pub drains : DrainsClass class old.box.own.bases bases
   pub hand : IsHandOut old.box.cpu pass.cpu class item receipt
-  pub timer : IsTimerOf o item
+  pub timer : IsTimerOfRun o item
   pub fewer : OneFewer (base_of class old.box.own.bases) (base_of class bases)
   pub written : length bases.journal ≡ suc (length old.box.own.bases.journal)
   pub at : receipt.place ≡ length old.box.own.bases.journal
@@ -73,7 +73,7 @@ pub record HandsNone (class : Class) (old new : HeldPart) : Type 0 where
   pub receipt : Receipt
   pub was : old.brought ≡ pass ∷ []
   pub part_is : new ≡ rebased old bases (with_receipts (receipt ∷ []) pass)
-  pub drains : Drains class old.box.own.bases bases
+  pub drains : DrainsClass class old.box.own.bases bases
   pub tick : IsTick old.box.cpu pass.cpu class receipt
   pub written : length bases.journal ≡ suc (length old.box.own.bases.journal)
   pub at : receipt.place ≡ length old.box.own.bases.journal
@@ -85,11 +85,11 @@ pub record HandsEach (o : World) (class : Class) (p : PassView) (old new : HeldP
   pub receipts : List Receipt
   pub bases : CpuBases
   pub part_is : new ≡ rebased old bases (with_receipts receipts p)
-  pub drains : Drains class old.box.own.bases bases
+  pub drains : DrainsClass class old.box.own.bases bases
   pub none_behind : NoneBehind (base_of class bases)
   pub placed : ArePlaced old.box.cpu bases receipts
-  pub hands : HandsOut old.box.cpu p.cpu class items receipts
-  pub timers : All (IsTimerOf o) items
+  pub hands : HandsOutItems old.box.cpu p.cpu class items receipts
+  pub timers : All (IsTimerOfRun o) items
   pub fewer : length items ≤ length (base_of class old.box.own.bases).items
 
 -- HANDED OUT of an own base of the pass's CPU: the receipts, and room to tell the runs
@@ -97,6 +97,6 @@ pub record HasHanded (table : TableId) (o : World) (class : Class) (held after :
     (items : List Item) (capacity : ℕ) (told : List Ran) : Type 0 where
   pub receipts : List Receipt
   pub piece : Piece table held after receipts [] 0
-  pub hands : HandsOut held.cpu held.cpu class items receipts
-  pub timers : All (IsTimerOf o) items
+  pub hands : HandsOutItems held.cpu held.cpu class items receipts
+  pub timers : All (IsTimerOfRun o) items
   pub room : length told + length items ≤ capacity

@@ -42,11 +42,11 @@ is_let_be looker s = not s.online || not s.idle || is_for_others looker s.remote
 
 -- LEFT ALONE: what the look saw of a CPU that it tried and didn't take: its word, or its slot in
 -- its leaf
-pub data IsLeft (o : World) (looker d : ℕ) (did : List Deed) : Type 0 where
+pub data IsLeftAlone (o : World) (looker d : ℕ) (did : List Deed) : Type 0 where
   by_word : (found : ℕ) (s : CpuState) → Contains did (deeds.Saw (cpu_place o d) found) →
-      IsStateOf found s → is_let_be looker s ≡ true → IsLeft o looker d did
+      IsStateOf found s → is_let_be looker s ≡ true → IsLeftAlone o looker d did
   by_slot : (found : ℕ) → Contains did (deeds.Saw (leaf_place o d) found) →
-      IsNoneDue o.clock (slot_of found) → IsLeft o looker d did
+      IsNoneDue o.clock (slot_of found) → IsLeftAlone o looker d did
 
 -- what came after a CPU was marked: its next event was carried upwards, or its word showed it
 -- offline or active, and the mark was taken back
@@ -73,12 +73,12 @@ pub record IsServed (o : World) (looker d : ℕ) (did : List Deed) (receipts : L
 -- TRIED: a CPU that the look tried was served, or left alone for a reason that was seen
 abbrev pub IsTried : World → (looker : ℕ) → List Deed → List Receipt → (d : ℕ) → Type 0
 IsTried o looker did receipts d =
-    IsServed o looker d did receipts ⊎ IsLeft o looker d did
+    IsServed o looker d did receipts ⊎ IsLeftAlone o looker d did
 
 -- A LOOK at the group of a level: in its last round the group's word said that the CPU's side looks
 -- after it, and none of its eight slots showed an event that is due and of a CPU that this look
 -- hasn't tried
-pub record HasLooked (o : World) (looker level : ℕ) (receipts : List Receipt)
+pub record HasLookedAtGroup (o : World) (looker level : ℕ) (receipts : List Receipt)
     (did rest : List Deed) : Type 0 where
   pub before : List Deed
   pub tried : cpus.Cpus
@@ -94,7 +94,7 @@ pub record HasLooked (o : World) (looker level : ℕ) (receipts : List Receipt)
   pub each : (d : ℕ) → cpus.Contains tried d → IsTried o looker before receipts d
 
 -- the look ends at a group whose word showed another migrator
-pub record HasEnded (o : World) (looker level : ℕ) (did : List Deed) : Type 0 where
+pub record HasLookEnded (o : World) (looker level : ℕ) (did : List Deed) : Type 0 where
   pub before : List Deed
   pub group : ℕ
   pub path : group_at_of o.tree looker level ≡ Some group
@@ -110,6 +110,6 @@ unfoldable pub LooksFrom : World → (looker : ℕ) → List Receipt → (levels
 LooksFrom o looker receipts zero level did = ⊤
 LooksFrom o looker receipts (suc n) level did =
     (group_at_of o.tree looker level ≡ None)
-    ⊎ (HasEnded o looker level did
-    ⊎ ((rest : List Deed) × HasLooked o looker level receipts did rest
+    ⊎ (HasLookEnded o looker level did
+    ⊎ ((rest : List Deed) × HasLookedAtGroup o looker level receipts did rest
     × LooksFrom o looker receipts n (suc level) rest))

@@ -37,7 +37,8 @@ pub record HeldInside (table : TableId) (o : World) (held : HeldPass) : Type 0 w
 -- THE PASS AFTER A PIECE: these receipts and deeds stand behind the others, and so many walks more
 -- were begun, those that the deeds ended; the journal of its CPU may be known further, and the rest
 -- is as before
-pub record Gains (p q : PassView) (receipts : List Receipt) (did : List Did) (walks : ℕ) : Type 0
+pub record PassGains (p q : PassView) (receipts : List Receipt) (did : List Did) (walks : ℕ)
+    : Type 0
   where
     pub opening : q.opening ≡ p.opening
     pub cpu : q.cpu ≡ p.cpu
@@ -61,7 +62,7 @@ pub record Piece (table : TableId) (held after : HeldPass) (receipts : List Rece
   pub had : IsPassIn table held before
   pub has : IsPassIn table after later
   pub cpu : after.cpu ≡ held.cpu
-  pub gains : Gains before later receipts did walks
+  pub gains : PassGains before later receipts did walks
 
 -- the deeds of a piece, without when they were done
 abbrev pub deeds_of : List Did → List Deed
@@ -87,17 +88,17 @@ pub record IsTick (home runner : ℕ) (class : Class) (r : Receipt) : Type 0 whe
   pub of_class : r.entry.class ≡ class
 
 -- a timer of the run, as it goes out of a base
-pub record IsTimerOf (o : World) (i : Item) : Type 0 where
+pub record IsTimerOfRun (o : World) (i : Item) : Type 0 where
   pub known : i.id < o.timers
   pub narrow : i.id < 2 ^ 16
 
 -- A DRAIN: the receipts of all that went out, in order, and then that the base was drained
-unfoldable pub HandsOut : (home runner : ℕ) → Class → List Item → List Receipt → Type 0
-HandsOut home runner class [] receipts =
+unfoldable pub HandsOutItems : (home runner : ℕ) → Class → List Item → List Receipt → Type 0
+HandsOutItems home runner class [] receipts =
     (r : Receipt) × (receipts ≡ r ∷ []) × IsTick home runner class r
-HandsOut home runner class (i ∷ is) [] = ⊥
-HandsOut home runner class (i ∷ is) (r ∷ rs) =
-    IsHandOut home runner class i r × HandsOut home runner class is rs
+HandsOutItems home runner class (i ∷ is) [] = ⊥
+HandsOutItems home runner class (i ∷ is) (r ∷ rs) =
+    IsHandOut home runner class i r × HandsOutItems home runner class is rs
 
 -- ROOM for a whole drain of a class: in the journal and with the pass an entry and a receipt for
 -- each timer and one more, and in a list a place for each timer
@@ -130,7 +131,7 @@ pub record RanAll (table : TableId) (o : World) (jobs : ℕ → JobCall → JobR
   pub runs_are : now ≡ before ++ told
   pub follows : (class : Class) (outs : List Receipt) (place : ℕ) →
       place + length outs ≡ length piece.before.receipts →
-      HandsOut home held.cpu class items outs →
+      HandsOutItems home held.cpu class items outs →
       Follows o jobs held.cpu did place (outs ++ receipts) [] told
 
 -- and where memory was wanting: those that are told are of some of the hand-outs, in their order
@@ -142,7 +143,7 @@ pub record RanSome (table : TableId) (home : ℕ) (items : List Item) (held afte
   pub told : List Ran
   pub piece : Piece table held after receipts did 0
   pub runs_are : now ≡ before ++ told
-  pub some : (class : Class) (outs : List Receipt) → HandsOut home held.cpu class items outs →
+  pub some : (class : Class) (outs : List Receipt) → HandsOutItems home held.cpu class items outs →
       RunsOfSome (outs ++ receipts) told
 
 -- WORK that is done: what the pass gained leaves nothing to be armed, and its runs are told (no

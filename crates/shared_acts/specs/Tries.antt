@@ -17,8 +17,9 @@ use Rattle.shared_timers.specs.shared_rule.Passes.{HeldPass, IsPassIn}
 use Rattle.shared_timers.specs.shared_rule.Shows.{BeginsWith}
 use Rattle.shared_acts.specs.declared.runs.Ran.{Ran}
 use Rattle.shared_acts.specs.Interrupts.{KnowsOwn, own_walk}
-use Rattle.shared_acts.specs.Looks.{IsClosed, IsLeft, IsTried}
-use Rattle.shared_acts.specs.Pieces.{Breaks, Gains, HandsOut, IsInside, IsTimerOf, Piece, Works}
+use Rattle.shared_acts.specs.Looks.{IsClosed, IsLeftAlone, IsTried}
+use Rattle.shared_acts.specs.Pieces.{Breaks, HandsOutItems, IsInside, IsTimerOfRun, PassGains}
+use Rattle.shared_acts.specs.Pieces.{Piece, Works}
 use Rattle.shared_acts.specs.Pieces.{deeds_of}
 
 -- AT WORK: a pass of the run whose CPU is inside its interrupt and has set these marks, and with
@@ -50,7 +51,7 @@ pub record HasMarked (table : TableId) (d : ℕ) (held after : HeldPass) : Type 
   pub cpu : after.cpu ≡ held.cpu
   pub room : after.room ≡ held.room
   pub did : List Did
-  pub gains : Gains (with_marks (d ∷ []) before) later [] did 0
+  pub gains : PassGains (with_marks (d ∷ []) before) later [] did 0
   pub just : deeds_of did ≡ deeds.Took d ∷ []
 
 -- UNMARKED: the pass has no mark any more, by this deed, and at most one walk was begun
@@ -63,12 +64,12 @@ pub record HasUnmarked (table : TableId) (by : Deed) (held after : HeldPass) : T
   pub did : List Did
   pub walks : ℕ
   pub few : walks ≤ 1
-  pub gains : Gains (with_marks [] before) later [] did walks
+  pub gains : PassGains (with_marks [] before) later [] did walks
   pub just : deeds_of did ≡ by ∷ []
 
 -- TAKEN: what a pass has gained as it set the mark of a CPU, after some loads, and then handed
 -- these timers out of that CPU's global base
-pub record HasTaken (table : TableId) (o : World) (d : ℕ) (items : List Item)
+pub record HasTakenTimers (table : TableId) (o : World) (d : ℕ) (items : List Item)
     (held after : HeldPass) : Type 0 where
   pub before : PassView
   pub later : PassView
@@ -77,26 +78,26 @@ pub record HasTaken (table : TableId) (o : World) (d : ℕ) (items : List Item)
   pub cpu : after.cpu ≡ held.cpu
   pub receipts : List Receipt
   pub did : List Did
-  pub gains : Gains (with_marks (d ∷ []) before) later receipts did 0
-  pub outs : HandsOut d held.cpu Global items receipts
+  pub gains : PassGains (with_marks (d ∷ []) before) later receipts did 0
+  pub outs : HandsOutItems d held.cpu Global items receipts
   pub loads : List Deed
   pub ends : deeds_of did ≡ loads ++ deeds.Took d ∷ []
 
 -- LEFT ALONE: the pass saw why
-pub record HasLeft (table : TableId) (o : World) (d : ℕ) (held after : HeldPass) : Type 0 where
+pub record HasLeftAlone (table : TableId) (o : World) (d : ℕ) (held after : HeldPass) : Type 0 where
   pub did : List Did
   pub piece : Piece table held after [] did 0
-  pub left : IsLeft o held.cpu d (deeds_of did)
+  pub left : IsLeftAlone o held.cpu d (deeds_of did)
 
 -- either: a CPU is marked where that may be
 abbrev pub TakesOrLeaves : TableId → World → (d : ℕ) → List Item → (held after : HeldPass) → Bool
     → Type 0
-TakesOrLeaves table o d items held after true = HasTaken table o d items held after
-TakesOrLeaves table o d items held after false = HasLeft table o d held after
+TakesOrLeaves table o d items held after true = HasTakenTimers table o d items held after
+TakesOrLeaves table o d items held after false = HasLeftAlone table o d held after
 
 -- the timers handed out are of the run, and in what is told there is a place for each
 pub record IsRunnable (o : World) (items : List Item) (told room : ℕ) : Type 0 where
-  pub timers : All (IsTimerOf o) items
+  pub timers : All (IsTimerOfRun o) items
   pub places : told + length items ≤ room
 
 -- LET GO: the pass has no mark any more, and what it did closes the try, whatever came between (no
@@ -110,12 +111,13 @@ pub record HasLetGo (table : TableId) (o : World) (d : ℕ) (held after : HeldPa
   pub did : List Did
   pub walks : ℕ
   pub few : walks ≤ 1
-  pub gains : Gains (with_marks [] before) later [] did walks
+  pub gains : PassGains (with_marks [] before) later [] did walks
   pub closed : (front between : List Deed)
       → IsClosed o d (front ++ deeds.Took d ∷ between ++ deeds_of did)
 
 -- BROKEN OFF by want of memory, with at most so many walks begun (no public clause cites it)
-pub record BreaksOff (table : TableId) (most : ℕ) (held after : HeldPass) (before now : List Ran)
+pub record BreaksOffPass (table : TableId) (most : ℕ) (held after : HeldPass)
+    (before now : List Ran)
     : Type 0 where
   pub walks : ℕ
   pub few : walks ≤ most

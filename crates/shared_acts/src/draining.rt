@@ -12,7 +12,7 @@ ghost use Rattle.shared_timers.specs.shared_rule.Turns.{MayRunOf};
 ghost use Rattle.shared_timers.specs.shared_rule.Passes.{IsOfRun, IsPassIn};
 ghost use Rattle.shared_timers.specs.Draining.{MayDrain};
 ghost use Rattle.shared_acts.specs.Handing.{HandsEach, HandsNone, HandsOne, MayHandEach};
-ghost use Rattle.shared_acts.specs.Pieces.{HandsOut, HasDrainRoom, IsTimerOf, Piece};
+ghost use Rattle.shared_acts.specs.Pieces.{HandsOutItems, HasDrainRoom, IsTimerOfRun, Piece};
 ghost use Rattle.shared_acts.specs.Pieces.{but_for_bases};
 
 use crate::runs::Runs;
@@ -104,8 +104,8 @@ pub fn hand_all<N: RunName, B: TimerBase>(
     ensures part { but_for_bases part.old part.new }
     ensures whole { HasNoneBehind part.old.box.own.bases → HasNoneBehind part.new.box.own.bases }
     ensures pass { (receipts : List Receipt) × Piece N.table pass.old pass.new receipts [] 0
-        × HandsOut part.old.box.cpu pass.old.cpu class items.new.items receipts }
-    ensures timers { All (IsTimerOf N.opening) items.new.items }
+        × HandsOutItems part.old.box.cpu pass.old.cpu class items.new.items receipts }
+    ensures timers { All (IsTimerOfRun N.opening) items.new.items }
     ensures fewer { length items.new.items
         ≤ length (base_of class part.old.box.own.bases).items }
 {

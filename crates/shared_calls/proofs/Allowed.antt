@@ -17,8 +17,8 @@ use Rattle.shared_table.specs.shared_rule.Parts.{HeldPart, without_guest}
 use Rattle.shared_table.specs.shared_rule.Passes.{HeldPass, IsPassIn, knowing}
 use Rattle.shared_table.specs.Begun.{IsFree}
 use Rattle.shared_timers.specs.declared.arming.Arming.{Arming}
-use Rattle.shared_calls.specs.Arms.{HasArmed, HasFailed, HasLeft, IsArmable, IsArmed, IsRefused}
-use Rattle.shared_calls.specs.Arms.{MayArmIn, NotArmed, arm_fault_of, fault_by, met}
+use Rattle.shared_calls.specs.Arms.{HasArmed, HasFailed, HasRefusedArm, IsArmable, IsArmed, IsArmRefused}
+use Rattle.shared_calls.specs.Arms.{MayArmInPart, NotArmed, arm_fault_of, arm_fault_by, met}
 use Rattle.shared_table.proofs.shared_rule.Visits.{knows}
 
 -- a CPU that isn't refused is online, and active or inside
@@ -42,7 +42,7 @@ which true false inside fault is = absurd (none-some fault (sym is))
 pub by_pass : (part new : HeldPart) (state : CpuState) (p : PassView)
     → state ≡ shown_cpu new.box.own → new ≡ without_guest part → PartFits part.box
     → Agree part.box p → p.cpu ≡ part.box.cpu
-    → arm_fault_of state.online state.idle state.inside ≡ fault_by p
+    → arm_fault_of state.online state.idle state.inside ≡ arm_fault_by p
 by_pass part new state p is there fits agree own =
     let shown : state ≡ shown_cpu part.box.own =
     is ∙ ap (λ (z : HeldPart). shown_cpu z.box.own) there in
@@ -52,30 +52,30 @@ by_pass part new state p is there fits agree own =
     ∙ (λ i. arm_fault_of (online i) (sym (agree.idle own) i) (sym (agree.inside own) i))
 
 refused_as : (expected : Option OpFault) (fault : OpFault) → expected ≡ Some fault
-    → (fault ≡ faults.Offline) ⊎ (fault ≡ faults.NotActive) → IsRefused expected fault
-refused_as expected fault same (inl is) = subst (IsRefused expected) (sym is) (same ∙ ap Some is)
-refused_as expected fault same (inr is) = subst (IsRefused expected) (sym is) (same ∙ ap Some is)
+    → (fault ≡ faults.Offline) ⊎ (fault ≡ faults.NotActive) → IsArmRefused expected fault
+refused_as expected fault same (inl is) = subst (IsArmRefused expected) (sym is) (same ∙ ap Some is)
+refused_as expected fault same (inr is) = subst (IsArmRefused expected) (sym is) (same ∙ ap Some is)
 
 left_as : (table : TableId) (o : World) (timer : ℕ) (part : HeldPart) (held after : HeldPass)
     (fault : OpFault) → after ≡ held
     → (fault ≡ faults.Offline) ⊎ (fault ≡ faults.NotActive)
-    → HasLeft table o timer part held after fault
+    → HasRefusedArm table o timer part held after fault
 left_as table o timer part held after fault same (inl is) =
-    subst (HasLeft table o timer part held after) (sym is) same
+    subst (HasRefusedArm table o timer part held after) (sym is) same
 left_as table o timer part held after fault same (inr is) =
-    subst (HasLeft table o timer part held after) (sym is) same
+    subst (HasRefusedArm table o timer part held after) (sym is) same
 
 -- a refusal by the CPU
 pub not_armed : (table : TableId) (o : World) (timer : ℕ) (part : HeldPart)
     (held after : HeldPass) (fault : OpFault) (state : CpuState)
     → Some fault ≡ arm_fault_of state.online state.idle state.inside
     → ((q : PassView) → IsPassIn table held q
-    → arm_fault_of state.online state.idle state.inside ≡ fault_by q)
+    → arm_fault_of state.online state.idle state.inside ≡ arm_fault_by q)
     → after ≡ met part held → NotArmed table o timer part held after fault
 not_armed table o timer part held after fault state is by same =
     let one = which state.online state.idle state.inside fault is in
     record {
-      refused = λ q there. refused_as (fault_by q) fault (sym (by q there) ∙ sym is) one;
+      refused = λ q there. refused_as (arm_fault_by q) fault (sym (by q there) ∙ sym is) one;
       left = left_as table o timer part (met part held) after fault same one;
     }
 
@@ -83,7 +83,7 @@ not_armed table o timer part held after fault state is by same =
 by_word : (table : TableId) (o : World) (timer : ℕ) (part : HeldPart) (held after : HeldPass)
     (expected : Option OpFault) (fault : OpFault) → expected ≡ None
     → HasFailed table o timer part held after fault
-    → IsRefused expected fault × HasLeft table o timer part held after fault
+    → IsArmRefused expected fault × HasRefusedArm table o timer part held after fault
 by_word table o timer part held after expected (faults.Queued cpu) none failed = (none, failed)
 by_word table o timer part held after expected faults.NoMemory none failed = (none, failed)
 by_word table o timer part held after expected faults.NotActive none failed = absurd failed
@@ -96,7 +96,7 @@ by_word table o timer part held after expected (faults.Spent made) none failed =
 -- where the CPU may arm
 pub finish : (table : TableId) (o : World) (now : ℕ) (a : Arming) (part : HeldPart)
     (held after : HeldPass) (result : Result ℕ OpFault)
-    → ((q : PassView) → IsPassIn table held q → fault_by q ≡ None)
+    → ((q : PassView) → IsPassIn table held q → arm_fault_by q ≡ None)
     → (p : PassView) → IsPassIn table held p
     → MatchResult result (IsArmed table now a part (met part held) after)
     (HasFailed table o a.timer.0 part (met part held) after)
@@ -106,10 +106,10 @@ finish table o now a part held after (Ok wheel) allowed p is armed =
     record { allowed = allowed; armed = armed }
 finish table o now a part held after (Err fault) allowed p is failed = record {
   refused = λ q there.
-      (by_word table o a.timer.0 part (met part held) after (fault_by q) fault (allowed q there)
+      (by_word table o a.timer.0 part (met part held) after (arm_fault_by q) fault (allowed q there)
       failed).0;
   left =
-      (by_word table o a.timer.0 part (met part held) after (fault_by p) fault (allowed p is)
+      (by_word table o a.timer.0 part (met part held) after (arm_fault_by p) fault (allowed p is)
       failed).1;
 }
 
@@ -119,7 +119,7 @@ pub may_arm_in : (table : TableId) (o : World) (part new : HeldPart) (held after
     → state ≡ shown_cpu new.box.own → new ≡ without_guest part → after ≡ met part held
     → part.box.opening ≡ o → PartFits part.box → p.cpu ≡ part.box.cpu → IsFree part
     → IsArmable o a → None ≡ arm_fault_of state.online state.idle state.inside
-    → MayArmIn table o new after a
+    → MayArmInPart table o new after a
 may_arm_in table o part new held after p a state is told there same opening fits own free armable
     none =
     let shown : state ≡ shown_cpu part.box.own =

@@ -15,8 +15,8 @@ use Rattle.shared_table.specs.shared_rule.Plays.{Agree, PartFits}
 use Rattle.shared_table.specs.shared_rule.Parts.{HeldPart, without_guest}
 use Rattle.shared_table.specs.shared_rule.Passes.{HeldPass, IsPassIn, knowing}
 use Rattle.shared_table.proofs.shared_rule.Visits.{knows}
-use Rattle.shared_calls.specs.Arms.{IsRefused, met}
-use Rattle.shared_calls.specs.Cancels.{CameTo, HasCancelled, HasFallenShort, HasStayed, IsAsked}
+use Rattle.shared_calls.specs.Arms.{IsArmRefused, met}
+use Rattle.shared_calls.specs.Cancels.{CameTo, HasCancelled, HasFallenShort, HasStayed, IsCancelAsked}
 use Rattle.shared_calls.specs.Cancels.{NotCancelled, cancel_fault_by, cancel_fault_of}
 
 -- the state of a part after the visit is what the pass knows
@@ -40,7 +40,7 @@ pub asked : (table : TableId) (o : World) (part new : HeldPart) (held after : He
     → after ≡ met part held → part.box.opening ≡ o
     → ((q : PassView) → IsPassIn table held q → q.cpu ≡ part.box.cpu) → PartFits part.box
     → ((q : PassView) → IsPassIn table held q → Agree part.box q)
-    → IsAsked table o (without_guest part) held after answer
+    → IsCancelAsked table o (without_guest part) held after answer
 asked table o part new held after p state answer is cpu shown answers there same opening own fits
     agree =
     let journal = part.box.own.bases.journal in
@@ -64,9 +64,9 @@ which true true fault is = inr (same_Some fault faults.NotActive is)
 which true false fault is = absurd (none-some fault (sym is))
 
 refused_as : (expected : Option OpFault) (fault : OpFault) → expected ≡ Some fault
-    → (fault ≡ faults.Offline) ⊎ (fault ≡ faults.NotActive) → IsRefused expected fault
-refused_as expected fault same (inl is) = subst (IsRefused expected) (sym is) (same ∙ ap Some is)
-refused_as expected fault same (inr is) = subst (IsRefused expected) (sym is) (same ∙ ap Some is)
+    → (fault ≡ faults.Offline) ⊎ (fault ≡ faults.NotActive) → IsArmRefused expected fault
+refused_as expected fault same (inl is) = subst (IsArmRefused expected) (sym is) (same ∙ ap Some is)
+refused_as expected fault same (inr is) = subst (IsArmRefused expected) (sym is) (same ∙ ap Some is)
 
 stayed_as : (o : World) (timer : ℕ) (held after : HeldPass) (fault : OpFault) → after ≡ held
     → (fault ≡ faults.Offline) ⊎ (fault ≡ faults.NotActive) → HasStayed o timer held after fault
@@ -78,7 +78,7 @@ stayed_as o timer held after fault same (inr is) =
 -- a refusal by the CPU
 pub refused : (table : TableId) (o : World) (timer : ℕ) (part : HeldPart) (held after : HeldPass)
     (p : PassView) (fault : OpFault) → IsPassIn table held p
-    → IsAsked table o part held after (Some fault) → NotCancelled table o timer part held after fault
+    → IsCancelAsked table o part held after (Some fault) → NotCancelled table o timer part held after fault
 refused table o timer part held after p fault is asked =
     let one : (fault ≡ faults.Offline) ⊎ (fault ≡ faults.NotActive) =
     which (cpu_of p.opening p.cpu).online p.idle fault (asked.fault p is) in
@@ -90,15 +90,15 @@ refused table o timer part held after p fault is asked =
 -- want of memory
 short_of : (o : World) (timer : ℕ) (held after : HeldPass) (expected : Option OpFault)
     (fault : OpFault) → expected ≡ None → HasFallenShort o timer held after fault
-    → IsRefused expected fault × HasStayed o timer held after fault
+    → IsArmRefused expected fault × HasStayed o timer held after fault
 short_of o timer held after expected fault none short =
-    subst (λ f. IsRefused expected f × HasStayed o timer held after f) (sym short.0)
+    subst (λ f. IsArmRefused expected f × HasStayed o timer held after f) (sym short.0)
     (none, short.1)
 
 -- where the CPU may cancel
 pub finish : (table : TableId) (o : World) (timer line : ℕ) (part : HeldPart)
     (held mid after : HeldPass) (p : PassView) (result : Result (Option CpuId) OpFault)
-    → IsPassIn table held p → IsAsked table o part held mid None
+    → IsPassIn table held p → IsCancelAsked table o part held mid None
     → MatchResult result (CameTo table o timer line mid after) (HasFallenShort o timer mid after)
     → MatchResult result (HasCancelled table o timer line part held after)
     (NotCancelled table o timer part held after)

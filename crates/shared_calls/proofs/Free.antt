@@ -22,7 +22,7 @@ use Rattle.shared_table.specs.Begun.{IsFree}
 use Rattle.shared_timers.specs.declared.arming.Arming.{Arming}
 use Rattle.shared_timers.specs.Entries.{pair_changed}
 use Rattle.shared_timers.specs.Queueing.{ArmedWith, FoundQueued, FoundWith, MayArm}
-use Rattle.shared_calls.specs.Arms.{HasFailed, IsArmed, MayArmIn, roomy, with_entry_room}
+use Rattle.shared_calls.specs.Arms.{HasFailed, IsArmed, MayArmInPart, roomy, with_entry_room}
 
 -- a base has no more timers than the base that has most
 few : (class : Class) (bases : ByClass PlainBase)
@@ -47,7 +47,7 @@ within n m room low =
 
 -- with room the part may be asked to arm
 pub may_arm : (table : TableId) (o : World) (part : HeldPart) (held : HeldPass) (a : Arming)
-    → MayArmIn table o part held a → MayArm o (roomy part held) a
+    → MayArmInPart table o part held a → MayArm o (roomy part held) a
 may_arm table o part held a may = record {
   pass = may.pass;
   brought = ap passes_of may.seated;

@@ -11,7 +11,7 @@ use Rattle.shared_table.specs.shared_rule.Parts.{HeldPart}
 use Rattle.shared_table.specs.shared_rule.Passes.{HeldPass, with_pass}
 use Rattle.shared_timers.specs.Exchanging.{timer_word}
 use Rattle.shared_looks.proofs.Looks.{each_more, more_loads}
-use Rattle.shared_calls.specs.Cancels.{FellShort, HasTried, IsElsewhere, IsPartOf, IsTakenOut}
+use Rattle.shared_calls.specs.Cancels.{FellShort, HasTriedCancel, IsElsewhere, IsPartOf, IsTakenOut}
 use Rattle.shared_calls.specs.Cancels.{TookOut, tried_of}
 use Rattle.shared_calls.specs.Looks.{NamesHome}
 
@@ -31,7 +31,7 @@ pub came_to : (table : TableId) (o : World) (timer line found : ℕ) (spot : Spo
     → mid ≡ with_pass (seen_pass (timer_word o timer) found) held → Some spot ≡ spot_of found
     → spot.cpu.0 < length o.cpus → IsPartOf o spot.cpu.0 home → (taken : Bool)
     → TookOut table timer line home mid after taken
-    → HasTried table o timer line held after (tried_of taken spot.cpu)
+    → HasTriedCancel table o timer line held after (tried_of taken spot.cpu)
 came_to table o timer line found spot held mid after home loaded names low is true took = record {
   found = found;
   spot = spot;

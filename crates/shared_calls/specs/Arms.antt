@@ -26,19 +26,19 @@ arm_fault_of online idle inside =
     else (if idle && not inside then Some faults.NotActive else None)
 
 -- the same by what its pass knows, since no CPU goes offline or online in a run
-abbrev pub fault_by : PassView → Option OpFault
-fault_by p = arm_fault_of (cpu_of p.opening p.cpu).online p.idle p.inside
+abbrev pub arm_fault_by : PassView → Option OpFault
+arm_fault_by p = arm_fault_of (cpu_of p.opening p.cpu).online p.idle p.inside
 
 -- a refusal that comes by the CPU comes exactly so; the others come where it refuses nothing
-abbrev pub IsRefused : (expected : Option OpFault) → OpFault → Type 0
-IsRefused expected (faults.Queued cpu) = expected ≡ None
-IsRefused expected faults.NoMemory = expected ≡ None
-IsRefused expected faults.NotActive = expected ≡ Some faults.NotActive
-IsRefused expected faults.NotIdle = expected ≡ Some faults.NotIdle
-IsRefused expected faults.Offline = expected ≡ Some faults.Offline
-IsRefused expected faults.AlreadyOnline = expected ≡ Some faults.AlreadyOnline
-IsRefused expected faults.LastOnline = expected ≡ Some faults.LastOnline
-IsRefused expected (faults.Spent made) = expected ≡ Some (faults.Spent made)
+abbrev pub IsArmRefused : (expected : Option OpFault) → OpFault → Type 0
+IsArmRefused expected (faults.Queued cpu) = expected ≡ None
+IsArmRefused expected faults.NoMemory = expected ≡ None
+IsArmRefused expected faults.NotActive = expected ≡ Some faults.NotActive
+IsArmRefused expected faults.NotIdle = expected ≡ Some faults.NotIdle
+IsArmRefused expected faults.Offline = expected ≡ Some faults.Offline
+IsArmRefused expected faults.AlreadyOnline = expected ≡ Some faults.AlreadyOnline
+IsArmRefused expected faults.LastOnline = expected ≡ Some faults.LastOnline
+IsArmRefused expected (faults.Spent made) = expected ≡ Some (faults.Spent made)
 
 -- THE PART of a pass's CPU, as the call finds it: it fits, and agrees with the pass
 pub record MetBy (table : TableId) (part : HeldPart) (held : HeldPass) : Type 0 where
@@ -86,30 +86,31 @@ HasFailed table o timer part held after faults.LastOnline = ⊥
 HasFailed table o timer part held after (faults.Spent made) = ⊥
 
 -- the pass after a refusal: it is as it was, but where it found the timer queued
-abbrev pub HasLeft : TableId → World → (timer : ℕ) → HeldPart → (held after : HeldPass) → OpFault
+abbrev pub HasRefusedArm : TableId → World → (timer : ℕ) → HeldPart → (held after : HeldPass)
+    → OpFault
     → Type 0
-HasLeft table o timer part held after (faults.Queued cpu) =
+HasRefusedArm table o timer part held after (faults.Queued cpu) =
     IsQueued table o timer part held after (faults.Queued cpu)
-HasLeft table o timer part held after faults.NoMemory = after ≡ held
-HasLeft table o timer part held after faults.NotActive = after ≡ held
-HasLeft table o timer part held after faults.NotIdle = ⊥
-HasLeft table o timer part held after faults.Offline = after ≡ held
-HasLeft table o timer part held after faults.AlreadyOnline = ⊥
-HasLeft table o timer part held after faults.LastOnline = ⊥
-HasLeft table o timer part held after (faults.Spent made) = ⊥
+HasRefusedArm table o timer part held after faults.NoMemory = after ≡ held
+HasRefusedArm table o timer part held after faults.NotActive = after ≡ held
+HasRefusedArm table o timer part held after faults.NotIdle = ⊥
+HasRefusedArm table o timer part held after faults.Offline = after ≡ held
+HasRefusedArm table o timer part held after faults.AlreadyOnline = ⊥
+HasRefusedArm table o timer part held after faults.LastOnline = ⊥
+HasRefusedArm table o timer part held after (faults.Spent made) = ⊥
 
 -- OK: the pass knows that its CPU may arm, and once it has met its CPU's part, the timer is armed
 -- there
 pub record HasArmed (table : TableId) (now : ℕ) (a : Arming) (part : HeldPart)
     (held after : HeldPass) (wheel : ℕ) : Type 0 where
-  pub allowed : (p : PassView) → IsPassIn table held p → fault_by p ≡ None
+  pub allowed : (p : PassView) → IsPassIn table held p → arm_fault_by p ≡ None
   pub armed : IsArmed table now a part (met part held) after wheel
 
 -- REFUSED: exactly by what the pass knows of its CPU, or by the timer's word, or for want of memory
 pub record NotArmed (table : TableId) (o : World) (timer : ℕ) (part : HeldPart)
     (held after : HeldPass) (fault : OpFault) : Type 0 where
-  pub refused : (p : PassView) → IsPassIn table held p → IsRefused (fault_by p) fault
-  pub left : HasLeft table o timer part (met part held) after fault
+  pub refused : (p : PassView) → IsPassIn table held p → IsArmRefused (arm_fault_by p) fault
+  pub left : HasRefusedArm table o timer part (met part held) after fault
 
 -- a timer of the run that may be armed: its expiry isn't past, and is in range
 pub record IsArmable (o : World) (a : Arming) : Type 0 where
@@ -118,15 +119,15 @@ pub record IsArmable (o : World) (a : Arming) : Type 0 where
   pub in_time : a.expires < TIME_LIMIT
 
 -- what has to be known of a part, and of a pass of its CPU, that arms there
-pub record MayArmIn (table : TableId) (o : World) (part : HeldPart) (held : HeldPass)
+pub record MayArmInPart (table : TableId) (o : World) (part : HeldPart) (held : HeldPass)
     (a : Arming) : Type 0 where
   pub pass : PassView
   pub seated : IsPassIn table held pass
   pub may : MayExchangeArm o part.box a.class a.timer a.expires pass
 
 -- a timer as it is to be armed
-abbrev pub arming_of : TimerId → Class → (expires job arg line : ℕ) → Arming
-arming_of timer class expires job arg line = record {
+abbrev pub timer_arming_of : TimerId → Class → (expires job arg line : ℕ) → Arming
+timer_arming_of timer class expires job arg line = record {
   timer = timer;
   class = class;
   expires = expires;

@@ -18,11 +18,11 @@ use Rattle.shared_table.specs.shared_rule.Parts.{HeldPart, pass_parted, with_gue
 use Rattle.shared_table.specs.shared_rule.Passes.{HeldPass, IsPassIn, with_pass, with_receipts_room}
 use Rattle.shared_timers.specs.Exchanging.{timer_word}
 use Rattle.shared_timers.specs.Queueing.{cancelled_part}
-use Rattle.shared_looks.specs.Looks.{IsPassOf, seen_all}
+use Rattle.shared_looks.specs.Looks.{IsPassBegunWith, seen_all}
 use Rattle.shared_looks.specs.Rooms.{with_more_room}
 use Rattle.shared_calls.specs.declared.cancelling.Tried.{Tried}
 use Rattle.shared_calls.specs.declared.cancelling.Tried.TheVariants as tries
-use Rattle.shared_calls.specs.Arms.{IsRefused, MetBy, met}
+use Rattle.shared_calls.specs.Arms.{IsArmRefused, MetBy, met}
 use Rattle.shared_calls.specs.Looks.{NamesHome}
 
 -- CANCEL: why a CPU can't: it is offline, or idle
@@ -36,10 +36,10 @@ cancel_fault_by p = cancel_fault_of (cpu_of p.opening p.cpu).online p.idle
 
 -- THE ANSWER of the part of a pass's CPU: whether it may cancel; the pass then knows the CPU's
 -- journal as it is by now (no public clause cites it)
-pub record IsAsked (table : TableId) (o : World) (part : HeldPart) (held after : HeldPass)
+pub record IsCancelAsked (table : TableId) (o : World) (part : HeldPart) (held after : HeldPass)
     (answer : Option OpFault) : Type 0 where
   pub by : MetBy table part held
-  pub of_run : IsPassOf table o (met part held)
+  pub of_run : IsPassBegunWith table o (met part held)
   pub pass_is : after ≡ met part held
   pub fault : (p : PassView) → IsPassIn table held p → answer ≡ cancel_fault_by p
 
@@ -93,11 +93,12 @@ pub record IsElsewhere (o : World) (timer : ℕ) (held after : HeldPass) : Type 
   pub pass_is : after ≡ with_pass (seen_pass look.word look.found) held
 
 -- what one try makes of the pass (no public clause cites it)
-abbrev pub HasTried : TableId → World → (timer line : ℕ) → (held after : HeldPass) → Tried → Type 0
-HasTried table o timer line held after tries.Nowhere = IsNowhere o timer held after
-HasTried table o timer line held after (tries.Cancelled cpu) =
+abbrev pub HasTriedCancel : TableId → World → (timer line : ℕ) → (held after : HeldPass) → Tried
+    → Type 0
+HasTriedCancel table o timer line held after tries.Nowhere = IsNowhere o timer held after
+HasTriedCancel table o timer line held after (tries.Cancelled cpu) =
     IsCancelled table o timer line held after cpu
-HasTried table o timer line held after tries.Gone = IsElsewhere o timer held after
+HasTriedCancel table o timer line held after tries.Gone = IsElsewhere o timer held after
 
 -- a look into the part of a CPU, by whether the timer was taken out there (no public clause cites
 -- it)
@@ -106,10 +107,10 @@ tried_of true cpu = tries.Cancelled cpu
 tried_of false cpu = tries.Gone
 
 -- how the tries end: None where the timer isn't queued, or the CPU where it was
-abbrev pub HasEnded : TableId → World → (timer line : ℕ) → (held after : HeldPass)
+abbrev pub HasCancelEnded : TableId → World → (timer line : ℕ) → (held after : HeldPass)
     → Option CpuId → Type 0
-HasEnded table o timer line held after None = IsNowhere o timer held after
-HasEnded table o timer line held after (Some cpu) =
+HasCancelEnded table o timer line held after None = IsNowhere o timer held after
+HasCancelEnded table o timer line held after (Some cpu) =
     IsCancelled table o timer line held after cpu
 
 -- FOUND: earlier loads of the timer's word each named a CPU, where it wasn't by then; after the
@@ -118,7 +119,7 @@ pub record CameTo (table : TableId) (o : World) (timer line : ℕ) (held after :
     (answer : Option CpuId) : Type 0 where
   pub looks : List Look
   pub each : Each (NamesHome o timer) looks
-  pub ends : HasEnded table o timer line (with_pass (seen_all looks) held) after answer
+  pub ends : HasCancelEnded table o timer line (with_pass (seen_all looks) held) after answer
 
 -- WANT OF MEMORY: each load named a CPU, and the pass knows no more than these loads
 pub record FellShort (o : World) (timer : ℕ) (held after : HeldPass) : Type 0 where
@@ -152,5 +153,5 @@ HasStayed o timer held after (faults.Spent made) = ⊥
 -- REFUSED: exactly by what the pass knows of its CPU, or for want of memory
 pub record NotCancelled (table : TableId) (o : World) (timer : ℕ) (part : HeldPart)
     (held after : HeldPass) (fault : OpFault) : Type 0 where
-  pub refused : (p : PassView) → IsPassIn table held p → IsRefused (cancel_fault_by p) fault
+  pub refused : (p : PassView) → IsPassIn table held p → IsArmRefused (cancel_fault_by p) fault
   pub stayed : HasStayed o timer (met part held) after fault

@@ -5,7 +5,7 @@ use Rattle.shared_words.specs.declared.spot.Spot.{Spot}
 use Rattle.shared_words.specs.Words.{spot_of}
 use Rattle.shared_table.specs.shared_rule.declared.parts.Look.{Look}
 use Rattle.shared_timers.specs.Exchanging.{timer_word}
-pub use Rattle.shared_looks.specs.Looks.{IsPassOf, seen_all}
+pub use Rattle.shared_looks.specs.Looks.{IsPassBegunWith, seen_all}
 
 -- a load of a timer's word that named a CPU of the run
 pub record NamesHome (o : World) (timer : ℕ) (x : Look) : Type 0 where

@@ -5,8 +5,9 @@ ghost use Rattle.tm_base.specs.declared.names.TheConstants.{TIME_LIMIT};
 ghost use Rattle.shared_table.specs.shared_rule.Parts.{HeldPart, without_guest};
 ghost use Rattle.shared_table.specs.shared_rule.Passes.{IsOfRun};
 ghost use Rattle.shared_table.specs.Begun.{IsFree};
-ghost use Rattle.shared_calls.specs.Arms.{HasArmed, HasFailed, IsArmable, IsArmed, MayArmIn, MetBy};
-ghost use Rattle.shared_calls.specs.Arms.{NotArmed, arm_fault_of, arming_of};
+ghost use Rattle.shared_calls.specs.Arms.{HasArmed, HasFailed, IsArmable, IsArmed, MayArmInPart};
+ghost use Rattle.shared_calls.specs.Arms.{MetBy};
+ghost use Rattle.shared_calls.specs.Arms.{NotArmed, arm_fault_of, timer_arming_of};
 
 use cpu_word::CpuState;
 use shared_looks::take_room;
@@ -40,7 +41,7 @@ fn arm_free<N: RunName, B: TimerBase>(
     requires run { IsOfRun N.table pass.old }
     requires free { IsFree part.old }
     requires now { now ≡ N.opening.clock }
-    requires may { MayArmIn N.table N.opening part.old pass.old arming }
+    requires may { MayArmInPart N.table N.opening part.old pass.old arming }
     ensures free { IsFree part.new }
     ensures done { MatchResult result (IsArmed N.table now arming part.old pass.old pass.new)
         (HasFailed N.table N.opening arming.timer.0 part.old pass.old pass.new) }
@@ -121,7 +122,7 @@ pub fn arm<N: RunName, B: TimerBase, R: Wait>(
     requires timer { timer.0 < N.opening.timers }
     requires in_time { now + delay < TIME_LIMIT }
     ensures { (part : HeldPart) × MetBy N.table part pass.old × MatchResult result
-        (HasArmed N.table now (arming_of timer class (now + delay) job arg line) part pass.old
+        (HasArmed N.table now (timer_arming_of timer class (now + delay) job arg line) part pass.old
         pass.new)
         (NotArmed N.table N.opening timer.0 part pass.old pass.new) }
 {

@@ -4,10 +4,10 @@ ghost use Rattle.std.specs.Prelude.{◌≡◌, ◌<◌, MatchResult, length};
 ghost use Rattle.shared_table.specs.shared_rule.Parts.{HeldPart, without_guest};
 ghost use Rattle.shared_table.specs.shared_rule.Passes.{IsOfRun};
 ghost use Rattle.shared_table.specs.Begun.{IsFree};
-ghost use Rattle.shared_looks.specs.Looks.{IsPassOf};
+ghost use Rattle.shared_looks.specs.Looks.{IsPassBegunWith};
 ghost use Rattle.shared_calls.specs.Arms.{MetBy};
-ghost use Rattle.shared_calls.specs.Cancels.{CameTo, HasCancelled, HasFallenShort, HasTried};
-ghost use Rattle.shared_calls.specs.Cancels.{IsAsked};
+ghost use Rattle.shared_calls.specs.Cancels.{CameTo, HasCancelled, HasFallenShort, HasTriedCancel};
+ghost use Rattle.shared_calls.specs.Cancels.{IsCancelAsked};
 ghost use Rattle.shared_calls.specs.Cancels.{IsElsewhere, IsPartOf, NotCancelled, TookOut};
 ghost use Rattle.shared_calls.specs.Cancels.{cancel_fault_of, tried_of};
 
@@ -54,7 +54,8 @@ fn ask_part<N: RunName, B: TimerBase>(
     requires own { pass.old.cpu ≡ part.old.box.cpu }
     requires free { IsFree part.old }
     ensures free { IsFree part.new }
-    ensures asked { IsAsked N.table N.opening (without_guest part.old) pass.old pass.new result }
+    ensures asked { IsCancelAsked N.table N.opening (without_guest part.old) pass.old pass.new
+        result }
 {
     visit(run, part, pass);
     cancel_fault(part.state())
@@ -68,7 +69,7 @@ fn ask_box<N: RunName, B: TimerBase>(
 ) -> Option<OpFault>
     requires run { IsOfRun N.table pass.old }
     requires own { pass.old.cpu ≡ cpu_box.old.box.cpu }
-    ensures { IsAsked N.table N.opening (without_guest cpu_box.old) pass.old pass.new result }
+    ensures { IsCancelAsked N.table N.opening (without_guest cpu_box.old) pass.old pass.new result }
 {
     ask_part(run, &mut cpu_box.part, pass)
 }
@@ -81,7 +82,7 @@ fn ask<N: RunName, B: TimerBase, R: Wait>(
 ) -> Option<OpFault>
     requires run { IsOfRun N.table pass.old }
     requires cpu { pass.old.cpu < length N.opening.cpus }
-    ensures { (part : HeldPart) × IsAsked N.table N.opening part pass.old pass.new result }
+    ensures { (part : HeldPart) × IsCancelAsked N.table N.opening part pass.old pass.new result }
 {
     let mut guard = shared.lock(rt, pass.cpu());
     ask_box(shared.run(), &mut *guard, pass)
@@ -175,10 +176,10 @@ fn try_cancel<N: RunName, B: TimerBase, R: Wait>(
     timer: TimerId,
     line: u32,
 ) -> Result<Tried, NoMemory>
-    requires run { IsPassOf N.table N.opening pass.old }
+    requires run { IsPassBegunWith N.table N.opening pass.old }
     requires now { now ≡ N.opening.clock }
     requires timer { timer.0 < N.opening.timers }
-    ensures { MatchResult result (HasTried N.table N.opening timer.0 line pass.old pass.new)
+    ensures { MatchResult result (HasTriedCancel N.table N.opening timer.0 line pass.old pass.new)
         (λ e. IsElsewhere N.opening timer.0 pass.old pass.new) }
 {
     let found = pass.see_timer(shared.run(), timer);
@@ -201,7 +202,7 @@ fn cancel_named<N: RunName, B: TimerBase, R: Wait>(
     timer: TimerId,
     line: u32,
 ) -> Result<Option<CpuId>, OpFault>
-    requires run { IsPassOf N.table N.opening pass.old }
+    requires run { IsPassBegunWith N.table N.opening pass.old }
     requires now { now ≡ N.opening.clock }
     requires timer { timer.0 < N.opening.timers }
     ensures { MatchResult result (CameTo N.table N.opening timer.0 line pass.old pass.new)

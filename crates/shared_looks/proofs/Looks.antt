@@ -8,7 +8,7 @@ use Rattle.shared_cpus.specs.shared_rule.declared.parts.PassView.{PassView}
 use Rattle.shared_cpus.specs.shared_rule.Plays.{seen_pass}
 use Rattle.shared_cpus.specs.shared_rule.Rule.{Each}
 use Rattle.shared_cpus.specs.shared_rule.Passes.{HeldPass, IsOfRun, Seated, with_pass}
-use Rattle.shared_looks.specs.Looks.{IsPassOf, seen_all}
+use Rattle.shared_looks.specs.Looks.{IsPassBegunWith, seen_all}
 
 -- a seat whose pass changes
 abbrev changed : (PassView → PassView) → Option Seated → Option Seated
@@ -57,14 +57,14 @@ each_more P (y ∷ ys) x all one = (all.0, each_more P ys x all.1 one)
 
 -- it is the run's as before
 pub still_of : (table : TableId) (o : World) (held after : HeldPass) (word found : ℕ)
-    → IsPassOf table o held → after ≡ with_pass (seen_pass word found) held
-    → IsPassOf table o after
+    → IsPassBegunWith table o held → after ≡ with_pass (seen_pass word found) held
+    → IsPassBegunWith table o after
 still_of table o held after word found is same = record {
   pass = seen_pass word found is.pass;
   seated = ap (λ (z : HeldPass). z.seated) same ∙ ap (changed (seen_pass word found)) is.seated;
   opening = is.opening;
 }
 
-pub of_run : (table : TableId) (o : World) (held : HeldPass) → IsPassOf table o held
+pub of_run : (table : TableId) (o : World) (held : HeldPass) → IsPassBegunWith table o held
     → IsOfRun table held
 of_run table o held is = (is.pass, is.seated)

@@ -17,7 +17,7 @@ use Rattle.shared_cpus.specs.shared_rule.Whole.{own_word}
 use Rattle.shared_cpus.specs.shared_rule.Parts.{HasGuest, HeldPart, without_guest}
 use Rattle.shared_cpus.specs.Conditions.{IsDueThere}
 use Rattle.shared_cpus.specs.Pairs.{HasOne, box_by, cpu_place, leaf_place, with_seen}
-use Rattle.shared_looks.specs.Marks.{IsNoticed, cpu_seen, leaf_seen}
+use Rattle.shared_looks.specs.Marks.{IsNoticed, cpu_word_seen, leaf_seen}
 
 -- loads leave the box
 same_box : (b : BoxView) (ps : List PassView) → box_by (λ b p. b) b ps ≡ b
@@ -97,14 +97,14 @@ noticed_both part mid new word slot same is group then leaf =
 pub noticed_off : (part new : HeldPart) → IsNoticed part new → without_guest new ≡ without_guest part
 noticed_off part new noticed = ⊎_elim
     (λ (one : (group_at_of part.box.opening.tree part.box.cpu 0 ≡ None)
-    × (new ≡ cpu_seen noticed.word part)).
+    × (new ≡ cpu_word_seen noticed.word part)).
     ap without_guest one.1
     ∙ off_after (cpu_place part.box.opening part.box.cpu) noticed.word part)
     (λ (two : HasGroup part.box.opening.tree part.box.cpu
     × ((slot : ℕ) × (slot_of slot ≡ part.box.leaf)
     × (new ≡ leaf_seen noticed.word slot part))).
     ap without_guest two.1.2
-    ∙ (off_after (leaf_place part.box.opening part.box.cpu) two.1.0 (cpu_seen noticed.word part)
+    ∙ (off_after (leaf_place part.box.opening part.box.cpu) two.1.0 (cpu_word_seen noticed.word part)
     ∙ off_after (cpu_place part.box.opening part.box.cpu) noticed.word part))
     noticed.then
 
@@ -112,14 +112,14 @@ pub noticed_guest : (cpu : ℕ) (part new : HeldPart) → HasGuest cpu part → 
     → HasGuest cpu new
 noticed_guest cpu part new guest noticed = ⊎_elim
     (λ (one : (group_at_of part.box.opening.tree part.box.cpu 0 ≡ None)
-    × (new ≡ cpu_seen noticed.word part)).
+    × (new ≡ cpu_word_seen noticed.word part)).
     subst (HasGuest cpu) (sym one.1)
     (guest_after (cpu_place part.box.opening part.box.cpu) noticed.word cpu part guest))
     (λ (two : HasGroup part.box.opening.tree part.box.cpu
     × ((slot : ℕ) × (slot_of slot ≡ part.box.leaf)
     × (new ≡ leaf_seen noticed.word slot part))).
     subst (HasGuest cpu) (sym two.1.2)
-    (guest_after (leaf_place part.box.opening part.box.cpu) two.1.0 cpu (cpu_seen noticed.word part)
+    (guest_after (leaf_place part.box.opening part.box.cpu) two.1.0 cpu (cpu_word_seen noticed.word part)
     (guest_after (cpu_place part.box.opening part.box.cpu) noticed.word cpu part guest)))
     noticed.then
 

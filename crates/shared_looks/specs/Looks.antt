@@ -8,7 +8,7 @@ use Rattle.shared_cpus.specs.shared_rule.Plays.{seen_pass}
 use Rattle.shared_cpus.specs.shared_rule.Passes.{HeldPass, IsPassIn}
 
 -- a pass of the run, which began with this core
-pub record IsPassOf (table : TableId) (o : World) (held : HeldPass) : Type 0 where
+pub record IsPassBegunWith (table : TableId) (o : World) (held : HeldPass) : Type 0 where
   pub pass : PassView
   pub seated : IsPassIn table held pass
   pub opening : pass.opening ≡ o

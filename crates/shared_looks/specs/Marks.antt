@@ -19,13 +19,13 @@ pub record IsTakable (b : BoxView) : Type 0 where
   pub due : IsDueThere b
 
 -- the word of the part's CPU was loaded
-abbrev pub cpu_seen : (word : ℕ) → HeldPart → HeldPart
-cpu_seen word part = with_seen (cpu_place part.box.opening part.box.cpu) word part
+abbrev pub cpu_word_seen : (word : ℕ) → HeldPart → HeldPart
+cpu_word_seen word part = with_seen (cpu_place part.box.opening part.box.cpu) word part
 
 -- and then its slot in its leaf
 abbrev pub leaf_seen : (word slot : ℕ) → HeldPart → HeldPart
 leaf_seen word slot part =
-    with_seen (leaf_place part.box.opening part.box.cpu) slot (cpu_seen word part)
+    with_seen (leaf_place part.box.opening part.box.cpu) slot (cpu_word_seen word part)
 
 -- THE LOADS: the word of the part's CPU, and where the CPU has a group its slot there; both are
 -- what the part says
@@ -33,7 +33,7 @@ pub record IsNoticed (part new : HeldPart) : Type 0 where
   pub word : ℕ
   pub word_is : word ≡ own_word part.box.own
   pub then :
-      ((group_at_of part.box.opening.tree part.box.cpu 0 ≡ None) × (new ≡ cpu_seen word part))
+      ((group_at_of part.box.opening.tree part.box.cpu 0 ≡ None) × (new ≡ cpu_word_seen word part))
       ⊎ (HasGroup part.box.opening.tree part.box.cpu
       × ((slot : ℕ) × (slot_of slot ≡ part.box.leaf) × (new ≡ leaf_seen word slot part)))
 

@@ -39,45 +39,46 @@ fact_text facts.Unmarked = codes " is marked by nobody"
 fact_text facts.EventNotDue = codes " has no due event in its leaf"
 
 -- THE SENTENCE of a cause
-unfoldable pub cause_text : Cause → List ℕ
-cause_text (causes.Cpu cpu fact) = around (codes "CPU ") cpu.0 (fact_text fact)
-cause_text (causes.NoSuchTimer timer) = around (codes "timer ") timer.0 (codes " isn't there")
-cause_text (causes.Past at) = around (codes "jiffy ") at (codes " is before the clock")
-cause_text (causes.TooLate at limit) =
+unfoldable pub cause_sentence : Cause → List ℕ
+cause_sentence (causes.Cpu cpu fact) = around (codes "CPU ") cpu.0 (fact_text fact)
+cause_sentence (causes.NoSuchTimer timer) = around (codes "timer ") timer.0 (codes " isn't there")
+cause_sentence (causes.Past at) = around (codes "jiffy ") at (codes " is before the clock")
+cause_sentence (causes.TooLate at limit) =
     around_two (codes "jiffy ") at (codes " isn't below ") limit []
-cause_text (causes.Marked cpu by) =
+cause_sentence (causes.Marked cpu by) =
     around_two (codes "CPU ") cpu.0 (codes " is marked by CPU ") by.0 []
-cause_text (causes.LockTaken cpu level place by) =
+cause_sentence (causes.LockTaken cpu level place by) =
     around_two (codes "CPU ") cpu.0 (codes " waits for the lock of ") level
     (around_two (codes ":") place (codes ", taken by CPU ") by.0 [])
-cause_text (causes.ToItself cpu) = around (codes "CPU ") cpu.0 (codes " would hand on to itself")
-cause_text (causes.EventSoon cpu at) =
+cause_sentence (causes.ToItself cpu) =
+    around (codes "CPU ") cpu.0 (codes " would hand on to itself")
+cause_sentence (causes.EventSoon cpu at) =
     around_two (codes "CPU ") cpu.0 (codes " has its first event at ") at
     (codes ", at most a jiffy ahead")
-cause_text (causes.Queued timer on) =
+cause_sentence (causes.Queued timer on) =
     around_two (codes "timer ") timer.0 (codes " is queued on CPU ") on.0 []
-cause_text (causes.NotQueued timer cpu) =
+cause_sentence (causes.NotQueued timer cpu) =
     around_two (codes "timer ") timer.0 (codes " isn't queued on CPU ") cpu.0 []
-cause_text (causes.Behind cpu class) =
+cause_sentence (causes.Behind cpu class) =
     around (codes "CPU ") cpu.0
     (codes " has a timer behind the clock of its base of class " ++ class_text class)
-cause_text (causes.BehindThere from to) =
+cause_sentence (causes.BehindThere from to) =
     around_two (codes "CPU ") to.0
     (codes " has a timer behind the clock of the base of the class that CPU ") from.0
     (codes " moves first")
-cause_text (causes.NoneDue timer cpu) =
+cause_sentence (causes.NoneDue timer cpu) =
     around_two (codes "no timer of the class of timer ") timer.0 (codes " is due on CPU ") cpu.0 []
-cause_text (causes.NotNext timer cpu first) =
+cause_sentence (causes.NotNext timer cpu first) =
     around_two (codes "timer ") first (codes " goes out before timer ") timer.0
     (around (codes " on CPU ") cpu.0 [])
-cause_text (causes.NotFirst timer cpu) =
+cause_sentence (causes.NotFirst timer cpu) =
     around_two (codes "timer ") timer.0 (codes " isn't the first to move from CPU ") cpu.0 []
-cause_text (causes.Due cpu class timer) =
+cause_sentence (causes.Due cpu class timer) =
     around_two (codes "timer ") timer (codes " is due on CPU ") cpu.0
     (codes ", of class " ++ class_text class)
-cause_text (causes.NoRunner cpu class runner) =
+cause_sentence (causes.NoRunner cpu class runner) =
     around_two (codes "CPU ") runner.0 (codes " may not run timers of CPU ") cpu.0
     (codes ", of class " ++ class_text class)
-cause_text (causes.NoRunnerOf timer cpu runner) =
+cause_sentence (causes.NoRunnerOf timer cpu runner) =
     around_two (codes "CPU ") runner.0 (codes " may not run timer ") timer.0
     (around (codes " of CPU ") cpu.0 [])

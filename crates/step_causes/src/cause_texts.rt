@@ -3,7 +3,7 @@
 ghost use Rattle.std.specs.Prelude.{◌≡◌, ◌++◌, [], codes, IfOk, OnOk};
 ghost use Rattle.std.specs.Fmt.{decimal};
 ghost use Rattle.tm_base.specs.Classes.{class_text};
-ghost use Rattle.step_causes.specs.CauseTexts.{around, around_two, cause_text, fact_text};
+ghost use Rattle.step_causes.specs.CauseTexts.{around, around_two, cause_sentence, fact_text};
 
 use crate::causes::{Cause, CpuFact};
 use std::alloc::Global;
@@ -191,9 +191,9 @@ fn push_before_group(
 }
 
 /// The sentence of a cause.
-#[tactic(auto, unfolding(crate::specs::CauseTexts::cause_text))]
+#[tactic(auto, unfolding(crate::specs::CauseTexts::cause_sentence))]
 fn push_cause(text: &mut Vec<u8>, cause: Cause) -> Result<(), NoMemory>
-    ensures { OnOk result (text.new.items ≡ text.old.items ++ cause_text cause) }
+    ensures { OnOk result (text.new.items ≡ text.old.items ++ cause_sentence cause) }
 {
     match cause {
         Cause::Cpu(cpu, fact) => push_around(text, b"CPU ", u64::from(cpu.0), fact_text(fact)),
@@ -326,7 +326,7 @@ fn push_cause(text: &mut Vec<u8>, cause: Cause) -> Result<(), NoMemory>
 /// A cause in words: one sentence, in ASCII, without a line feed. Groups are told as LEVEL:PLACE,
 /// times in jiffies. `NoMemory` comes only where memory is wanting.
 pub fn text_of(alloc: Global, cause: &Cause) -> Result<Vec<u8>, NoMemory>
-    ensures { IfOk result (λ text. text.items ≡ cause_text cause.now) }
+    ensures { IfOk result (λ text. text.items ≡ cause_sentence cause.now) }
 {
     let mut text = Vec::new(alloc);
     push_cause(&mut text, *cause)?;

@@ -12,7 +12,7 @@ use Rattle.idle_wakeup.specs.shared_rule.Starts.{first_pass_of}
 use Rattle.idle_wakeup.specs.shared_rule.Passes.{HeldPass}
 use Rattle.shared_rows.specs.shared_table.Begun.{begun_pass, begun_passes}
 use Rattle.shared_rows.specs.shared_table.Ended.{AreAllPasses, PassesFrom}
-use Rattle.table_stress.specs.Quiet.{IsOneOf, IsQuietAt, QuietFrom, StaysQuiet}
+use Rattle.table_stress.specs.Quiet.{IsStressedPass, IsQuietAt, QuietFrom, StaysQuiet}
 
 module _ (table : TableId) (o : World) where
   cut_front : (k n : ℕ) (ps : List HeldPass) → QuietFrom table o k ps
@@ -124,7 +124,7 @@ module _ (table : TableId) (o : World) where
         → QuietFrom table o first (set ps i p)
     with_one p stay = one_changed first i ps p each (stay (first + i) there)
 
-    pub one_there : first + length ps ≤ length o.cpus → IsOneOf table o (get_or ps i d)
+    pub one_there : first + length ps ≤ length o.cpus → IsStressedPass table o (get_or ps i d)
     one_there few = record { cpu = first + i; low = omega (arith, few, low); at = there }
 
 -- HALVES: passes are cut in two, and put together again after their CPUs have taken turns

@@ -28,18 +28,18 @@ use Rattle.idle_wakeup.specs.shared_rule.Timers.{cancelled_pass}
 use Rattle.remote_expiry.specs.shared_timers.declared.arming.Arming.{Arming}
 use Rattle.remote_expiry.specs.shared_timers.Exchanging.{timer_word}
 use Rattle.remote_expiry.specs.shared_timers.Queueing.{armed_part, cancelled_part}
-use Rattle.remote_expiry.specs.shared_calls.Arms.{HasArmed, HasLeft, IsArmed, IsQueued, NotArmed}
+use Rattle.remote_expiry.specs.shared_calls.Arms.{HasArmed, HasRefusedArm, IsArmed, IsQueued, NotArmed}
 use Rattle.remote_expiry.specs.shared_calls.Arms.{met, roomy}
-use Rattle.remote_expiry.specs.shared_calls.Cancels.{HasCancelled, HasEnded, HasStayed, IsTakenOut}
+use Rattle.remote_expiry.specs.shared_calls.Cancels.{HasCancelled, HasCancelEnded, HasStayed, IsTakenOut}
 use Rattle.remote_expiry.specs.shared_calls.Cancels.{NotCancelled}
 use Rattle.remote_expiry.specs.shared_calls.Looks.{seen_all}
 use Rattle.remote_expiry.specs.shared_calls.Rooms.{with_more_room}
 use Rattle.idle_wakeup.specs.declared.idling.IdleAnswer.{IdleAnswer}
 use Rattle.idle_wakeup.specs.declared.idling.IdleAnswer.TheVariants as answers
 use Rattle.idle_wakeup.specs.Calls.{Renews, awake}
-use Rattle.idle_wakeup.specs.Resting.{IsAnswer, resting}
+use Rattle.idle_wakeup.specs.Resting.{IsIdleAnswer, resting_pass}
 use Rattle.remote_expiry.specs.Runs.{Ran}
-use Rattle.remote_expiry.specs.Interrupts.{HasGained, IsAtRest, IsRefusedBy, NotInterrupted, Tells}
+use Rattle.remote_expiry.specs.Interrupts.{HasGained, IsPassAtRest, IsRefusedBy, NotInterrupted, Tells}
 use Rattle.table_stress.specs.Quiet.{IsQuietAt, StaysQuiet}
 
 -- a pass knows of its CPU and run what another one knows, and whether it is at rest
@@ -53,11 +53,11 @@ pub record Kept (p q : PassView) : Type 0 where
 module _ (table : TableId) (o : World) where
   -- with what it knows after a call it is quiet
   quiet_as : (k : ℕ) (old new : HeldPass) (at : IsQuietAt table o k old) (q : PassView)
-      → IsPassIn table new q → q.cpu ≡ at.part.cpu → IsAtRest o q → IsQuietAt table o k new
+      → IsPassIn table new q → q.cpu ≡ at.part.cpu → IsPassAtRest o q → IsQuietAt table o k new
   quiet_as k old new at q has cpu rest =
       record { part = q; seated = has; cpu = cpu ∙ at.cpu; rest = rest }
 
-  rest_kept : (p q : PassView) → Kept p q → IsAtRest o p → IsAtRest o q
+  rest_kept : (p q : PassView) → Kept p q → IsPassAtRest o p → IsPassAtRest o q
   rest_kept p q kept rest = record {
     opening = kept.opening ∙ rest.opening;
     outside = kept.inside ∙ rest.outside;
@@ -67,7 +67,7 @@ module _ (table : TableId) (o : World) where
 
   -- it has changed so
   by_view : (f : PassView → PassView) → ((p : PassView) → (f p).cpu ≡ p.cpu)
-      → ((p : PassView) → IsAtRest o p → IsAtRest o (f p)) → (old new : HeldPass)
+      → ((p : PassView) → IsPassAtRest o p → IsPassAtRest o (f p)) → (old new : HeldPass)
       → new ≡ with_pass f old → StaysQuiet table o old new
   by_view f cpus rests old new is k at =
       quiet_as k old new at (f at.part)
@@ -123,10 +123,10 @@ module _ (table : TableId) (o : World) where
       (λ p. record { opening = refl; cpu = refl; inside = refl; reeval = refl; marks = refl }) held
       after r.2
 
-  rests : (t : ℕ) (held after : HeldPass) → Renews (resting t) held after
+  rests : (t : ℕ) (held after : HeldPass) → Renews (resting_pass t) held after
       → StaysQuiet table o held after
   rests t held after r =
-      by_view (λ p. knowing r.0 (resting t p)) (λ p. refl)
+      by_view (λ p. knowing r.0 (resting_pass t p)) (λ p. refl)
       (λ p rest. record {
         opening = rest.opening;
         outside = rest.outside;
@@ -145,7 +145,7 @@ module _ (table : TableId) (o : World) where
       }) held after r.2
 
   pub rest_stays : (held after : HeldPass) (r : Result IdleAnswer OpFault)
-      → IfOk r (λ answer. IsAnswer o answer held after) → OnErr r (Renews (λ p. p) held after)
+      → IfOk r (λ answer. IsIdleAnswer o answer held after) → OnErr r (Renews (λ p. p) held after)
       → StaysQuiet table o held after
   rest_stays held after (Ok (answers.Until t)) ok err = rests t held after ok.renews
   rest_stays held after (Ok (answers.Stay t)) ok err = renewed_stays held after ok.renews
@@ -196,7 +196,7 @@ module _ (table : TableId) (o : World) where
       })
 
   left_stays : (timer : ℕ) (part : HeldPart) (held after : HeldPass) (fault : OpFault)
-      → HasLeft table o timer part held after fault → StaysQuiet table o held after
+      → HasRefusedArm table o timer part held after fault → StaysQuiet table o held after
   left_stays timer part held after (faults.Queued cpu) is =
       queued_stays timer part held after (faults.Queued cpu) is
   left_stays timer part held after faults.NoMemory is = as_it_was held after is
@@ -246,7 +246,7 @@ module _ (table : TableId) (o : World) where
       })
 
   ended_stays : (timer line : ℕ) (held after : HeldPass) (answer : Option CpuId)
-      → HasEnded table o timer line held after answer → StaysQuiet table o held after
+      → HasCancelEnded table o timer line held after answer → StaysQuiet table o held after
   ended_stays timer line held after None is = seen_stays (timer_word o timer) 0 held after is
   ended_stays timer line held after (Some cpu) is =
       let mid = with_pass (seen_pass (timer_word o timer) is.found) held in
@@ -321,7 +321,7 @@ module _ (table : TableId) (o : World) where
         inside = ap (λ (x : PassView). x.inside) r.pass_is;
         reeval = ap (λ (x : PassView). x.reeval) r.pass_is;
         marks = ap (λ (x : PassView). x.marks) r.pass_is;
-      }) (subst (IsAtRest o) (sym is) at.rest);
+      }) (subst (IsPassAtRest o) (sym is) at.rest);
     }
 
     not_stays : (before now : List Ran) (fault : OpFault) → NotInterrupted p q before now fault
@@ -346,5 +346,5 @@ module _ (table : TableId) (o : World) where
 
   -- what the calls ask of a pass that is quiet
   pub rests_first : (k : ℕ) (held : HeldPass) → IsQuietAt table o k held → (p : PassView)
-      → IsPassIn table held p → IsAtRest o p
-  rests_first k held at p had = subst (IsAtRest o) (sym (one_pass k held p had at)) at.rest
+      → IsPassIn table held p → IsPassAtRest o p
+  rests_first k held at p had = subst (IsPassAtRest o) (sym (one_pass k held p had at)) at.rest

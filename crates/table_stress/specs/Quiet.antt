@@ -5,7 +5,7 @@ use Rattle.tm_base.specs.declared.names.TheConstants.{TIME_LIMIT}
 use Rattle.core_world.specs.World.{World}
 use Rattle.idle_wakeup.specs.shared_rule.declared.parts.PassView.{PassView}
 use Rattle.idle_wakeup.specs.shared_rule.Passes.{HeldPass, IsPassIn}
-use Rattle.remote_expiry.specs.Interrupts.{IsAtRest}
+use Rattle.remote_expiry.specs.Interrupts.{IsPassAtRest}
 
 -- QUIET: the pass is that of CPU i of a run with this opening; the CPU isn't inside an interrupt,
 -- and has set no mark (no public clause cites it)
@@ -13,7 +13,7 @@ pub record IsQuietAt (table : TableId) (o : World) (i : ℕ) (held : HeldPass) :
   pub part : PassView
   pub seated : IsPassIn table held part
   pub cpu : part.cpu ≡ i
-  pub rest : IsAtRest o part
+  pub rest : IsPassAtRest o part
 
 -- they are those of the CPUs from k on, one after another (no public clause cites it)
 abbrev pub QuietFrom : TableId → World → (k : ℕ) → List HeldPass → Type 0
@@ -21,7 +21,7 @@ QuietFrom table o k [] = Unit {0}
 QuietFrom table o k (held ∷ rest) = IsQuietAt table o k held × QuietFrom table o (suc k) rest
 
 -- the pass is that of one of the run's CPUs (no public clause cites it)
-pub record IsOneOf (table : TableId) (o : World) (held : HeldPass) : Type 0 where
+pub record IsStressedPass (table : TableId) (o : World) (held : HeldPass) : Type 0 where
   pub cpu : ℕ
   pub low : cpu < length o.cpus
   pub at : IsQuietAt table o cpu held

@@ -1,7 +1,7 @@
 //! What a CPU's thread calls, and what its pass is afterwards.
 
 ghost use Rattle.std.specs.Prelude.{◌<◌};
-ghost use Rattle.table_stress.specs.Quiet.{Fits, IsOneOf, StaysQuiet};
+ghost use Rattle.table_stress.specs.Quiet.{Fits, IsStressedPass, StaysQuiet};
 
 use crate::tally::Tally;
 use crate::turns::Asked;
@@ -23,7 +23,7 @@ fn arm_own<N: RunName, B: TimerBase, R: Wait>(
     asked: Asked,
     pass: &mut Pass,
 ) -> Result<Jiffy, OpFault>
-    requires one { IsOneOf N.table N.opening pass.old }
+    requires one { IsStressedPass N.table N.opening pass.old }
     requires fits { Fits N.opening now timers }
     requires known { asked.timer.0 < timers }
     ensures { StaysQuiet N.table N.opening pass.old pass.new }
@@ -49,7 +49,7 @@ pub(crate) fn arm_known<N: RunName, B: TimerBase, R: Wait>(
     tally: &mut Tally,
     pass: &mut Pass,
 )
-    requires one { IsOneOf N.table N.opening pass.old }
+    requires one { IsStressedPass N.table N.opening pass.old }
     requires fits { Fits N.opening now timers }
     ensures { StaysQuiet N.table N.opening pass.old pass.new }
 {
@@ -67,7 +67,7 @@ fn cancel_own<N: RunName, B: TimerBase, R: Wait>(
     timer: TimerId,
     pass: &mut Pass,
 ) -> Result<Option<CpuId>, OpFault>
-    requires one { IsOneOf N.table N.opening pass.old }
+    requires one { IsStressedPass N.table N.opening pass.old }
     requires fits { Fits N.opening now timers }
     requires known { timer.0 < timers }
     ensures { StaysQuiet N.table N.opening pass.old pass.new }
@@ -86,7 +86,7 @@ pub(crate) fn cancel_known<N: RunName, B: TimerBase, R: Wait>(
     tally: &mut Tally,
     pass: &mut Pass,
 )
-    requires one { IsOneOf N.table N.opening pass.old }
+    requires one { IsStressedPass N.table N.opening pass.old }
     requires fits { Fits N.opening now timers }
     ensures { StaysQuiet N.table N.opening pass.old pass.new }
 {
@@ -104,7 +104,7 @@ pub(crate) fn rest<N: RunName, B: TimerBase, G: Gate, R: Wait>(
     gate: &G,
     pass: &mut Pass,
 ) -> Result<IdleAnswer, OpFault>
-    requires one { IsOneOf N.table N.opening pass.old }
+    requires one { IsStressedPass N.table N.opening pass.old }
     requires fits { Fits N.opening now timers }
     ensures { StaysQuiet N.table N.opening pass.old pass.new }
 {
@@ -119,7 +119,7 @@ pub(crate) fn rouse<N: RunName, B: TimerBase, G: Gate, R: Wait>(
     gate: &G,
     pass: &mut Pass,
 ) -> Result<(), OpFault>
-    requires { IsOneOf N.table N.opening pass.old }
+    requires { IsStressedPass N.table N.opening pass.old }
     ensures { StaysQuiet N.table N.opening pass.old pass.new }
 {
     pass.law();
@@ -137,7 +137,7 @@ pub(crate) fn run_due<N: RunName, B: TimerBase, J: Jobs, G: Gate, R: Wait>(
     gate: &G,
     pass: &mut Pass,
 ) -> (Result<(), OpFault>, usize)
-    requires one { IsOneOf N.table N.opening pass.old }
+    requires one { IsStressedPass N.table N.opening pass.old }
     requires fits { Fits N.opening now timers }
     ensures { StaysQuiet N.table N.opening pass.old pass.new }
 {

@@ -1,7 +1,7 @@
 //! The turns of CPUs.
 
 ghost use Rattle.std.specs.Prelude.{◌≡◌, ◌+◌, ◌≤◌, length};
-ghost use Rattle.table_stress.specs.Quiet.{Fits, IsOneOf, QuietFrom, StaysQuiet};
+ghost use Rattle.table_stress.specs.Quiet.{Fits, IsStressedPass, QuietFrom, StaysQuiet};
 
 use crate::calls::{arm_known, cancel_known, rest, rouse, run_due};
 use crate::gates::Watch;
@@ -60,7 +60,7 @@ fn take_own<N: RunName, B: TimerBase, J: Jobs, G: Watch, R: Wait>(
     tally: &mut Tally,
     pass: &mut Pass,
 )
-    requires one { IsOneOf N.table N.opening pass.old }
+    requires one { IsStressedPass N.table N.opening pass.old }
     requires fits { Fits N.opening now timers }
     ensures { StaysQuiet N.table N.opening pass.old pass.new }
 {

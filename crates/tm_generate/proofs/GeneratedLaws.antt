@@ -19,7 +19,7 @@ use Rattle.tm_script.specs.declared.syntax.What.TheVariants.{Cancel, Idle, Wake}
 use Rattle.tm_script.specs.Texts.{op_line, moment_lines, number_line}
 use Rattle.tm_script.specs.Grammar.{IsClassOf, IsArm, IsWhat, IsOp, is_hotplug, IsHotplugLast, IsMoment, AreOpsNumbered, AreMomentsNumbered, IsScript}
 use Rattle.tm_generate.specs.declared.generated.TheConstants.{MOST_MOMENTS}
-use Rattle.tm_generate.specs.Generated.{x_after, draw, arming, idling, choice, later, generated}
+use Rattle.tm_generate.specs.Generated.{x_after, draw, arming, idling, choice, later_moment, generated}
 
 -- what holds of f at each number of a range holds of the list
 all_map : {X : Type 0} (P : X → Type 0) (f : ℕ → X) (a n : ℕ) → ((i : ℕ) → a ≤ i → i < a + n → P (f i)) → AllByRecursion P (map f (range_with_len a n))
@@ -88,8 +88,8 @@ module _ (number cpus timers : ℕ) (some_cpus : 1 ≤ cpus) (some_timers : 1 �
   unfolding arming
   arming_line i = omega arith
 
-  later_ok : (j : ℕ) → IsMoment 1 (1 * cpus) timers (later number cpus timers j)
-  unfolding later
+  later_ok : (j : ℕ) → IsMoment 1 (1 * cpus) timers (later_moment number cpus timers j)
+  unfolding later_moment
   later_ok j =
       let k = 3 * timers + 3 * (j - 1) in
       let r = draw number k 4 in
@@ -106,22 +106,22 @@ module _ (number cpus timers : ℕ) (some_cpus : 1 ≤ cpus) (some_timers : 1 �
         hotplug_last = tt;
       }
 
-  later_at : (j : ℕ) → (later number cpus timers j).at ≡ 5 * j
-  unfolding later
+  later_at : (j : ℕ) → (later_moment number cpus timers j).at ≡ 5 * j
+  unfolding later_moment
   later_at j = refl
 
-  later_above : (last a n : ℕ) → last < 5 * a → Above last (map (λ (m : Moment). m.at) (map (later number cpus timers) (range_with_len a n)))
-  unfolding later
+  later_above : (last a n : ℕ) → last < 5 * a → Above last (map (λ (m : Moment). m.at) (map (later_moment number cpus timers) (range_with_len a n)))
+  unfolding later_moment
   later_above last a zero low = tt
   later_above last a (suc n) low = (low, later_above (5 * a) (a + 1) n (omega arith))
 
-  later_numbered : (a n line : ℕ) → line ≡ 4 + timers + cpus + 2 * a → AreMomentsNumbered line (map (later number cpus timers) (range_with_len a n))
-  unfolding later
+  later_numbered : (a n line : ℕ) → line ≡ 4 + timers + cpus + 2 * a → AreMomentsNumbered line (map (later_moment number cpus timers) (range_with_len a n))
+  unfolding later_moment
   later_numbered a zero line e = tt
   later_numbered a (suc n) line e = ((omega arith, tt), later_numbered (a + 1) n (line + 1 + 1) (omega arith))
 
-  later_lines : (a n : ℕ) → length (flat_map moment_lines (map (later number cpus timers) (range_with_len a n))) ≡ 2 * n
-  unfolding later
+  later_lines : (a n : ℕ) → length (flat_map moment_lines (map (later_moment number cpus timers) (range_with_len a n))) ≡ 2 * n
+  unfolding later_moment
   later_lines a zero = refl
   later_lines a (suc n) = omega (arith, later_lines (a + 1) n)
 
@@ -133,7 +133,7 @@ unfolding generated
 is_script number cpus timers moments some_cpus few_cpus some_timers few_timers some_moments few_moments =
     let armings = map (arming number cpus) (range_with_len 0 timers) in
     let idlings = map (idling timers) (range_with_len 1 (cpus - 1)) in
-    let laters = map (later number cpus timers) (range_with_len 1 moments) in
+    let laters = map (later_moment number cpus timers) (range_with_len 1 moments) in
     let first : Moment = record { at = 0; ops = armings } in
     let second : Moment = record { at = 1; ops = idlings } in
     let all = first ∷ second ∷ laters in
@@ -171,9 +171,9 @@ is_script number cpus timers moments some_cpus few_cpus some_timers few_timers s
       none_isolated = λ _. refl;
       isolated_in_range = λ c here. absurd (false≢true (sym (contains-empty nat_cmp c) ∙ here));
       some_placed = (0, omega arith, contains-empty nat_cmp 0);
-      moments = All-from_recursion is_moment all (first_ok, (second_ok, all_map is_moment (later number cpus timers) 1 moments (λ j low high. later_ok number cpus timers some_cpus some_timers j)));
+      moments = All-from_recursion is_moment all (first_ok, (second_ok, all_map is_moment (later_moment number cpus timers) 1 moments (λ j low high. later_ok number cpus timers some_cpus some_timers j)));
       ascending = adjacent 0 (1 ∷ map (λ (m : Moment). m.at) laters) (omega arith, later_above number cpus timers some_cpus some_timers 1 1 moments (omega arith));
-      by_the_end = All-from_recursion by_end all (omega arith, (omega arith, all_map by_end (later number cpus timers) 1 moments (λ j low high. omega (arith, later_at number cpus timers some_cpus some_timers j))));
+      by_the_end = All-from_recursion by_end all (omega arith, (omega arith, all_map by_end (later_moment number cpus timers) 1 moments (λ j low high. omega (arith, later_at number cpus timers some_cpus some_timers j))));
       early_end = omega arith;
       numbered = (
         ops_numbered (arming number cpus) 0 timers 6 (λ i. arming_line number cpus timers some_cpus some_timers i),

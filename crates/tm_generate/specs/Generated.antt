@@ -29,8 +29,8 @@ draw number k n = answer (x_after number (suc k)) n
 
 -- The arming of timer i: draws 3 * i to 3 * i + 2 are p, d and a. Its line is number 6 + i,
 -- behind the four lines of the machine and `at 0`.
-abbrev pub arming_by : ℕ → ℕ → ℕ → ℕ → ℕ → Op
-arming_by cpus i p d a = record {
+abbrev pub generated_arming : ℕ → ℕ → ℕ → ℕ → ℕ → Op
+generated_arming cpus i p d a = record {
   line = 6 + i;
   cpu = record { 0 = i % cpus };
   what = Arm (record { 0 = i }) (if p == 0 then Pinned else Global) (20 + d)
@@ -41,7 +41,8 @@ arming_by cpus i p d a = record {
 unfoldable pub arming : ℕ → ℕ → ℕ → Op
 arming number cpus i =
     let k = 3 * i in
-    arming_by cpus i (draw number k 8) (draw number (suc k) 480) (draw number (suc (suc k)) 950)
+    generated_arming cpus i (draw number k 8) (draw number (suc k) 480)
+    (draw number (suc (suc k)) 950)
 
 -- CPU c goes idle, behind the line `at 1`
 abbrev pub idling : ℕ → ℕ → Op
@@ -53,8 +54,8 @@ choice r c t = if r == 0 then Wake else if nat_le r 2 then Idle else Cancel (rec
 
 -- The moment 5 * j of one operation; the draws are the three behind those of the armings and of the
 -- moments before.
-unfoldable pub later : ℕ → ℕ → ℕ → ℕ → Moment
-later number cpus timers j =
+unfoldable pub later_moment : ℕ → ℕ → ℕ → ℕ → Moment
+later_moment number cpus timers j =
     let k = 3 * timers + 3 * (j - 1) in
     record {
       at = 5 * j;
@@ -77,6 +78,6 @@ generated number cpus timers moments = record {
   moments =
       record { at = 0; ops = map (arming number cpus) (range_with_len 0 timers) }
       ∷ record { at = 1; ops = map (idling timers) (range_with_len 1 (cpus - 1)) }
-      ∷ map (later number cpus timers) (range_with_len 1 moments);
+      ∷ map (later_moment number cpus timers) (range_with_len 1 moments);
   end = 5 * (moments + 1);
 }

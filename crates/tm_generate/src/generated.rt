@@ -4,8 +4,9 @@ ghost use Rattle.std.specs.Prelude.{◌≡◌, ◌+◌, ◌-◌, ◌*◌, ◌<�
 ghost use Rattle.std.specs.List.{range_with_len};
 ghost use Rattle.tm_base.specs.declared.limits.TheConstants.{MOST_CPUS_V1, MOST_TIMERS};
 ghost use Rattle.tm_script.specs.Grammar.{IsScript};
-ghost use Rattle.tm_generate.specs.Generated.{x_after, next, answer, arming_by, arming, idling};
-ghost use Rattle.tm_generate.specs.Generated.{choice, later, generated};
+ghost use Rattle.tm_generate.specs.Generated.{answer, arming, generated_arming, idling, next};
+ghost use Rattle.tm_generate.specs.Generated.{x_after};
+ghost use Rattle.tm_generate.specs.Generated.{choice, generated, later_moment};
 
 use crate::draws::Draws;
 use std::alloc::Global;
@@ -20,7 +21,7 @@ fn arming(draws: &mut Draws, cpus: u8, i: u16) -> Op
     requires some { 1 ≤ cpus }
     requires few { i < MOST_TIMERS }
     ensures x { draws.new.x ≡ next (next (next draws.old.x)) }
-    ensures op { result ≡ arming_by cpus i (answer (next draws.old.x) 8)
+    ensures op { result ≡ generated_arming cpus i (answer (next draws.old.x) 8)
         (answer (next (next draws.old.x)) 480) (answer (next (next (next draws.old.x))) 950) }
 {
     let p = draws.draw(8);
@@ -138,7 +139,7 @@ fn add_later(
     requires few_timers { timers ≤ MOST_TIMERS }
     requires few { moments ≤ MOST_MOMENTS }
     ensures { OnOk result
-        (list.new ≡ list.old ++ map (later number cpus timers) (range_with_len 1 moments)) }
+        (list.new ≡ list.old ++ map (later_moment number cpus timers) (range_with_len 1 moments)) }
 {
     for j in 0..moments {
         let mut ops = Ops::new(alloc);

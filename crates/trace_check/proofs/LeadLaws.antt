@@ -16,7 +16,7 @@ use Rattle.coverage.specs.Coverage.{Leads, to_cpu, to_group}
 use Rattle.core_world.specs.Covered.{machine_of}
 use Rattle.core_world.specs.Frames.{IsSized}
 use Rattle.core_world.specs.World.{World, cpu_of, is_active}
-use Rattle.trace_check.specs.Leading.{IsInWorld, IsMigrator}
+use Rattle.trace_check.specs.Leading.{IsChildInWorld, IsMigrator}
 
 module _ (w : World) where
   -- a group has one migrator
@@ -68,7 +68,7 @@ module _ (w : World) where
 
 module _ (w : World) (sized : IsSized w) (planned : IsPlanned w.tree) where
   -- a child of a planned tree is there
-  pub child_in : (g k : ℕ) (m : Child) → child_at w.tree g k ≡ Some m → IsInWorld w m
+  pub child_in : (g k : ℕ) (m : Child) → child_at w.tree g k ≡ Some m → IsChildInWorld w m
   child_in g k (sorts.Cpu d) is =
       let low = (placed_laws w.tree planned).in_range d.0 ((edge_laws w.tree planned).cpu_placed d.0
       g ((edge_laws w.tree planned).parent g k (sorts.Cpu d) is)) in

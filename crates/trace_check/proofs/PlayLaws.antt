@@ -24,14 +24,14 @@ use Rattle.trace_text.specs.declared.traces.Trace.{Trace}
 use Rattle.trace_text.specs.declared.traces.TraceLine.{TraceLine}
 use Rattle.trace_text.specs.declared.traces.TraceLine.TheVariants as lines
 use Rattle.trace_text.specs.declared.words.Limits.{Limits}
-use Rattle.trace_text.specs.Lines.{IsLine, line_text as text_of}
+use Rattle.trace_text.specs.Lines.{IsLine, trace_line_text as text_of}
 use Rattle.trace_text.specs.Texts.{IsTrace, cpu_count, limits_of, machine_lines}
 use Rattle.trace_check.specs.declared.reason.Reason.{Reason}
 use Rattle.trace_check.specs.declared.reason.Reason.TheVariants as reasons
 use Rattle.trace_check.specs.declared.verdict.Verdict.{Verdict}
 use Rattle.trace_check.specs.declared.verdict.Verdict.TheVariants as verdicts
-use Rattle.trace_check.specs.Answers.{IsCheckText, IsPlayed, IsVerdict, start_for, steps_of}
-use Rattle.trace_check.specs.Playing.{Asks, AsksOf, IsThere, Plays, WritesPlayed}
+use Rattle.trace_check.specs.Answers.{IsCheckText, AreLinesPlayed, IsVerdict, start_for, steps_of}
+use Rattle.trace_check.specs.Playing.{Asks, AsksOf, IsReasonThere, PlaysLine, WritesPlayed}
 use Rattle.trace_check.specs.Reasons.{IsReason}
 
 -- so many lines were played: what is played of the others from here on is, with what stands in the
@@ -44,14 +44,14 @@ pub record IsUnderWay
   pub cpus : length w.cpus ≡ length start.cpus
   pub text : List ℕ
   pub written : new ≡ old ++ text
-  pub on : (verdict : Verdict) (behind : List ℕ) → IsPlayed w made (drop index ls) verdict behind →
-      IsPlayed start 0 ls verdict (text ++ behind)
+  pub on : (verdict : Verdict) (behind : List ℕ) → AreLinesPlayed w made (drop index ls) verdict behind →
+      AreLinesPlayed start 0 ls verdict (text ++ behind)
 
 -- ---- one question
 
 -- the group that a reason names is there
 pub is_there : (w : World) → WorldFits w → (c timer : ℕ) (reason : Reason) →
-    IsReason w c timer reason → IsThere w reason
+    IsReason w c timer reason → IsReasonThere w reason
 is_there w fits c timer (reasons.Held group cpu) is =
     let held = is.first.held in
     let low = (paths w.tree fits.planned).group_within c held.level held.in_group held.on_path in
@@ -64,8 +64,8 @@ is_there w fits c timer (reasons.Carried case) is = tt
 
 pub refused_on : (w after : World) (made : ℕ) (step : Step) (old new : List ℕ) →
     new ≡ old ++ line_text (report.No made) → (Enabled w step → ⊥) →
-    Plays w made (lines.Do step) old new after None
-unfolding IsPlayed
+    PlaysLine w made (lines.Do step) old new after None
+unfolding AreLinesPlayed
 refused_on w after made step old new is refused = record {
   text = line_text (report.No made);
   written = is;
@@ -73,20 +73,20 @@ refused_on w after made step old new is refused = record {
 }
 
 pub made_on : (w after : World) (made : ℕ) (step : Step) (old : List ℕ) → Enabled w step →
-    after ≡ stepped w step → Plays w made (lines.Do step) old old after (Some (made + 1))
-unfolding IsPlayed
+    after ≡ stepped w step → PlaysLine w made (lines.Do step) old old after (Some (made + 1))
+unfolding AreLinesPlayed
 made_on w after made step old enabled is = record {
   text = [];
   written = sym (append-nil old);
   on = λ rest verdict behind played. inl (record {
     enabled = enabled;
-    goes_on = subst (λ u. IsPlayed u (made + 1) rest verdict behind) is played;
+    goes_on = subst (λ u. AreLinesPlayed u (made + 1) rest verdict behind) is played;
   });
 }
 
 pub asked_on : (w : World) (made : ℕ) (cpu : CpuId) (timer : TimerId) (old new : List ℕ) →
-    Asks w made cpu timer old new → Plays w made (lines.Why cpu timer) old new w (Some made)
-unfolding IsPlayed
+    Asks w made cpu timer old new → PlaysLine w made (lines.Why cpu timer) old new w (Some made)
+unfolding AreLinesPlayed
 asked_on w made cpu timer old new asks = record {
   text = line_text (report.Why made cpu timer asks.shown);
   written = asks.written;
@@ -118,7 +118,7 @@ module _
     module _
         (d : TraceLine) (low : index < length ls) (after : World) (later : List ℕ)
       where
-        pub one_more : (more : ℕ) → Plays w made (get_or ls index d) new later after (Some more) →
+        pub one_more : (more : ℕ) → PlaysLine w made (get_or ls index d) new later after (Some more) →
             more ≤ made + 1 → length after.cpus ≡ length w.cpus →
             IsUnderWay start ls old (index + 1) after more later
         one_more more p few same = record {
@@ -128,13 +128,13 @@ module _
           written =
               p.written ∙ (ap (λ t. t ++ p.text) u.written ∙ append_assoc old u.text p.text);
           on = λ verdict behind played.
-              subst (IsPlayed start 0 ls verdict) (sym (append_assoc u.text p.text behind))
+              subst (AreLinesPlayed start 0 ls verdict) (sym (append_assoc u.text p.text behind))
               (u.on verdict (p.text ++ behind)
-              (subst (λ rest. IsPlayed w made rest verdict (p.text ++ behind))
+              (subst (λ rest. AreLinesPlayed w made rest verdict (p.text ++ behind))
               (sym (drop_more ls index d low)) (p.on (drop (index + 1) ls) verdict behind played)));
         }
 
-        pub stopped : Plays w made (get_or ls index d) new later after None →
+        pub stopped : PlaysLine w made (get_or ls index d) new later after None →
             WritesPlayed start ls (verdicts.No made) old later
         stopped p = record {
           text = u.text ++ p.text;
@@ -142,13 +142,13 @@ module _
               p.written ∙ (ap (λ t. t ++ p.text) u.written ∙ append_assoc old u.text p.text);
           played =
               u.on (verdicts.No made) p.text
-              (subst (λ rest. IsPlayed w made rest (verdicts.No made) p.text)
+              (subst (λ rest. AreLinesPlayed w made rest (verdicts.No made) p.text)
               (sym (drop_more ls index d low)) (p.on (drop (index + 1) ls)));
         }
 
     ended : (text : List ℕ) → text ≡ line_text (report.Yes made) →
-        IsPlayed w made [] (verdicts.Yes made) text
-    unfolding IsPlayed
+        AreLinesPlayed w made [] (verdicts.Yes made) text
+    unfolding AreLinesPlayed
     ended text is = record { verdict_is = refl; text_is = is }
 
     pub all_played : (later : List ℕ) → length ls ≤ index →
@@ -160,7 +160,7 @@ module _
           written = is ∙ (ap (λ t. t ++ last) u.written ∙ append_assoc old u.text last);
           played =
               u.on (verdicts.Yes made) last
-              (subst (λ rest. IsPlayed w made rest (verdicts.Yes made) last)
+              (subst (λ rest. AreLinesPlayed w made rest (verdicts.Yes made) last)
               (sym (drop_all index ls high)) (ended last refl));
         }
 
@@ -182,8 +182,8 @@ in_front w made step steps (verdicts.No i) enabled (j, at, is, there, each, refu
     (suc j, at, omega (arith, is), there, (enabled, each), refused)
 
 pub verdict_from : (ls : List TraceLine) (w : World) (made : ℕ) (v : Verdict) (text : List ℕ) →
-    IsPlayed w made ls v text → VerdictFrom w made (steps_of ls) v
-unfolding IsPlayed
+    AreLinesPlayed w made ls v text → VerdictFrom w made (steps_of ls) v
+unfolding AreLinesPlayed
 verdict_from [] w made v text played =
     subst (VerdictFrom w made []) (sym played.verdict_is) (tt, omega arith)
 verdict_from (lines.Do step ∷ rest) w made v text (inl m) =
@@ -232,10 +232,10 @@ yes_where_run w steps (verdicts.No i) (j, step, is, there, each, refused) all =
 module _ (t : Trace) (w : World) (start : w ≡ start_for t) (ls : List TraceLine)
     (same : ls ≡ t.lines) where
   here : (v : Verdict) (old new : List ℕ) → (p : WritesPlayed w ls v old new) →
-      IsPlayed (start_for t) 0 t.lines v p.text
+      AreLinesPlayed (start_for t) 0 t.lines v p.text
   here v old new p =
-      subst (λ u. IsPlayed u 0 t.lines v p.text) start
-      (subst (λ xs. IsPlayed w 0 xs v p.text) same p.played)
+      subst (λ u. AreLinesPlayed u 0 t.lines v p.text) start
+      (subst (λ xs. AreLinesPlayed w 0 xs v p.text) same p.played)
 
   module _ (v : Verdict) (old new : List ℕ) (p : WritesPlayed w ls v old new) where
     pub is_verdict : IsVerdict (start_for t) (steps_of t.lines) v

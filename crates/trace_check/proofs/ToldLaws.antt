@@ -14,7 +14,7 @@ use Rattle.core_world.specs.Covered.{live_expiry, machine_of}
 use Rattle.core_world.specs.World.{World, group_of}
 use Rattle.trace_check.specs.declared.reach.End.{End}
 use Rattle.trace_check.specs.declared.reach.End.TheVariants as ends
-use Rattle.trace_check.specs.Reasons.{IsHeldBy, IsLowestWaker}
+use Rattle.trace_check.specs.Reasons.{IsHeldFrom, IsLowestWaker}
 use Rattle.trace_check.specs.Told.{EndsActive, EndsAt, EndsAtTop, IsFirstWaker, IsToldBelow, WakesIn}
 
 pub off : (m : Option ℕ) → is_some m ≡ false → m ≡ None
@@ -217,7 +217,7 @@ module _ (w : World) (c wheel : ℕ) where
 
     -- HELD: by the group at which it ends, or not at all
     pub held_by : (g m : ℕ) → EndsActive w c wheel level g → Leads (machine_of w) m g →
-        IsHeldBy w c wheel g m
+        IsHeldFrom w c wheel g m
     held_by g m at leads = record {
       held = record {
         level = level;

@@ -78,48 +78,49 @@ pub record ShowsNone (w : World) (c timer : ℕ) (shown : ShownReason) : Type 0 
   pub as_shown : shown ≡ shows.Nothing
 
 -- what is shown of a question
-abbrev pub IsShown : World → (c timer : ℕ) → ShownReason → Type 0
-IsShown w c timer shown = ShowsReason w c timer shown ⊎ ShowsNone w c timer shown
+abbrev pub IsReasonShown : World → (c timer : ℕ) → ShownReason → Type 0
+IsReasonShown w c timer shown = ShowsReason w c timer shown ⊎ ShowsNone w c timer shown
 
 -- the text begins with the answer to a question where so many steps were made, and goes on with one
 -- of which this holds
-pub record BeginsWith
+pub record BeginsWithAnswer
     (w : World) (made : ℕ) (cpu : CpuId) (timer : TimerId) (Rest : List ℕ → Type 0)
     (text : List ℕ) :
     Type 0 where
   pub shown : ShownReason
   pub behind : List ℕ
-  pub is_shown : IsShown w cpu.0 timer.0 shown
+  pub is_shown : IsReasonShown w cpu.0 timer.0 shown
   pub begins : text ≡ line_text (report.Why made cpu timer shown) ++ behind
   pub goes_on : Rest behind
 
 -- the step is enabled, and this holds
-pub record IsMade (w : World) (step : Step) (Rest : Type 0) : Type 0 where
+pub record IsStepMade (w : World) (step : Step) (Rest : Type 0) : Type 0 where
   pub enabled : Enabled w step
   pub goes_on : Rest
 
 -- the step isn't enabled: the text ends with its number
-pub record IsRefused (w : World) (made : ℕ) (step : Step) (verdict : Verdict) (text : List ℕ) :
+pub record IsStepRefused (w : World) (made : ℕ) (step : Step) (verdict : Verdict) (text : List ℕ) :
     Type 0 where
   pub refused : Enabled w step → ⊥
   pub verdict_is : verdict ≡ verdicts.No made
   pub text_is : text ≡ line_text (report.No made)
 
 -- no line is left: the text ends with the number of the steps
-pub record IsDone (made : ℕ) (verdict : Verdict) (text : List ℕ) : Type 0 where
+pub record IsTraceDone (made : ℕ) (verdict : Verdict) (text : List ℕ) : Type 0 where
   pub verdict_is : verdict ≡ verdicts.Yes made
   pub text_is : text ≡ line_text (report.Yes made)
 
 -- THE TEXT of these lines, played from a world where so many steps were made, and their verdict
-unfoldable pub IsPlayed : World → (made : ℕ) → List TraceLine → Verdict → (text : List ℕ) → Type 0
-IsPlayed w made [] verdict text = IsDone made verdict text
-IsPlayed w made (lines.Do step ∷ rest) verdict text =
-    IsMade w step (IsPlayed (stepped w step) (made + 1) rest verdict text)
-    ⊎ IsRefused w made step verdict text
-IsPlayed w made (lines.Why cpu timer ∷ rest) verdict text =
-    BeginsWith w made cpu timer (λ behind. IsPlayed w made rest verdict behind) text
+unfoldable pub AreLinesPlayed : World → (made : ℕ) → List TraceLine → Verdict → (text : List ℕ)
+    → Type 0
+AreLinesPlayed w made [] verdict text = IsTraceDone made verdict text
+AreLinesPlayed w made (lines.Do step ∷ rest) verdict text =
+    IsStepMade w step (AreLinesPlayed (stepped w step) (made + 1) rest verdict text)
+    ⊎ IsStepRefused w made step verdict text
+AreLinesPlayed w made (lines.Why cpu timer ∷ rest) verdict text =
+    BeginsWithAnswer w made cpu timer (λ behind. AreLinesPlayed w made rest verdict behind) text
 
 -- THE TEXT that the checker writes of a trace: an answer to each question before the end of the
 -- run, and then that all steps can be made, or the first that can't
 abbrev pub IsCheckText : Trace → (text : List ℕ) → Type 0
-IsCheckText t text = (verdict : Verdict) × IsPlayed (start_for t) 0 t.lines verdict text
+IsCheckText t text = (verdict : Verdict) × AreLinesPlayed (start_for t) 0 t.lines verdict text

@@ -6,9 +6,9 @@ use Rattle.tree_plan.specs.Paths.{child_at}
 use Rattle.core_world.specs.World.{World, group_of}
 
 -- a child of the tree is there
-abbrev pub IsInWorld : World → Child → Type 0
-IsInWorld w (sorts.Cpu d) = d.0 < length w.cpus
-IsInWorld w (sorts.Group g) = g.0 < length w.groups
+abbrev pub IsChildInWorld : World → Child → Type 0
+IsChildInWorld w (sorts.Cpu d) = d.0 < length w.cpus
+IsChildInWorld w (sorts.Group g) = g.0 < length w.groups
 
 -- the child is the migrator of group g
 pub record IsMigrator (w : World) (g : ℕ) (m : Child) : Type 0 where

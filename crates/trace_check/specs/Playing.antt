@@ -12,13 +12,13 @@ use Rattle.trace_check.specs.declared.reason.Reason.{Reason}
 use Rattle.trace_check.specs.declared.reason.Reason.TheVariants as reasons
 use Rattle.trace_check.specs.declared.verdict.Verdict.{Verdict}
 use Rattle.trace_check.specs.declared.verdict.Verdict.TheVariants as verdicts
-use Rattle.trace_check.specs.Answers.{IsPlayed, IsShown}
+use Rattle.trace_check.specs.Answers.{AreLinesPlayed, IsReasonShown}
 
 -- the group that a reason names is there
-abbrev pub IsThere : World → Reason → Type 0
-IsThere w (reasons.Held group cpu) = group.0 < length w.groups
-IsThere w (reasons.Woken cpu at) = Unit {0}
-IsThere w (reasons.Carried case) = Unit {0}
+abbrev pub IsReasonThere : World → Reason → Type 0
+IsReasonThere w (reasons.Held group cpu) = group.0 < length w.groups
+IsReasonThere w (reasons.Woken cpu at) = Unit {0}
+IsReasonThere w (reasons.Carried case) = Unit {0}
 
 -- a question names one of so many CPUs
 abbrev pub AsksOf : (cpus : ℕ) → TraceLine → Type 0
@@ -29,7 +29,7 @@ AsksOf cpus (lines.Why cpu timer) = cpu.0 < cpus
 pub record Asks (w : World) (made : ℕ) (cpu : CpuId) (timer : TimerId) (old new : List ℕ) :
     Type 0 where
   pub shown : ShownReason
-  pub is_shown : IsShown w cpu.0 timer.0 shown
+  pub is_shown : IsReasonShown w cpu.0 timer.0 shown
   pub written : new ≡ old ++ line_text (report.Why made cpu timer shown)
 
 -- with a line in front, what is played from `after` on is played from `w` on
@@ -37,12 +37,13 @@ abbrev pub PlaysOn : (w : World) (made : ℕ) → TraceLine → (text : List ℕ
     Option ℕ → Type 0
 PlaysOn w made line text after (Some more) =
     (rest : List TraceLine) (verdict : Verdict) (behind : List ℕ) →
-    IsPlayed after more rest verdict behind → IsPlayed w made (line ∷ rest) verdict (text ++ behind)
+    AreLinesPlayed after more rest verdict behind
+    → AreLinesPlayed w made (line ∷ rest) verdict (text ++ behind)
 PlaysOn w made line text after None =
-    (rest : List TraceLine) → IsPlayed w made (line ∷ rest) (verdicts.No made) text
+    (rest : List TraceLine) → AreLinesPlayed w made (line ∷ rest) (verdicts.No made) text
 
 -- a line was played, and the report has got its text
-pub record Plays
+pub record PlaysLine
     (w : World) (made : ℕ) (line : TraceLine) (old new : List ℕ) (after : World)
     (next : Option ℕ) :
     Type 0 where
@@ -56,4 +57,4 @@ pub record WritesPlayed
     Type 0 where
   pub text : List ℕ
   pub written : new ≡ old ++ text
-  pub played : IsPlayed w 0 ls verdict text
+  pub played : AreLinesPlayed w 0 ls verdict text

@@ -11,7 +11,7 @@ use Rattle.trace_check.specs.declared.reason.Reason.TheVariants as reasons
 
 -- HELD from group g by CPU m: the lowest group by which it is, and the CPU to which its migrators
 -- lead
-pub record IsHeldBy (w : World) (c wheel g m : ℕ) : Type 0 where
+pub record IsHeldFrom (w : World) (c wheel g m : ℕ) : Type 0 where
   pub held : Held (machine_of w) c wheel
   pub group : held.in_group ≡ g
   pub runner : held.runner ≡ m
@@ -32,8 +32,8 @@ pub record IsLowestWaker (w : World) (c wheel d at : ℕ) : Type 0 where
   pub lowest : (other : TopWakes (machine_of w) c wheel) → d ≤ other.wakes.waker
 
 -- WOKEN FOR by CPU d at a time: itself, else the lowest
-abbrev pub IsWokenBy : World → (c wheel d at : ℕ) → Type 0
-IsWokenBy w c wheel d at = WakesAt w c wheel d at ⊎ IsLowestWaker w c wheel d at
+abbrev pub IsWokenForBy : World → (c wheel d at : ℕ) → Type 0
+IsWokenForBy w c wheel d at = WakesAt w c wheel d at ⊎ IsLowestWaker w c wheel d at
 
 -- the number of a case in which a walk or an interrupt carries: 1 is the CPU's own, 2 an inactive
 -- group of its path below the top, 3 the role of a migrator, 4 an idle top
@@ -53,7 +53,7 @@ pub record IsCarriedIn (w : World) (c wheel case : ℕ) : Type 0 where
 -- Held comes first
 pub record IsWokenAlone (w : World) (c wheel d at : ℕ) : Type 0 where
   pub not_held : Held (machine_of w) c wheel → ⊥
-  pub woken : IsWokenBy w c wheel d at
+  pub woken : IsWokenForBy w c wheel d at
 
 -- and then Woken
 pub record IsCarriedAlone (w : World) (c wheel case : ℕ) : Type 0 where
@@ -62,10 +62,10 @@ pub record IsCarriedAlone (w : World) (c wheel case : ℕ) : Type 0 where
   pub carried : IsCarriedIn w c wheel case
 
 -- THE FIRST of Held, Woken and Carried that holds for a wheel expiry of CPU c
-abbrev pub IsFirst : World → (c wheel : ℕ) → Reason → Type 0
-IsFirst w c wheel (reasons.Held group cpu) = IsHeldBy w c wheel group.0 cpu.0
-IsFirst w c wheel (reasons.Woken cpu at) = IsWokenAlone w c wheel cpu.0 at
-IsFirst w c wheel (reasons.Carried case) = IsCarriedAlone w c wheel case
+abbrev pub IsFirstReason : World → (c wheel : ℕ) → Reason → Type 0
+IsFirstReason w c wheel (reasons.Held group cpu) = IsHeldFrom w c wheel group.0 cpu.0
+IsFirstReason w c wheel (reasons.Woken cpu at) = IsWokenAlone w c wheel cpu.0 at
+IsFirstReason w c wheel (reasons.Carried case) = IsCarriedAlone w c wheel case
 
 -- CPU c is online and idle, and the timer is in its global base, as this item
 pub record IsAsked (w : World) (c timer : ℕ) (item : Item) : Type 0 where
@@ -76,7 +76,7 @@ pub record IsAsked (w : World) (c timer : ℕ) (item : Item) : Type 0 where
 pub record IsReason (w : World) (c timer : ℕ) (reason : Reason) : Type 0 where
   pub item : Item
   pub asked : IsAsked w c timer item
-  pub first : IsFirst w c item.wheel reason
+  pub first : IsFirstReason w c item.wheel reason
 
 -- there is none: the CPU isn't online and idle, or the timer isn't in its global base
 abbrev pub HasNoReason : World → (c timer : ℕ) → Type 0

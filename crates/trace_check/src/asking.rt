@@ -3,7 +3,7 @@
 ghost use Rattle.std.specs.Prelude.{◌<◌, IfNone, IfSome, length};
 ghost use Rattle.coverage.specs.Coverage.{Held, WakesItself, Woken};
 ghost use Rattle.core_world.specs.Covered.{Covered, machine_of};
-ghost use Rattle.trace_check.specs.Reasons.{HasNoReason, IsAsked, IsCarriedIn, IsFirst};
+ghost use Rattle.trace_check.specs.Reasons.{HasNoReason, IsAsked, IsCarriedIn, IsFirstReason};
 ghost use Rattle.trace_check.specs.Reasons.{IsReason, WakesAt};
 ghost use Rattle.trace_check.specs.Told.{IsLeft, IsReach};
 
@@ -19,7 +19,7 @@ use wheel_core::{Item, TimerBase};
 /// The migrator that holds a wheel expiry, which was told so far.
 fn holder_of<B: TimerBase>(core: &Core<B>, cpu: CpuId, wheel: Jiffy, reach: Reach) -> Option<Reason>
     requires { IsReach core.now cpu.0 wheel reach }
-    ensures first { IfSome result (IsFirst core.now cpu.0 wheel) }
+    ensures first { IfSome result (IsFirstReason core.now cpu.0 wheel) }
     ensures none { IfNone result (Held (machine_of core.now) cpu.0 wheel → ⊥) }
 {
     match reach.end {
@@ -42,7 +42,7 @@ fn waker_above<B: TimerBase>(
     requires reach { IsReach core.now cpu.0 wheel reach }
     requires not_held { Held (machine_of core.now) cpu.0 wheel → ⊥ }
     requires not_itself { WakesItself (machine_of core.now) cpu.0 wheel → ⊥ }
-    ensures first { IfSome result (IsFirst core.now cpu.0 wheel) }
+    ensures first { IfSome result (IsFirstReason core.now cpu.0 wheel) }
     ensures none { IfNone result (Woken (machine_of core.now) cpu.0 wheel → ⊥) }
 {
     match reach.end {
@@ -98,7 +98,7 @@ fn case_for<B: TimerBase>(core: &Core<B>, cpu: CpuId, wheel: Jiffy, reach: Reach
 fn first_for<B: TimerBase>(core: &Core<B>, cpu: CpuId, wheel: Jiffy) -> Reason
     requires cpu { cpu.0 < length core.now.cpus }
     requires covered { Covered core.now cpu.0 wheel }
-    ensures { IsFirst core.now cpu.0 wheel result }
+    ensures { IsFirstReason core.now cpu.0 wheel result }
 {
     let reach = climb(core, cpu, wheel);
     if let Some(held) = holder_of(core, cpu, wheel, reach) {

@@ -10,9 +10,9 @@ ghost use Rattle.tm_report.specs.declared.lines.Line.TheVariants as report;
 ghost use Rattle.tm_report.specs.declared.lines.ShownReason.{ShownReason};
 ghost use Rattle.trace_text.specs.Texts.{IsTrace};
 ghost use Rattle.trace_text.specs.declared.traces.TraceLine.TheVariants as lines;
-ghost use Rattle.trace_check.specs.Answers.{IsCheckText, IsShown, IsVerdict};
+ghost use Rattle.trace_check.specs.Answers.{IsCheckText, IsReasonShown, IsVerdict};
 ghost use Rattle.trace_check.specs.Answers.{shown_of, start_for, steps_of};
-ghost use Rattle.trace_check.specs.Playing.{Asks, AsksOf, IsThere, Plays, WritesPlayed};
+ghost use Rattle.trace_check.specs.Playing.{Asks, AsksOf, IsReasonThere, PlaysLine, WritesPlayed};
 ghost use Rattle.trace_check.specs.declared.verdict.Verdict.TheVariants as verdicts;
 
 use crate::asking::why;
@@ -29,7 +29,7 @@ use wheel_core::TimerBase;
 
 /// A reason as a report shows it.
 fn shown_of<B: TimerBase>(core: &Core<B>, reason: Reason) -> ShownReason
-    requires { IsThere core.now reason }
+    requires { IsReasonThere core.now reason }
     ensures { result ≡ shown_of core.now reason }
 {
     match reason {
@@ -46,7 +46,7 @@ fn shown_of<B: TimerBase>(core: &Core<B>, reason: Reason) -> ShownReason
 /// What is shown of a question.
 fn answer<B: TimerBase>(core: &Core<B>, cpu: CpuId, timer: TimerId) -> ShownReason
     requires { cpu.0 < length core.now.cpus }
-    ensures { IsShown core.now cpu.0 timer.0 result }
+    ensures { IsReasonShown core.now cpu.0 timer.0 result }
 {
     core.kept();
     match why(core, cpu, timer) {
@@ -66,7 +66,7 @@ fn play_step<B: TimerBase>(
     requires { made < MOST_LINES }
     ensures same { OnOk result (SameSize core.old core.new) }
     ensures few { IfOk result (λ next. IfSome next (λ more. more ≤ made + 1)) }
-    ensures plays { IfOk result (Plays core.old made (lines.Do step) out.old out.new core.new) }
+    ensures plays { IfOk result (PlaysLine core.old made (lines.Do step) out.old out.new core.new) }
 {
     law_sizes();
     if !enabled(core, &step) {
@@ -110,7 +110,7 @@ fn play_line<B: TimerBase>(
     requires in_range { AsksOf (length core.old.cpus) line }
     ensures same { OnOk result (SameSize core.old core.new) }
     ensures few { IfOk result (λ next. IfSome next (λ more. more ≤ made + 1)) }
-    ensures plays { IfOk result (Plays core.old made line out.old out.new core.new) }
+    ensures plays { IfOk result (PlaysLine core.old made line out.old out.new core.new) }
 {
     match line {
         TraceLine::Do(step) => play_step(core, step, made, out),

@@ -6,7 +6,7 @@ ghost use Rattle.tree_plan.specs.Paths.{level_of};
 ghost use Rattle.coverage.specs.Coverage.{Leads};
 ghost use Rattle.core_world.specs.Covered.{machine_of};
 ghost use Rattle.core_world.specs.World.{cpu_of, is_active};
-ghost use Rattle.trace_check.specs.Leading.{IsInWorld, IsMigrator};
+ghost use Rattle.trace_check.specs.Leading.{IsChildInWorld, IsMigrator};
 
 use step_core::Core;
 use tm_base::{Child, CpuId, GroupId};
@@ -25,7 +25,7 @@ fn is_active<B: TimerBase>(core: &Core<B>, cpu: CpuId) -> bool
 fn migrator_of<B: TimerBase>(core: &Core<B>, group: GroupId) -> Option<Child>
     requires { group.0 < length core.now.groups }
     ensures migrator { IfSome result (IsMigrator core.now group.0) }
-    ensures in_world { IfSome result (IsInWorld core.now) }
+    ensures in_world { IfSome result (IsChildInWorld core.now) }
     ensures none { IfNone result ((m : Child) → IsMigrator core.now group.0 m → ⊥) }
 {
     core.kept();

@@ -10,7 +10,7 @@ use Rattle.tm_script.specs.declared.syntax.Moment.{Moment}
 use Rattle.text_words.specs.Words.{ended}
 use Rattle.tm_script.specs.Texts.{script_text}
 use Rattle.trace_text.specs.declared.traces.Trace.{Trace}
-use Rattle.trace_text.specs.Lines.{line_text}
+use Rattle.trace_text.specs.Lines.{trace_line_text}
 use Rattle.trace_text.specs.Texts.{as_script, machine_lines, trace_text}
 use Rattle.trace_text.proofs.HeadLaws.{none, two}
 
@@ -62,14 +62,14 @@ pub ruleset cutting = (long, longer, machine_cut)
 
 -- the four pieces of a trace's text
 pub whole : (t : Trace) (a b c d e : List ℕ) → a ≡ [] → b ≡ a ++ codes "trace 1\n" → c ≡ b ++ flat_map ended (machine_lines t)
-    → d ≡ c ++ flat_map ended (map line_text t.lines) → e ≡ d ++ codes "end\n" → e ≡ trace_text t
+    → d ≡ c ++ flat_map ended (map trace_line_text t.lines) → e ≡ d ++ codes "end\n" → e ≡ trace_text t
 whole t a b c d e ea eb ec ed ee =
     let m = flat_map ended (machine_lines t) in
-    let l = flat_map ended (map line_text t.lines) in
+    let l = flat_map ended (map trace_line_text t.lines) in
     let end : List ℕ = codes "end\n" in
     let be : b ≡ codes "trace 1\n" = eb ∙ ap (λ x. x ++ codes "trace 1\n") ea in
     ee ∙ ap (λ x. x ++ end) (ed ∙ ap (λ x. x ++ l) (ec ∙ ap (λ x. x ++ m) be))
     ∙ append_assoc (codes "trace 1\n" ++ m) l end
     ∙ append_assoc (codes "trace 1\n") m (l ++ end)
-    ∙ ap (λ r. codes "trace 1\n" ++ m ++ r) (sym (flat_map-append ended (map line_text t.lines) (codes "end" ∷ [])))
-    ∙ ap (λ r. codes "trace 1\n" ++ r) (sym (flat_map-append ended (machine_lines t) (map line_text t.lines ++ codes "end" ∷ [])))
+    ∙ ap (λ r. codes "trace 1\n" ++ m ++ r) (sym (flat_map-append ended (map trace_line_text t.lines) (codes "end" ∷ [])))
+    ∙ ap (λ r. codes "trace 1\n" ++ r) (sym (flat_map-append ended (machine_lines t) (map trace_line_text t.lines ++ codes "end" ∷ [])))

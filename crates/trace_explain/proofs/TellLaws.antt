@@ -20,7 +20,7 @@ use Rattle.trace_text.specs.declared.traces.Trace.{Trace}
 use Rattle.trace_text.specs.declared.traces.TraceLine.{TraceLine}
 use Rattle.trace_text.specs.declared.traces.TraceLine.TheVariants as lines
 use Rattle.trace_text.specs.declared.words.Limits.{Limits}
-use Rattle.trace_text.specs.Lines.{IsLine, line_text as text_of}
+use Rattle.trace_text.specs.Lines.{IsLine, trace_line_text as text_of}
 use Rattle.trace_text.specs.Texts.{IsTrace, cpu_count, limits_of, machine_lines}
 use Rattle.trace_check.specs.declared.verdict.Verdict.{Verdict}
 use Rattle.trace_check.specs.declared.verdict.Verdict.TheVariants as verdicts

@@ -30,10 +30,10 @@ told_text front w c timer reason =
     (codes ": " ++ (reason_text w reason ++ codes "\n"))
 
 -- A TIMER that waits has a line, for the CPU on which it is queued; another one has none
-pub data IsAnswer (w : World) (timer : ℕ) (text : List ℕ) : Type 0 where
+pub data IsTimerAnswer (w : World) (timer : ℕ) (text : List ℕ) : Type 0 where
   answered : (c : ℕ) (reason : Reason) → IsReason w c timer reason →
-      text ≡ told_text (codes "  timer ") w c timer reason → IsAnswer w timer text
-  nobody_waits : ((c : ℕ) → HasNoReason w c timer) → text ≡ [] → IsAnswer w timer text
+      text ≡ told_text (codes "  timer ") w c timer reason → IsTimerAnswer w timer text
+  nobody_waits : ((c : ℕ) → HasNoReason w c timer) → text ≡ [] → IsTimerAnswer w timer text
 
 -- a text goes on with the line of one more timer
 pub record HasOneMore (w : World) (timer : ℕ) (Front : List ℕ → Type 0) (text : List ℕ) :
@@ -41,7 +41,7 @@ pub record HasOneMore (w : World) (timer : ℕ) (Front : List ℕ → Type 0) (t
   pub front : List ℕ
   pub last : List ℕ
   pub before : Front front
-  pub answer : IsAnswer w timer last
+  pub answer : IsTimerAnswer w timer last
   pub joined : text ≡ front ++ last
 
 -- WHO ANSWERS for each waiting timer below a number, in the order of the timers
@@ -50,9 +50,9 @@ AreAnswers w zero text = text ≡ []
 AreAnswers w (suc n) text = HasOneMore w n (AreAnswers w n) text
 
 -- what is told of a question
-pub data IsTold (w : World) (c timer : ℕ) (text : List ℕ) : Type 0 where
+pub data IsTimerTold (w : World) (c timer : ℕ) (text : List ℕ) : Type 0 where
   told_answer : (reason : Reason) → IsReason w c timer reason →
-      text ≡ told_text (codes "why: timer ") w c timer reason → IsTold w c timer text
+      text ≡ told_text (codes "why: timer ") w c timer reason → IsTimerTold w c timer text
   nobody_has_to : HasNoReason w c timer →
       text ≡ around_two (codes "why: nobody has to answer for timer ") timer (codes " of CPU ") c
-      (codes "\n") → IsTold w c timer text
+      (codes "\n") → IsTimerTold w c timer text

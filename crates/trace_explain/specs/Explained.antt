@@ -7,11 +7,11 @@ use Rattle.core_world.specs.World.{World}
 use Rattle.step_causes.specs.declared.causes.Cause.{Cause}
 use Rattle.trace_text.specs.declared.traces.TraceLine.{TraceLine}
 use Rattle.trace_text.specs.declared.traces.TraceLine.TheVariants as lines
-use Rattle.step_causes.specs.CauseTexts.{around, cause_text}
+use Rattle.step_causes.specs.CauseTexts.{around, cause_sentence}
 use Rattle.trace_check.specs.declared.verdict.Verdict.{Verdict}
 use Rattle.trace_check.specs.declared.verdict.Verdict.TheVariants as verdicts
 use Rattle.step_causes.specs.Causes.{IsCause}
-use Rattle.trace_explain.specs.Answers.{AreAnswers, IsTold}
+use Rattle.trace_explain.specs.Answers.{AreAnswers, IsTimerTold}
 use Rattle.trace_explain.specs.Sentences.{step_text}
 
 -- the line of a step that is made, by its number from 0
@@ -21,7 +21,7 @@ made_text w made step = around (codes "step ") made (codes ": " ++ (step_text w 
 -- the line of a step that can't be made
 unfoldable pub refused_text : (made : ℕ) → Cause → List ℕ
 refused_text made cause =
-    around (codes "step ") made (codes " can't be made: " ++ (cause_text cause ++ codes "\n"))
+    around (codes "step ") made (codes " can't be made: " ++ (cause_sentence cause ++ codes "\n"))
 
 -- the line behind all steps
 abbrev pub whole_text : (made : ℕ) → List ℕ
@@ -40,20 +40,20 @@ pub record IsMade
   pub goes_on : Rest behind
 
 -- the step isn't enabled: the text ends with its cause
-pub record IsRefused (w : World) (made : ℕ) (step : Step) (verdict : Verdict) (text : List ℕ) :
-    Type 0 where
+pub record IsRefusalExplained (w : World) (made : ℕ) (step : Step) (verdict : Verdict)
+    (text : List ℕ) : Type 0 where
   pub cause : Cause
   pub is_cause : IsCause w (λ v. Enabled v step) cause
   pub verdict_is : verdict ≡ verdicts.No made
   pub text_is : text ≡ refused_text made cause
 
 -- a question: the text begins with its answer
-pub record IsAsked
+pub record IsQuestionExplained
     (w : World) (c timer : ℕ) (Rest : List ℕ → Type 0) (text : List ℕ) :
     Type 0 where
   pub told : List ℕ
   pub behind : List ℕ
-  pub is_told : IsTold w c timer told
+  pub is_told : IsTimerTold w c timer told
   pub begins : text ≡ told ++ behind
   pub goes_on : Rest behind
 
@@ -69,6 +69,6 @@ unfoldable pub IsExplained : World → (made : ℕ) → List TraceLine → Verdi
 IsExplained w made [] verdict text = IsDone made verdict text
 IsExplained w made (lines.Do step ∷ rest) verdict text =
     IsMade w made step (λ behind. IsExplained (stepped w step) (made + 1) rest verdict behind) text
-    ⊎ IsRefused w made step verdict text
+    ⊎ IsRefusalExplained w made step verdict text
 IsExplained w made (lines.Why cpu timer ∷ rest) verdict text =
-    IsAsked w cpu.0 timer.0 (λ behind. IsExplained w made rest verdict behind) text
+    IsQuestionExplained w cpu.0 timer.0 (λ behind. IsExplained w made rest verdict behind) text

@@ -4,13 +4,13 @@ use Rattle.core_world.specs.World.{World}
 use Rattle.trace_text.specs.declared.traces.TraceLine.{TraceLine}
 use Rattle.trace_check.specs.declared.verdict.Verdict.{Verdict}
 use Rattle.trace_check.specs.declared.verdict.Verdict.TheVariants as verdicts
-use Rattle.trace_explain.specs.Answers.{AreAnswers, IsAnswer, IsTold}
+use Rattle.trace_explain.specs.Answers.{AreAnswers, IsTimerAnswer, IsTimerTold}
 use Rattle.trace_explain.specs.Explained.{IsExplained}
 
 -- a line for a timer, or none, stands behind a text
 pub record AddsAnswer (w : World) (timer : ℕ) (old new : List ℕ) : Type 0 where
   pub last : List ℕ
-  pub answer : IsAnswer w timer last
+  pub answer : IsTimerAnswer w timer last
   pub written : new ≡ old ++ last
 
 -- the lines of all timers do
@@ -22,7 +22,7 @@ pub record AddsAnswers (w : World) (count : ℕ) (old new : List ℕ) : Type 0 w
 -- what is told of a question does
 pub record AddsTold (w : World) (c timer : ℕ) (old new : List ℕ) : Type 0 where
   pub told : List ℕ
-  pub is_told : IsTold w c timer told
+  pub is_told : IsTimerTold w c timer told
   pub written : new ≡ old ++ told
 
 -- with a line in front, what is told from `after` on is told from `w` on

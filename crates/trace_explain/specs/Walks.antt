@@ -53,13 +53,13 @@ abbrev pub wakeup_text : Walk → List ℕ
 wakeup_text k = codes " ends; wakeup:" ++ time_word (min k.pin k.first)
 
 -- what a walk of a kind leaves as it ends
-abbrev pub end_text : WalkKind → Walk → List ℕ
-end_text kinds.Activate k = codes " ends"
-end_text kinds.Deactivate k = wakeup_text k
-end_text kinds.Offline k =
+abbrev pub walk_end_text : WalkKind → Walk → List ℕ
+walk_end_text kinds.Activate k = codes " ends"
+walk_end_text kinds.Deactivate k = wakeup_text k
+walk_end_text kinds.Offline k =
     if k.first == NEVER then codes " ends" else codes " ends; its duty is to be handed on"
-end_text kinds.Reeval k = wakeup_text k
-end_text (kinds.Remote by) k = codes " ends; its CPU is marked no more"
+walk_end_text kinds.Reeval k = wakeup_text k
+walk_end_text (kinds.Remote by) k = codes " ends; its CPU is marked no more"
 
 -- WHAT A WALK'S NEXT STEP DOES, in front of the group that it names
 unfoldable pub deed_text : Stage → Walk → List ℕ
@@ -78,7 +78,7 @@ deed_text stages.Store k = codes " tells "
 deed_text (stages.First j) k = codes " reads an event of "
 deed_text stages.FreeGroup k = codes " unlocks "
 deed_text stages.FreeChild k = codes " unlocks "
-deed_text stages.Finish k = end_text k.kind k
+deed_text stages.Finish k = walk_end_text k.kind k
 deed_text stages.Handing k = codes " waits to hand on"
 
 -- THE NEXT STEP of CPU c's walk

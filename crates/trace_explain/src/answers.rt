@@ -1,7 +1,7 @@
 //! Who answers for timers, in words.
 
 ghost use Rattle.std.specs.Prelude.{◌≡◌, ◌++◌, ◌<◌, length, OnOk};
-ghost use Rattle.trace_check.specs.Playing.{IsThere};
+ghost use Rattle.trace_check.specs.Playing.{IsReasonThere};
 ghost use Rattle.trace_explain.specs.Answers.{case_text, reason_text, told_text};
 ghost use Rattle.trace_explain.specs.Telling.{AddsAnswer, AddsAnswers, AddsTold};
 
@@ -52,7 +52,7 @@ fn push_reason<B: TimerBase>(
     core: &Core<B>,
     reason: Reason,
 ) -> Result<(), NoMemory>
-    requires { IsThere core.now reason }
+    requires { IsReasonThere core.now reason }
     ensures { OnOk result (text.new.items ≡ text.old.items ++ reason_text core.now reason) }
 {
     match reason {
@@ -74,7 +74,7 @@ fn push_told<B: TimerBase>(
     timer: TimerId,
     reason: Reason,
 ) -> Result<(), NoMemory>
-    requires { IsThere core.now reason }
+    requires { IsReasonThere core.now reason }
     ensures { OnOk result (text.new.items
         ≡ text.old.items ++ told_text front.now core.now cpu.0 timer.0 reason) }
 {

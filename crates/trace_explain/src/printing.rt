@@ -5,7 +5,7 @@ ghost use Rattle.std.specs.Fmt.{decimal};
 ghost use Rattle.std.specs.List.{flat_map};
 ghost use Rattle.text_words.specs.Words.{ended, spaced};
 ghost use Rattle.tm_base.specs.Classes.{class_text};
-ghost use Rattle.trace_text.specs.Lines.{line_text};
+ghost use Rattle.trace_text.specs.Lines.{trace_line_text};
 ghost use Rattle.trace_text.specs.Texts.{IsTrace, machine_lines, trace_text};
 
 use core_world::Step;
@@ -84,7 +84,7 @@ fn push_cancel(
     line: u32,
 ) -> Result<(), NoMemory>
     ensures { OnOk result (text.new.items ≡ text.old.items
-        ++ ended (line_text (TraceLine.Do (Step.Cancel cpu timer by line)))) }
+        ++ ended (trace_line_text (TraceLine.Do (Step.Cancel cpu timer by line)))) }
 {
     push_bytes(text, b"cancel")?;
     push_next(text, u64::from(cpu.0))?;
@@ -99,7 +99,7 @@ fn push_cancel(
 #[tactic(auto, using(std::proofs::lemmas::List::append_assoc))]
 fn push_ticked(text: &mut Vec<u8>, cpu: CpuId, class: Class, runner: CpuId) -> Result<(), NoMemory>
     ensures { OnOk result (text.new.items ≡ text.old.items
-        ++ ended (line_text (TraceLine.Do (Step.Ticked cpu class runner)))) }
+        ++ ended (trace_line_text (TraceLine.Do (Step.Ticked cpu class runner)))) }
 {
     push_bytes(text, b"ticked")?;
     push_next(text, u64::from(cpu.0))?;
@@ -135,7 +135,7 @@ fn push_pair(text: &mut Vec<u8>, m: u64, n: u64) -> Result<(), NoMemory>
 /// The line of an arming.
 #[tactic(auto, using(std::proofs::lemmas::List::append_assoc))]
 fn push_arm(text: &mut Vec<u8>, arming: Arming) -> Result<(), NoMemory>
-    ensures { OnOk result (text.new.items ≡ text.old.items ++ ended (line_text (TraceLine.Do
+    ensures { OnOk result (text.new.items ≡ text.old.items ++ ended (trace_line_text (TraceLine.Do
         (Step.Arm arming.cpu arming.timer arming.class arming.expires arming.job arming.arg
         arming.line)))) }
 {
@@ -152,7 +152,7 @@ fn push_arm(text: &mut Vec<u8>, arming: Arming) -> Result<(), NoMemory>
 /// The line of a step.
 fn push_step(text: &mut Vec<u8>, step: Step) -> Result<(), NoMemory>
     ensures { OnOk result
-        (text.new.items ≡ text.old.items ++ ended (line_text (TraceLine.Do step))) }
+        (text.new.items ≡ text.old.items ++ ended (trace_line_text (TraceLine.Do step))) }
 {
     match step {
         Step::Clock { now } => push_one(text, b"clock", now),
@@ -213,7 +213,7 @@ fn push_step(text: &mut Vec<u8>, step: Step) -> Result<(), NoMemory>
 }
 
 fn push_line(text: &mut Vec<u8>, line: &TraceLine) -> Result<(), NoMemory>
-    ensures { OnOk result (text.new.items ≡ text.old.items ++ ended (line_text line.now)) }
+    ensures { OnOk result (text.new.items ≡ text.old.items ++ ended (trace_line_text line.now)) }
 {
     let line = *line;
     match line {
@@ -226,7 +226,7 @@ fn push_line(text: &mut Vec<u8>, line: &TraceLine) -> Result<(), NoMemory>
 
 fn push_lines(text: &mut Vec<u8>, lines: &[TraceLine]) -> Result<(), NoMemory>
     ensures { OnOk result
-        (text.new.items ≡ text.old.items ++ flat_map ended (map line_text lines.now)) }
+        (text.new.items ≡ text.old.items ++ flat_map ended (map trace_line_text lines.now)) }
 {
     for line in lines {
         push_line(text, line)?;

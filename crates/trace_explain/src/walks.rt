@@ -3,7 +3,7 @@
 ghost use Rattle.std.specs.Prelude.{◌≡◌, ◌++◌, ◌<◌, length, OnOk, Some};
 ghost use Rattle.core_world.specs.World.{cpu_of};
 ghost use Rattle.walk_rules.specs.declared.walk.WalkKind.TheVariants as kinds;
-ghost use Rattle.trace_explain.specs.Walks.{deed_text, end_text, swap_words, walk_text};
+ghost use Rattle.trace_explain.specs.Walks.{deed_text, swap_words, walk_end_text, walk_text};
 ghost use Rattle.trace_explain.specs.Walks.{wakeup_text};
 
 use crate::pieces::{push_time, push_words};
@@ -33,7 +33,7 @@ fn push_wakeup(text: &mut Vec<u8>, walk: Walk) -> Result<(), NoMemory>
 
 /// What a walk that goes offline leaves as it ends.
 fn offline_end(walk: Walk) -> &'static [u8]
-    ensures { result.now ≡ end_text kinds.Offline walk }
+    ensures { result.now ≡ walk_end_text kinds.Offline walk }
 {
     if walk.first == NEVER {
         b" ends"
@@ -44,7 +44,7 @@ fn offline_end(walk: Walk) -> &'static [u8]
 
 /// What a walk leaves as it ends.
 fn push_end(text: &mut Vec<u8>, walk: Walk) -> Result<(), NoMemory>
-    ensures { OnOk result (text.new.items ≡ text.old.items ++ end_text walk.kind walk) }
+    ensures { OnOk result (text.new.items ≡ text.old.items ++ walk_end_text walk.kind walk) }
 {
     match walk.kind {
         WalkKind::Activate => push_words(text, b" ends"),

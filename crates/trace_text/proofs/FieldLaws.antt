@@ -17,9 +17,9 @@ use Rattle.trace_text.specs.declared.words.Slot.{Slot}
 use Rattle.trace_text.specs.declared.words.Slot.TheVariants as slots
 use Rattle.trace_text.specs.declared.words.Field.{Field}
 use Rattle.trace_text.specs.declared.words.Field.TheVariants as fields
-use Rattle.trace_text.specs.Lines.{AreWithin, IsWithin, bound_of, field_word}
-use Rattle.trace_text.specs.Reading.{◌>>=◌, class_by, field_at, fields_of, head_field, joined, number_below, rest_fields}
-use Rattle.trace_text.specs.Reading.{arg_by, class_named, cpu_by, job_by, line_by, time_by, timer_by}
+use Rattle.trace_text.specs.Lines.{AreFieldsWithin, IsWithin, bound_of, field_word}
+use Rattle.trace_text.specs.Reading.{◌>>=◌, class_by, field_at, fields_of, head_field, joined_fields, number_below, rest_fields}
+use Rattle.trace_text.specs.Reading.{arg_by, class_in_field, cpu_by, job_by, line_in_field, time_by, timer_by}
 
 -- the place of a field
 abbrev pub slot_in : Field → Slot
@@ -143,14 +143,14 @@ record IsJoined (f : Result Field Kind) (gs : Result (List Field) Kind) (fs : Li
   behind_is : gs ≡ Ok behind
   whole : first ∷ behind ≡ fs
 
-join_found : (f : Result Field Kind) (gs : Result (List Field) Kind) (fs : List Field) → joined f gs ≡ Ok fs → IsJoined f gs fs
+join_found : (f : Result Field Kind) (gs : Result (List Field) Kind) (fs : List Field) → joined_fields f gs ≡ Ok fs → IsJoined f gs fs
 join_found (Ok f) (Ok gs) fs e = record { first = f; behind = gs; first_is = refl; behind_is = refl; whole = (let same : f ∷ gs ≡ fs = cc in same) }
 join_found (Ok f) (Err k) fs e = absurd cc
 join_found (Err j) (Ok gs) fs e = absurd cc
 join_found (Err j) (Err k) fs e = absurd cc
 
 abbrev pub AreSpelled : Limits → List Slot → List (List ℕ) → List Field → Type 0
-AreSpelled l ss ws fs = (map field_word fs ≡ ws) × AreWithin l fs × (map slot_in fs ≡ ss)
+AreSpelled l ss ws fs = (map field_word fs ≡ ws) × AreFieldsWithin l fs × (map slot_in fs ≡ ss)
 
 pub fields_found : (l : Limits) (ss : List Slot) (ws : List (List ℕ)) (fs : List Field) → fields_of l ss ws ≡ Ok fs → AreSpelled l ss ws fs
 unfolding fields_of
@@ -165,21 +165,21 @@ fields_found l (s ∷ ss) (w ∷ ws) fs e =
     let rest = fields_found l ss ws j.behind j.behind_is in
     subst (AreSpelled l (s ∷ ss) (w ∷ ws)) j.whole ((λ i. one.0 i ∷ rest.0 i), (one.1, rest.1), (λ i. one.2 i ∷ rest.2 i))
 
-pub fields_back : (l : Limits) → AreSmall l → (fs : List Field) → AreWithin l fs → fields_of l (map slot_in fs) (map field_word fs) ≡ Ok fs
+pub fields_back : (l : Limits) → AreSmall l → (fs : List Field) → AreFieldsWithin l fs → fields_of l (map slot_in fs) (map field_word fs) ≡ Ok fs
 unfolding fields_of
 fields_back l small [] h = refl
-fields_back l small (f ∷ fs) h = λ i. joined (field_back l small f h.0 i) (fields_back l small fs h.1 i)
+fields_back l small (f ∷ fs) h = λ i. joined_fields (field_back l small f h.0 i) (fields_back l small fs h.1 i)
 
 -- ---- the places of fields
 
 abbrev pub as_slot : Slot → Field → Field
 as_slot slots.Cpu f = fields.Cpu (cpu_by f)
 as_slot slots.Timer f = fields.Timer (timer_by f)
-as_slot slots.Class f = fields.Class (class_named f)
+as_slot slots.Class f = fields.Class (class_in_field f)
 as_slot slots.Time f = fields.Time (time_by f)
 as_slot slots.Job f = fields.Job (job_by f)
 as_slot slots.Arg f = fields.Arg (arg_by f)
-as_slot slots.Line f = fields.Line (line_by f)
+as_slot slots.Line f = fields.Line (line_in_field f)
 
 as_own : (f : Field) → as_slot (slot_in f) f ≡ f
 as_own (fields.Cpu x) = refl
@@ -220,7 +220,7 @@ field_spaces l small (fields.Job x) h = number_spaces x (bound_of l slots.Job) (
 field_spaces l small (fields.Arg x) h = number_spaces x (bound_of l slots.Arg) (omega arith) h
 field_spaces l small (fields.Line x) h = number_spaces x (bound_of l slots.Line) (omega arith) h
 
-pub fields_spaces : (l : Limits) → AreSmall l → (fs : List Field) → AreWithin l fs → AreClear 32 (map field_word fs)
+pub fields_spaces : (l : Limits) → AreSmall l → (fs : List Field) → AreFieldsWithin l fs → AreClear 32 (map field_word fs)
 fields_spaces l small [] h = tt
 fields_spaces l small (f ∷ fs) h = (field_spaces l small f h.0, fields_spaces l small fs h.1)
 
@@ -236,6 +236,6 @@ field_feeds l small (fields.Job x) h = number_feeds x (bound_of l slots.Job) (om
 field_feeds l small (fields.Arg x) h = number_feeds x (bound_of l slots.Arg) (omega arith) h
 field_feeds l small (fields.Line x) h = number_feeds x (bound_of l slots.Line) (omega arith) h
 
-pub fields_feeds : (l : Limits) → AreSmall l → (fs : List Field) → AreWithin l fs → AreClear 10 (map field_word fs)
+pub fields_feeds : (l : Limits) → AreSmall l → (fs : List Field) → AreFieldsWithin l fs → AreClear 10 (map field_word fs)
 fields_feeds l small [] h = tt
 fields_feeds l small (f ∷ fs) h = (field_feeds l small f h.0, fields_feeds l small fs h.1)

@@ -5,13 +5,13 @@ use Rattle.tm_script.specs.declared.faults.Kind.TheVariants.{BadLine}
 use Rattle.trace_text.specs.declared.words.Limits.{Limits}
 use Rattle.trace_text.specs.declared.words.Slot.{Slot}
 use Rattle.trace_text.specs.Reading.{fields_of}
-use Rattle.trace_text.specs.Steps.{words_behind}
+use Rattle.trace_text.specs.Steps.{trace_words_behind}
 
 -- a word too many
 pub one_more : (l : Limits) (ss : List Slot) (o : Option (List ℕ)) (w : List ℕ) → length ss < 1
-    → o ≡ Some w → Err BadLine ≡ fields_of l ss (words_behind o)
+    → o ≡ Some w → Err BadLine ≡ fields_of l ss (trace_words_behind o)
 unfolding fields_of
 one_more l [] o w none e =
     let some = split_some 32 w in
-    sym (ap (λ (x : Option (List ℕ)). fields_of l [] (words_behind x)) e ∙ ap (fields_of l []) some.2)
+    sym (ap (λ (x : Option (List ℕ)). fields_of l [] (trace_words_behind x)) e ∙ ap (fields_of l []) some.2)
 one_more l (s ∷ ss) o w none e = absurd (omega (arith, none))

@@ -25,26 +25,26 @@ use Rattle.trace_text.specs.declared.answers.ReadTrace.TheVariants.{Refused, NoM
 use Rattle.trace_text.specs.declared.traces.Trace.{Trace}
 use Rattle.trace_text.specs.declared.traces.TraceLine.{TraceLine}
 use Rattle.trace_text.specs.Texts.{as_script, machine_lines}
-use Rattle.trace_text.specs.Reading.{closing, fault_at}
+use Rattle.trace_text.specs.Reading.{trace_closing, trace_fault_at}
 use Rattle.trace_text.specs.Faults.{fault_behind, limits_by, machine_front, machine_text, number_behind}
 use Rattle.trace_text.specs.Steps.{FailsAsScript, FailsBehind, with_front}
 
 -- ---- behind the end
 
-closing_onto : (n b : ℕ) (ps : List (List ℕ)) → closing n (onto_first b ps) ≡ Err (fault_at n BadLine)
+closing_onto : (n b : ℕ) (ps : List (List ℕ)) → trace_closing n (onto_first b ps) ≡ Err (trace_fault_at n BadLine)
 closing_onto n b [] = refl
 closing_onto n b (p ∷ ps) = refl
 
-closing_more : (n b : ℕ) (bs : List ℕ) → closing n (lines_of (b ∷ bs)) ≡ Err (fault_at n BadLine)
+closing_more : (n b : ℕ) (bs : List ℕ) → trace_closing n (lines_of (b ∷ bs)) ≡ Err (trace_fault_at n BadLine)
 closing_more n b bs =
     let some = split_some 10 bs in
     elim (cases_Bool (eqb b 10)) [
-      | inl feed ↦ ap (closing n) (cond-true (eqb b 10) _ _ feed) ∙ ap (λ (ps : List (List ℕ)). closing n ([] ∷ ps)) some.2
-      | inr other ↦ ap (closing n) (cond-false (eqb b 10) _ _ other) ∙ closing_onto n b (lines_of bs)
+      | inl feed ↦ ap (trace_closing n) (cond-true (eqb b 10) _ _ feed) ∙ ap (λ (ps : List (List ℕ)). trace_closing n ([] ∷ ps)) some.2
+      | inr other ↦ ap (trace_closing n) (cond-false (eqb b 10) _ _ other) ∙ closing_onto n b (lines_of bs)
     ]
 
 pub closing_some : (front : List TraceLine) (n : ℕ) (rest : List ℕ) → false ≡ eqb (length rest) 0
-    → with_front front (closing n (lines_of rest)) ≡ Err (fault_at n BadLine)
+    → with_front front (trace_closing n (lines_of rest)) ≡ Err (trace_fault_at n BadLine)
 closing_some front n [] e = absurd (true≢false (sym e))
 closing_some front n (b ∷ bs) e = ap (with_front front) (closing_more n b bs)
 

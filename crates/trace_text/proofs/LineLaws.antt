@@ -18,8 +18,8 @@ use Rattle.trace_text.specs.declared.words.Limits.{Limits}
 use Rattle.trace_text.specs.declared.words.Command.{Command}
 use Rattle.trace_text.specs.declared.words.Command.TheVariants as commands
 use Rattle.trace_text.specs.declared.words.Field.{Field}
-use Rattle.trace_text.specs.Lines.{AreWithin, IsLine, command_in, field_word, fields_in, line_text, slots_of, word_of}
-use Rattle.trace_text.specs.Reading.{all_commands, command_of, fields_of, heard, in_room, said_behind, said_by, said_or}
+use Rattle.trace_text.specs.Lines.{AreFieldsWithin, IsLine, command_in, field_word, fields_in, trace_line_text, field_slots_of, trace_word_of}
+use Rattle.trace_text.specs.Reading.{all_trace_commands, command_for, fields_of, line_heard, trace_in_room, said_in_trace, trace_said_by, trace_said_or}
 use Rattle.trace_text.proofs.FieldLaws.{AreSmall, fields_back, fields_feeds, fields_found, fields_spaces, retyped_is, slot_in}
 
 -- ---- first words
@@ -32,12 +32,12 @@ find_passes p (y ∷ ys) x e =
       | inr out ↦ find_passes p ys x (ap (λ (t : Bool). cond t (Some y) (find p ys)) (sym out) ∙ e)
     ]
 
-command_found : (word : List ℕ) (c : Command) → command_of word ≡ Some c → word ≡ word_of c
-unfolding command_of
-command_found word c e = (bytes_eq-Decides word (word_of c)).0 (find_passes (λ command. bytes_eq word (word_of command)) all_commands c e)
+command_found : (word : List ℕ) (c : Command) → command_for word ≡ Some c → word ≡ trace_word_of c
+unfolding command_for
+command_found word c e = (bytes_eq-Decides word (trace_word_of c)).0 (find_passes (λ command. bytes_eq word (trace_word_of command)) all_trace_commands c e)
 
-command_again : (c : Command) → command_of (word_of c) ≡ Some c
-unfolding command_of
+command_again : (c : Command) → command_for (trace_word_of c) ≡ Some c
+unfolding command_for
 command_again commands.Clock = refl
 command_again commands.Enter = refl
 command_again commands.Leave = refl
@@ -59,7 +59,7 @@ command_again commands.HandOn = refl
 command_again commands.Why = refl
 command_again commands.End = refl
 
-word_spaces : (c : Command) → is_clear 32 (word_of c) ≡ true
+word_spaces : (c : Command) → is_clear 32 (trace_word_of c) ≡ true
 word_spaces commands.Clock = refl
 word_spaces commands.Enter = refl
 word_spaces commands.Leave = refl
@@ -81,7 +81,7 @@ word_spaces commands.HandOn = refl
 word_spaces commands.Why = refl
 word_spaces commands.End = refl
 
-word_feeds : (c : Command) → is_clear 10 (word_of c) ≡ true
+word_feeds : (c : Command) → is_clear 10 (trace_word_of c) ≡ true
 word_feeds commands.Clock = refl
 word_feeds commands.Enter = refl
 word_feeds commands.Leave = refl
@@ -105,7 +105,7 @@ word_feeds commands.End = refl
 
 -- ---- fields
 
-places_match : (line : TraceLine) → map slot_in (fields_in line) ≡ slots_of (command_in line)
+places_match : (line : TraceLine) → map slot_in (fields_in line) ≡ field_slots_of (command_in line)
 places_match (lines.Do (steps.Clock now)) = refl
 places_match (lines.Do (steps.Enter cpu)) = refl
 places_match (lines.Do (steps.Leave cpu)) = refl
@@ -126,7 +126,7 @@ places_match (lines.Do (steps.Walk cpu)) = refl
 places_match (lines.Do (steps.HandOn cpu to)) = refl
 places_match (lines.Why cpu timer) = refl
 
-said_back : (line : TraceLine) → said_by (command_in line) (fields_in line) ≡ Some line
+said_back : (line : TraceLine) → trace_said_by (command_in line) (fields_in line) ≡ Some line
 said_back (lines.Do (steps.Clock now)) = refl
 said_back (lines.Do (steps.Enter cpu)) = refl
 said_back (lines.Do (steps.Leave cpu)) = refl
@@ -151,29 +151,29 @@ said_back (lines.Why cpu timer) = refl
 abbrev Has : Command → List Field → TraceLine → Type 0
 Has c fs line = (command_in line ≡ c) × (fields_in line ≡ fs)
 
-said_found : (c : Command) (fs : List Field) (line : TraceLine) → map slot_in fs ≡ slots_of c → said_by c fs ≡ Some line → Has c fs line
-said_found commands.Clock fs line m e = subst (Has commands.Clock fs) (same_Some _ line e) (refl, retyped_is (slots_of commands.Clock) fs m)
-said_found commands.Enter fs line m e = subst (Has commands.Enter fs) (same_Some _ line e) (refl, retyped_is (slots_of commands.Enter) fs m)
-said_found commands.Leave fs line m e = subst (Has commands.Leave fs) (same_Some _ line e) (refl, retyped_is (slots_of commands.Leave) fs m)
-said_found commands.Arm fs line m e = subst (Has commands.Arm fs) (same_Some _ line e) (refl, retyped_is (slots_of commands.Arm) fs m)
-said_found commands.Cancel fs line m e = subst (Has commands.Cancel fs) (same_Some _ line e) (refl, retyped_is (slots_of commands.Cancel) fs m)
-said_found commands.Hand fs line m e = subst (Has commands.Hand fs) (same_Some _ line e) (refl, retyped_is (slots_of commands.Hand) fs m)
-said_found commands.Ticked fs line m e = subst (Has commands.Ticked fs) (same_Some _ line e) (refl, retyped_is (slots_of commands.Ticked) fs m)
-said_found commands.Move fs line m e = subst (Has commands.Move fs) (same_Some _ line e) (refl, retyped_is (slots_of commands.Move) fs m)
-said_found commands.Idle fs line m e = subst (Has commands.Idle fs) (same_Some _ line e) (refl, retyped_is (slots_of commands.Idle) fs m)
-said_found commands.Wake fs line m e = subst (Has commands.Wake fs) (same_Some _ line e) (refl, retyped_is (slots_of commands.Wake) fs m)
-said_found commands.Offline fs line m e = subst (Has commands.Offline fs) (same_Some _ line e) (refl, retyped_is (slots_of commands.Offline) fs m)
-said_found commands.Online fs line m e = subst (Has commands.Online fs) (same_Some _ line e) (refl, retyped_is (slots_of commands.Online) fs m)
-said_found commands.Reeval fs line m e = subst (Has commands.Reeval fs) (same_Some _ line e) (refl, retyped_is (slots_of commands.Reeval) fs m)
-said_found commands.Take fs line m e = subst (Has commands.Take fs) (same_Some _ line e) (refl, retyped_is (slots_of commands.Take) fs m)
-said_found commands.Carry fs line m e = subst (Has commands.Carry fs) (same_Some _ line e) (refl, retyped_is (slots_of commands.Carry) fs m)
-said_found commands.Release fs line m e = subst (Has commands.Release fs) (same_Some _ line e) (refl, retyped_is (slots_of commands.Release) fs m)
-said_found commands.Walk fs line m e = subst (Has commands.Walk fs) (same_Some _ line e) (refl, retyped_is (slots_of commands.Walk) fs m)
-said_found commands.HandOn fs line m e = subst (Has commands.HandOn fs) (same_Some _ line e) (refl, retyped_is (slots_of commands.HandOn) fs m)
-said_found commands.Why fs line m e = subst (Has commands.Why fs) (same_Some _ line e) (refl, retyped_is (slots_of commands.Why) fs m)
+said_found : (c : Command) (fs : List Field) (line : TraceLine) → map slot_in fs ≡ field_slots_of c → trace_said_by c fs ≡ Some line → Has c fs line
+said_found commands.Clock fs line m e = subst (Has commands.Clock fs) (same_Some _ line e) (refl, retyped_is (field_slots_of commands.Clock) fs m)
+said_found commands.Enter fs line m e = subst (Has commands.Enter fs) (same_Some _ line e) (refl, retyped_is (field_slots_of commands.Enter) fs m)
+said_found commands.Leave fs line m e = subst (Has commands.Leave fs) (same_Some _ line e) (refl, retyped_is (field_slots_of commands.Leave) fs m)
+said_found commands.Arm fs line m e = subst (Has commands.Arm fs) (same_Some _ line e) (refl, retyped_is (field_slots_of commands.Arm) fs m)
+said_found commands.Cancel fs line m e = subst (Has commands.Cancel fs) (same_Some _ line e) (refl, retyped_is (field_slots_of commands.Cancel) fs m)
+said_found commands.Hand fs line m e = subst (Has commands.Hand fs) (same_Some _ line e) (refl, retyped_is (field_slots_of commands.Hand) fs m)
+said_found commands.Ticked fs line m e = subst (Has commands.Ticked fs) (same_Some _ line e) (refl, retyped_is (field_slots_of commands.Ticked) fs m)
+said_found commands.Move fs line m e = subst (Has commands.Move fs) (same_Some _ line e) (refl, retyped_is (field_slots_of commands.Move) fs m)
+said_found commands.Idle fs line m e = subst (Has commands.Idle fs) (same_Some _ line e) (refl, retyped_is (field_slots_of commands.Idle) fs m)
+said_found commands.Wake fs line m e = subst (Has commands.Wake fs) (same_Some _ line e) (refl, retyped_is (field_slots_of commands.Wake) fs m)
+said_found commands.Offline fs line m e = subst (Has commands.Offline fs) (same_Some _ line e) (refl, retyped_is (field_slots_of commands.Offline) fs m)
+said_found commands.Online fs line m e = subst (Has commands.Online fs) (same_Some _ line e) (refl, retyped_is (field_slots_of commands.Online) fs m)
+said_found commands.Reeval fs line m e = subst (Has commands.Reeval fs) (same_Some _ line e) (refl, retyped_is (field_slots_of commands.Reeval) fs m)
+said_found commands.Take fs line m e = subst (Has commands.Take fs) (same_Some _ line e) (refl, retyped_is (field_slots_of commands.Take) fs m)
+said_found commands.Carry fs line m e = subst (Has commands.Carry fs) (same_Some _ line e) (refl, retyped_is (field_slots_of commands.Carry) fs m)
+said_found commands.Release fs line m e = subst (Has commands.Release fs) (same_Some _ line e) (refl, retyped_is (field_slots_of commands.Release) fs m)
+said_found commands.Walk fs line m e = subst (Has commands.Walk fs) (same_Some _ line e) (refl, retyped_is (field_slots_of commands.Walk) fs m)
+said_found commands.HandOn fs line m e = subst (Has commands.HandOn fs) (same_Some _ line e) (refl, retyped_is (field_slots_of commands.HandOn) fs m)
+said_found commands.Why fs line m e = subst (Has commands.Why fs) (same_Some _ line e) (refl, retyped_is (field_slots_of commands.Why) fs m)
 said_found commands.End fs line m e = absurd cc
 
-end_found : (c : Command) (fs : List Field) → said_by c fs ≡ None → c ≡ commands.End
+end_found : (c : Command) (fs : List Field) → trace_said_by c fs ≡ None → c ≡ commands.End
 end_found commands.Clock fs e = absurd cc
 end_found commands.Enter fs e = absurd cc
 end_found commands.Leave fs e = absurd cc
@@ -204,86 +204,86 @@ no_fields (f ∷ fs) e = absurd cc
 record IsHeard (l : Limits) (words : List (List ℕ)) (said : Option TraceLine) : Type 0 where
   command : Command
   fs : List Field
-  spelled : word_of command ∷ map field_word fs ≡ words
-  within : fields_of l (slots_of command) (map field_word fs) ≡ Ok fs
-  says : said_by command fs ≡ said
+  spelled : trace_word_of command ∷ map field_word fs ≡ words
+  within : fields_of l (field_slots_of command) (map field_word fs) ≡ Ok fs
+  says : trace_said_by command fs ≡ said
 
-or_found : (l : Limits) (c : Command) (first : List ℕ) (behind : List (List ℕ)) (r : Result (List Field) Kind) (said : Option TraceLine) → fields_of l (slots_of c) behind ≡ r → first ≡ word_of c → said_or c r ≡ Ok said → IsHeard l (first ∷ behind) said
+or_found : (l : Limits) (c : Command) (first : List ℕ) (behind : List (List ℕ)) (r : Result (List Field) Kind) (said : Option TraceLine) → fields_of l (field_slots_of c) behind ≡ r → first ≡ trace_word_of c → trace_said_or c r ≡ Ok said → IsHeard l (first ∷ behind) said
 or_found l c first behind (Err k) said is named e = absurd cc
 or_found l c first behind (Ok fs) said is named e =
-    let f = fields_found l (slots_of c) behind fs is in
+    let f = fields_found l (field_slots_of c) behind fs is in
     record {
       command = c;
       fs = fs;
       spelled = (λ i. sym named i ∷ f.0 i);
-      within = ap (fields_of l (slots_of c)) f.0 ∙ is;
-      says = (let same : said_by c fs ≡ said = cc in same);
+      within = ap (fields_of l (field_slots_of c)) f.0 ∙ is;
+      says = (let same : trace_said_by c fs ≡ said = cc in same);
     }
 
-behind_found : (l : Limits) (o : Option Command) (first : List ℕ) (behind : List (List ℕ)) (said : Option TraceLine) → command_of first ≡ o → said_behind l o behind ≡ Ok said → IsHeard l (first ∷ behind) said
-unfolding said_behind
+behind_found : (l : Limits) (o : Option Command) (first : List ℕ) (behind : List (List ℕ)) (said : Option TraceLine) → command_for first ≡ o → said_in_trace l o behind ≡ Ok said → IsHeard l (first ∷ behind) said
+unfolding said_in_trace
 behind_found l None first behind said named e = absurd cc
-behind_found l (Some c) first behind said named e = or_found l c first behind (fields_of l (slots_of c) behind) said refl (command_found first c named) e
+behind_found l (Some c) first behind said named e = or_found l c first behind (fields_of l (field_slots_of c) behind) said refl (command_found first c named) e
 
-room_found : (line : ℕ) (r : Result (Option TraceLine) Kind) (said : Option TraceLine) → in_room line r ≡ Ok said → (r ≡ Ok said) × (line ≤ MOST_LINES)
+room_found : (line : ℕ) (r : Result (Option TraceLine) Kind) (said : Option TraceLine) → trace_in_room line r ≡ Ok said → (r ≡ Ok said) × (line ≤ MOST_LINES)
 room_found line (Err k) said e = absurd cc
 room_found line (Ok x) said e = elim (cases_Bool (leb line MOST_LINES)) [
   | inl fits ↦ (sym (cond-true (leb line MOST_LINES) (Ok x) (Err TooManyLines) fits) ∙ e, leb-true line MOST_LINES fits)
   | inr far ↦ absurd (let no = sym (cond-false (leb line MOST_LINES) (Ok x) (Err TooManyLines) far) ∙ e in cc)
 ]
 
-heard_found : (l : Limits) (line : ℕ) (words : List (List ℕ)) (said : Option TraceLine) → heard l line words ≡ Ok said → IsHeard l words said × (line ≤ MOST_LINES)
-unfolding heard
+heard_found : (l : Limits) (line : ℕ) (words : List (List ℕ)) (said : Option TraceLine) → line_heard l line words ≡ Ok said → IsHeard l words said × (line ≤ MOST_LINES)
+unfolding line_heard
 heard_found l line [] said e = absurd cc
 heard_found l line (first ∷ behind) said e =
-    let room = room_found line (said_behind l (command_of first) behind) said e in
-    (behind_found l (command_of first) first behind said refl room.0, room.1)
+    let room = room_found line (said_in_trace l (command_for first) behind) said e in
+    (behind_found l (command_for first) first behind said refl room.0, room.1)
 
 -- a line that says something is spelled so
-pub line_found : (l : Limits) (n : ℕ) (words : List (List ℕ)) (line : TraceLine) → heard l n words ≡ Ok (Some line) → (spaced words ≡ line_text line) × IsLine l line × (n ≤ MOST_LINES)
+pub line_found : (l : Limits) (n : ℕ) (words : List (List ℕ)) (line : TraceLine) → line_heard l n words ≡ Ok (Some line) → (spaced words ≡ trace_line_text line) × IsLine l line × (n ≤ MOST_LINES)
 line_found l n words line e =
     let h = heard_found l n words (Some line) e in
     let x = h.0 in
-    let f = fields_found l (slots_of x.command) (map field_word x.fs) x.fs x.within in
+    let f = fields_found l (field_slots_of x.command) (map field_word x.fs) x.fs x.within in
     let has = said_found x.command x.fs line f.2 x.says in (
-      ap spaced (sym x.spelled) ∙ (λ i. spaced (word_of (sym has.0 i) ∷ map field_word (sym has.1 i))),
-      subst (λ (fs : List Field). AreWithin l fs) (sym has.1) f.1,
+      ap spaced (sym x.spelled) ∙ (λ i. spaced (trace_word_of (sym has.0 i) ∷ map field_word (sym has.1 i))),
+      subst (λ (fs : List Field). AreFieldsWithin l fs) (sym has.1) f.1,
       h.1,
     )
 
-pub last_found : (l : Limits) (n : ℕ) (words : List (List ℕ)) → heard l n words ≡ Ok None → (spaced words ≡ codes "end") × (n ≤ MOST_LINES)
+pub last_found : (l : Limits) (n : ℕ) (words : List (List ℕ)) → line_heard l n words ≡ Ok None → (spaced words ≡ codes "end") × (n ≤ MOST_LINES)
 last_found l n words e =
     let h = heard_found l n words None e in
     let x = h.0 in
-    let f = fields_found l (slots_of x.command) (map field_word x.fs) x.fs x.within in
+    let f = fields_found l (field_slots_of x.command) (map field_word x.fs) x.fs x.within in
     let end = end_found x.command x.fs x.says in
-    let none = no_fields x.fs (f.2 ∙ ap slots_of end) in
-    (ap spaced (sym x.spelled) ∙ (λ i. spaced (word_of (end i) ∷ map field_word (none i))), h.1)
+    let none = no_fields x.fs (f.2 ∙ ap field_slots_of end) in
+    (ap spaced (sym x.spelled) ∙ (λ i. spaced (trace_word_of (end i) ∷ map field_word (none i))), h.1)
 
 -- ---- again
 
-heard_back : (l : Limits) (n : ℕ) (c : Command) (fs : List Field) (said : Option TraceLine) → n ≤ MOST_LINES → fields_of l (slots_of c) (map field_word fs) ≡ Ok fs → said_by c fs ≡ said → heard l n (word_of c ∷ map field_word fs) ≡ Ok said
-unfolding heard said_behind
+heard_back : (l : Limits) (n : ℕ) (c : Command) (fs : List Field) (said : Option TraceLine) → n ≤ MOST_LINES → fields_of l (field_slots_of c) (map field_word fs) ≡ Ok fs → trace_said_by c fs ≡ said → line_heard l n (trace_word_of c ∷ map field_word fs) ≡ Ok said
+unfolding line_heard said_in_trace
 heard_back l n c fs said room within says =
-    ap (λ (o : Option Command). in_room n (said_behind l o (map field_word fs))) (command_again c)
-    ∙ ap (λ (r : Result (List Field) Kind). in_room n (said_or c r)) within
-    ∙ cond-true (leb n MOST_LINES) (Ok (said_by c fs)) (Err TooManyLines) (le-leb n MOST_LINES room)
+    ap (λ (o : Option Command). trace_in_room n (said_in_trace l o (map field_word fs))) (command_again c)
+    ∙ ap (λ (r : Result (List Field) Kind). trace_in_room n (trace_said_or c r)) within
+    ∙ cond-true (leb n MOST_LINES) (Ok (trace_said_by c fs)) (Err TooManyLines) (le-leb n MOST_LINES room)
     ∙ ap (λ (s : Option TraceLine). Ok s) says
 
-pub line_back : (l : Limits) → AreSmall l → (n : ℕ) (line : TraceLine) → n ≤ MOST_LINES → IsLine l line → heard l n (words_of (line_text line)) ≡ Ok (Some line)
+pub line_back : (l : Limits) → AreSmall l → (n : ℕ) (line : TraceLine) → n ≤ MOST_LINES → IsLine l line → line_heard l n (words_of (trace_line_text line)) ≡ Ok (Some line)
 line_back l small n line room is =
     let c = command_in line in
     let fs = fields_in line in
-    ap (heard l n) (words_again (word_of c) (map field_word fs) (word_spaces c, fields_spaces l small fs is))
+    ap (line_heard l n) (words_again (trace_word_of c) (map field_word fs) (word_spaces c, fields_spaces l small fs is))
     ∙ heard_back l n c fs (Some line) room (ap (λ ss. fields_of l ss (map field_word fs)) (sym (places_match line)) ∙ fields_back l small fs is) (said_back line)
 
 none_back : (l : Limits) → fields_of l [] [] ≡ Ok []
 unfolding fields_of
 none_back l = refl
 
-pub last_back : (l : Limits) (n : ℕ) → n ≤ MOST_LINES → heard l n (words_of (codes "end")) ≡ Ok None
+pub last_back : (l : Limits) (n : ℕ) → n ≤ MOST_LINES → line_heard l n (words_of (codes "end")) ≡ Ok None
 last_back l n room =
-    ap (heard l n) (words_again (codes "end") [] (refl, tt)) ∙ heard_back l n commands.End [] None room (none_back l) refl
+    ap (line_heard l n) (words_again (codes "end") [] (refl, tt)) ∙ heard_back l n commands.End [] None room (none_back l) refl
 
 -- ---- no line feed stands in a line
 
@@ -291,5 +291,5 @@ clear_spaced : (first : List ℕ) (ws : List (List ℕ)) → AreClear 10 (first 
 clear_spaced first [] h = h.0
 clear_spaced first (w ∷ ws) h = rw list_all-append (and_from _ _ h.0 (clear_spaced w ws h.1))
 
-pub line_clear : (l : Limits) → AreSmall l → (line : TraceLine) → IsLine l line → is_clear 10 (line_text line) ≡ true
-line_clear l small line is = clear_spaced (word_of (command_in line)) (map field_word (fields_in line)) (word_feeds (command_in line), fields_feeds l small (fields_in line) is)
+pub line_clear : (l : Limits) → AreSmall l → (line : TraceLine) → IsLine l line → is_clear 10 (trace_line_text line) ≡ true
+line_clear l small line is = clear_spaced (trace_word_of (command_in line)) (map field_word (fields_in line)) (word_feeds (command_in line), fields_feeds l small (fields_in line) is)

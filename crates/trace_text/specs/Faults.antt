@@ -10,7 +10,7 @@ use Rattle.tm_script.specs.declared.faults.ScriptFault.{ScriptFault}
 use Rattle.tm_script.specs.Faults.{fault_of}
 use Rattle.trace_text.specs.declared.traces.TraceLine.{TraceLine}
 use Rattle.trace_text.specs.declared.words.Limits.{Limits}
-use Rattle.trace_text.specs.Reading.{fault_at, lines_from, unended}
+use Rattle.trace_text.specs.Reading.{lines_from, trace_fault_at, unended_trace}
 
 -- the script of version 2 whose machine has these lines, and in which nothing happens
 abbrev pub machine_text : List (List ℕ) → List ℕ
@@ -32,9 +32,9 @@ limits_by nodes cpus timers = record {
 }
 
 -- the fault that reading tells, if it does
-abbrev pub fault_told : Result (List TraceLine) ScriptFault → Option ScriptFault
-fault_told (Ok ls) = None
-fault_told (Err fault) = Some fault
+abbrev pub trace_fault_told : Result (List TraceLine) ScriptFault → Option ScriptFault
+trace_fault_told (Ok ls) = None
+trace_fault_told (Err fault) = Some fault
 
 -- of two faults the one that comes first
 abbrev pub first_fault : Option ScriptFault → Option ScriptFault → Option ScriptFault
@@ -42,24 +42,24 @@ first_fault None later = later
 first_fault (Some fault) later = Some fault
 
 -- The number of the first line behind those of the machine.
-abbrev pub first_line : ℕ
-first_line = 6
+abbrev pub first_trace_line : ℕ
+first_trace_line = 6
 
 -- Behind the first line: the lines of the machine have the faults of a script of version 2. Then
 -- come those of the steps.
 abbrev pub fault_behind : List (List ℕ) → Option ScriptFault
 fault_behind (nodes ∷ cpus ∷ timers ∷ isolated ∷ next ∷ more) =
     first_fault (fault_of (machine_text (nodes ∷ cpus ∷ timers ∷ isolated ∷ [])))
-    (fault_told (lines_from (limits_by nodes cpus timers) first_line (next ∷ more)))
+    (trace_fault_told (lines_from (limits_by nodes cpus timers) first_trace_line (next ∷ more)))
 fault_behind parts = fault_of (machine_front parts)
 
 -- the first fault of these parts of a text, the last of which isn't ended
 abbrev pub fault_among : List (List ℕ) → Option ScriptFault
-fault_among [] = Some (fault_at 1 NoEnd)
-fault_among (rest ∷ []) = Some (unended 1 rest)
+fault_among [] = Some (trace_fault_at 1 NoEnd)
+fault_among (rest ∷ []) = Some (unended_trace 1 rest)
 fault_among (first ∷ next ∷ more) =
     if bytes_eq first (codes "trace 1") then fault_behind (next ∷ more)
-    else Some (fault_at 1 BadLine)
+    else Some (trace_fault_at 1 BadLine)
 
 -- THE FIRST FAULT of a text
 abbrev pub trace_fault : List ℕ → Option ScriptFault

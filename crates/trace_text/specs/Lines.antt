@@ -17,51 +17,51 @@ use Rattle.trace_text.specs.declared.words.Field.{Field}
 use Rattle.trace_text.specs.declared.words.Field.TheVariants as fields
 
 -- how a first word is spelled
-abbrev pub word_of : Command → List ℕ
-word_of commands.Clock = codes "clock"
-word_of commands.Enter = codes "enter"
-word_of commands.Leave = codes "leave"
-word_of commands.Arm = codes "arm"
-word_of commands.Cancel = codes "cancel"
-word_of commands.Hand = codes "hand"
-word_of commands.Ticked = codes "ticked"
-word_of commands.Move = codes "move"
-word_of commands.Idle = codes "idle"
-word_of commands.Wake = codes "wake"
-word_of commands.Offline = codes "offline"
-word_of commands.Online = codes "online"
-word_of commands.Reeval = codes "reeval"
-word_of commands.Take = codes "take"
-word_of commands.Carry = codes "carry"
-word_of commands.Release = codes "release"
-word_of commands.Walk = codes "walk"
-word_of commands.HandOn = codes "handon"
-word_of commands.Why = codes "why"
-word_of commands.End = codes "end"
+abbrev pub trace_word_of : Command → List ℕ
+trace_word_of commands.Clock = codes "clock"
+trace_word_of commands.Enter = codes "enter"
+trace_word_of commands.Leave = codes "leave"
+trace_word_of commands.Arm = codes "arm"
+trace_word_of commands.Cancel = codes "cancel"
+trace_word_of commands.Hand = codes "hand"
+trace_word_of commands.Ticked = codes "ticked"
+trace_word_of commands.Move = codes "move"
+trace_word_of commands.Idle = codes "idle"
+trace_word_of commands.Wake = codes "wake"
+trace_word_of commands.Offline = codes "offline"
+trace_word_of commands.Online = codes "online"
+trace_word_of commands.Reeval = codes "reeval"
+trace_word_of commands.Take = codes "take"
+trace_word_of commands.Carry = codes "carry"
+trace_word_of commands.Release = codes "release"
+trace_word_of commands.Walk = codes "walk"
+trace_word_of commands.HandOn = codes "handon"
+trace_word_of commands.Why = codes "why"
+trace_word_of commands.End = codes "end"
 
 -- what has to stand behind it
-abbrev pub slots_of : Command → List Slot
-slots_of commands.Clock = slots.Time ∷ []
-slots_of commands.Enter = slots.Cpu ∷ []
-slots_of commands.Leave = slots.Cpu ∷ []
-slots_of commands.Arm =
+abbrev pub field_slots_of : Command → List Slot
+field_slots_of commands.Clock = slots.Time ∷ []
+field_slots_of commands.Enter = slots.Cpu ∷ []
+field_slots_of commands.Leave = slots.Cpu ∷ []
+field_slots_of commands.Arm =
     slots.Cpu ∷ slots.Timer ∷ slots.Class ∷ slots.Time ∷ slots.Job ∷ slots.Arg ∷ slots.Line ∷ []
-slots_of commands.Cancel = slots.Cpu ∷ slots.Timer ∷ slots.Cpu ∷ slots.Line ∷ []
-slots_of commands.Hand = slots.Cpu ∷ slots.Timer ∷ slots.Cpu ∷ []
-slots_of commands.Ticked = slots.Cpu ∷ slots.Class ∷ slots.Cpu ∷ []
-slots_of commands.Move = slots.Cpu ∷ slots.Cpu ∷ slots.Timer ∷ []
-slots_of commands.Idle = slots.Cpu ∷ []
-slots_of commands.Wake = slots.Cpu ∷ []
-slots_of commands.Offline = slots.Cpu ∷ []
-slots_of commands.Online = slots.Cpu ∷ []
-slots_of commands.Reeval = slots.Cpu ∷ []
-slots_of commands.Take = slots.Cpu ∷ slots.Cpu ∷ []
-slots_of commands.Carry = slots.Cpu ∷ []
-slots_of commands.Release = slots.Cpu ∷ []
-slots_of commands.Walk = slots.Cpu ∷ []
-slots_of commands.HandOn = slots.Cpu ∷ slots.Cpu ∷ []
-slots_of commands.Why = slots.Cpu ∷ slots.Timer ∷ []
-slots_of commands.End = []
+field_slots_of commands.Cancel = slots.Cpu ∷ slots.Timer ∷ slots.Cpu ∷ slots.Line ∷ []
+field_slots_of commands.Hand = slots.Cpu ∷ slots.Timer ∷ slots.Cpu ∷ []
+field_slots_of commands.Ticked = slots.Cpu ∷ slots.Class ∷ slots.Cpu ∷ []
+field_slots_of commands.Move = slots.Cpu ∷ slots.Cpu ∷ slots.Timer ∷ []
+field_slots_of commands.Idle = slots.Cpu ∷ []
+field_slots_of commands.Wake = slots.Cpu ∷ []
+field_slots_of commands.Offline = slots.Cpu ∷ []
+field_slots_of commands.Online = slots.Cpu ∷ []
+field_slots_of commands.Reeval = slots.Cpu ∷ []
+field_slots_of commands.Take = slots.Cpu ∷ slots.Cpu ∷ []
+field_slots_of commands.Carry = slots.Cpu ∷ []
+field_slots_of commands.Release = slots.Cpu ∷ []
+field_slots_of commands.Walk = slots.Cpu ∷ []
+field_slots_of commands.HandOn = slots.Cpu ∷ slots.Cpu ∷ []
+field_slots_of commands.Why = slots.Cpu ∷ slots.Timer ∷ []
+field_slots_of commands.End = []
 
 -- the first word of a line
 abbrev pub command_in : TraceLine → Command
@@ -124,8 +124,8 @@ field_word (fields.Arg arg) = decimal arg
 field_word (fields.Line line) = decimal line
 
 -- THE LINE: its words, parted by one space each
-abbrev pub line_text : TraceLine → List ℕ
-line_text line = spaced (word_of (command_in line) ∷ map field_word (fields_in line))
+abbrev pub trace_line_text : TraceLine → List ℕ
+trace_line_text line = spaced (trace_word_of (command_in line) ∷ map field_word (fields_in line))
 
 -- a number at such a place is below this one; a class is no number
 abbrev pub bound_of : Limits → Slot → ℕ
@@ -148,10 +148,10 @@ IsWithin l (fields.Arg arg) = arg < bound_of l slots.Arg
 IsWithin l (fields.Line line) = line < bound_of l slots.Line
 
 -- and so is each of a list of fields
-abbrev pub AreWithin : Limits → List Field → Type 0
-AreWithin l [] = Unit {0}
-AreWithin l (f ∷ fs) = IsWithin l f × AreWithin l fs
+abbrev pub AreFieldsWithin : Limits → List Field → Type 0
+AreFieldsWithin l [] = Unit {0}
+AreFieldsWithin l (f ∷ fs) = IsWithin l f × AreFieldsWithin l fs
 
 -- A LINE of a machine with these limits
 abbrev pub IsLine : Limits → TraceLine → Type 0
-IsLine l line = AreWithin l (fields_in line)
+IsLine l line = AreFieldsWithin l (fields_in line)

@@ -23,7 +23,7 @@ use Rattle.trace_text.specs.declared.words.Slot.{Slot}
 use Rattle.trace_text.specs.declared.words.Slot.TheVariants as slots
 use Rattle.trace_text.specs.declared.words.Field.{Field}
 use Rattle.trace_text.specs.declared.words.Field.TheVariants as fields
-use Rattle.trace_text.specs.Lines.{bound_of, slots_of, word_of}
+use Rattle.trace_text.specs.Lines.{bound_of, field_slots_of, trace_word_of}
 
 -- a step, and what follows it where it gave something
 infixl 10 ◌>>=◌
@@ -66,21 +66,21 @@ field_at l slots.Line word =
     number_below (bound_of l slots.Line) word >>= λ n. Ok (fields.Line n)
 
 -- of two kinds of fault in one line the first in their order
-abbrev pub first_kind : Kind → Kind → Kind
-first_kind BadLine k = BadLine
-first_kind BadNumber BadLine = BadLine
-first_kind BadNumber k = BadNumber
-first_kind OutOfRange BadLine = BadLine
-first_kind OutOfRange BadNumber = BadNumber
-first_kind OutOfRange k = OutOfRange
-first_kind j k = k
+abbrev pub first_trace_kind : Kind → Kind → Kind
+first_trace_kind BadLine k = BadLine
+first_trace_kind BadNumber BadLine = BadLine
+first_trace_kind BadNumber k = BadNumber
+first_trace_kind OutOfRange BadLine = BadLine
+first_trace_kind OutOfRange BadNumber = BadNumber
+first_trace_kind OutOfRange k = OutOfRange
+first_trace_kind j k = k
 
 -- a field and those behind it, or the first kind of fault
-abbrev pub joined : Result Field Kind → Result (List Field) Kind → Result (List Field) Kind
-joined (Ok f) (Ok fs) = Ok (f ∷ fs)
-joined (Ok f) (Err k) = Err k
-joined (Err j) (Ok fs) = Err j
-joined (Err j) (Err k) = Err (first_kind j k)
+abbrev pub joined_fields : Result Field Kind → Result (List Field) Kind → Result (List Field) Kind
+joined_fields (Ok f) (Ok fs) = Ok (f ∷ fs)
+joined_fields (Ok f) (Err k) = Err k
+joined_fields (Err j) (Ok fs) = Err j
+joined_fields (Err j) (Err k) = Err (first_trace_kind j k)
 
 -- what words say at these places, or the first kind of fault that they have; there is a word for
 -- each place
@@ -88,7 +88,7 @@ unfoldable pub fields_of : Limits → List Slot → List (List ℕ) → Result (
 fields_of l [] [] = Ok []
 fields_of l [] (w ∷ ws) = Err BadLine
 fields_of l (s ∷ ss) [] = Err BadLine
-fields_of l (s ∷ ss) (w ∷ ws) = joined (field_at l s w) (fields_of l ss ws)
+fields_of l (s ∷ ss) (w ∷ ws) = joined_fields (field_at l s w) (fields_of l ss ws)
 
 -- ---- lines
 
@@ -118,9 +118,9 @@ timer_by (fields.Timer x) = x
 timer_by _ = record { 0 = 0 }
 
 -- .. as a class
-abbrev pub class_named : Field → Class
-class_named (fields.Class x) = x
-class_named _ = Global
+abbrev pub class_in_field : Field → Class
+class_in_field (fields.Class x) = x
+class_in_field _ = Global
 
 -- .. as a time, in jiffies
 abbrev pub time_by : Field → ℕ
@@ -138,45 +138,45 @@ arg_by (fields.Arg x) = x
 arg_by _ = 0
 
 -- .. as the number of a line
-abbrev pub line_by : Field → ℕ
-line_by (fields.Line x) = x
-line_by _ = 0
+abbrev pub line_in_field : Field → ℕ
+line_in_field (fields.Line x) = x
+line_in_field _ = 0
 
 -- what a line of this first word and these fields says; None is the end of the trace
-abbrev pub said_by : Command → List Field → Option TraceLine
-said_by commands.Clock fs = Some (lines.Do (steps.Clock (time_by (field_of fs 0))))
-said_by commands.Enter fs = Some (lines.Do (steps.Enter (cpu_by (field_of fs 0))))
-said_by commands.Leave fs = Some (lines.Do (steps.Leave (cpu_by (field_of fs 0))))
-said_by commands.Arm fs =
+abbrev pub trace_said_by : Command → List Field → Option TraceLine
+trace_said_by commands.Clock fs = Some (lines.Do (steps.Clock (time_by (field_of fs 0))))
+trace_said_by commands.Enter fs = Some (lines.Do (steps.Enter (cpu_by (field_of fs 0))))
+trace_said_by commands.Leave fs = Some (lines.Do (steps.Leave (cpu_by (field_of fs 0))))
+trace_said_by commands.Arm fs =
     Some (lines.Do (steps.Arm (cpu_by (field_of fs 0)) (timer_by (field_of fs 1))
-    (class_named (field_of fs 2)) (time_by (field_of fs 3)) (job_by (field_of fs 4))
-    (arg_by (field_of fs 5)) (line_by (field_of fs 6))))
-said_by commands.Cancel fs =
+    (class_in_field (field_of fs 2)) (time_by (field_of fs 3)) (job_by (field_of fs 4))
+    (arg_by (field_of fs 5)) (line_in_field (field_of fs 6))))
+trace_said_by commands.Cancel fs =
     Some (lines.Do (steps.Cancel (cpu_by (field_of fs 0)) (timer_by (field_of fs 1))
-    (cpu_by (field_of fs 2)) (line_by (field_of fs 3))))
-said_by commands.Hand fs =
+    (cpu_by (field_of fs 2)) (line_in_field (field_of fs 3))))
+trace_said_by commands.Hand fs =
     Some (lines.Do (steps.Hand (cpu_by (field_of fs 0)) (timer_by (field_of fs 1))
     (cpu_by (field_of fs 2))))
-said_by commands.Ticked fs =
-    Some (lines.Do (steps.Ticked (cpu_by (field_of fs 0)) (class_named (field_of fs 1))
+trace_said_by commands.Ticked fs =
+    Some (lines.Do (steps.Ticked (cpu_by (field_of fs 0)) (class_in_field (field_of fs 1))
     (cpu_by (field_of fs 2))))
-said_by commands.Move fs =
+trace_said_by commands.Move fs =
     Some (lines.Do (steps.Move (cpu_by (field_of fs 0)) (cpu_by (field_of fs 1))
     (timer_by (field_of fs 2))))
-said_by commands.Idle fs = Some (lines.Do (steps.Idle (cpu_by (field_of fs 0))))
-said_by commands.Wake fs = Some (lines.Do (steps.Wake (cpu_by (field_of fs 0))))
-said_by commands.Offline fs = Some (lines.Do (steps.Offline (cpu_by (field_of fs 0))))
-said_by commands.Online fs = Some (lines.Do (steps.Online (cpu_by (field_of fs 0))))
-said_by commands.Reeval fs = Some (lines.Do (steps.Reeval (cpu_by (field_of fs 0))))
-said_by commands.Take fs =
+trace_said_by commands.Idle fs = Some (lines.Do (steps.Idle (cpu_by (field_of fs 0))))
+trace_said_by commands.Wake fs = Some (lines.Do (steps.Wake (cpu_by (field_of fs 0))))
+trace_said_by commands.Offline fs = Some (lines.Do (steps.Offline (cpu_by (field_of fs 0))))
+trace_said_by commands.Online fs = Some (lines.Do (steps.Online (cpu_by (field_of fs 0))))
+trace_said_by commands.Reeval fs = Some (lines.Do (steps.Reeval (cpu_by (field_of fs 0))))
+trace_said_by commands.Take fs =
     Some (lines.Do (steps.Take (cpu_by (field_of fs 0)) (cpu_by (field_of fs 1))))
-said_by commands.Carry fs = Some (lines.Do (steps.Carry (cpu_by (field_of fs 0))))
-said_by commands.Release fs = Some (lines.Do (steps.Release (cpu_by (field_of fs 0))))
-said_by commands.Walk fs = Some (lines.Do (steps.Walk (cpu_by (field_of fs 0))))
-said_by commands.HandOn fs =
+trace_said_by commands.Carry fs = Some (lines.Do (steps.Carry (cpu_by (field_of fs 0))))
+trace_said_by commands.Release fs = Some (lines.Do (steps.Release (cpu_by (field_of fs 0))))
+trace_said_by commands.Walk fs = Some (lines.Do (steps.Walk (cpu_by (field_of fs 0))))
+trace_said_by commands.HandOn fs =
     Some (lines.Do (steps.HandOn (cpu_by (field_of fs 0)) (cpu_by (field_of fs 1))))
-said_by commands.Why fs = Some (lines.Why (cpu_by (field_of fs 0)) (timer_by (field_of fs 1)))
-said_by commands.End fs = None
+trace_said_by commands.Why fs = Some (lines.Why (cpu_by (field_of fs 0)) (timer_by (field_of fs 1)))
+trace_said_by commands.End fs = None
 
 -- the first words, of which the later ones are
 abbrev pub later_commands : List Command
@@ -185,56 +185,58 @@ later_commands =
     ∷ commands.Release ∷ commands.Walk ∷ commands.HandOn ∷ commands.Why ∷ commands.End ∷ []
 
 -- all first words
-abbrev pub all_commands : List Command
-all_commands =
+abbrev pub all_trace_commands : List Command
+all_trace_commands =
     commands.Clock ∷ commands.Enter ∷ commands.Leave ∷ commands.Arm ∷ commands.Cancel
     ∷ commands.Hand ∷ commands.Ticked ∷ commands.Move ∷ commands.Idle ∷ commands.Wake
     ∷ later_commands
 
 -- the first word that is spelled so
 unfoldable pub later_command : List ℕ → Option Command
-later_command word = find (λ command. bytes_eq word (word_of command)) later_commands
+later_command word = find (λ command. bytes_eq word (trace_word_of command)) later_commands
 
 -- the command of a first word
-unfoldable pub command_of : List ℕ → Option Command
-command_of word = find (λ command. bytes_eq word (word_of command)) all_commands
+unfoldable pub command_for : List ℕ → Option Command
+command_for word = find (λ command. bytes_eq word (trace_word_of command)) all_trace_commands
 
 -- what a command says by its fields, if they have no fault
-abbrev pub said_or : Command → Result (List Field) Kind → Result (Option TraceLine) Kind
-said_or command (Err kind) = Err kind
-said_or command (Ok fs) = Ok (said_by command fs)
+abbrev pub trace_said_or : Command → Result (List Field) Kind → Result (Option TraceLine) Kind
+trace_said_or command (Err kind) = Err kind
+trace_said_or command (Ok fs) = Ok (trace_said_by command fs)
 
 -- what the words behind a first word say
-unfoldable pub said_behind : Limits → Option Command → List (List ℕ) →
+unfoldable pub said_in_trace : Limits → Option Command → List (List ℕ) →
     Result (Option TraceLine) Kind
-said_behind l None words = Err BadLine
-said_behind l (Some command) words = said_or command (fields_of l (slots_of command) words)
+said_in_trace l None words = Err BadLine
+said_in_trace l (Some command) words =
+    trace_said_or command (fields_of l (field_slots_of command) words)
 
 -- a line past the last that there may be has the last kind of fault
-abbrev pub in_room : (line : ℕ) → Result (Option TraceLine) Kind → Result (Option TraceLine) Kind
-in_room line (Err kind) = Err kind
-in_room line (Ok said) = if nat_le line MOST_LINES then Ok said else Err TooManyLines
+abbrev pub trace_in_room : (line : ℕ) → Result (Option TraceLine) Kind
+    → Result (Option TraceLine) Kind
+trace_in_room line (Err kind) = Err kind
+trace_in_room line (Ok said) = if nat_le line MOST_LINES then Ok said else Err TooManyLines
 
 -- what line number `line` says, by its words, or the first kind of fault that it has
-unfoldable pub heard : Limits → (line : ℕ) → List (List ℕ) → Result (Option TraceLine) Kind
-heard l line [] = Err BadLine
-heard l line (first ∷ behind) = in_room line (said_behind l (command_of first) behind)
+unfoldable pub line_heard : Limits → (line : ℕ) → List (List ℕ) → Result (Option TraceLine) Kind
+line_heard l line [] = Err BadLine
+line_heard l line (first ∷ behind) = trace_in_room line (said_in_trace l (command_for first) behind)
 
 -- ---- the lines
 
 -- a fault of this line
-abbrev pub fault_at : (line : ℕ) → Kind → ScriptFault
-fault_at line kind = record { line = line; kind = kind }
+abbrev pub trace_fault_at : (line : ℕ) → Kind → ScriptFault
+trace_fault_at line kind = record { line = line; kind = kind }
 
 -- where no line feed follows: a further line is missing, or the line isn't ended
-abbrev pub unended : (line : ℕ) → List ℕ → ScriptFault
-unended line [] = fault_at line NoEnd
-unended line (b ∷ bs) = fault_at line BadLine
+abbrev pub unended_trace : (line : ℕ) → List ℕ → ScriptFault
+unended_trace line [] = trace_fault_at line NoEnd
+unended_trace line (b ∷ bs) = trace_fault_at line BadLine
 
 -- nothing stands behind the end
-abbrev pub closing : (line : ℕ) → List (List ℕ) → Result (List TraceLine) ScriptFault
-closing line ([] ∷ []) = Ok []
-closing line _ = Err (fault_at line BadLine)
+abbrev pub trace_closing : (line : ℕ) → List (List ℕ) → Result (List TraceLine) ScriptFault
+trace_closing line ([] ∷ []) = Ok []
+trace_closing line _ = Err (trace_fault_at line BadLine)
 
 -- a line in front of those that follow
 abbrev pub with_line : TraceLine → Result (List TraceLine) ScriptFault →
@@ -243,18 +245,18 @@ with_line line (Ok ls) = Ok (line ∷ ls)
 with_line line (Err fault) = Err fault
 
 -- reading goes on behind a line, ends, or stops at its fault
-abbrev pub go_on : (line : ℕ) → Result (Option TraceLine) Kind →
+abbrev pub trace_read_on : (line : ℕ) → Result (Option TraceLine) Kind →
     (closed rest : Result (List TraceLine) ScriptFault) → Result (List TraceLine) ScriptFault
-go_on line (Err kind) closed rest = Err (fault_at line kind)
-go_on line (Ok None) closed rest = closed
-go_on line (Ok (Some said)) closed rest = with_line said rest
+trace_read_on line (Err kind) closed rest = Err (trace_fault_at line kind)
+trace_read_on line (Ok None) closed rest = closed
+trace_read_on line (Ok (Some said)) closed rest = with_line said rest
 
 -- What these parts of a text say, from line number `line` up to the end, or the first fault. The
 -- last part is what stands behind the last line feed.
 unfoldable pub lines_from : Limits → (line : ℕ) → List (List ℕ) →
     Result (List TraceLine) ScriptFault
-lines_from l line [] = Err (fault_at line NoEnd)
-lines_from l line (rest ∷ []) = Err (unended line rest)
+lines_from l line [] = Err (trace_fault_at line NoEnd)
+lines_from l line (rest ∷ []) = Err (unended_trace line rest)
 lines_from l line (words ∷ next ∷ more) =
-    go_on line (heard l line (words_of words)) (closing (line + 1) (next ∷ more))
+    trace_read_on line (line_heard l line (words_of words)) (trace_closing (line + 1) (next ∷ more))
     (lines_from l (line + 1) (next ∷ more))

@@ -10,7 +10,7 @@ use Rattle.tm_script.specs.Reader.{IsOnlyScriptOf}
 use Rattle.trace_text.specs.declared.answers.ReadTrace.{ReadTrace}
 use Rattle.trace_text.specs.declared.answers.ReadTrace.TheVariants.{Refused, NoMemory}
 use Rattle.trace_text.specs.declared.traces.Trace.{Trace}
-use Rattle.trace_text.specs.Lines.{line_text}
+use Rattle.trace_text.specs.Lines.{trace_line_text}
 use Rattle.trace_text.specs.Texts.{IsTrace, as_script, machine_lines}
 use Rattle.trace_text.specs.Faults.{fault_behind, machine_text}
 use Rattle.trace_text.specs.declared.traces.TraceLine.{TraceLine}
@@ -23,9 +23,9 @@ pub record IsFieldList (fields : List Field) (first : ℕ) : Type 0 where
   pub within : first ≤ MOST_FIELDS
 
 -- the words behind a first one, which may be none
-abbrev pub words_behind : Option (List ℕ) → List (List ℕ)
-words_behind None = []
-words_behind (Some bytes) = words_of bytes
+abbrev pub trace_words_behind : Option (List ℕ) → List (List ℕ)
+trace_words_behind None = []
+trace_words_behind (Some bytes) = words_of bytes
 
 -- lines in front of those that are still to be read
 abbrev pub with_front : List TraceLine → Result (List TraceLine) ScriptFault →
@@ -34,14 +34,14 @@ with_front front (Ok ls) = Ok (front ++ ls)
 with_front front (Err fault) = Err fault
 
 -- what a function returned is what reading gives; want of memory may stand for either
-abbrev pub Fails : {A : Type 0} → ReadTrace → Result A ScriptFault → Type 0
-Fails (Refused fault) read = read ≡ Err fault
-Fails NoMemory read = Unit {0}
+abbrev pub FailsTrace : {A : Type 0} → ReadTrace → Result A ScriptFault → Type 0
+FailsTrace (Refused fault) read = read ≡ Err fault
+FailsTrace NoMemory read = Unit {0}
 
 -- an answer is what reading gives
 abbrev pub Gives : {A : Type 0} → Result A ReadTrace → Result A ScriptFault → Type 0
 Gives (Ok x) read = read ≡ Ok x
-Gives (Err e) read = Fails e read
+Gives (Err e) read = FailsTrace e read
 
 -- the script whose text this is
 pub record IsScriptOf (text : List ℕ) (s : Script) : Type 0 where
@@ -55,7 +55,7 @@ FailsAsScript text NoMemory = Unit {0}
 
 -- the lines of steps and questions, the end, and nothing behind it
 abbrev pub body_parts : List TraceLine → List (List ℕ)
-body_parts ls = map line_text ls ++ codes "end" ∷ [] ∷ []
+body_parts ls = map trace_line_text ls ++ codes "end" ∷ [] ∷ []
 
 -- what is read behind the first line
 pub record IsReadBehind (parts : List (List ℕ)) (t : Trace) : Type 0 where

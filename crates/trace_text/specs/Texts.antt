@@ -8,7 +8,7 @@ use Rattle.tm_script.specs.Texts.{isolated_line, number_line}
 use Rattle.tm_script.specs.Grammar.{IsScript}
 use Rattle.trace_text.specs.declared.traces.Trace.{Trace}
 use Rattle.trace_text.specs.declared.words.Limits.{Limits}
-use Rattle.trace_text.specs.Lines.{IsLine, line_text}
+use Rattle.trace_text.specs.Lines.{IsLine, trace_line_text}
 
 -- how many CPUs the machine has
 abbrev pub cpu_count : Trace → ℕ
@@ -23,7 +23,7 @@ machine_lines t =
 -- the lines of a trace
 abbrev pub trace_lines : Trace → List (List ℕ)
 trace_lines t =
-    codes "trace 1" ∷ (machine_lines t ++ (map line_text t.lines ++ codes "end" ∷ []))
+    codes "trace 1" ∷ (machine_lines t ++ (map trace_line_text t.lines ++ codes "end" ∷ []))
 
 -- THE TEXT of a trace
 abbrev pub trace_text : Trace → List ℕ
@@ -52,5 +52,5 @@ pub record IsTrace (t : Trace) : Type 0 where
   pub few_lines : length (trace_lines t) ≤ MOST_LINES
 
 -- these bytes spell the trace
-abbrev pub Spells : List ℕ → Trace → Type 0
-Spells bytes t = IsTrace t × (trace_text t ≡ bytes)
+abbrev pub SpellsTrace : List ℕ → Trace → Type 0
+SpellsTrace bytes t = IsTrace t × (trace_text t ≡ bytes)

@@ -3,9 +3,10 @@
 ghost use Rattle.std.specs.Prelude.{◌≡◌, ◌+◌, ◌<◌, ◌≤◌, ◌∷◌, [], IfOk, length, Ok, Err};
 ghost use Rattle.std.specs.Option.{option_copied};
 ghost use Rattle.text_words.specs.Words.{words_of};
-ghost use Rattle.trace_text.specs.Reading.{class_by, field_at, field_of, fields_of, first_kind};
-ghost use Rattle.trace_text.specs.Reading.{joined, number_below};
-ghost use Rattle.trace_text.specs.Steps.{words_behind};
+ghost use Rattle.trace_text.specs.Reading.{class_by, field_at, field_of, fields_of};
+ghost use Rattle.trace_text.specs.Reading.{first_trace_kind};
+ghost use Rattle.trace_text.specs.Reading.{joined_fields, number_below};
+ghost use Rattle.trace_text.specs.Steps.{trace_words_behind};
 
 use crate::words::{ARG_LIMIT, Field, JOB_LIMIT, LINE_LIMIT, Limits, Slot};
 use std::marker::Model;
@@ -120,7 +121,7 @@ fn read_field(limits: Limits, slot: Slot, word: &[u8]) -> Result<Field, Kind>
 
 /// Of two kinds of fault in one line the first in their order.
 fn first_kind(this: Kind, that: Kind) -> Kind
-    ensures { result ≡ first_kind this that }
+    ensures { result ≡ first_trace_kind this that }
 {
     match this {
         Kind::BadLine => Kind::BadLine,
@@ -140,7 +141,7 @@ fn first_kind(this: Kind, that: Kind) -> Kind
 /// One field, and those of the words behind it.
 fn join(first: Result<Field, Kind>, behind: Result<FieldList, Kind>) -> Result<FieldList, Kind>
     requires { IfOk behind (λ fs. length fs < MOST_FIELDS) }
-    ensures { result ≡ joined first behind }
+    ensures { result ≡ joined_fields first behind }
 {
     match first {
         Ok(field) => match behind {
@@ -156,7 +157,7 @@ fn join(first: Result<Field, Kind>, behind: Result<FieldList, Kind>) -> Result<F
 
 /// The first word of a line, and what stands behind its space, where there is one.
 pub(crate) fn first_word(line: &[u8]) -> (&[u8], Option<&[u8]>)
-    ensures words { words_of line.now ≡ result.0.now ∷ words_behind (option_copied result.1) }
+    ensures words { words_of line.now ≡ result.0.now ∷ trace_words_behind (option_copied result.1) }
 {
     match cut(line, b' ') {
         Some((word, rest)) => (word, Some(rest)),
@@ -173,7 +174,7 @@ pub(crate) fn read_fields(
 ) -> Result<FieldList, Kind>
     requires { length slots.now ≤ MOST_FIELDS }
     ensures value { result
-        ≡ fields_of limits slots.now (words_behind (option_copied words.entry)) }
+        ≡ fields_of limits slots.now (trace_words_behind (option_copied words.entry)) }
     ensures as_many { IfOk result (λ fs. length fs ≡ length slots.now) }
 {
     match slots {

@@ -3,11 +3,12 @@
 ghost use Rattle.std.specs.Prelude.{◌≡◌, Some};
 ghost use Rattle.std.specs.Option.{option_copied};
 ghost use Rattle.text_words.specs.Words.{words_of};
-ghost use Rattle.trace_text.specs.Lines.{slots_of};
-ghost use Rattle.trace_text.specs.Reading.{arg_by, class_named, command_of, cpu_by, fields_of};
-ghost use Rattle.trace_text.specs.Reading.{heard, job_by, later_command, line_by, said_behind};
-ghost use Rattle.trace_text.specs.Reading.{said_by, time_by, timer_by};
-ghost use Rattle.trace_text.specs.Steps.{words_behind};
+ghost use Rattle.trace_text.specs.Lines.{field_slots_of};
+ghost use Rattle.trace_text.specs.Reading.{arg_by, class_in_field, command_for, cpu_by, fields_of};
+ghost use Rattle.trace_text.specs.Reading.{job_by, later_command, line_heard, line_in_field};
+ghost use Rattle.trace_text.specs.Reading.{said_in_trace};
+ghost use Rattle.trace_text.specs.Reading.{time_by, timer_by, trace_said_by};
+ghost use Rattle.trace_text.specs.Steps.{trace_words_behind};
 
 use crate::fields::{FieldList, first_word, read_fields};
 use crate::traces::TraceLine;
@@ -17,9 +18,9 @@ use tm_base::{Class, CpuId, Jiffy, MOST_LINES, TimerId};
 use tm_script::Kind;
 
 /// The command that a first word names.
-#[tactic(auto, unfolding(crate::specs::Reading::command_of, crate::specs::Reading::later_command))]
+#[tactic(auto, unfolding(crate::specs::Reading::command_for, crate::specs::Reading::later_command))]
 fn command_named(word: &[u8]) -> Option<Command>
-    ensures { result ≡ command_of word.now }
+    ensures { result ≡ command_for word.now }
 {
     if word == b"clock".as_slice() {
         Some(Command::Clock)
@@ -95,7 +96,7 @@ fn timer_by(field: Field) -> TimerId
 }
 
 fn class_named(field: Field) -> Class
-    ensures { result ≡ class_named field }
+    ensures { result ≡ class_in_field field }
 {
     match field {
         Field::Class(class) => class,
@@ -131,7 +132,7 @@ fn arg_by(field: Field) -> u32
 }
 
 fn line_by(field: Field) -> u32
-    ensures { result ≡ line_by field }
+    ensures { result ≡ line_in_field field }
 {
     match field {
         Field::Line(line) => line,
@@ -141,7 +142,7 @@ fn line_by(field: Field) -> u32
 
 /// The arming that these fields say.
 fn arm_by(fields: &FieldList) -> Step
-    ensures { Some (TraceLine.Do result) ≡ said_by Command.Arm fields.now }
+    ensures { Some (TraceLine.Do result) ≡ trace_said_by Command.Arm fields.now }
 {
     Step::Arm {
         cpu: cpu_by(fields.get(0)),
@@ -156,7 +157,7 @@ fn arm_by(fields: &FieldList) -> Step
 
 /// The cancelling that these fields say.
 fn cancel_by(fields: &FieldList) -> Step
-    ensures { Some (TraceLine.Do result) ≡ said_by Command.Cancel fields.now }
+    ensures { Some (TraceLine.Do result) ≡ trace_said_by Command.Cancel fields.now }
 {
     Step::Cancel {
         cpu: cpu_by(fields.get(0)),
@@ -168,7 +169,7 @@ fn cancel_by(fields: &FieldList) -> Step
 
 /// What a line of this first word and these fields says; None is the end of the trace.
 fn said_by(command: Command, fields: &FieldList) -> Option<TraceLine>
-    ensures { result ≡ said_by command fields.now }
+    ensures { result ≡ trace_said_by command fields.now }
 {
     let first = fields.get(0);
     let second = fields.get(1);
@@ -224,14 +225,14 @@ fn said_by(command: Command, fields: &FieldList) -> Option<TraceLine>
 }
 
 /// What words say behind a command.
-#[tactic(auto, unfolding(crate::specs::Reading::said_behind))]
+#[tactic(auto, unfolding(crate::specs::Reading::said_in_trace))]
 fn read_behind(
     limits: Limits,
     command: Command,
     words: Option<&[u8]>,
 ) -> Result<Option<TraceLine>, Kind>
     ensures { result
-        ≡ said_behind limits (Some command) (words_behind (option_copied words.entry)) }
+        ≡ said_in_trace limits (Some command) (trace_words_behind (option_copied words.entry)) }
 {
     let fields = read_command(limits, command, words)?;
     Ok(said_by(command, &fields))
@@ -240,7 +241,8 @@ fn read_behind(
 /// The fields behind a command.
 fn read_command(limits: Limits, command: Command, words: Option<&[u8]>) -> Result<FieldList, Kind>
     ensures { result
-        ≡ fields_of limits (slots_of command) (words_behind (option_copied words.entry)) }
+        ≡ fields_of limits (field_slots_of command)
+        (trace_words_behind (option_copied words.entry)) }
 {
     match command {
         Command::Clock => read_fields(limits, &[Slot::Time], words),
@@ -273,9 +275,9 @@ fn read_command(limits: Limits, command: Command, words: Option<&[u8]>) -> Resul
 }
 
 /// What line number `line` says, or the first kind of fault that it has; None is the end.
-#[tactic(auto, unfolding(crate::specs::Reading::heard, crate::specs::Reading::said_behind))]
+#[tactic(auto, unfolding(crate::specs::Reading::line_heard, crate::specs::Reading::said_in_trace))]
 pub(crate) fn read_line(limits: Limits, line: u32, words: &[u8]) -> Result<Option<TraceLine>, Kind>
-    ensures { result ≡ heard limits line (words_of words.now) }
+    ensures { result ≡ line_heard limits line (words_of words.now) }
 {
     let (first, behind) = first_word(words);
     let Some(command) = command_named(first) else {

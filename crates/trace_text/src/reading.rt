@@ -3,10 +3,11 @@
 ghost use Rattle.std.specs.Prelude.{◌≡◌, ◌≤◌, ◌∷◌, ◌++◌, [], IfErr, IfNone, IfOk, IfSome, OnOk};
 ghost use Rattle.std.specs.Prelude.{length};
 ghost use Rattle.text_words.specs.Words.{ended, lines_of};
-ghost use Rattle.trace_text.specs.Texts.{Spells};
-ghost use Rattle.trace_text.specs.Reading.{closing, fault_at, lines_from, unended};
+ghost use Rattle.trace_text.specs.Texts.{SpellsTrace};
+ghost use Rattle.trace_text.specs.Reading.{lines_from, trace_closing, trace_fault_at};
+ghost use Rattle.trace_text.specs.Reading.{unended_trace};
 ghost use Rattle.trace_text.specs.Faults.{machine_text};
-ghost use Rattle.trace_text.specs.Reader.{IsOnlyTraceOf, IsRefusalOf};
+ghost use Rattle.trace_text.specs.Reader.{IsOnlyTraceOf, IsTraceRefusalOf};
 ghost use Rattle.trace_text.specs.Steps.{FailsAsScript, FailsBehind, Gives, IsReadBehind};
 ghost use Rattle.trace_text.specs.Steps.{IsScriptOf, with_front};
 
@@ -25,14 +26,14 @@ const FIRST_LINE: u32 = 6;
 
 /// A fault of this kind in this line.
 fn refused(line: u32, kind: Kind) -> ReadTrace
-    ensures { result ≡ ReadTrace.Refused (fault_at line kind) }
+    ensures { result ≡ ReadTrace.Refused (trace_fault_at line kind) }
 {
     ReadTrace::Refused(ScriptFault { line, kind })
 }
 
 /// The fault of a line that no line feed ends.
 fn unended(line: u32, rest: &[u8]) -> ReadTrace
-    ensures { result ≡ ReadTrace.Refused (unended line rest.now) }
+    ensures { result ≡ ReadTrace.Refused (unended_trace line rest.now) }
 {
     if rest.is_empty() {
         refused(line, Kind::NoEnd)
@@ -43,7 +44,7 @@ fn unended(line: u32, rest: &[u8]) -> ReadTrace
 
 /// These lines, where nothing stands behind the end.
 fn close(lines: TraceLines, line: u32, rest: &[u8]) -> Result<TraceLines, ReadTrace>
-    ensures { Gives result (with_front lines (closing line (lines_of rest.now))) }
+    ensures { Gives result (with_front lines (trace_closing line (lines_of rest.now))) }
 {
     if rest.is_empty() {
         Ok(lines)
@@ -199,9 +200,9 @@ fn read_behind(alloc: Global, bytes: &[u8]) -> Result<Trace, ReadTrace>
 /// The machine is read as that of a script of version 2, so its five lines are copied; the others
 /// are read where they lie, line by line.
 pub fn read_trace(alloc: Global, bytes: &[u8]) -> Result<Trace, ReadTrace>
-    ensures spelled { IfOk result (Spells bytes.now) }
+    ensures spelled { IfOk result (SpellsTrace bytes.now) }
     ensures only { IfOk result (IsOnlyTraceOf bytes.now) }
-    ensures refused { IfErr result (IsRefusalOf bytes.now) }
+    ensures refused { IfErr result (IsTraceRefusalOf bytes.now) }
 {
     law_faults();
     let Some((first, behind)) = cut(bytes, b'\n') else {

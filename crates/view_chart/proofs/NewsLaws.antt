@@ -9,11 +9,11 @@ use Rattle.tm_report.specs.declared.lines.Line.{Line}
 use Rattle.view_chart.specs.declared.model.Point.{Point}
 use Rattle.view_chart.specs.declared.model.Window.{Window}
 use Rattle.view_chart.specs.declared.said.Answer.{Answer}
-use Rattle.view_chart.specs.Said.{answer_in, time_of}
-use Rattle.view_chart.specs.Model.{first_point, has_jiffy, next_at, next_point, place}
+use Rattle.view_chart.specs.Said.{answer_in, line_jiffy}
+use Rattle.view_chart.specs.Model.{chart_first_point, has_jiffy, next_at, next_point, place}
 use Rattle.view_chart.specs.News.{is_known, known_by, new_of, news_from, news_of_cpu, note_at}
 use Rattle.view_chart.specs.News.{told_of, told_where}
-use Rattle.view_chart.specs.Laws.{Ascends, NewsRight, goes_on, listed, news_in, noted_by}
+use Rattle.view_chart.specs.Laws.{Ascends, NewsRight, lines_go_on, answer_listed, news_in, noted_by}
 use Rattle.view_chart.proofs.Places.{place_first, place_same}
 use Rattle.view_chart.proofs.NoteLaws.{answer_at}
 use Rattle.view_chart.proofs.States.{le_of, next_place, point_at}
@@ -21,13 +21,13 @@ use Rattle.view_chart.proofs.States.{le_of, next_place, point_at}
 -- an answer that is told is of the point's jiffy
 one_new : (q : Point) (known told : Option Answer) →
     ((a : Answer) → told ≡ Some a → q.at ≡ a.at) →
-    map noted_by (note_at q (new_of known told)) ≡ listed (new_of known told)
+    map noted_by (note_at q (new_of known told)) ≡ answer_listed (new_of known told)
 one_new q known None at = refl
 one_new q known (Some a) at = by_case (is_known known a)
   where
     by_case : (b : Bool) →
         map noted_by (note_at q (if b then None else Some a))
-        ≡ listed (if b then None else Some a)
+        ≡ answer_listed (if b then None else Some a)
     by_case true = refl
     by_case false =
         ap (λ (t : ℕ). record { at = t; cpu = a.cpu; wheel = a.wheel; cover = a.cover } ∷ [])
@@ -68,14 +68,14 @@ module _ (w : Window) (c : ℕ) (fits : w.from ≤ w.to) where
           let told = told_is (answer_in line) a is in
           let time = answer_at line a told.0 in
           let parts : (before ≤ a.at) × Ascends a.at rest =
-          subst (λ t. goes_on before t (λ b. Ascends b rest)) time ascends in
+          subst (λ t. lines_go_on before t (λ b. Ascends b rest)) time ascends in
           let both = and_parts (nat_le w.from a.at) (nat_le a.at w.to) told.1 in
           let first : w.from ≤ a.at = le_of w.from a.at both.0 in
           let last : a.at ≤ w.to = le_of a.at w.to both.1 in
-          point_at w before p (time_of line) a.at fits here parts.0 time
+          point_at w before p (line_jiffy line) a.at fits here parts.0 time
           ∙ place_same w a.at first last
 
 pub news_right : NewsRight
 unfolding news_of_cpu
 news_right w c ls ascends fits =
-    all_news w c fits ls (first_point w) 0 None ascends (sym (place_first w fits))
+    all_news w c fits ls (chart_first_point w) 0 None ascends (sym (place_first w fits))

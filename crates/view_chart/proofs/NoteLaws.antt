@@ -9,16 +9,16 @@ use Rattle.tm_report.specs.declared.lines.Line.TheVariants as lines
 use Rattle.view_chart.specs.declared.model.Point.{Point}
 use Rattle.view_chart.specs.declared.model.Window.{Window}
 use Rattle.view_chart.specs.declared.said.Answer.{Answer}
-use Rattle.view_chart.specs.Said.{answer_in, time_of}
-use Rattle.view_chart.specs.Model.{first_point, has_answer, has_cpu, has_jiffy, next_at}
+use Rattle.view_chart.specs.Said.{answer_in, line_jiffy}
+use Rattle.view_chart.specs.Model.{chart_first_point, has_answer, has_cpu, has_jiffy, next_at}
 use Rattle.view_chart.specs.Model.{next_point, note_by, note_for, notes_from, place}
-use Rattle.view_chart.specs.Laws.{Ascends, NotesRight, answer_for, answers_in, goes_on, noted_by}
+use Rattle.view_chart.specs.Laws.{Ascends, NotesRight, answer_for, answers_in, lines_go_on, noted_by}
 use Rattle.view_chart.proofs.Places.{place_first, place_same}
 use Rattle.view_chart.proofs.States.{le_of, next_place, point_at}
 
 -- a line that tells who answers is of that jiffy
-pub answer_at : (line : Line) (a : Answer) → answer_in line ≡ Some a → time_of line ≡ Some a.at
-unfolding answer_in time_of
+pub answer_at : (line : Line) (a : Answer) → answer_in line ≡ Some a → line_jiffy line ≡ Some a.at
+unfolding answer_in line_jiffy
 answer_at (lines.Arm now cpu timer class wheel) a e = absurd (none-some a e)
 answer_at (lines.Run now runner timer home wheel reply) a e = absurd (none-some a e)
 answer_at (lines.Cancel now cpu timer home) a e = absurd (none-some a e)
@@ -78,9 +78,9 @@ module _ (w : Window) (fits : w.from ≤ w.to) where
       at_answer a is =
           let time = answer_at line a is in
           let parts : (before ≤ a.at) × Ascends a.at rest =
-          subst (λ t. goes_on before t (λ b. Ascends b rest)) time ascends in
-          point_at w before p (time_of line) a.at fits here parts.0 time
+          subst (λ t. lines_go_on before t (λ b. Ascends b rest)) time ascends in
+          point_at w before p (line_jiffy line) a.at fits here parts.0 time
 
 pub notes_right : NotesRight
 notes_right w ls ascends fits =
-    all_notes w fits ls (first_point w) 0 ascends (sym (place_first w fits))
+    all_notes w fits ls (chart_first_point w) 0 ascends (sym (place_first w fits))

@@ -6,9 +6,9 @@ use Rattle.std.proofs.lemmas.Bool.Decides.{nat_tests}
 use Rattle.tm_report.specs.declared.lines.Line.{Line}
 use Rattle.view_chart.specs.declared.model.Point.{Point}
 use Rattle.view_chart.specs.declared.model.Window.{Window}
-use Rattle.view_chart.specs.Said.{time_of}
-use Rattle.view_chart.specs.Model.{at_behind, behind, first_point, later_of, next_at, next_point, place, points_from, step_of}
-use Rattle.view_chart.specs.Laws.{AreBehind, ColumnsRise, IsBehind, Rises}
+use Rattle.view_chart.specs.Said.{line_jiffy}
+use Rattle.view_chart.specs.Model.{at_behind, point_behind, chart_first_point, later_jiffy, next_at, next_point, place, points_from, step_of}
+use Rattle.view_chart.specs.Laws.{AreBehind, ColumnsRise, IsBehind, PointsRise}
 
 -- ---- folding
 
@@ -18,10 +18,10 @@ step_some d some = grind (arith, nat_tests)
 pub step_none : (d : ℕ) → d ≡ 0 → step_of d ≡ 0
 step_none d none = grind (arith, nat_tests)
 
-pub later_low : (before at : ℕ) → before ≤ later_of before at
+pub later_low : (before at : ℕ) → before ≤ later_jiffy before at
 later_low before at = grind (arith, nat_tests)
 
-pub later_is : (before at : ℕ) → before ≤ at → later_of before at ≡ at
+pub later_is : (before at : ℕ) → before ≤ at → later_jiffy before at ≡ at
 later_is before at low = grind (arith, nat_tests)
 
 at_low : (w : Window) (before : ℕ) (at : Option ℕ) → before ≤ at_behind w before at
@@ -29,9 +29,9 @@ at_low w before None = omega arith
 at_low w before (Some at) = later_low before (place w at)
 
 pub next_low : (w : Window) (before : ℕ) (line : Line) → before ≤ next_at w before line
-next_low w before line = at_low w before (time_of line)
+next_low w before line = at_low w before (line_jiffy line)
 
-one_behind : (p : Point) (at : ℕ) → p.at ≤ at → IsBehind p (behind p at)
+one_behind : (p : Point) (at : ℕ) → p.at ≤ at → IsBehind p (point_behind p at)
 one_behind p at low = record {
   at = low;
   later = λ less.
@@ -78,7 +78,7 @@ all_behind w p q (line ∷ rest) b =
     let b' = then_behind p q next b (one_behind q (next_at w q.at line) (next_low w q.at line)) in
     (b', all_behind w p next rest b')
 
-rises_from : (w : Window) (p : Point) (ls : List Line) → Rises (p ∷ points_from w p ls)
+rises_from : (w : Window) (p : Point) (ls : List Line) → PointsRise (p ∷ points_from w p ls)
 rises_from w p [] = (tt, tt)
 rises_from w p (line ∷ rest) =
     let next = next_point w p line in
@@ -86,7 +86,7 @@ rises_from w p (line ∷ rest) =
     ((b, all_behind w p next rest b), rises_from w next rest)
 
 pub columns_rise : ColumnsRise
-columns_rise w ls = rises_from w (first_point w) ls
+columns_rise w ls = rises_from w (chart_first_point w) ls
 
 -- ---- a window
 

@@ -14,15 +14,15 @@ use Rattle.view_chart.specs.declared.model.Window.{Window}
 use Rattle.view_chart.specs.declared.said.Change.{Change}
 use Rattle.view_chart.specs.declared.said.Run.{Run}
 use Rattle.view_chart.specs.declared.said.State.{State}
-use Rattle.view_chart.specs.Said.{change_in, run_in, time_of}
-use Rattle.view_chart.specs.Model.{arrow_by, arrow_for, arrows_from, at_behind, begun, behind, course_where, ended_where, first_point, has_cpu, has_jiffy, has_run, last_point, new_state, next_at, next_point, place, spans_from, spans_of_cpu, state_for}
-use Rattle.view_chart.specs.Laws.{ArrowsRight, Ascends, HasJiffy, IsDrawn, IsOneOf, StatesRight, goes_on, is_by, left_by, left_where, run_for, runs_in, shown_by}
+use Rattle.view_chart.specs.Said.{change_in, run_in, line_jiffy}
+use Rattle.view_chart.specs.Model.{arrow_by, arrow_for, arrows_from, at_behind, course_begun, point_behind, course_where, ended_where, chart_first_point, has_cpu, has_jiffy, has_run, last_point, new_state, next_at, next_point, place, spans_from, spans_of_cpu, state_for}
+use Rattle.view_chart.specs.Laws.{ArrowsRight, Ascends, HasJiffy, IsCpuDrawn, IsSpanAmong, StatesRight, lines_go_on, is_line_by, state_left_by, left_where, run_for, runs_in, shown_by}
 use Rattle.view_chart.proofs.Places.{later_is, next_low, place_by, place_first, place_high, place_past, place_same, place_up}
 
 -- a line that says what a CPU becomes has a jiffy
 change_at : (line : Line) (change : Change) → change_in line ≡ Some change →
-    (t : ℕ) × (time_of line ≡ Some t)
-unfolding change_in time_of
+    (t : ℕ) × (line_jiffy line ≡ Some t)
+unfolding change_in line_jiffy
 change_at (lines.Arm now cpu timer class wheel) change e = (now, refl)
 change_at (lines.Run now runner timer home wheel reply) change e = (now, refl)
 change_at (lines.Cancel now cpu timer home) change e = (now, refl)
@@ -46,8 +46,8 @@ change_at (lines.No index) change e = absurd (none-some change e)
 change_at (lines.Device now until) change e = (now, refl)
 
 -- a line that says that a timer was run is of that jiffy
-run_at : (line : Line) (r : Run) → run_in line ≡ Some r → time_of line ≡ Some r.at
-unfolding run_in time_of
+run_at : (line : Line) (r : Run) → run_in line ≡ Some r → line_jiffy line ≡ Some r.at
+unfolding run_in line_jiffy
 run_at (lines.Arm now cpu timer class wheel) r e = absurd (none-some r e)
 run_at (lines.Run now runner timer home wheel reply) r e = ap (λ (x : Run). Some x.at) (same_Some (record { at = now; home = home; runner = runner; timer = timer }) r e)
 run_at (lines.Cancel now cpu timer home) r e = absurd (none-some r e)
@@ -72,11 +72,11 @@ run_at (lines.Device now until) r e = absurd (none-some r e)
 
 -- a CPU becomes something only by a line that has a jiffy
 state_at : (c : ℕ) (line : Line) (s : State) → new_state c line ≡ Some s →
-    (t : ℕ) × (time_of line ≡ Some t)
+    (t : ℕ) × (line_jiffy line ≡ Some t)
 state_at c line s e = by_change (change_in line) refl e
   where
     by_change : (change : Option Change) → change_in line ≡ change → state_for c change ≡ Some s →
-        (t : ℕ) × (time_of line ≡ Some t)
+        (t : ℕ) × (line_jiffy line ≡ Some t)
     by_change None is e = absurd (none-some s e)
     by_change (Some change) is e = change_at line change is
 
@@ -91,9 +91,9 @@ point_at w before p at t fits here up is =
 pub next_place : (w : Window) (before : ℕ) (p : Point) (line : Line) (rest : List Line) →
     w.from ≤ w.to → p.at ≡ place w before → Ascends before (line ∷ rest) →
     (b : ℕ) × (next_at w p.at line ≡ place w b) × Ascends b rest
-next_place w before p line rest fits here ascends = by_time (time_of line) refl ascends
+next_place w before p line rest fits here ascends = by_time (line_jiffy line) refl ascends
   where
-    by_time : (at : Option ℕ) → time_of line ≡ at → goes_on before at (λ t. Ascends t rest) →
+    by_time : (at : Option ℕ) → line_jiffy line ≡ at → lines_go_on before at (λ t. Ascends t rest) →
         (b : ℕ) × (at_behind w p.at at ≡ place w b) × Ascends b rest
     by_time None is up = (before, here, up)
     by_time (Some t) is up = (t, point_at w before p (Some t) t fits here up.0 refl, up.1)
@@ -107,25 +107,25 @@ is_in_time : (j t : ℕ) → t ≤ j → nat_le t j ≡ true
 is_in_time j t by = grind (arith, nat_tests)
 
 none_by : (c j : ℕ) (state : State) (ls : List Line) (before : ℕ) → Ascends before ls → j < before →
-    left_by c j state ls ≡ state
+    state_left_by c j state ls ≡ state
 none_by c j state [] before ascends late = refl
 none_by c j state (line ∷ rest) before ascends late =
-    by_time (time_of line) ascends (none_by c j state rest)
+    by_time (line_jiffy line) ascends (none_by c j state rest)
   where
-    by_time : (at : Option ℕ) → goes_on before at (λ t. Ascends t rest) →
-        ((b : ℕ) → Ascends b rest → j < b → left_by c j state rest ≡ state) →
-        left_by c j (left_where state (is_by j at) (new_state c line)) rest ≡ state
+    by_time : (at : Option ℕ) → lines_go_on before at (λ t. Ascends t rest) →
+        ((b : ℕ) → Ascends b rest → j < b → state_left_by c j state rest ≡ state) →
+        state_left_by c j (left_where state (is_line_by j at) (new_state c line)) rest ≡ state
     by_time None up rec = rec before up late
     by_time (Some t) up rec =
         let low = up.0 in
         let past : j < t = omega (arith, late, low) in
-        ap (λ b. left_by c j (left_where state b (new_state c line)) rest) (not_by j t past)
+        ap (λ b. state_left_by c j (left_where state b (new_state c line)) rest) (not_by j t past)
         ∙ rec t up.1 past
 
 -- ---- spans begin in order
 
 later_spans : (w : Window) (c : ℕ) (s : Span) (ls : List Line) (course : Course) →
-    course.since.at ≤ course.point.at → IsOneOf s (spans_from w c course ls) →
+    course.since.at ≤ course.point.at → IsSpanAmong s (spans_from w c course ls) →
     course.since.at ≤ s.from.at
 later_spans w c s [] course low (inl e) = let same = ap (λ (x : Span). x.from.at) e in omega (arith, same)
 later_spans w c s [] course low (inr none) = absurd none
@@ -136,8 +136,8 @@ later_spans w c s (line ∷ rest) course low there =
     q = next_point w course.point line
 
     by_state : (ns : Option State) →
-        IsOneOf s (ended_where c course q ns ++ spans_from w c (course_where course q ns) rest) →
-        ((k : Course) → k.since.at ≤ k.point.at → IsOneOf s (spans_from w c k rest) →
+        IsSpanAmong s (ended_where c course q ns ++ spans_from w c (course_where course q ns) rest) →
+        ((k : Course) → k.since.at ≤ k.point.at → IsSpanAmong s (spans_from w c k rest) →
         k.since.at ≤ s.from.at) → course.since.at ≤ s.from.at
     by_state None there rec =
         let up = next_low w course.point.at line in
@@ -154,7 +154,7 @@ later_spans w c s (line ∷ rest) course low there =
 end_at : (w : Window) (p : Point) → p.at ≤ w.to → (last_point w p).at ≡ w.to
 end_at w p low = by_case (nat_lt w.to p.at) refl
   where
-    by_case : (b : Bool) → nat_lt w.to p.at ≡ b → (if b then p else behind p w.to).at ≡ w.to
+    by_case : (b : Bool) → nat_lt w.to p.at ≡ b → (if b then p else point_behind p w.to).at ≡ w.to
     by_case true is = let less : w.to < p.at = grind (arith, nat_tests) in absurd (omega (arith, low, less))
     by_case false is = refl
 
@@ -167,14 +167,14 @@ module _ (w : Window) (c j : ℕ) (low : w.from ≤ j) (high : j < w.to) where
   fits = omega (arith, low, high)
 
   -- a span in front that has not this jiffy
-  in_front : (s : Span) (spans : List Span) (state : State) → s.to.at ≤ j → IsDrawn spans j state →
-      IsDrawn (s ∷ spans) j state
+  in_front : (s : Span) (spans : List Span) (state : State) → s.to.at ≤ j → IsCpuDrawn spans j state →
+      IsCpuDrawn (s ∷ spans) j state
   in_front s spans state over d = record {
     covered = record { span = d.covered.span; there = inr d.covered.there; has = d.covered.has };
     each = λ x there has. by_place x there has;
   }
     where
-      by_place : (x : Span) → IsOneOf x (s ∷ spans) → HasJiffy x j → x.state ≡ state
+      by_place : (x : Span) → IsSpanAmong x (s ∷ spans) → HasJiffy x j → x.state ≡ state
       by_place x (inl e) has =
           let same = ap (λ (y : Span). y.to.at) e in
           let before = has.not_ended in
@@ -183,13 +183,13 @@ module _ (w : Window) (c j : ℕ) (low : w.from ≤ j) (high : j < w.to) where
 
   -- a span in front that has it, where those behind begin later
   is_first : (s : Span) (spans : List Span) → HasJiffy s j →
-      ((x : Span) → IsOneOf x spans → s.to.at ≤ x.from.at) → IsDrawn (s ∷ spans) j s.state
+      ((x : Span) → IsSpanAmong x spans → s.to.at ≤ x.from.at) → IsCpuDrawn (s ∷ spans) j s.state
   is_first s spans has behind_it = record {
     covered = record { span = s; there = inl refl; has = has };
     each = λ x there is. by_place x there is;
   }
     where
-      by_place : (x : Span) → IsOneOf x (s ∷ spans) → HasJiffy x j → x.state ≡ s.state
+      by_place : (x : Span) → IsSpanAmong x (s ∷ spans) → HasJiffy x j → x.state ≡ s.state
       by_place x (inl e) is = ap (λ (y : Span). y.state) e
       by_place x (inr there) is =
           let later = behind_it x there in
@@ -199,7 +199,7 @@ module _ (w : Window) (c j : ℕ) (low : w.from ≤ j) (high : j < w.to) where
 
   drawn : (ls : List Line) (course : Course) (before : ℕ) → Ascends before ls →
       course.point.at ≡ place w before → course.since.at ≤ course.point.at → course.since.at ≤ j →
-      IsDrawn (spans_from w c course ls) j (left_by c j course.state ls)
+      IsCpuDrawn (spans_from w c course ls) j (state_left_by c j course.state ls)
   drawn [] course before ascends here since by =
       let top = place_high w fits before in
       let end = end_at w course.point (omega (arith, here, top)) in
@@ -226,12 +226,12 @@ module _ (w : Window) (c j : ℕ) (low : w.from ≤ j) (high : j < w.to) where
       by_state : (ns : Option State) → new_state c line ≡ ns →
           ((k : Course) (b : ℕ) → Ascends b rest → k.point.at ≡ place w b →
           k.since.at ≤ k.point.at → k.since.at ≤ j →
-          IsDrawn (spans_from w c k rest) j (left_by c j k.state rest)) →
-          IsDrawn (ended_where c course q ns ++ spans_from w c (course_where course q ns) rest) j
-          (left_by c j (left_where course.state (is_by j (time_of line)) ns) rest)
+          IsCpuDrawn (spans_from w c k rest) j (state_left_by c j k.state rest)) →
+          IsCpuDrawn (ended_where c course q ns ++ spans_from w c (course_where course q ns) rest) j
+          (state_left_by c j (left_where course.state (is_line_by j (line_jiffy line)) ns) rest)
       by_state None is rec =
-          subst (λ s. IsDrawn (spans_from w c (course_where course q None) rest) j (left_by c j s rest))
-          (sym (left_none course.state (is_by j (time_of line))))
+          subst (λ s. IsCpuDrawn (spans_from w c (course_where course q None) rest) j (state_left_by c j s rest))
+          (sym (left_none course.state (is_line_by j (line_jiffy line))))
           (rec (course_where course q None) next.0 next.2 next.1 (omega (arith, since, up)) by)
       by_state (Some state) is rec =
           let at = state_at c line state is in
@@ -248,39 +248,39 @@ module _ (w : Window) (c j : ℕ) (low : w.from ≤ j) (high : j < w.to) where
           behind_it : List Span
           behind_it = spans_from w c (course_where course q (Some state)) rest
 
-          by_time : (t : ℕ) → time_of line ≡ Some t →
-              IsDrawn (head ∷ behind_it) j
-              (left_by c j (left_where course.state (is_by j (time_of line)) (Some state)) rest)
+          by_time : (t : ℕ) → line_jiffy line ≡ Some t →
+              IsCpuDrawn (head ∷ behind_it) j
+              (state_left_by c j (left_where course.state (is_line_by j (line_jiffy line)) (Some state)) rest)
           by_time t time =
               let parts : (before ≤ t) × Ascends t rest =
-              subst (λ a. goes_on before a (λ b. Ascends b rest)) time ascends in
+              subst (λ a. lines_go_on before a (λ b. Ascends b rest)) time ascends in
               let here_too : next_at w course.point.at line ≡ place w t =
-              point_at w before course.point (time_of line) t fits here parts.0 time in
+              point_at w before course.point (line_jiffy line) t fits here parts.0 time in
               elim (cases_lt j t) [
                 | inl past ↦
                     let drop_it = place_past w j t low high past in
                     let one = is_first head behind_it
                     (record { begun = by; not_ended = omega (arith, here_too, drop_it) })
                     (λ x there. later_spans w c x rest (course_where course q (Some state)) (omega arith) there) in
-                    subst (IsDrawn (head ∷ behind_it) j)
-                    (sym (ap (λ a. left_by c j (left_where course.state (is_by j a) (Some state)) rest) time
-                    ∙ (ap (λ b. left_by c j (left_where course.state b (Some state)) rest) (not_by j t past)
+                    subst (IsCpuDrawn (head ∷ behind_it) j)
+                    (sym (ap (λ a. state_left_by c j (left_where course.state (is_line_by j a) (Some state)) rest) time
+                    ∙ (ap (λ b. state_left_by c j (left_where course.state b (Some state)) rest) (not_by j t past)
                     ∙ none_by c j course.state rest t parts.1 past)))
                     one
                 | inr in_time ↦
                     let over = place_by w j t low high in_time in
                     let ended : next_at w course.point.at line ≤ j = omega (arith, here_too, over) in
-                    subst (IsDrawn (head ∷ behind_it) j)
-                    (sym (ap (λ a. left_by c j (left_where course.state (is_by j a) (Some state)) rest) time
-                    ∙ ap (λ b. left_by c j (left_where course.state b (Some state)) rest) (is_in_time j t in_time)))
-                    (in_front head behind_it (left_by c j state rest) ended
+                    subst (IsCpuDrawn (head ∷ behind_it) j)
+                    (sym (ap (λ a. state_left_by c j (left_where course.state (is_line_by j a) (Some state)) rest) time
+                    ∙ ap (λ b. state_left_by c j (left_where course.state b (Some state)) rest) (is_in_time j t in_time)))
+                    (in_front head behind_it (state_left_by c j state rest) ended
                     (rec (course_where course q (Some state)) t parts.1 here_too (omega arith) ended))
               ]
 
 pub states_right : StatesRight
 unfolding spans_of_cpu
 states_right w c ls j ascends low high =
-    drawn w c j low high ls (begun w) 0 ascends (sym (place_first w (omega (arith, low, high))))
+    drawn w c j low high ls (course_begun w) 0 ascends (sym (place_first w (omega (arith, low, high))))
     (omega arith) low
 
 -- ---- arrows
@@ -319,9 +319,9 @@ module _ (w : Window) (fits : w.from ≤ w.to) where
       at_run q r is =
           let time = run_at line r is in
           let parts : (before ≤ r.at) × Ascends r.at rest =
-          subst (λ a. goes_on before a (λ b. Ascends b rest)) time ascends in
-          point_at w before p (time_of line) r.at fits here parts.0 time
+          subst (λ a. lines_go_on before a (λ b. Ascends b rest)) time ascends in
+          point_at w before p (line_jiffy line) r.at fits here parts.0 time
 
 pub arrows_right : ArrowsRight
 arrows_right w ls ascends fits =
-    all_arrows w fits ls (first_point w) 0 ascends (sym (place_first w fits))
+    all_arrows w fits ls (chart_first_point w) 0 ascends (sym (place_first w fits))

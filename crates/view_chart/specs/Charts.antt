@@ -9,8 +9,9 @@ use Rattle.view_chart.specs.declared.charting.NoChart.{NoChart}
 use Rattle.view_chart.specs.declared.charting.NoChart.TheVariants as refusals
 use Rattle.view_chart.specs.declared.model.Point.{Point}
 use Rattle.view_chart.specs.declared.model.Window.{Window}
-use Rattle.view_chart.specs.Said.{cpu_in, higher, time_of}
-use Rattle.view_chart.specs.Model.{all_spans, arrows_from, count_of, first_point, last_point}
+use Rattle.view_chart.specs.Said.{cpu_in, higher_cpu, line_jiffy}
+use Rattle.view_chart.specs.Model.{all_spans, arrows_from, chart_first_point, last_point}
+use Rattle.view_chart.specs.Model.{window_cpu_count}
 use Rattle.view_chart.specs.Model.{next_point}
 use Rattle.view_chart.specs.News.{news_where}
 use Rattle.view_chart.specs.Marks.{folds_from, ticks_from}
@@ -19,12 +20,12 @@ use Rattle.view_chart.specs.Pictures.{picture_text}
 -- the jiffy of the last of these lines that has one, else that of a line before them
 abbrev pub last_jiffy : (before : ℕ) → List Line → ℕ
 last_jiffy before [] = before
-last_jiffy before (line ∷ rest) = last_jiffy (unwrap_or (time_of line) before) rest
+last_jiffy before (line ∷ rest) = last_jiffy (unwrap_or (line_jiffy line) before) rest
 
 -- the highest CPU of these lines and of another
 abbrev pub last_cpu : (c : ℕ) → List Line → ℕ
 last_cpu c [] = c
-last_cpu c (line ∷ rest) = last_cpu (higher c (cpu_in line)) rest
+last_cpu c (line ∷ rest) = last_cpu (higher_cpu c (cpu_in line)) rest
 
 -- the CPUs that are chosen, or all
 abbrev pub chosen_cpus : Option (CpuId × CpuId) → List Line → CpuId × CpuId
@@ -58,8 +59,8 @@ is_back before (Some at) = nat_lt at before
 abbrev pub back_from : (n before : ℕ) → List Line → Option ℕ
 back_from n before [] = None
 back_from n before (line ∷ rest) =
-    if is_back before (time_of line) then Some n
-    else back_from (n + 1) (unwrap_or (time_of line) before) rest
+    if is_back before (line_jiffy line) then Some n
+    else back_from (n + 1) (unwrap_or (line_jiffy line) before) rest
 
 -- a refusal tells that line; want of memory says nothing
 abbrev pub IsRefusal : List Line → NoChart → Type 0
@@ -74,6 +75,7 @@ end_from w p (line ∷ rest) = end_from w (next_point w p line) rest
 -- THE PICTURE of a window of a report, with who answers, if that is chosen
 unfoldable pub chart_text : Window → (covers : Bool) → List Line → List ℕ
 chart_text w covers ls =
-    picture_text w (end_from w (first_point w) ls).column (count_of w)
-    (first_point w ∷ ticks_from w (first_point w) 0 ls) (folds_from w (first_point w) ls)
-    (all_spans w ls) (arrows_from w (first_point w) ls) covers (news_where w covers ls)
+    picture_text w (end_from w (chart_first_point w) ls).column (window_cpu_count w)
+    (chart_first_point w ∷ ticks_from w (chart_first_point w) 0 ls)
+    (folds_from w (chart_first_point w) ls)
+    (all_spans w ls) (arrows_from w (chart_first_point w) ls) covers (news_where w covers ls)

@@ -10,7 +10,7 @@ use Rattle.view_chart.specs.declared.model.Span.{Span}
 use Rattle.view_chart.specs.declared.model.Window.{Window}
 use Rattle.view_chart.specs.declared.said.State.{State}
 use Rattle.view_chart.specs.declared.said.State.TheVariants as states
-use Rattle.view_chart.specs.Pieces.{after, three, two}
+use Rattle.view_chart.specs.Pieces.{piece_with_number, three, two}
 
 -- where the row of CPU c is, in units from the top
 abbrev pub row_of : Window → (c : ℕ) → ℕ
@@ -29,34 +29,35 @@ state_text (states.Asleep until) = codes " asleep, its wakeup" ++ time_word unti
 state_text states.Offline = codes " offline"
 
 -- a bar, from the column at which a span begins to the one at which it ends, and its title
-unfoldable pub line_of : Window → Span → List ℕ
-line_of w s =
+unfoldable pub bar_line : Window → Span → List ℕ
+bar_line w s =
     bar_text s.state
     ++ (three [] s.from.column (codes " ") (row_of w s.cpu.0) (codes "H") s.to.column
     ++ (two (codes "\"><title>jiffies ") s.from.at (codes " to ") s.to.at
-    ++ (after (codes ": CPU ") s.cpu.0 ++ (state_text s.state ++ codes "</title></path>\n"))))
+    ++ (piece_with_number (codes ": CPU ") s.cpu.0
+    ++ (state_text s.state ++ codes "</title></path>\n"))))
 
 -- A SPAN: a bar, and nothing where it has no column
 unfoldable pub span_text : Window → Span → List ℕ
-span_text w s = if nat_lt s.from.column s.to.column then line_of w s else []
+span_text w s = if nat_lt s.from.column s.to.column then bar_line w s else []
 
 -- the way of an arrow: from the row of its home to that of its runner, and into the row from above
 -- where they are one
-unfoldable pub head_text : Window → Arrow → List ℕ
-head_text w a =
+unfoldable pub arrow_way : Window → Arrow → List ℕ
+arrow_way w a =
     two (codes "<path class=\"r\" d=\"M") a.point.column (codes " ") (row_of w a.home.0)
     ++ (if a.home.0 == a.runner.0 then codes "m0-1.3v.8"
-    else after (codes "V") (row_of w a.runner.0))
+    else piece_with_number (codes "V") (row_of w a.runner.0))
 
 -- the title of an arrow
-unfoldable pub run_text : Arrow → List ℕ
-run_text a =
+unfoldable pub arrow_title : Arrow → List ℕ
+arrow_title a =
     two (codes "\"><title>jiffy ") a.point.at (codes ": CPU ") a.runner.0
     ++ two (codes " runs timer ") a.timer.0 (codes " of CPU ") a.home.0
 
 -- AN ARROW, and its title
 unfoldable pub arrow_text : Window → Arrow → List ℕ
-arrow_text w a = head_text w a ++ (run_text a ++ codes "</title></path>\n")
+arrow_text w a = arrow_way w a ++ (arrow_title a ++ codes "</title></path>\n")
 
 -- a jiffy above the chart
 unfoldable pub tick_text : Point → List ℕ
@@ -71,12 +72,12 @@ fold_text f =
     ++ codes "</title></text>\n"
 
 -- the label of a row, so many units from the top
-unfoldable pub label_text : (top cpu : ℕ) → List ℕ
-label_text top cpu =
+unfoldable pub row_label : (top cpu : ℕ) → List ℕ
+row_label top cpu =
     two (codes "<text class=\"c\" x=\"-1\" y=\"") top (codes "\" dy=\".4\">CPU ") cpu
     ++ codes "</text>\n"
 
 -- the labels of so many rows
 abbrev pub labels_below : Window → (rows : ℕ) → List ℕ
 labels_below w zero = []
-labels_below w (suc n) = labels_below w n ++ label_text (ROW * n) (w.first.0 + n)
+labels_below w (suc n) = labels_below w n ++ row_label (ROW * n) (w.first.0 + n)

@@ -15,7 +15,7 @@ use Rattle.view_chart.specs.declared.said.Change.{Change}
 use Rattle.view_chart.specs.declared.said.Run.{Run}
 use Rattle.view_chart.specs.declared.said.State.{State}
 use Rattle.view_chart.specs.declared.said.State.TheVariants as states
-use Rattle.view_chart.specs.Said.{answer_in, change_in, run_in, time_of}
+use Rattle.view_chart.specs.Said.{answer_in, change_in, line_jiffy, run_in}
 
 -- ---- jiffies and columns
 
@@ -28,33 +28,33 @@ abbrev pub place : Window → (at : ℕ) → ℕ
 place w at = if nat_lt at w.from then w.from else (if nat_lt w.to at then w.to else at)
 
 -- the later of two jiffies
-abbrev pub later_of : (before at : ℕ) → ℕ
-later_of before at = if nat_lt at before then before else at
+abbrev pub later_jiffy : (before at : ℕ) → ℕ
+later_jiffy before at = if nat_lt at before then before else at
 
 -- the jiffy within a window of a line's jiffy, if it has one, behind a line
 abbrev pub at_behind : Window → (before : ℕ) → Option ℕ → ℕ
 at_behind w before None = before
-at_behind w before (Some at) = later_of before (place w at)
+at_behind w before (Some at) = later_jiffy before (place w at)
 
 -- the jiffy of a line in the chart
 abbrev pub next_at : Window → (before : ℕ) → Line → ℕ
-next_at w before line = at_behind w before (time_of line)
+next_at w before line = at_behind w before (line_jiffy line)
 
 -- the point of a jiffy that isn't before another point: the rest between them is folded
-abbrev pub behind : Point → (at : ℕ) → Point
-behind p at = record { at = at; column = p.column + step_of (at - p.at) }
+abbrev pub point_behind : Point → (at : ℕ) → Point
+point_behind p at = record { at = at; column = p.column + step_of (at - p.at) }
 
 -- THE POINT of a line, behind that of the line before it
 abbrev pub next_point : Window → Point → Line → Point
-next_point w p line = behind p (next_at w p.at line)
+next_point w p line = point_behind p (next_at w p.at line)
 
 -- the point at which a chart begins
-abbrev pub first_point : Window → Point
-first_point w = record { at = w.from; column = 0 }
+abbrev pub chart_first_point : Window → Point
+chart_first_point w = record { at = w.from; column = 0 }
 
 -- the point at which it ends, behind that of the last line
 abbrev pub last_point : Window → Point → Point
-last_point w p = if nat_lt w.to p.at then p else behind p w.to
+last_point w p = if nat_lt w.to p.at then p else point_behind p w.to
 
 -- the points of lines behind a point
 abbrev pub points_from : Window → Point → List Line → List Point
@@ -104,16 +104,17 @@ spans_from w c course (line ∷ rest) =
     ended_by w c course line ++ spans_from w c (course_by w c course line) rest
 
 -- before the first line a CPU is awake
-abbrev pub begun : Window → Course
-begun w = record { state = states.Awake; since = first_point w; point = first_point w }
+abbrev pub course_begun : Window → Course
+course_begun w =
+    record { state = states.Awake; since = chart_first_point w; point = chart_first_point w }
 
 -- THE SPANS of CPU c
 unfoldable pub spans_of_cpu : Window → (c : ℕ) → List Line → List Span
-spans_of_cpu w c ls = spans_from w c (begun w) ls
+spans_of_cpu w c ls = spans_from w c (course_begun w) ls
 
 -- how many CPUs a window has
-abbrev pub count_of : Window → ℕ
-count_of w = if nat_le w.first.0 w.last.0 then w.last.0 - w.first.0 + 1 else 0
+abbrev pub window_cpu_count : Window → ℕ
+window_cpu_count w = if nat_le w.first.0 w.last.0 then w.last.0 - w.first.0 + 1 else 0
 
 -- the spans of so many CPUs of a window
 abbrev pub spans_below : Window → (count : ℕ) → List Line → List Span
@@ -122,7 +123,7 @@ spans_below w (suc n) ls = spans_below w n ls ++ spans_of_cpu w (w.first.0 + n) 
 
 -- the spans of each CPU of a window
 abbrev pub all_spans : Window → List Line → List Span
-all_spans w ls = spans_below w (count_of w) ls
+all_spans w ls = spans_below w (window_cpu_count w) ls
 
 -- ---- arrows
 
@@ -182,5 +183,5 @@ notes_from w p (line ∷ rest) =
 
 -- the notes of a window, if they are chosen
 abbrev pub notes_where : Window → (covers : Bool) → List Line → List Note
-notes_where w true ls = notes_from w (first_point w) ls
+notes_where w true ls = notes_from w (chart_first_point w) ls
 notes_where w false ls = []

@@ -10,13 +10,14 @@ use Rattle.view_chart.specs.declared.model.Window.{Window}
 use Rattle.view_chart.specs.declared.said.Answer.{Answer}
 use Rattle.view_chart.specs.declared.said.State.{State}
 use Rattle.view_chart.specs.Said.{answer_in}
-use Rattle.view_chart.specs.Model.{count_of, first_point, has_jiffy, new_state, next_point}
+use Rattle.view_chart.specs.Model.{chart_first_point, has_jiffy, new_state, next_point}
+use Rattle.view_chart.specs.Model.{window_cpu_count}
 
 -- whether it is this CPU, by the migrators of this group, that answers
-abbrev pub is_led : (level place m : ℕ) → ShownCover → Bool
-is_led level place m (covers.Migrator other_level other_place cpu) =
+abbrev pub is_led_by_cover : (level place m : ℕ) → ShownCover → Bool
+is_led_by_cover level place m (covers.Migrator other_level other_place cpu) =
     (level == other_level) && ((place == other_place) && (m == cpu.0))
-is_led level place m (covers.Wake cpu at) = false
+is_led_by_cover level place m (covers.Wake cpu at) = false
 
 -- whether it is this CPU, which wakes at u
 abbrev pub is_woken : (x u : ℕ) → ShownCover → Bool
@@ -24,14 +25,14 @@ is_woken x u (covers.Migrator level place cpu) = false
 is_woken x u (covers.Wake cpu at) = (x == cpu.0) && (u == at)
 
 -- whether two covers are the same
-abbrev pub is_same : ShownCover → ShownCover → Bool
-is_same (covers.Migrator level place cpu) other = is_led level place cpu.0 other
-is_same (covers.Wake cpu at) other = is_woken cpu.0 at other
+abbrev pub is_same_cover : ShownCover → ShownCover → Bool
+is_same_cover (covers.Migrator level place cpu) other = is_led_by_cover level place cpu.0 other
+is_same_cover (covers.Wake cpu at) other = is_woken cpu.0 at other
 
 -- whether an answer says what is known of its CPU already: the same time, and the same cover
 abbrev pub is_known : (known : Option Answer) → Answer → Bool
 is_known None a = false
-is_known (Some k) a = (k.wheel == a.wheel) && is_same k.cover a.cover
+is_known (Some k) a = (k.wheel == a.wheel) && is_same_cover k.cover a.cover
 
 -- an answer, if it is one for CPU c at a jiffy of the window
 abbrev pub told_where : Window → (c : ℕ) → Option Answer → Option Answer
@@ -74,7 +75,7 @@ news_from w c p known (line ∷ rest) =
 
 -- THE NEWS of CPU c
 unfoldable pub news_of_cpu : Window → (c : ℕ) → List Line → List Note
-news_of_cpu w c ls = news_from w c (first_point w) None ls
+news_of_cpu w c ls = news_from w c (chart_first_point w) None ls
 
 -- the news of so many CPUs of a window
 abbrev pub news_below : Window → (count : ℕ) → List Line → List Note
@@ -83,5 +84,5 @@ news_below w (suc n) ls = news_below w n ls ++ news_of_cpu w (w.first.0 + n) ls
 
 -- the news of each CPU of a window, if they are chosen
 abbrev pub news_where : Window → (covers : Bool) → List Line → List Note
-news_where w true ls = news_below w (count_of w) ls
+news_where w true ls = news_below w (window_cpu_count w) ls
 news_where w false ls = []

@@ -6,7 +6,7 @@ use Rattle.tm_report.specs.declared.lines.ShownCover.TheVariants as covers
 use Rattle.view_chart.specs.declared.model.Note.{Note}
 use Rattle.view_chart.specs.declared.model.Window.{Window}
 use Rattle.view_chart.specs.Drawing.{row_of}
-use Rattle.view_chart.specs.Pieces.{after, three, two}
+use Rattle.view_chart.specs.Pieces.{piece_with_number, three, two}
 
 -- who answers, in words
 unfoldable pub cover_text : ShownCover → List ℕ
@@ -21,32 +21,33 @@ answer_text n =
     ++ cover_text n.cover
 
 -- the CPU that answers
-abbrev pub answerer : ShownCover → ℕ
-answerer (covers.Migrator level place cpu) = cpu.0
-answerer (covers.Wake cpu at) = cpu.0
+abbrev pub cover_answerer : ShownCover → ℕ
+cover_answerer (covers.Migrator level place cpu) = cpu.0
+cover_answerer (covers.Wake cpu at) = cpu.0
 
 -- the number of the CPU that answers, in the row of the one that sleeps
 unfoldable pub number_text : Window → Note → List ℕ
 number_text w n =
     three (codes "<text role=\"img\" x=\"") n.point.column (codes "\" y=\"") (row_of w n.cpu.0)
-    (codes "\">") (answerer n.cover)
+    (codes "\">") (cover_answerer n.cover)
 
 -- its title
-unfoldable pub words_text : Note → List ℕ
-words_text n =
-    after (codes "<title>jiffy ") n.point.at ++ (answer_text n ++ codes "</title></text>\n")
+unfoldable pub note_title : Note → List ℕ
+note_title n =
+    piece_with_number (codes "<title>jiffy ") n.point.at
+    ++ (answer_text n ++ codes "</title></text>\n")
 
 -- A NOTE in a picture: a number, and its title
-unfoldable pub note_text : Window → Note → List ℕ
-note_text w n = number_text w n ++ words_text n
+unfoldable pub drawn_note_text : Window → Note → List ℕ
+drawn_note_text w n = number_text w n ++ note_title n
 
 -- notes, below the lines of CPUs that sleep
-unfoldable pub group_text : Window → List Note → List ℕ
-group_text w ns =
+unfoldable pub notes_group : Window → List Note → List ℕ
+notes_group w ns =
     codes "<g class=\"n\" transform=\"translate(.2 1.5)\">\n"
-    ++ (flat_map (note_text w) ns ++ codes "</g>\n")
+    ++ (flat_map (drawn_note_text w) ns ++ codes "</g>\n")
 
 -- THE NOTES of a picture, if they are chosen
 abbrev pub notes_text : Window → (covers : Bool) → List Note → List ℕ
-notes_text w true ns = group_text w ns
+notes_text w true ns = notes_group w ns
 notes_text w false ns = []

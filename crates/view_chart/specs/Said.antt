@@ -8,28 +8,28 @@ use Rattle.view_chart.specs.declared.said.Run.{Run}
 use Rattle.view_chart.specs.declared.said.State.TheVariants as states
 
 -- the jiffy of a line
-unfoldable pub time_of : Line → Option ℕ
-time_of (lines.Arm now cpu timer class wheel) = Some now
-time_of (lines.Run now runner timer home wheel reply) = Some now
-time_of (lines.Cancel now cpu timer home) = Some now
-time_of (lines.NotQueued now cpu timer) = Some now
-time_of (lines.Idle now cpu until) = Some now
-time_of (lines.Stay now cpu first) = Some now
-time_of (lines.Wake now cpu) = Some now
-time_of (lines.Offline now cpu) = Some now
-time_of (lines.Handed now cpu to) = Some now
-time_of (lines.Online now cpu) = Some now
-time_of (lines.Control now cpu) = Some now
-time_of (lines.Moved now timer from to wheel) = Some now
-time_of (lines.Cover now cpu wheel cover) = Some now
-time_of (lines.Refused now cpu line number) = Some now
-time_of (lines.RefusedQueued now cpu line number holder) = Some now
-time_of (lines.Left timer cpu class wheel) = None
-time_of (lines.End now) = Some now
-time_of (lines.Why steps cpu timer shown) = None
-time_of (lines.Yes steps) = None
-time_of (lines.No index) = None
-time_of (lines.Device now until) = Some now
+unfoldable pub line_jiffy : Line → Option ℕ
+line_jiffy (lines.Arm now cpu timer class wheel) = Some now
+line_jiffy (lines.Run now runner timer home wheel reply) = Some now
+line_jiffy (lines.Cancel now cpu timer home) = Some now
+line_jiffy (lines.NotQueued now cpu timer) = Some now
+line_jiffy (lines.Idle now cpu until) = Some now
+line_jiffy (lines.Stay now cpu first) = Some now
+line_jiffy (lines.Wake now cpu) = Some now
+line_jiffy (lines.Offline now cpu) = Some now
+line_jiffy (lines.Handed now cpu to) = Some now
+line_jiffy (lines.Online now cpu) = Some now
+line_jiffy (lines.Control now cpu) = Some now
+line_jiffy (lines.Moved now timer from to wheel) = Some now
+line_jiffy (lines.Cover now cpu wheel cover) = Some now
+line_jiffy (lines.Refused now cpu line number) = Some now
+line_jiffy (lines.RefusedQueued now cpu line number holder) = Some now
+line_jiffy (lines.Left timer cpu class wheel) = None
+line_jiffy (lines.End now) = Some now
+line_jiffy (lines.Why steps cpu timer shown) = None
+line_jiffy (lines.Yes steps) = None
+line_jiffy (lines.No index) = None
+line_jiffy (lines.Device now until) = Some now
 
 -- WHAT A CPU BECOMES by a line. One that gets the timers of a CPU that went offline, or its duty,
 -- is made active for it
@@ -107,26 +107,26 @@ answer_in (lines.No index) = None
 answer_in (lines.Device now until) = None
 
 -- the higher of two CPUs
-abbrev pub higher : (c d : ℕ) → ℕ
-higher c d = if nat_lt c d then d else c
+abbrev pub higher_cpu : (c d : ℕ) → ℕ
+higher_cpu c d = if nat_lt c d then d else c
 
 -- the highest CPU that a line names by what it does, 0 where it names none
 unfoldable pub cpu_in : Line → ℕ
 cpu_in (lines.Arm now cpu timer class wheel) = cpu.0
-cpu_in (lines.Run now runner timer home wheel reply) = higher runner.0 home.0
-cpu_in (lines.Cancel now cpu timer home) = higher cpu.0 home.0
+cpu_in (lines.Run now runner timer home wheel reply) = higher_cpu runner.0 home.0
+cpu_in (lines.Cancel now cpu timer home) = higher_cpu cpu.0 home.0
 cpu_in (lines.NotQueued now cpu timer) = cpu.0
 cpu_in (lines.Idle now cpu until) = cpu.0
 cpu_in (lines.Stay now cpu first) = cpu.0
 cpu_in (lines.Wake now cpu) = cpu.0
 cpu_in (lines.Offline now cpu) = cpu.0
-cpu_in (lines.Handed now cpu to) = higher cpu.0 to.0
+cpu_in (lines.Handed now cpu to) = higher_cpu cpu.0 to.0
 cpu_in (lines.Online now cpu) = cpu.0
 cpu_in (lines.Control now cpu) = cpu.0
-cpu_in (lines.Moved now timer from to wheel) = higher from.0 to.0
+cpu_in (lines.Moved now timer from to wheel) = higher_cpu from.0 to.0
 cpu_in (lines.Cover now cpu wheel cover) = cpu.0
 cpu_in (lines.Refused now cpu line number) = cpu.0
-cpu_in (lines.RefusedQueued now cpu line number holder) = higher cpu.0 holder.0
+cpu_in (lines.RefusedQueued now cpu line number holder) = higher_cpu cpu.0 holder.0
 cpu_in (lines.Left timer cpu class wheel) = cpu.0
 cpu_in (lines.End now) = 0
 cpu_in (lines.Why steps cpu timer shown) = cpu.0

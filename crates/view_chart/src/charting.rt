@@ -4,8 +4,8 @@ ghost use Rattle.std.specs.Prelude.{◌≡◌, ◌≤◌, IfErr, IfOk, None, min
 ghost use Rattle.tm_base.specs.declared.names.TheConstants.{TIME_LIMIT};
 ghost use Rattle.view_chart.specs.Charts.{IsRefusal, back_from, chart_text, cpus_of, end_from};
 ghost use Rattle.view_chart.specs.Charts.{is_back, last_cpu, last_jiffy, window_of};
-ghost use Rattle.view_chart.specs.Model.{first_point};
-ghost use Rattle.view_chart.specs.Said.{time_of};
+ghost use Rattle.view_chart.specs.Model.{chart_first_point};
+ghost use Rattle.view_chart.specs.Said.{line_jiffy};
 
 use crate::drawing::{Chart, draw};
 use crate::marks::{folds_of, ticks_of};
@@ -101,7 +101,7 @@ pub fn window_of(choice: Choice, lines: &[Line]) -> Window
 
 /// Whether a line is of a jiffy before another one.
 fn is_back(before: Jiffy, line: Line) -> bool
-    ensures { result ≡ is_back before (time_of line) }
+    ensures { result ≡ is_back before (line_jiffy line) }
 {
     match time_of(line) {
         Some(at) => at < before,
@@ -127,7 +127,8 @@ fn back_at(lines: &[Line]) -> Option<usize>
 fn end_of(window: &Window, lines: &[Line]) -> u64
     requires order { window.now.from ≤ window.now.to }
     requires in_time { window.now.to ≤ TIME_LIMIT }
-    ensures column { result ≡ (end_from window.now (first_point window.now) lines.now).column }
+    ensures column { result
+        ≡ (end_from window.now (chart_first_point window.now) lines.now).column }
     ensures in_time { result ≤ TIME_LIMIT }
 {
     let mut point = first_point(window);

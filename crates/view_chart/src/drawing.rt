@@ -3,8 +3,8 @@
 
 ghost use Rattle.std.specs.Prelude.{◌≡◌, ◌++◌, ◌+◌, ◌*◌, ◌≤◌, ◌^◌, IfOk, OnOk};
 ghost use Rattle.std.specs.List.{flat_map};
-ghost use Rattle.view_chart.specs.Drawing.{arrow_text, bar_text, fold_text, head_text};
-ghost use Rattle.view_chart.specs.Drawing.{label_text, labels_below, line_of, row_of, run_text};
+ghost use Rattle.view_chart.specs.Drawing.{arrow_text, arrow_way, bar_text, fold_text};
+ghost use Rattle.view_chart.specs.Drawing.{arrow_title, bar_line, labels_below, row_label, row_of};
 ghost use Rattle.view_chart.specs.Drawing.{span_text, state_text, tick_text};
 ghost use Rattle.view_chart.specs.Pictures.{body_text, picture_text};
 
@@ -53,9 +53,9 @@ fn push_state(text: &mut Vec<u8>, state: State) -> Result<(), NoMemory>
 }
 
 /// A span that has at least a column: a bar, and its title.
-#[tactic(auto, using(crate::proofs::Joined::onto), unfolding(crate::specs::Drawing::line_of))]
+#[tactic(auto, using(crate::proofs::Joined::onto), unfolding(crate::specs::Drawing::bar_line))]
 fn push_bar(text: &mut Vec<u8>, window: &Window, span: Span) -> Result<(), NoMemory>
-    ensures { OnOk result (text.new.items ≡ text.old.items ++ line_of window.now span) }
+    ensures { OnOk result (text.new.items ≡ text.old.items ++ bar_line window.now span) }
 {
     push_words(text, bar_text(span.state))?;
     push_three(
@@ -93,9 +93,9 @@ fn push_span(text: &mut Vec<u8>, window: &Window, span: Span) -> Result<(), NoMe
 
 /// The way of an arrow: from the row of its home to that of its runner, and into the row from above
 /// where they are one.
-#[tactic(auto, using(crate::proofs::Joined::onto), unfolding(crate::specs::Drawing::head_text))]
+#[tactic(auto, using(crate::proofs::Joined::onto), unfolding(crate::specs::Drawing::arrow_way))]
 fn push_way(text: &mut Vec<u8>, window: &Window, arrow: Arrow) -> Result<(), NoMemory>
-    ensures { OnOk result (text.new.items ≡ text.old.items ++ head_text window.now arrow) }
+    ensures { OnOk result (text.new.items ≡ text.old.items ++ arrow_way window.now arrow) }
 {
     let home = row_of(window, arrow.home);
     push_two(
@@ -112,9 +112,9 @@ fn push_way(text: &mut Vec<u8>, window: &Window, arrow: Arrow) -> Result<(), NoM
 }
 
 /// The title of an arrow.
-#[tactic(auto, using(crate::proofs::Joined::onto), unfolding(crate::specs::Drawing::run_text))]
+#[tactic(auto, using(crate::proofs::Joined::onto), unfolding(crate::specs::Drawing::arrow_title))]
 fn push_run(text: &mut Vec<u8>, arrow: Arrow) -> Result<(), NoMemory>
-    ensures { OnOk result (text.new.items ≡ text.old.items ++ run_text arrow) }
+    ensures { OnOk result (text.new.items ≡ text.old.items ++ arrow_title arrow) }
 {
     push_two(
         text,
@@ -173,9 +173,9 @@ fn push_fold(text: &mut Vec<u8>, fold: Fold) -> Result<(), NoMemory>
 }
 
 /// The label of a row, so many units from the top.
-#[tactic(auto, using(crate::proofs::Joined::onto), unfolding(crate::specs::Drawing::label_text))]
+#[tactic(auto, using(crate::proofs::Joined::onto), unfolding(crate::specs::Drawing::row_label))]
 fn push_label(text: &mut Vec<u8>, top: u64, cpu: u64) -> Result<(), NoMemory>
-    ensures { OnOk result (text.new.items ≡ text.old.items ++ label_text top cpu) }
+    ensures { OnOk result (text.new.items ≡ text.old.items ++ row_label top cpu) }
 {
     push_two(
         text,

@@ -3,8 +3,10 @@
 
 ghost use Rattle.std.specs.Prelude.{◌≡◌, ◌+◌, ◌≤◌, ◌^◌, ◌++◌, IfOk, OnOk};
 ghost use Rattle.std.specs.Prelude.{◌&&◌};
-ghost use Rattle.view_chart.specs.Model.{all_spans, arrow_by, arrows_from, behind, count_of};
-ghost use Rattle.view_chart.specs.Model.{course_by, ended_by, first_point, has_cpu, has_jiffy};
+ghost use Rattle.view_chart.specs.Model.{all_spans, arrow_by, arrows_from, point_behind};
+ghost use Rattle.view_chart.specs.Model.{window_cpu_count};
+ghost use Rattle.view_chart.specs.Model.{chart_first_point, course_by, ended_by, has_cpu};
+ghost use Rattle.view_chart.specs.Model.{has_jiffy};
 ghost use Rattle.view_chart.specs.Model.{last_point, new_state, next_at, next_point, note_by};
 ghost use Rattle.view_chart.specs.Model.{notes_from, notes_where, place, spans_of_cpu, step_of};
 
@@ -105,7 +107,7 @@ fn next_at(window: &Window, before: Jiffy, line: Line) -> Jiffy
 fn behind(before: Point, at: Jiffy) -> Point
     requires later { before.at ≤ at }
     requires low { before.column ≤ before.at }
-    ensures point { result ≡ behind before at }
+    ensures point { result ≡ point_behind before at }
     ensures low { result.column ≤ result.at }
 {
     Point {
@@ -127,7 +129,7 @@ pub fn next_point(window: &Window, before: Point, line: Line) -> Point
 
 /// The point at which a chart begins.
 pub(crate) fn first_point(window: &Window) -> Point
-    ensures point { result ≡ first_point window.now }
+    ensures point { result ≡ chart_first_point window.now }
     ensures low { result.column ≤ result.at }
 {
     Point {
@@ -239,7 +241,7 @@ fn add_spans(
 
 /// How many CPUs a window has.
 pub(crate) fn count_of(window: &Window) -> u32
-    ensures count { result ≡ count_of window.now }
+    ensures count { result ≡ window_cpu_count window.now }
     ensures last { window.now.first.0 + result ≤ 2 ^ 16 }
 {
     if window.first.0 <= window.last.0 {
@@ -303,7 +305,7 @@ fn take_arrow(
 /// The arrows of a report's expiries, in the order of their lines.
 pub fn arrows_of(alloc: Global, window: &Window, lines: &[Line]) -> Result<Vec<Arrow>, NoMemory>
     ensures { IfOk result
-        (λ arrows. arrows.items ≡ arrows_from window.now (first_point window.now) lines.now) }
+        (λ arrows. arrows.items ≡ arrows_from window.now (chart_first_point window.now) lines.now) }
 {
     let mut arrows = Vec::new(alloc);
     let mut point = first_point(window);
@@ -342,7 +344,7 @@ fn take_note(
 /// The notes of a report's answers, in the order of their lines.
 fn all_notes(alloc: Global, window: &Window, lines: &[Line]) -> Result<Vec<Note>, NoMemory>
     ensures { IfOk result
-        (λ notes. notes.items ≡ notes_from window.now (first_point window.now) lines.now) }
+        (λ notes. notes.items ≡ notes_from window.now (chart_first_point window.now) lines.now) }
 {
     let mut notes = Vec::new(alloc);
     let mut point = first_point(window);

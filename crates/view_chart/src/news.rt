@@ -1,10 +1,11 @@
 //! The notes of a picture: of the answers for a CPU those that say something new of it.
 
 ghost use Rattle.std.specs.Prelude.{◌≡◌, ◌++◌, IfOk, OnOk};
-ghost use Rattle.view_chart.specs.News.{is_known, is_led, is_same, is_woken, known_by, known_where};
+ghost use Rattle.view_chart.specs.News.{is_known, is_led_by_cover, is_same_cover, is_woken};
+ghost use Rattle.view_chart.specs.News.{known_by, known_where};
 ghost use Rattle.view_chart.specs.News.{new_of, news_below, news_of_cpu, news_where, note_at};
 ghost use Rattle.view_chart.specs.News.{told_of};
-ghost use Rattle.view_chart.specs.Model.{count_of, new_state};
+ghost use Rattle.view_chart.specs.Model.{new_state, window_cpu_count};
 
 use crate::model::{Note, Point, Window, count_of, first_point, has_jiffy, new_state, next_point};
 use crate::said::{Answer, State, answer_in};
@@ -14,7 +15,7 @@ use tm_report::{Line, ShownCover};
 
 /// Whether it is this CPU, by the migrators of this group, that answers.
 fn is_led(level: u8, place: u16, migrator: CpuId, cover: ShownCover) -> bool
-    ensures { result ≡ is_led level place migrator.0 cover }
+    ensures { result ≡ is_led_by_cover level place migrator.0 cover }
 {
     match cover {
         ShownCover::Migrator {
@@ -38,7 +39,7 @@ fn is_woken(waker: CpuId, until: Jiffy, cover: ShownCover) -> bool
 
 /// Whether two covers are the same.
 fn is_same(one: ShownCover, other: ShownCover) -> bool
-    ensures { result ≡ is_same one other }
+    ensures { result ≡ is_same_cover one other }
 {
     match one {
         ShownCover::Migrator { level, place, cpu } => is_led(level, place, cpu, other),
@@ -158,7 +159,7 @@ fn add_news(
 /// The news of each CPU of a window, by their numbers.
 fn all_news(alloc: Global, window: &Window, lines: &[Line]) -> Result<Vec<Note>, NoMemory>
     ensures { IfOk result
-        (λ notes. notes.items ≡ news_below window.now (count_of window.now) lines.now) }
+        (λ notes. notes.items ≡ news_below window.now (window_cpu_count window.now) lines.now) }
 {
     let mut notes = Vec::new(alloc);
     for number in 0..count_of(window) {

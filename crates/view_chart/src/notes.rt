@@ -2,8 +2,9 @@
 
 ghost use Rattle.std.specs.Prelude.{◌≡◌, ◌++◌, OnOk};
 ghost use Rattle.std.specs.List.{flat_map};
-ghost use Rattle.view_chart.specs.Notes.{answer_text, answerer, cover_text, group_text, note_text};
-ghost use Rattle.view_chart.specs.Notes.{notes_text, number_text, words_text};
+ghost use Rattle.view_chart.specs.Notes.{answer_text, cover_answerer, cover_text, drawn_note_text};
+ghost use Rattle.view_chart.specs.Notes.{notes_group};
+ghost use Rattle.view_chart.specs.Notes.{note_title, notes_text, number_text};
 
 use crate::drawing::row_of;
 use crate::model::{Note, Window};
@@ -50,7 +51,7 @@ pub fn push_answer(text: &mut Vec<u8>, note: Note) -> Result<(), NoMemory>
 
 /// The number of the CPU that answers.
 fn answerer(cover: ShownCover) -> u16
-    ensures { result ≡ answerer cover }
+    ensures { result ≡ cover_answerer cover }
 {
     match cover {
         ShownCover::Migrator { cpu, .. } => cpu.0,
@@ -75,9 +76,9 @@ fn push_number(text: &mut Vec<u8>, window: &Window, note: Note) -> Result<(), No
 }
 
 /// The title of a number.
-#[tactic(auto, using(crate::proofs::Joined::onto), unfolding(crate::specs::Notes::words_text))]
+#[tactic(auto, using(crate::proofs::Joined::onto), unfolding(crate::specs::Notes::note_title))]
 fn push_title(text: &mut Vec<u8>, note: Note) -> Result<(), NoMemory>
-    ensures { OnOk result (text.new.items ≡ text.old.items ++ words_text note) }
+    ensures { OnOk result (text.new.items ≡ text.old.items ++ note_title note) }
 {
     push_after(text, b"<title>jiffy ", note.point.at)?;
     push_answer(text, note)?;
@@ -86,9 +87,9 @@ fn push_title(text: &mut Vec<u8>, note: Note) -> Result<(), NoMemory>
 }
 
 /// A note: a number, and its title.
-#[tactic(auto, using(crate::proofs::Joined::onto), unfolding(crate::specs::Notes::note_text))]
+#[tactic(auto, using(crate::proofs::Joined::onto), unfolding(crate::specs::Notes::drawn_note_text))]
 fn push_note(text: &mut Vec<u8>, window: &Window, note: Note) -> Result<(), NoMemory>
-    ensures { OnOk result (text.new.items ≡ text.old.items ++ note_text window.now note) }
+    ensures { OnOk result (text.new.items ≡ text.old.items ++ drawn_note_text window.now note) }
 {
     push_number(text, window, note)?;
     push_title(text, note)?;
@@ -98,7 +99,7 @@ fn push_note(text: &mut Vec<u8>, window: &Window, note: Note) -> Result<(), NoMe
 /// Notes, in their order.
 fn push_each(text: &mut Vec<u8>, window: &Window, notes: &[Note]) -> Result<(), NoMemory>
     ensures { OnOk result
-        (text.new.items ≡ text.old.items ++ flat_map (note_text window.now) notes.now) }
+        (text.new.items ≡ text.old.items ++ flat_map (drawn_note_text window.now) notes.now) }
 {
     for note in notes {
         push_note(text, window, *note)?;
@@ -107,9 +108,9 @@ fn push_each(text: &mut Vec<u8>, window: &Window, notes: &[Note]) -> Result<(), 
 }
 
 /// Notes, below the lines of CPUs that sleep.
-#[tactic(auto, using(crate::proofs::Joined::onto), unfolding(crate::specs::Notes::group_text))]
+#[tactic(auto, using(crate::proofs::Joined::onto), unfolding(crate::specs::Notes::notes_group))]
 fn push_group(text: &mut Vec<u8>, window: &Window, notes: &[Note]) -> Result<(), NoMemory>
-    ensures { OnOk result (text.new.items ≡ text.old.items ++ group_text window.now notes.now) }
+    ensures { OnOk result (text.new.items ≡ text.old.items ++ notes_group window.now notes.now) }
 {
     push_words(text, b"<g class=\"n\" transform=\"translate(.2 1.5)\">\n")?;
     push_each(text, window, notes)?;

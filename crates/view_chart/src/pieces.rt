@@ -2,7 +2,7 @@
 
 ghost use Rattle.std.specs.Prelude.{◌≡◌, ◌++◌, OnOk};
 ghost use Rattle.tm_report.specs.Words.{time_word};
-ghost use Rattle.view_chart.specs.Pieces.{after, three, two};
+ghost use Rattle.view_chart.specs.Pieces.{piece_with_number, three, two};
 
 use text_words::{push_bytes, push_number};
 use tm_base::{Jiffy, NEVER, NoMemory};
@@ -18,7 +18,7 @@ pub(crate) fn push_words(text: &mut Vec<u8>, words: &[u8]) -> Result<(), NoMemor
 /// A number behind a piece.
 #[tactic(auto, using(std::proofs::lemmas::List::append_assoc))]
 pub(crate) fn push_after(text: &mut Vec<u8>, front: &[u8], n: u64) -> Result<(), NoMemory>
-    ensures { OnOk result (text.new.items ≡ text.old.items ++ after front.now n) }
+    ensures { OnOk result (text.new.items ≡ text.old.items ++ piece_with_number front.now n) }
 {
     push_bytes(text, front)?;
     push_number(text, n)?;

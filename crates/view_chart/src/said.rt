@@ -1,7 +1,8 @@
 //! What the lines of a report say of CPUs and expiries, and of who answers.
 
 ghost use Rattle.std.specs.Prelude.{◌≡◌};
-ghost use Rattle.view_chart.specs.Said.{answer_in, change_in, cpu_in, higher, run_in, time_of};
+ghost use Rattle.view_chart.specs.Said.{answer_in, change_in, cpu_in, higher_cpu, line_jiffy};
+ghost use Rattle.view_chart.specs.Said.{run_in};
 
 use tm_base::{CpuId, Jiffy, TimerId};
 use tm_report::{Line, ShownCover};
@@ -50,9 +51,9 @@ pub struct Answer {
 }
 
 /// The jiffy of a line.
-#[tactic(auto, unfolding(crate::specs::Said::time_of))]
+#[tactic(auto, unfolding(crate::specs::Said::line_jiffy))]
 pub fn time_of(line: Line) -> Option<Jiffy>
-    ensures { result ≡ time_of line }
+    ensures { result ≡ line_jiffy line }
 {
     match line {
         Line::Arm { now, .. } => Some(now),
@@ -241,7 +242,7 @@ pub fn cpu_in(line: Line) -> u16
 
 /// The higher of two CPUs.
 pub(crate) fn higher(one: CpuId, other: CpuId) -> u16
-    ensures { result ≡ higher one.0 other.0 }
+    ensures { result ≡ higher_cpu one.0 other.0 }
 {
     if one.0 < other.0 { other.0 } else { one.0 }
 }

@@ -7,7 +7,7 @@ use Rattle.view_chart.specs.Charts.{back_from, chart_text, window_of}
 use Rattle.tm_script.specs.declared.faults.ScriptFault.{ScriptFault}
 use Rattle.trace_text.specs.declared.traces.Trace.{Trace}
 use Rattle.trace_text.specs.Faults.{trace_fault}
-use Rattle.trace_text.specs.Texts.{Spells}
+use Rattle.trace_text.specs.Texts.{SpellsTrace}
 use Rattle.trace_explain.specs.trace_check.declared.verdict.Verdict.{Verdict}
 use Rattle.trace_explain.specs.trace_check.declared.verdict.Verdict.TheVariants as verdicts
 use Rattle.trace_explain.specs.trace_check.Answers.{start_for}
@@ -57,7 +57,7 @@ pub record IsTold (t : Trace) (text : List ℕ) (status : ℕ) : Type 0 where
 -- WHAT `explain` WRITES: the trace that the bytes spell is told; or they spell none, and the first
 -- fault is told
 pub data IsTelling (bytes text : List ℕ) (status : ℕ) : Type 0 where
-  spelled : (t : Trace) → Spells bytes t → IsTold t text status → IsTelling bytes text status
+  spelled : (t : Trace) → SpellsTrace bytes t → IsTold t text status → IsTelling bytes text status
   unread : (fault : ScriptFault) → trace_fault bytes ≡ Some fault → text ≡ steps_text fault →
       status ≡ NO_TRACE → IsTelling bytes text status
 

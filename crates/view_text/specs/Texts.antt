@@ -4,7 +4,8 @@ use Rattle.std.specs.List.{flat_map}
 use Rattle.std.specs.Fmt.{decimal}
 use Rattle.tm_report.specs.declared.lines.Line.{Line}
 use Rattle.view_chart.specs.declared.model.Window.{Window}
-use Rattle.view_chart.specs.Model.{all_spans, arrows_from, first_point, notes_where, points_from}
+use Rattle.view_chart.specs.Model.{all_spans, arrows_from, chart_first_point, notes_where}
+use Rattle.view_chart.specs.Model.{points_from}
 use Rattle.view_text.specs.Lists.{note_text, run_text}
 use Rattle.view_text.specs.Pages.{end_of, page_count, pages_below}
 
@@ -20,6 +21,6 @@ unfoldable pub window_text : Window → (covers : Bool) → List Line → List �
 window_text w covers ls =
     head_text w
     ++ (pages_below (page_count (end_of 0 (all_spans w ls)))
-    (first_point w ∷ points_from w (first_point w) ls) (all_spans w ls)
-    ++ (flat_map run_text (arrows_from w (first_point w) ls)
+    (chart_first_point w ∷ points_from w (chart_first_point w) ls) (all_spans w ls)
+    ++ (flat_map run_text (arrows_from w (chart_first_point w) ls)
     ++ flat_map note_text (notes_where w covers ls)))

@@ -2,8 +2,8 @@
 
 ghost use Rattle.std.specs.Prelude.{◌≡◌, ◌∷◌, ◌++◌, IfErr, IfOk, None, OnOk, unwrap_or};
 ghost use Rattle.view_chart.specs.Charts.{IsRefusal, back_from, is_back, window_of};
-ghost use Rattle.view_chart.specs.Model.{first_point, points_from};
-ghost use Rattle.view_chart.specs.Said.{time_of};
+ghost use Rattle.view_chart.specs.Model.{chart_first_point, points_from};
+ghost use Rattle.view_chart.specs.Said.{line_jiffy};
 ghost use Rattle.view_text.specs.Texts.{head_text, window_text};
 
 use crate::lists::{push_notes, push_runs};
@@ -18,7 +18,7 @@ use view_chart::{
 
 /// Whether a line is of a jiffy before another one.
 fn is_back(before: Jiffy, line: Line) -> bool
-    ensures { result ≡ is_back before (time_of line) }
+    ensures { result ≡ is_back before (line_jiffy line) }
 {
     match time_of(line) {
         Some(at) => at < before,
@@ -28,7 +28,7 @@ fn is_back(before: Jiffy, line: Line) -> bool
 
 /// The jiffy of a line, or that of a line before it.
 fn time_behind(before: Jiffy, line: Line) -> Jiffy
-    ensures { result ≡ unwrap_or (time_of line) before }
+    ensures { result ≡ unwrap_or (line_jiffy line) before }
 {
     time_of(line).unwrap_or(before)
 }
@@ -50,7 +50,8 @@ fn back_at(lines: &[Line]) -> Option<usize>
 /// The points of lines, and the one at which a window begins.
 fn points_of(alloc: Global, window: &Window, lines: &[Line]) -> Result<Vec<Point>, NoMemory>
     ensures { IfOk result (λ points. points.items
-        ≡ first_point window.now ∷ points_from window.now (first_point window.now) lines.now) }
+        ≡ chart_first_point window.now
+        ∷ points_from window.now (chart_first_point window.now) lines.now) }
 {
     let mut points = Vec::new(alloc);
     let mut point = Point {

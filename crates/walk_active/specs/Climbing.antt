@@ -15,10 +15,10 @@ use Rattle.shared_walks.specs.Steps.{on_part}
 use Rattle.walk_active.specs.Activated.{ignored_where}
 
 -- the gate's point before a stage
-abbrev pub point_at : Stage → Option Point
-point_at stages.Up = Some points.BeforeUp
-point_at (stages.Mark more) = Some points.BeforeMark
-point_at other = None
+abbrev pub climb_point_at : Stage → Option Point
+climb_point_at stages.Up = Some points.BeforeUp
+climb_point_at (stages.Mark more) = Some points.BeforeMark
+climb_point_at other = None
 
 -- whether the CPU's own slot is still to be marked
 abbrev pub begins_at : Stage → Bool

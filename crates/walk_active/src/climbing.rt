@@ -3,7 +3,7 @@
 ghost use Rattle.std.specs.Prelude.{◌≡◌, Some};
 ghost use Rattle.walk_rules.specs.declared.walk.WalkKind.TheVariants as kinds;
 ghost use Rattle.shared_cpus.specs.shared_rule.Whole.{no_looks};
-ghost use Rattle.walk_active.specs.Climbing.{Climbs, HasClimbed, arrived, point_at};
+ghost use Rattle.walk_active.specs.Climbing.{Climbs, HasClimbed, arrived, climb_point_at};
 
 use shared_cpus::{BoxPart, Run, RunName};
 use shared_walks::make_step;
@@ -14,7 +14,7 @@ use wheel_core::TimerBase;
 
 /// The point that an activation passes as it comes to a stage.
 fn point_at(stage: Stage) -> Option<Point>
-    ensures { result ≡ point_at stage }
+    ensures { result ≡ climb_point_at stage }
 {
     match stage {
         Stage::Up => Some(Point::BeforeUp),

@@ -19,9 +19,9 @@ use Rattle.shared_cpus.specs.shared_rule.declared.parts.Looked.{Looked}
 use Rattle.shared_cpus.specs.shared_rule.Plays.{PartFits, WalkFits}
 use Rattle.shared_cpus.specs.shared_rule.Parts.{HeldPart}
 use Rattle.shared_walks.specs.Walks.{HasStepped, StepOf, is_under_way}
-use Rattle.walk_inactive.specs.Ends.{leaf_of, told_leaf}
-use Rattle.walk_inactive.specs.Looks.{FindsFirst, HasLooked}
-use Rattle.walk_inactive.specs.Ways.{HasAdvanced, HasCome, HasSetOut, LooksAt, WalkSoFar}
+use Rattle.walk_inactive.specs.Ends.{box_leaf_of, told_leaf}
+use Rattle.walk_inactive.specs.Looks.{FindsFirst, HasWalkLooked}
+use Rattle.walk_inactive.specs.Ways.{HasAdvanced, HasComeToEnd, HasSetOut, LooksAt, WalkSoFar}
 
 -- a walk that isn't under way, and doesn't hand on, finishes
 finishes_at : (at : Stage) → is_under_way at ≡ false → at ≢ stages.Handing → at ≡ stages.Finish
@@ -75,15 +75,15 @@ told_is c time slot says = by_time (time == NEVER) refl
 
 -- THE END of the way
 pub comes : (start now new : HeldPart) (k : Walk) → HasSetOut start k → WalkSoFar start now k
-    → HasAdvanced false now new → HasCome start new k
-comes start now new k out so_far advanced = subst (λ z. HasCome start z k) (sym stop.1) (record {
+    → HasAdvanced false now new → HasComeToEnd start new k
+comes start now new k out so_far advanced = subst (λ z. HasComeToEnd start z k) (sym stop.1) (record {
   walk = w;
   has = so_far.has;
   rest = so_far.rest;
   errand = so_far.errand;
   stage = end;
-  found = found (leaf_of start.box) refl;
-  leaf = leaf (leaf_of start.box) refl;
+  found = found (box_leaf_of start.box) refl;
+  leaf = leaf (box_leaf_of start.box) refl;
 })
   where
     w : Walk
@@ -104,13 +104,13 @@ comes start now new k out so_far advanced = subst (λ z. HasCome start z k) (sym
     cpu : now.box.cpu ≡ start.box.cpu
     cpu = ap (λ z. z.box.cpu) so_far.rest
 
-    path : (m : Option ℕ) → leaf_of start.box ≡ m → leaf_of now.box ≡ m
+    path : (m : Option ℕ) → box_leaf_of start.box ≡ m → box_leaf_of now.box ≡ m
     path m is = (λ i. group_at_of (run i).tree (cpu i) 0) ∙ is
 
-    no_group : leaf_of start.box ≡ None → HasGroup start.box.opening.tree start.box.cpu → ⊥
+    no_group : box_leaf_of start.box ≡ None → HasGroup start.box.opening.tree start.box.cpu → ⊥
     no_group is g = none-some g.0 (sym is ∙ g.1)
 
-    found : (m : Option ℕ) → leaf_of start.box ≡ m
+    found : (m : Option ℕ) → box_leaf_of start.box ≡ m
         → FindsFirst m start.box.opening start.box.cpu k.kind k.next now.box.looked.seen w.first
     found None is =
         let still = so_far.unmoved (no_group is) in (
@@ -118,12 +118,12 @@ comes start now new k out so_far advanced = subst (λ z. HasCome start z k) (sym
           (fits.alone (λ g. none-some g.0 (sym (path None is) ∙ g.1))).own ∙ so_far.errand.next,
         )
     found (Some g) is =
-        subst (λ z. HasLooked start.box.opening start.box.cpu z now.box.looked.seen w.first)
+        subst (λ z. HasWalkLooked start.box.opening start.box.cpu z now.box.looked.seen w.first)
         so_far.errand.kind
         (subst (LooksAt start.box.opening start.box.cpu w now.box.looked.seen) end
         (so_far.looks (g, is)))
 
-    leaf : (m : Option ℕ) → leaf_of start.box ≡ m
+    leaf : (m : Option ℕ) → box_leaf_of start.box ≡ m
         → now.box.leaf ≡ told_leaf m start.box.cpu k.next start.box.leaf
     leaf None is = ap (λ z. z.box.leaf) (so_far.unmoved (no_group is))
     leaf (Some g) is =

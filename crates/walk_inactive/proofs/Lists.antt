@@ -9,7 +9,7 @@ use Rattle.walk_rules.specs.Stages.{first_of}
 use Rattle.core_world.specs.World.{World}
 use Rattle.shared_words.specs.Exchanges.{shows_migrator}
 use Rattle.shared_walks.specs.Steps.{slot_place, state_place}
-use Rattle.walk_inactive.specs.Looks.{first_by, group_looks, slot_looks}
+use Rattle.walk_inactive.specs.Looks.{first_by, group_looks, walk_slot_looks}
 
 -- one more at the end
 pub longer : {X : Type 0} (xs : List X) (x : X) → length (xs ++ x ∷ []) ≡ suc (length xs)
@@ -30,8 +30,8 @@ group_look_at_end o cpu level (y ∷ ys) x =
     ++ record { word = state_place o cpu l; found = x } ∷ []) same)
 
 pub slot_look_at_end : (o : World) (cpu level number : ℕ) (xs : List ℕ) (x : ℕ)
-    → slot_looks o cpu level number (xs ++ x ∷ [])
-    ≡ slot_looks o cpu level number xs
+    → walk_slot_looks o cpu level number (xs ++ x ∷ [])
+    ≡ walk_slot_looks o cpu level number xs
     ++ record { word = slot_place o cpu level (length xs + number); found = x } ∷ []
 slot_look_at_end o cpu level number [] x =
     let none : length {A = ℕ} [] + number ≡ number = omega arith in
@@ -40,7 +40,7 @@ slot_look_at_end o cpu level number (y ∷ ys) x =
     let same : length ys + suc number ≡ suc (length ys) + number = omega arith in
     ap (λ z. record { word = slot_place o cpu level number; found = y } ∷ z)
     (slot_look_at_end o cpu level (suc number) ys x
-    ∙ ap (λ n. slot_looks o cpu level (suc number) ys
+    ∙ ap (λ n. walk_slot_looks o cpu level (suc number) ys
     ++ record { word = slot_place o cpu level n; found = x } ∷ []) same)
 
 fold_at_end : (h : ℕ → ℕ → ℕ) (init : ℕ) (xs : List ℕ) (x : ℕ)

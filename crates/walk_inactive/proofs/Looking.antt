@@ -18,19 +18,19 @@ use Rattle.core_world.specs.World.{World}
 use Rattle.shared_words.specs.Exchanges.{shows_migrator}
 use Rattle.shared_cpus.specs.shared_rule.declared.parts.Look.{Look}
 use Rattle.shared_walks.specs.Steps.{slot_place, state_place}
-use Rattle.walk_inactive.specs.Looks.{HasLooked, group_looks, reads_slots, slot_looks}
-use Rattle.walk_inactive.specs.Ways.{HasClosed, HasPassed, HasReadSlots, HasSeen, LooksAt}
+use Rattle.walk_inactive.specs.Looks.{HasWalkLooked, group_looks, reads_slots, walk_slot_looks}
+use Rattle.walk_inactive.specs.Ways.{HasClosedLevel, HasPassedLevels, HasReadSlots, HasSeen, LooksAt}
 use Rattle.walk_inactive.proofs.Lists.{first_at_end, group_look_at_end, longer, slot_look_at_end}
 use Rattle.walk_inactive.proofs.Lists.{still_none}
 
 module _ (o : World) (cpu : ℕ) (k : Walk) (looked : List Look) where
   -- what a walk looks at next at a level is known by the level
-  pub at_first_lock : (level : ℕ) → HasPassed o cpu k.level looked k.first
+  pub at_first_lock : (level : ℕ) → HasPassedLevels o cpu k.level looked k.first
       → LooksAt o cpu k looked (first_lock level)
   at_first_lock zero passed = passed
   at_first_lock (suc l) passed = passed
 
-  pub at_first_sight : (level : ℕ) → HasPassed o cpu k.level looked k.first
+  pub at_first_sight : (level : ℕ) → HasPassedLevels o cpu k.level looked k.first
       → LooksAt o cpu k looked (first_sight level)
   at_first_sight zero passed = passed
   at_first_sight (suc l) passed = passed
@@ -47,7 +47,7 @@ module _ (o : World) (cpu : ℕ) (k : Walk) (looked : List Look) where
 
 -- the look at a group's word at the walk's level
 pub seen_at : (o : World) (cpu level found first : ℕ) (looked : List Look)
-    → HasPassed o cpu level looked first
+    → HasPassedLevels o cpu level looked first
     → HasSeen o cpu level (shows_migrator found)
     (looked ++ record { word = state_place o cpu level; found = found } ∷ []) first
 seen_at o cpu zero found first looked passed = record {
@@ -80,7 +80,7 @@ seen_at o cpu (suc l) found first looked passed =
 -- a walk that ends under its group, which isn't the leaf: the child was found active under its lock
 pub ends_under : (o : World) (cpu level first : ℕ) (kind : WalkKind) (looked : List Look)
     → 0 < level → (g : ℕ) × (group_at_of o.tree cpu level ≡ Some g)
-    → HasPassed o cpu level looked first → HasLooked o cpu kind looked first
+    → HasPassedLevels o cpu level looked first → HasWalkLooked o cpu kind looked first
 ends_under o cpu zero first kind looked high path passed = absurd (omega (arith, high))
 ends_under o cpu (suc l) first kind looked high path passed = record {
   below = passed.below;
@@ -115,8 +115,8 @@ stored_here o cpu k looked over true over_is ends is seen = record {
   first_is = seen.first_is;
 }
 stored_here o cpu k looked true false over_is ends is seen =
-    subst (λ z. MatchBool z (HasLooked o cpu k.kind looked k.first)
-    (HasPassed o cpu (suc k.level) looked k.first)) (sym over_is) (record {
+    subst (λ z. MatchBool z (HasWalkLooked o cpu k.kind looked k.first)
+    (HasPassedLevels o cpu (suc k.level) looked k.first)) (sym over_is) (record {
       below = seen.below;
       last = seen.last;
       slots = [];
@@ -130,8 +130,8 @@ stored_here o cpu k looked true false over_is ends is seen =
       first_is = seen.first_is;
     })
 stored_here o cpu k looked false false over_is ends is seen =
-    subst (λ z. MatchBool z (HasLooked o cpu k.kind looked k.first)
-    (HasPassed o cpu (suc k.level) looked k.first)) (sym over_is)
+    subst (λ z. MatchBool z (HasWalkLooked o cpu k.kind looked k.first)
+    (HasPassedLevels o cpu (suc k.level) looked k.first)) (sym over_is)
     (subst (λ z. HasSeen o cpu k.level z looked k.first) (off k.on (sym ends)) seen)
   where
     off : (on : Bool) → (on || at_top o.tree cpu k.level) ≡ false → on ≡ false
@@ -177,14 +177,14 @@ slot_read o cpu level count found first kind looked h = record {
     groups = group_looks o cpu 0 (h.below ++ h.last ∷ [])
 
     slots_so_far : List Look
-    slots_so_far = slot_looks o cpu (length h.below) 0 h.slots
+    slots_so_far = walk_slot_looks o cpu (length h.below) 0 h.slots
 
     next : length h.slots + 0 ≡ count
     next = let e : length h.slots + 0 ≡ length h.slots = omega arith in e ∙ h.count_is
 
 -- all slots of the top are read
 all_read : (o : World) (cpu level first : ℕ) (kind : WalkKind) (looked : List Look)
-    → HasReadSlots o cpu level kind 8 looked first → HasLooked o cpu kind looked first
+    → HasReadSlots o cpu level kind 8 looked first → HasWalkLooked o cpu kind looked first
 all_read o cpu level first kind looked h = record {
   below = h.below;
   last = h.last;
@@ -202,8 +202,8 @@ read_here : (o : World) (cpu : ℕ) (k : Walk) (looked : List Look) (n : ℕ) (l
     → LooksAt o cpu k looked (if last then stages.FreeGroup else (stages.First (n + 1)))
 read_here o cpu k looked n true is over h =
     let eight : suc n ≡ 8 = ap suc (eqb-true n 7 is) in
-    subst (λ z. MatchBool z (HasLooked o cpu k.kind looked k.first)
-    (HasPassed o cpu (suc k.level) looked k.first)) (sym over)
+    subst (λ z. MatchBool z (HasWalkLooked o cpu k.kind looked k.first)
+    (HasPassedLevels o cpu (suc k.level) looked k.first)) (sym over)
     (all_read o cpu k.level k.first k.kind looked
     (subst (λ z. HasReadSlots o cpu k.level k.kind z looked k.first) eight h))
 read_here o cpu k looked n false is over h =
@@ -217,7 +217,7 @@ read_at o cpu k looked n over h = read_here o cpu k looked n (n == 7) refl over 
 
 -- where a walk that tells begins a level
 rises : (o : World) (cpu : ℕ) (k : Walk) (looked : List Look) (kind : WalkKind) → Tells kind
-    → HasPassed o cpu k.level looked k.first → LooksAt o cpu k looked (first_stage kind)
+    → HasPassedLevels o cpu k.level looked k.first → LooksAt o cpu k looked (first_stage kind)
 rises o cpu k looked kinds.Activate tells passed = absurd (tells refl)
 rises o cpu k looked kinds.Deactivate tells passed = passed
 rises o cpu k looked kinds.Offline tells passed = passed
@@ -226,21 +226,21 @@ rises o cpu k looked (kinds.Remote by) tells passed = passed
 
 -- the last lock of a level was given back
 freed_here : (o : World) (cpu : ℕ) (k : Walk) (looked : List Look) (over : Bool) → Tells k.kind
-    → MatchBool over (HasLooked o cpu k.kind looked k.first)
-    (HasPassed o cpu (suc k.level) looked k.first)
+    → MatchBool over (HasWalkLooked o cpu k.kind looked k.first)
+    (HasPassedLevels o cpu (suc k.level) looked k.first)
     → LooksAt o cpu (freed_next over k) looked (freed_next over k).stage
 freed_here o cpu k looked true tells closed = closed
 freed_here o cpu k looked false tells closed =
     rises o cpu (higher k (first_stage k.kind)) looked k.kind tells closed
 
 pub freed_at : (o : World) (cpu : ℕ) (k : Walk) (looked : List Look) → Tells k.kind
-    → HasClosed o cpu k looked
+    → HasClosedLevel o cpu k looked
     → LooksAt o cpu (freed_next k.over k) looked (freed_next k.over k).stage
 freed_at o cpu k looked tells closed = freed_here o cpu k looked k.over tells closed
 
 -- the group's lock was given back
 pub group_freed_at : (o : World) (cpu : ℕ) (k : Walk) (looked : List Look) (level : ℕ)
-    → Tells k.kind → HasClosed o cpu k looked
+    → Tells k.kind → HasClosedLevel o cpu k looked
     → LooksAt o cpu (free_group_next level k) looked (free_group_next level k).stage
 group_freed_at o cpu k looked zero tells closed = freed_at o cpu k looked tells closed
 group_freed_at o cpu k looked (suc l) tells closed = closed
@@ -248,7 +248,7 @@ group_freed_at o cpu k looked (suc l) tells closed = closed
 -- the child was seen under its lock
 pub child_seen_at : (o : World) (cpu : ℕ) (k : Walk) (looked : List Look) (on : Bool)
     → 0 < k.level → (g : ℕ) × (group_at_of o.tree cpu k.level ≡ Some g)
-    → HasPassed o cpu k.level looked k.first
+    → HasPassedLevels o cpu k.level looked k.first
     → LooksAt o cpu (see_child_next on k) looked (see_child_next on k).stage
 child_seen_at o cpu k looked true high path passed =
     ends_under o cpu k.level k.first k.kind looked high path passed

@@ -16,7 +16,7 @@ use Rattle.shared_cpus.specs.shared_rule.Passes.{with_pass}
 use Rattle.shared_cpus.specs.Conditions.{CanIdle}
 use Rattle.shared_table.specs.Begun.{IsFree}
 use Rattle.shared_table.specs.Readied.{HasNoneBehind}
-use Rattle.walk_inactive.specs.Ends.{HasWalked, at_rest, gone_idle, rested}
+use Rattle.walk_inactive.specs.Ends.{HasWalked, pass_at_rest, gone_idle, pass_rested}
 
 module _ (table : TableId) (part : HeldPart) (pass : HeldPass) (p : PassView)
     (here : IsPassIn table pass p) (own : p.cpu ≡ part.box.cpu) where
@@ -41,14 +41,14 @@ module _ (table : TableId) (part : HeldPart) (pass : HeldPass) (p : PassView)
 
   -- and has gone idle with it
   module _ (new : HeldPart)
-      (walked : HasWalked kinds.Deactivate gone_idle at_rest (with_guest part pass) new) where
-    brought : new.brought ≡ at_rest new.box p ∷ []
+      (walked : HasWalked kinds.Deactivate gone_idle pass_at_rest (with_guest part pass) new) where
+    brought : new.brought ≡ pass_at_rest new.box p ∷ []
     brought =
         ap (λ z. z.brought) walked.rest
-        ∙ ap (λ s. head_pass (at_rest new.box) (passes_of s)) here
+        ∙ ap (λ s. head_pass (pass_at_rest new.box) (passes_of s)) here
 
     pub has_guest : pass.cpu ≡ part.box.cpu → HasGuest pass.cpu new
-    has_guest cpu = (at_rest new.box p, brought, own ∙ sym cpu)
+    has_guest cpu = (pass_at_rest new.box p, brought, own ∙ sym cpu)
 
     pub is_free : IsFree part → IsFree (without_guest new)
     is_free free = record {
@@ -58,7 +58,7 @@ module _ (table : TableId) (part : HeldPart) (pass : HeldPass) (p : PassView)
           subst HasNoneBehind (sym (ap (λ b. b.own.bases) walked.told.box)) free.whole;
     }
 
-    pub parted : pass_parted table pass.cpu new ≡ with_pass (rested new.box) pass
+    pub parted : pass_parted table pass.cpu new ≡ with_pass (pass_rested new.box) pass
     parted =
         (λ i. record {
           cpu = pass.cpu;
@@ -70,14 +70,14 @@ module _ (table : TableId) (part : HeldPart) (pass : HeldPass) (p : PassView)
           room = pass.room;
           seated = Some (record {
             table = table;
-            pass = record (at_rest new.box p) {
+            pass = record (pass_at_rest new.box p) {
               journal = cond (mine i) new.box.own.bases.journal p.journal;
             };
           });
         })
         ∙ (λ i. record pass {
           seated =
-              option_map (λ (s : Seated). record s { pass = rested new.box s.pass }) (sym here i);
+              option_map (λ (s : Seated). record s { pass = pass_rested new.box s.pass }) (sym here i);
         })
       where
         mine : eqb p.cpu new.box.cpu ≡ true

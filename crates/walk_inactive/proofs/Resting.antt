@@ -25,11 +25,11 @@ use Rattle.shared_cpus.specs.Conditions.{CanFinish, CanIdle, HasPassFor}
 use Rattle.shared_cpus.specs.Pairs.{HasOwn, box_by, by_pair, of_box}
 use Rattle.shared_cpus.specs.Steps.{ended, ended_as}
 use Rattle.shared_walks.specs.Steps.{on_part}
-use Rattle.walk_inactive.specs.Ends.{HasWalked, at_rest, gone_idle, leaf_of, next_of}
+use Rattle.walk_inactive.specs.Ends.{HasWalked, pass_at_rest, gone_idle, box_leaf_of, next_of}
 use Rattle.walk_inactive.specs.Ends.{told_leaf}
 use Rattle.walk_inactive.specs.Frames.{box_with}
 use Rattle.walk_inactive.specs.Looks.{FindsFirst}
-use Rattle.walk_inactive.specs.Ways.{HasCome, HasSetOut, LooksAt}
+use Rattle.walk_inactive.specs.Ways.{HasComeToEnd, HasSetOut, LooksAt}
 
 -- the walk that begins, with a group or without
 abbrev pub first_walk : Bool → WalkKind → Stage → (pin next : ℕ) → Walk
@@ -81,16 +81,16 @@ with_one f h part p brought =
 module _ (part : HeldPart) (kind : WalkKind) (stage : Stage) (pin next : ℕ) where
   -- the walk
   abbrev pub begins : Walk
-  begins = first_walk (is_some (leaf_of part.box)) kind stage pin next
+  begins = first_walk (is_some (box_leaf_of part.box)) kind stage pin next
 
   pub sets_out : Tells kind
-      → part.box.own.walk ≡ begun_where (is_some (leaf_of part.box)) kind stage pin next
+      → part.box.own.walk ≡ begun_where (is_some (box_leaf_of part.box)) kind stage pin next
       → part.box.looked ≡ no_looks
       → LooksAt part.box.opening part.box.cpu (started kind stage pin next NEVER) [] stage
       → HasSetOut part begins
   sets_out tells is none looks = record {
-    walk = is ∙ begun_as (is_some (leaf_of part.box)) kind stage pin next tells;
-    tells = subst Tells (sym (first_kind (is_some (leaf_of part.box)) kind stage pin next)) tells;
+    walk = is ∙ begun_as (is_some (box_leaf_of part.box)) kind stage pin next tells;
+    tells = subst Tells (sym (first_kind (is_some (box_leaf_of part.box)) kind stage pin next)) tells;
     none = none;
     looks = λ group.
         subst (λ m. LooksAt part.box.opening part.box.cpu (first_walk (is_some m) kind stage pin next)
@@ -105,7 +105,7 @@ come_part part y p w leaf read looked =
 
 -- so it is where its walk ends
 pub came : (part : HeldPart) (y : CpuRecord) (p : PassView) (end : HeldPart) (k : Walk)
-    (come : HasCome (begun_part part y p) end k)
+    (come : HasComeToEnd (begun_part part y p) end k)
     → end ≡ come_part part y p come.walk end.box.leaf end.box.read end.box.looked
 came part y p end k come =
     come.rest
@@ -114,7 +114,7 @@ came part y p end k come =
 
 -- and so after that, by the kind of the walk
 pub ended_so : (part : HeldPart) (y : CpuRecord) (p : PassView) (end new : HeldPart) (k : Walk)
-    (kind : WalkKind) (come : HasCome (begun_part part y p) end k) → k.kind ≡ kind
+    (kind : WalkKind) (come : HasComeToEnd (begun_part part y p) end k) → k.kind ≡ kind
     → new ≡ ended end.box.own.walk end
     → new
     ≡ ended_as kind (come_part part y p come.walk end.box.leaf end.box.read end.box.looked)
@@ -127,7 +127,7 @@ ended_so part y p end new k kind come of_kind is =
 
 -- A CPU HAS GONE IDLE
 module _ (old : HeldPart) (p : PassView) (end new : HeldPart) (k : Walk)
-    (come : HasCome (begun_part old (idled old.box.opening old.box.cpu old.box.own)
+    (come : HasComeToEnd (begun_part old (idled old.box.opening old.box.cpu old.box.own)
     (idled_pass old.box p)) end k) where
   abbrev own : CpuRecord
   own = old.box.own
@@ -157,16 +157,16 @@ module _ (old : HeldPart) (p : PassView) (end new : HeldPart) (k : Walk)
   pub rests : old.brought ≡ p ∷ [] → own.walk ≡ None → k.kind ≡ kinds.Deactivate
       → k.pin ≡ (events_of own.bases).pin → k.next ≡ (events_of own.bases).next
       → new ≡ ended end.box.own.walk end
-      → HasWalked kinds.Deactivate gone_idle at_rest old new
+      → HasWalked kinds.Deactivate gone_idle pass_at_rest old new
   rests brought free of_kind pin next is = record {
     told = record {
       first = come.walk.first;
       found =
-          subst (λ z. FindsFirst (leaf_of old.box) old.box.opening old.box.cpu kinds.Deactivate
+          subst (λ z. FindsFirst (box_leaf_of old.box) old.box.opening old.box.cpu kinds.Deactivate
           (next_of old.box) z come.walk.first) (sym (ap (λ z. z.box.looked.seen) final))
-          (subst (λ z. FindsFirst (leaf_of old.box) old.box.opening old.box.cpu kinds.Deactivate z
+          (subst (λ z. FindsFirst (box_leaf_of old.box) old.box.opening old.box.cpu kinds.Deactivate z
           end.box.looked.seen come.walk.first) next
-          (subst (λ z. FindsFirst (leaf_of old.box) old.box.opening old.box.cpu z k.next
+          (subst (λ z. FindsFirst (box_leaf_of old.box) old.box.opening old.box.cpu z k.next
           end.box.looked.seen come.walk.first) of_kind come.found));
       box =
           ap (λ z. z.box) final
@@ -195,7 +195,7 @@ module _ (old : HeldPart) (p : PassView) (end new : HeldPart) (k : Walk)
         })
         ∙ (λ i. record old {
           box = new.box;
-          brought = head_pass (at_rest new.box) (sym brought i);
+          brought = head_pass (pass_at_rest new.box) (sym brought i);
         });
   }
     where
@@ -211,8 +211,8 @@ module _ (old : HeldPart) (p : PassView) (end new : HeldPart) (k : Walk)
       pinned = come.errand.pin ∙ pin
 
       leaf : end.box.leaf
-          ≡ told_leaf (leaf_of old.box) old.box.cpu (next_of old.box) old.box.leaf
-      leaf = come.leaf ∙ ap (λ n. told_leaf (leaf_of old.box) old.box.cpu n old.box.leaf) next
+          ≡ told_leaf (box_leaf_of old.box) old.box.cpu (next_of old.box) old.box.leaf
+      leaf = come.leaf ∙ ap (λ n. told_leaf (box_leaf_of old.box) old.box.cpu n old.box.leaf) next
 
 -- going idle isn't waking
 idles : Tells kinds.Deactivate
@@ -224,7 +224,7 @@ module _ (old mid end new : HeldPart) (can : CanIdle old)
   -- the walk by which it does
   abbrev pub idle_walk : Walk
   idle_walk =
-      first_walk (is_some (leaf_of old.box)) kinds.Deactivate stages.Read
+      first_walk (is_some (box_leaf_of old.box)) kinds.Deactivate stages.Read
       (events_of old.box.own.bases).pin (events_of old.box.own.bases).next
 
   -- the part as that begins
@@ -241,16 +241,16 @@ module _ (old mid end new : HeldPart) (can : CanIdle old)
       (sets_out begun_idle kinds.Deactivate stages.Read (events_of old.box.own.bases).pin
       (events_of old.box.own.bases).next idles refl refl (refl, refl))
 
-  idle_comes : ((k : Walk) → HasSetOut mid k → HasCome mid end k) → HasCome begun_idle end idle_walk
+  idle_comes : ((k : Walk) → HasSetOut mid k → HasComeToEnd mid end k) → HasComeToEnd begun_idle end idle_walk
   idle_comes comes =
-      subst (λ z. HasCome z end idle_walk) begun_here (comes idle_walk idle_sets_out)
+      subst (λ z. HasComeToEnd z end idle_walk) begun_here (comes idle_walk idle_sets_out)
 
-  pub idle_finishes : ((k : Walk) → HasSetOut mid k → HasCome mid end k) → CanFinish end
+  pub idle_finishes : ((k : Walk) → HasSetOut mid k → HasComeToEnd mid end k) → CanFinish end
   idle_finishes comes =
       let come = idle_comes comes in
       let kind : come.walk.kind ≡ kinds.Deactivate =
       come.errand.kind
-      ∙ first_kind (is_some (leaf_of old.box)) kinds.Deactivate stages.Read
+      ∙ first_kind (is_some (box_leaf_of old.box)) kinds.Deactivate stages.Read
       (events_of old.box.own.bases).pin (events_of old.box.own.bases).next in
       record {
         made = come.walk;
@@ -263,11 +263,11 @@ module _ (old mid end new : HeldPart) (can : CanIdle old)
             (idled_pass old.box can.pass, refl, can.turn.own));
       }
 
-  pub idle_rests : ((k : Walk) → HasSetOut mid k → HasCome mid end k)
+  pub idle_rests : ((k : Walk) → HasSetOut mid k → HasComeToEnd mid end k)
       → new ≡ ended end.box.own.walk end
-      → HasWalked kinds.Deactivate gone_idle at_rest old new
+      → HasWalked kinds.Deactivate gone_idle pass_at_rest old new
   idle_rests comes is =
-      let has = is_some (leaf_of old.box) in
+      let has = is_some (box_leaf_of old.box) in
       let pin = (events_of old.box.own.bases).pin in
       let next = (events_of old.box.own.bases).next in
       rests old can.pass end new idle_walk (idle_comes comes) can.turn.brought can.turn.free

@@ -21,10 +21,10 @@ use Rattle.shared_cpus.specs.shared_rule.Parts.{HeldPart}
 use Rattle.shared_cpus.specs.Conditions.{CanCarry, CanFinish, CanRetell, HasPassFor}
 use Rattle.shared_cpus.specs.Pairs.{HasOwn, by_pair, of_box}
 use Rattle.shared_cpus.specs.Steps.{ended}
-use Rattle.walk_inactive.specs.Ends.{HasCarried, HasWalked, has_carried, leaf_of, next_of}
-use Rattle.walk_inactive.specs.Ends.{reevaluated, retold, told_leaf, unmarked}
+use Rattle.walk_inactive.specs.Ends.{HasCarried, HasWalked, has_carried, box_leaf_of, next_of}
+use Rattle.walk_inactive.specs.Ends.{cpu_reevaluated, pass_retold, told_leaf, unmarked}
 use Rattle.walk_inactive.specs.Looks.{FindsFirst}
-use Rattle.walk_inactive.specs.Ways.{HasCome, HasSetOut}
+use Rattle.walk_inactive.specs.Ways.{HasComeToEnd, HasSetOut}
 use Rattle.walk_inactive.proofs.Resting.{begun_part, came, ended_so, first_kind, first_next}
 use Rattle.walk_inactive.proofs.Resting.{first_pin, first_walk, sets_out, with_one}
 
@@ -44,9 +44,9 @@ ended_part old end own passes = record old {
 walked_so : (old end new : HeldPart) (k w : Walk) (kind : WalkKind)
     (change : ℕ → CpuRecord → CpuRecord) (with_it : BoxView → PassView → PassView)
     (own : CpuRecord) (passes : List PassView) → new ≡ ended_part old end own passes
-    → FindsFirst (leaf_of old.box) old.box.opening old.box.cpu k.kind k.next end.box.looked.seen w.first
+    → FindsFirst (box_leaf_of old.box) old.box.opening old.box.cpu k.kind k.next end.box.looked.seen w.first
     → k.kind ≡ kind → k.next ≡ next_of old.box
-    → end.box.leaf ≡ told_leaf (leaf_of old.box) old.box.cpu k.next old.box.leaf
+    → end.box.leaf ≡ told_leaf (box_leaf_of old.box) old.box.cpu k.next old.box.leaf
     → own ≡ change w.first old.box.own
     → passes ≡ head_pass (with_it (ended_part old end own passes).box) old.brought
     → HasWalked kind change with_it old new
@@ -55,11 +55,11 @@ walked_so old end new k w kind change with_it own passes final found of_kind nex
       told = record {
         first = w.first;
         found =
-            subst (λ z. FindsFirst (leaf_of old.box) old.box.opening old.box.cpu kind (next_of old.box)
+            subst (λ z. FindsFirst (box_leaf_of old.box) old.box.opening old.box.cpu kind (next_of old.box)
             z w.first) (ap (λ z. z.box.looked.seen) back)
-            (subst (λ z. FindsFirst (leaf_of old.box) old.box.opening old.box.cpu kind z
+            (subst (λ z. FindsFirst (box_leaf_of old.box) old.box.opening old.box.cpu kind z
             end.box.looked.seen w.first) next
-            (subst (λ z. FindsFirst (leaf_of old.box) old.box.opening old.box.cpu z k.next
+            (subst (λ z. FindsFirst (box_leaf_of old.box) old.box.opening old.box.cpu z k.next
             end.box.looked.seen w.first) of_kind found));
         box =
             ap (λ z. z.box) final
@@ -82,8 +82,8 @@ walked_so old end new k w kind change with_it own passes final found of_kind nex
     back : ended_part old end own passes ≡ new
     back = sym final
 
-    told : end.box.leaf ≡ told_leaf (leaf_of old.box) old.box.cpu (next_of old.box) old.box.leaf
-    told = leaf ∙ ap (λ n. told_leaf (leaf_of old.box) old.box.cpu n old.box.leaf) next
+    told : end.box.leaf ≡ told_leaf (box_leaf_of old.box) old.box.cpu (next_of old.box) old.box.leaf
+    told = leaf ∙ ap (λ n. told_leaf (box_leaf_of old.box) old.box.cpu n old.box.leaf) next
 
 -- neither re-evaluating nor carrying is waking
 abbrev is_waking : WalkKind → Bool
@@ -102,7 +102,7 @@ module _ (old mid end new : HeldPart) (can : CanRetell old)
   -- the walk by which it does
   abbrev pub retell_walk : Walk
   retell_walk =
-      first_walk (is_some (leaf_of old.box)) kinds.Reeval stages.LockGroup
+      first_walk (is_some (box_leaf_of old.box)) kinds.Reeval stages.LockGroup
       (events_of own.bases).pin (events_of own.bases).next
 
   -- the part as that begins
@@ -119,17 +119,17 @@ module _ (old mid end new : HeldPart) (can : CanRetell old)
       (sets_out begun_retell kinds.Reeval stages.LockGroup (events_of own.bases).pin
       (events_of own.bases).next (λ z. true≢false (sym (ap is_waking z))) refl refl (refl, refl))
 
-  retell_comes : ((k : Walk) → HasSetOut mid k → HasCome mid end k)
-      → HasCome begun_retell end retell_walk
+  retell_comes : ((k : Walk) → HasSetOut mid k → HasComeToEnd mid end k)
+      → HasComeToEnd begun_retell end retell_walk
   retell_comes comes =
-      subst (λ z. HasCome z end retell_walk) retell_here (comes retell_walk retell_sets_out)
+      subst (λ z. HasComeToEnd z end retell_walk) retell_here (comes retell_walk retell_sets_out)
 
-  pub retell_finishes : ((k : Walk) → HasSetOut mid k → HasCome mid end k) → CanFinish end
+  pub retell_finishes : ((k : Walk) → HasSetOut mid k → HasComeToEnd mid end k) → CanFinish end
   retell_finishes comes =
       let come = retell_comes comes in
       let kind : come.walk.kind ≡ kinds.Reeval =
       come.errand.kind
-      ∙ first_kind (is_some (leaf_of old.box)) kinds.Reeval stages.LockGroup
+      ∙ first_kind (is_some (box_leaf_of old.box)) kinds.Reeval stages.LockGroup
       (events_of own.bases).pin (events_of own.bases).next in
       record {
         made = come.walk;
@@ -142,12 +142,12 @@ module _ (old mid end new : HeldPart) (can : CanRetell old)
             (retold_pass old.box can.pass, refl, can.turn.own));
       }
 
-  pub retell_ends : ((k : Walk) → HasSetOut mid k → HasCome mid end k)
+  pub retell_ends : ((k : Walk) → HasSetOut mid k → HasComeToEnd mid end k)
       → new ≡ ended end.box.own.walk end
-      → HasWalked kinds.Reeval reevaluated retold old new
+      → HasWalked kinds.Reeval cpu_reevaluated pass_retold old new
   retell_ends comes is =
       let come = retell_comes comes in
-      let has = is_some (leaf_of old.box) in
+      let has = is_some (box_leaf_of old.box) in
       let pin = (events_of own.bases).pin in
       let next = (events_of own.bases).next in
       let kind = first_kind has kinds.Reeval stages.LockGroup pin next in
@@ -156,7 +156,7 @@ module _ (old mid end new : HeldPart) (can : CanRetell old)
       let free = sym can.turn.free in
       let p = can.pass in
       let wakeup = min come.walk.pin come.walk.first in
-      walked_so old end new retell_walk come.walk kinds.Reeval reevaluated retold
+      walked_so old end new retell_walk come.walk kinds.Reeval cpu_reevaluated pass_retold
       (record own { wakeup = wakeup; inside = false; walk = None })
       (record p { walks = suc p.walks; wakeup = wakeup; inside = false; reeval = false } ∷ [])
       (ended_so old (turns.retold old.box.opening old.box.cpu own) (retold_pass old.box p) end new
@@ -167,7 +167,7 @@ module _ (old mid end new : HeldPart) (can : CanRetell old)
         inside = false;
         walk = free i;
       })
-      (ap (head_pass (retold (record old.box {
+      (ap (head_pass (pass_retold (record old.box {
         own = record own { wakeup = wakeup; inside = false; walk = None };
         leaf = end.box.leaf;
         read = end.box.read;
@@ -186,7 +186,7 @@ module _ (old mid end new : HeldPart) (can : CanCarry old)
   -- the walk by which it is
   abbrev pub carry_walk : Walk
   carry_walk =
-      first_walk (is_some (leaf_of old.box)) kind stages.LockGroup (events_of its.bases).pin
+      first_walk (is_some (box_leaf_of old.box)) kind stages.LockGroup (events_of its.bases).pin
       (events_of its.bases).next
 
   -- the part as that begins
@@ -204,17 +204,17 @@ module _ (old mid end new : HeldPart) (can : CanCarry old)
       (sets_out begun_carry kind stages.LockGroup (events_of its.bases).pin
       (events_of its.bases).next (λ z. true≢false (sym (ap is_waking z))) refl refl (refl, refl))
 
-  carry_comes : ((k : Walk) → HasSetOut mid k → HasCome mid end k)
-      → HasCome begun_carry end carry_walk
+  carry_comes : ((k : Walk) → HasSetOut mid k → HasComeToEnd mid end k)
+      → HasComeToEnd begun_carry end carry_walk
   carry_comes comes =
-      subst (λ z. HasCome z end carry_walk) carry_here (comes carry_walk carry_sets_out)
+      subst (λ z. HasComeToEnd z end carry_walk) carry_here (comes carry_walk carry_sets_out)
 
-  pub carry_finishes : ((k : Walk) → HasSetOut mid k → HasCome mid end k) → CanFinish end
+  pub carry_finishes : ((k : Walk) → HasSetOut mid k → HasComeToEnd mid end k) → CanFinish end
   carry_finishes comes =
       let come = carry_comes comes in
       let of_kind : come.walk.kind ≡ kind =
       come.errand.kind
-      ∙ first_kind (is_some (leaf_of old.box)) kind stages.LockGroup
+      ∙ first_kind (is_some (box_leaf_of old.box)) kind stages.LockGroup
       (events_of its.bases).pin (events_of its.bases).next in
       record {
         made = come.walk;
@@ -228,12 +228,12 @@ module _ (old mid end new : HeldPart) (can : CanCarry old)
             (carried_pass old.box can.pass, refl, refl));
       }
 
-  carry_ends_with : ((k : Walk) → HasSetOut mid k → HasCome mid end k)
+  carry_ends_with : ((k : Walk) → HasSetOut mid k → HasComeToEnd mid end k)
       → new ≡ ended end.box.own.walk end
       → HasWalked kind unmarked has_carried old new
   carry_ends_with comes is =
       let come = carry_comes comes in
-      let has = is_some (leaf_of old.box) in
+      let has = is_some (box_leaf_of old.box) in
       let pin = (events_of its.bases).pin in
       let next = (events_of its.bases).next in
       let of_kind = first_kind has kind stages.LockGroup pin next in
@@ -275,7 +275,7 @@ module _ (old mid end new : HeldPart) (can : CanCarry old)
             } ∷ [];
       } ∷ []) ∙ ap (head_pass (has_carried box)) brought)
 
-  pub carry_ends : ((k : Walk) → HasSetOut mid k → HasCome mid end k)
+  pub carry_ends : ((k : Walk) → HasSetOut mid k → HasComeToEnd mid end k)
       → new ≡ ended end.box.own.walk end → HasCarried old new
   carry_ends comes is = λ p brought.
       subst (λ n. HasWalked (kinds.Remote (as_cpu n)) unmarked has_carried old new)

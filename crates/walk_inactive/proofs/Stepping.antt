@@ -31,7 +31,7 @@ use Rattle.shared_walks.specs.Steps.{group_seen, on_part, top_seen}
 use Rattle.shared_walks.specs.Walks.{HasReadChild, StepOf, is_under_way}
 use Rattle.walk_inactive.proofs.Framing.{step_framed}
 use Rattle.shared_walks.proofs.Standing.{finishes, has_group, stands}
-use Rattle.walk_inactive.specs.Ways.{HasAdvanced, HasPassed, HasSetOut, LooksAt}
+use Rattle.walk_inactive.specs.Ways.{HasAdvanced, HasPassedLevels, HasSetOut, LooksAt}
 use Rattle.walk_inactive.specs.Ways.{WalkSoFar}
 use Rattle.walk_inactive.proofs.Looking.{at_after_sight, at_first_lock, at_first_sight, at_scan}
 use Rattle.walk_inactive.proofs.Looking.{child_seen_at, freed_at, group_freed_at, read_at, seen_at}
@@ -63,7 +63,7 @@ module _ (k : Walk) (old new : HeldPart) (has : old.box.own.walk ≡ Some k) whe
   b = old.box
 
   abbrev Passed : Type 0
-  Passed = HasPassed b.opening b.cpu k.level b.looked.seen k.first
+  Passed = HasPassedLevels b.opening b.cpu k.level b.looked.seen k.first
 
   read_child : (level : ℕ) → Passed → HasReadChild level old new → Looking new.box
   read_child zero looks e =

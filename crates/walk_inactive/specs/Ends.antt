@@ -18,8 +18,8 @@ use Rattle.shared_cpus.specs.shared_rule.Parts.{HeldPart}
 use Rattle.walk_inactive.specs.Looks.{FindsFirst}
 
 -- the leaf of a box's CPU, where it has one
-abbrev pub leaf_of : BoxView → Option ℕ
-leaf_of b = group_at_of b.opening.tree b.cpu 0
+abbrev pub box_leaf_of : BoxView → Option ℕ
+box_leaf_of b = group_at_of b.opening.tree b.cpu 0
 
 -- the event that a box's CPU has for its leaf, in jiffies
 abbrev pub next_of : BoxView → ℕ
@@ -33,13 +33,14 @@ told_leaf (Some leaf) cpu next old = leaf_event cpu next
 -- A WHOLE WALK of a kind: by what it looked at it has found the first event to wake for, its CPU
 -- has changed so by that, the CPU's slot in its leaf says its next event, and all else of the box
 -- stays but the word that was read
-pub record HasTold (kind : WalkKind) (change : (first : ℕ) → CpuRecord → CpuRecord)
+pub record HasWalkTold (kind : WalkKind) (change : (first : ℕ) → CpuRecord → CpuRecord)
     (old new : BoxView) : Type 0 where
   pub first : ℕ
-  pub found : FindsFirst (leaf_of old) old.opening old.cpu kind (next_of old) new.looked.seen first
+  pub found : FindsFirst (box_leaf_of old) old.opening old.cpu kind (next_of old)
+      new.looked.seen first
   pub box : new ≡ record old {
     own = change first old.own;
-    leaf = told_leaf (leaf_of old) old.cpu (next_of old) old.leaf;
+    leaf = told_leaf (box_leaf_of old) old.cpu (next_of old) old.leaf;
     read = new.read;
     looked = new.looked;
   }
@@ -53,21 +54,21 @@ abbrev pub gone_idle : (first : ℕ) → CpuRecord → CpuRecord
 gone_idle first y = record y { idle = true; wakeup = wakeup_of first y }
 
 -- the pass of a CPU that has gone idle, with the wakeup of its box
-abbrev pub at_rest : BoxView → PassView → PassView
-at_rest b p =
+abbrev pub pass_at_rest : BoxView → PassView → PassView
+pass_at_rest b p =
     record p { walks = suc p.walks; idle = true; reeval = false; wakeup = b.own.wakeup }
 
 -- and with the journal of the box, as it is parted from it
-abbrev pub rested : BoxView → PassView → PassView
-rested b p = record (at_rest b p) { journal = b.own.bases.journal }
+abbrev pub pass_rested : BoxView → PassView → PassView
+pass_rested b p = record (pass_at_rest b p) { journal = b.own.bases.journal }
 
 -- a CPU that has re-evaluated
-abbrev pub reevaluated : (first : ℕ) → CpuRecord → CpuRecord
-reevaluated first y = record y { wakeup = wakeup_of first y; inside = false }
+abbrev pub cpu_reevaluated : (first : ℕ) → CpuRecord → CpuRecord
+cpu_reevaluated first y = record y { wakeup = wakeup_of first y; inside = false }
 
 -- the pass of a CPU that has re-evaluated
-abbrev pub retold : BoxView → PassView → PassView
-retold b p = record p {
+abbrev pub pass_retold : BoxView → PassView → PassView
+pass_retold b p = record p {
   walks = suc p.walks;
   wakeup = b.own.wakeup;
   inside = false;
@@ -92,22 +93,22 @@ has_carried b p = record p {
 -- else of the part has stayed
 pub record HasWalked (kind : WalkKind) (change : (first : ℕ) → CpuRecord → CpuRecord)
     (with_it : BoxView → PassView → PassView) (old new : HeldPart) : Type 0 where
-  pub told : HasTold kind change old.box new.box
+  pub told : HasWalkTold kind change old.box new.box
   pub rest : new ≡ record old {
     box = new.box;
     brought = head_pass (with_it new.box) old.brought;
   }
 
 -- whether a CPU's mark is that of this one
-abbrev pub is_marked_by : Option ℕ → (cpu : ℕ) → Bool
-is_marked_by None cpu = false
-is_marked_by (Some by) cpu = by == cpu
+abbrev pub is_mark_of : Option ℕ → (cpu : ℕ) → Bool
+is_mark_of None cpu = false
+is_mark_of (Some by) cpu = by == cpu
 
 -- whether a CPU re-evaluates with this pass, and isn't carried for: the pass is its own, and it
 -- hasn't marked itself
 abbrev pub retells_with : BoxView → List PassView → Bool
 retells_with b [] = false
-retells_with b (p ∷ ps) = (p.cpu == b.cpu) && not (is_marked_by b.own.mark b.cpu)
+retells_with b (p ∷ ps) = (p.cpu == b.cpu) && not (is_mark_of b.own.mark b.cpu)
 
 -- a walk of a part that carries for the CPU of the pass that is brought
 abbrev pub HasCarried : HeldPart → HeldPart → Type 0

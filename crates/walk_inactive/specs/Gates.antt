@@ -11,10 +11,10 @@ lock_point zero = Some points.BeforeLock
 lock_point (suc l) = None
 
 -- GATES: the place that a walk at this stage of a level comes to, if it is one
-abbrev pub point_at : (level : ℕ) → Stage → Option Point
-point_at level stages.Child = Some points.BeforeChildRead
-point_at level stages.Swap = Some points.BeforeSwap
-point_at level stages.LockChild = Some points.BeforeLock
-point_at level stages.LockGroup = lock_point level
-point_at level stages.Store = Some points.BeforeStore
-point_at level other = None
+abbrev pub walk_point_at : (level : ℕ) → Stage → Option Point
+walk_point_at level stages.Child = Some points.BeforeChildRead
+walk_point_at level stages.Swap = Some points.BeforeSwap
+walk_point_at level stages.LockChild = Some points.BeforeLock
+walk_point_at level stages.LockGroup = lock_point level
+walk_point_at level stages.Store = Some points.BeforeStore
+walk_point_at level other = None

@@ -20,11 +20,11 @@ group_looks o cpu level (x ∷ xs) =
     record { word = state_place o cpu level; found = x } ∷ group_looks o cpu (suc level) xs
 
 -- the loads of the slots of one of these groups, one a child, from a child on
-abbrev pub slot_looks : World → (cpu level number : ℕ) → (found : List ℕ) → List Look
-slot_looks o cpu level number [] = []
-slot_looks o cpu level number (x ∷ xs) =
+abbrev pub walk_slot_looks : World → (cpu level number : ℕ) → (found : List ℕ) → List Look
+walk_slot_looks o cpu level number [] = []
+walk_slot_looks o cpu level number (x ∷ xs) =
     record { word = slot_place o cpu level number; found = x }
-    ∷ slot_looks o cpu level (suc number) xs
+    ∷ walk_slot_looks o cpu level (suc number) xs
 
 -- FIRST: the least expiry of the events in these slots that aren't ignored, `NEVER` where there is
 -- none
@@ -39,13 +39,13 @@ reads_slots t cpu level word kind =
 
 -- THE LOOKS of a walk that has come to its end: at one group a level, of which those below the last
 -- showed no migrator, and at the slots of the last one, or at none; and what it has found so
-pub record HasLooked (o : World) (cpu : ℕ) (kind : WalkKind) (looked : List Look) (first : ℕ) :
+pub record HasWalkLooked (o : World) (cpu : ℕ) (kind : WalkKind) (looked : List Look) (first : ℕ) :
     Type 0 where
   pub below : List ℕ
   pub last : ℕ
   pub slots : List ℕ
   pub looks : looked
-      ≡ group_looks o cpu 0 (below ++ last ∷ []) ++ slot_looks o cpu (length below) 0 slots
+      ≡ group_looks o cpu 0 (below ++ last ∷ []) ++ walk_slot_looks o cpu (length below) 0 slots
   pub passed : list_any shows_migrator below ≡ false
   pub read : length slots ≡ (if reads_slots o.tree cpu (length below) last kind then 8 else 0)
   pub first_is : first ≡ first_by slots
@@ -55,4 +55,4 @@ pub record HasLooked (o : World) (cpu : ℕ) (kind : WalkKind) (looked : List Lo
 abbrev pub FindsFirst : Option ℕ → World → (cpu : ℕ) → WalkKind → (next : ℕ) → List Look
     → (first : ℕ) → Type 0
 FindsFirst None o cpu kind next looked first = (looked ≡ []) × (first ≡ next)
-FindsFirst (Some leaf) o cpu kind next looked first = HasLooked o cpu kind looked first
+FindsFirst (Some leaf) o cpu kind next looked first = HasWalkLooked o cpu kind looked first

@@ -3,8 +3,8 @@
 ghost use Rattle.std.specs.Prelude.{◌≡◌, true, false};
 ghost use Rattle.walk_rules.specs.declared.walk.WalkKind.TheVariants as kinds;
 ghost use Rattle.shared_cpus.specs.Conditions.{CanCarry, CanRetell};
-ghost use Rattle.walk_inactive.specs.Ends.{HasCarried, HasWalked, is_marked_by, reevaluated};
-ghost use Rattle.walk_inactive.specs.Ends.{retells_with, retold};
+ghost use Rattle.walk_inactive.specs.Ends.{HasCarried, HasWalked, cpu_reevaluated, is_mark_of};
+ghost use Rattle.walk_inactive.specs.Ends.{pass_retold, retells_with};
 
 use crate::telling::tell;
 use shared_cpus::{BoxPart, Run, RunName, carry_step, finish_step, retell_step};
@@ -15,7 +15,7 @@ use wheel_core::TimerBase;
 
 /// Whether a CPU's mark is that of this one.
 fn is_marked_by(mark: Option<u16>, cpu: CpuId) -> bool
-    ensures { result ≡ is_marked_by mark cpu.0 }
+    ensures { result ≡ is_mark_of mark cpu.0 }
 {
     match mark {
         Some(by) => by == cpu.0,
@@ -41,7 +41,7 @@ fn retell<N: RunName, B: TimerBase, G: Gate, R: Wait>(
     gate: &G,
 )
     requires { CanRetell part.old }
-    ensures { HasWalked kinds.Reeval reevaluated retold part.old part.new }
+    ensures { HasWalked kinds.Reeval cpu_reevaluated pass_retold part.old part.new }
 {
     retell_step(run, part);
     tell(rt, run, part, gate);
@@ -80,7 +80,7 @@ pub fn carry<N: RunName, B: TimerBase, G: Gate, R: Wait>(
     requires carries { retells_with cpu_part.old.box cpu_part.old.brought ≡ false
         → CanCarry cpu_part.old }
     ensures retold { retells_with cpu_part.old.box cpu_part.old.brought ≡ true
-        → HasWalked kinds.Reeval reevaluated retold cpu_part.old cpu_part.new }
+        → HasWalked kinds.Reeval cpu_reevaluated pass_retold cpu_part.old cpu_part.new }
     ensures carried { retells_with cpu_part.old.box cpu_part.old.brought ≡ false
         → HasCarried cpu_part.old cpu_part.new }
     ensures answer { result ≡ cpu_part.new.box.own.wakeup }

@@ -7,7 +7,8 @@ ghost use Rattle.shared_cpus.specs.shared_rule.declared.parts.PassView.{PassView
 ghost use Rattle.shared_cpus.specs.shared_rule.Parts.{without_guest};
 ghost use Rattle.shared_cpus.specs.shared_rule.Passes.{IsOfRun, IsPassIn, walks_of, with_pass};
 ghost use Rattle.shared_cpus.specs.Conditions.{CanIdle};
-ghost use Rattle.walk_inactive.specs.Ends.{HasTold, HasWalked, at_rest, gone_idle, rested};
+ghost use Rattle.walk_inactive.specs.Ends.{HasWalkTold, HasWalked, gone_idle, pass_at_rest};
+ghost use Rattle.walk_inactive.specs.Ends.{pass_rested};
 
 use crate::telling::tell;
 use shared_cpus::{BoxPart, Pass, Run, RunName, bring, finish_step, idle_step, part_off};
@@ -24,7 +25,7 @@ fn rest<N: RunName, B: TimerBase, G: Gate, R: Wait>(
     gate: &G,
 )
     requires { CanIdle part.old }
-    ensures { HasWalked kinds.Deactivate gone_idle at_rest part.old part.new }
+    ensures { HasWalked kinds.Deactivate gone_idle pass_at_rest part.old part.new }
 {
     idle_step(run, part);
     tell(rt, run, part, gate);
@@ -55,10 +56,10 @@ pub fn deactivate<N: RunName, B: TimerBase, G: Gate, R: Wait>(
     requires awake { cpu_box.old.box.own.idle ≡ false }
     requires outside { cpu_box.old.box.own.inside ≡ false }
     requires rests { cpu_box.old.box.opening.clock + 1 < first_event cpu_box.old.box.own.bases }
-    ensures told { HasTold kinds.Deactivate gone_idle cpu_box.old.box cpu_box.new.box }
+    ensures told { HasWalkTold kinds.Deactivate gone_idle cpu_box.old.box cpu_box.new.box }
     ensures rest { cpu_box.new ≡ without_guest (record cpu_box.old { box = cpu_box.new.box }) }
     ensures answer { result ≡ cpu_box.new.box.own.wakeup }
-    ensures pass { pass.new ≡ with_pass (rested cpu_box.new.box) pass.old }
+    ensures pass { pass.new ≡ with_pass (pass_rested cpu_box.new.box) pass.old }
 {
     let run = shared.run();
     let part = &mut cpu_box.part;

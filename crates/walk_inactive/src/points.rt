@@ -1,14 +1,14 @@
 //! Where a walk that tells passes a gate.
 
 ghost use Rattle.std.specs.Prelude.{◌≡◌};
-ghost use Rattle.walk_inactive.specs.Gates.{point_at};
+ghost use Rattle.walk_inactive.specs.Gates.{walk_point_at};
 
 use tm_base::{CpuId, Gate, Point};
 use walk_rules::{Stage, Walk};
 
 /// The place that a walk at this stage of a level comes to, if it is one.
 fn point_at(level: u8, stage: Stage) -> Option<Point>
-    ensures { result ≡ point_at level stage }
+    ensures { result ≡ walk_point_at level stage }
 {
     match stage {
         Stage::Child => Some(Point::BeforeChildRead),

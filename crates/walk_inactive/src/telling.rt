@@ -4,7 +4,7 @@
 ghost use Rattle.std.specs.Prelude.{◌≡◌};
 ghost use Rattle.walk_rules.specs.declared.walk.Walk.{Walk};
 ghost use Rattle.shared_walks.specs.Walks.{is_under_way};
-ghost use Rattle.walk_inactive.specs.Ways.{HasAdvanced, HasCome, HasSetOut};
+ghost use Rattle.walk_inactive.specs.Ways.{HasAdvanced, HasComeToEnd, HasSetOut};
 
 use crate::points::pass_gate;
 use shared_cpus::{BoxPart, Run, RunName};
@@ -57,7 +57,7 @@ pub(crate) fn tell<N: RunName, B: TimerBase, G: Gate, R: Wait>(
     gate: &G,
 )
     requires { (k : Walk) × HasSetOut part.old k }
-    ensures { (k : Walk) → HasSetOut part.old k → HasCome part.old part.new k }
+    ensures { (k : Walk) → HasSetOut part.old k → HasComeToEnd part.old part.new k }
 {
     for _ in rt.forever() {
         if !advance(rt, run, part, gate) {

@@ -15,7 +15,7 @@ use Rattle.shared_rows.specs.Looks.{StaysAt}
 use Rattle.idle_wakeup.specs.declared.idling.IdleAnswer.{IdleAnswer}
 use Rattle.idle_wakeup.specs.declared.idling.IdleAnswer.TheVariants as answers
 use Rattle.idle_wakeup.specs.Calls.{Renews, awake}
-use Rattle.idle_wakeup.specs.Resting.{IsAnswer, resting}
+use Rattle.idle_wakeup.specs.Resting.{IsIdleAnswer, resting_pass}
 use Rattle.walk_rows.specs.Standing.{IsOneOf}
 
 module _ (table : TableId) where
@@ -37,16 +37,16 @@ module _ (table : TableId) where
   same_stays : (old new : HeldPass) → Renews (λ p. p) old new → StaysAt table old new
   same_stays old new r = stays (knowing r.0) (λ p. refl) (λ p. refl) old new r.2
 
-  rests : (t : ℕ) (old new : HeldPass) → Renews (resting t) old new → StaysAt table old new
+  rests : (t : ℕ) (old new : HeldPass) → Renews (resting_pass t) old new → StaysAt table old new
   rests t old new r =
-      stays (λ p. knowing r.0 (resting t p)) (λ p. refl) (λ p. refl) old new r.2
+      stays (λ p. knowing r.0 (resting_pass t p)) (λ p. refl) (λ p. refl) old new r.2
 
   wakes : (old new : HeldPass) → Renews awake old new → StaysAt table old new
   wakes old new r = stays (λ p. knowing r.0 (awake p)) (λ p. refl) (λ p. refl) old new r.2
 
   -- whatever its CPU is answered that is to go idle
   pub rest_stays : (o : World) (old new : HeldPass) (r : Result IdleAnswer OpFault)
-      → IfOk r (λ answer. IsAnswer o answer old new) → OnErr r (Renews (λ p. p) old new)
+      → IfOk r (λ answer. IsIdleAnswer o answer old new) → OnErr r (Renews (λ p. p) old new)
       → StaysAt table old new
   rest_stays o old new (Ok (answers.Until t)) ok err = rests t old new ok.renews
   rest_stays o old new (Ok (answers.Stay t)) ok err = same_stays old new ok.renews

@@ -19,8 +19,8 @@ use Rattle.work_script.specs.declared.words.WorkKnown.{WorkKnown}
 use Rattle.work_script.specs.declared.words.WorkSaid.{WorkSaid}
 use Rattle.work_script.specs.declared.words.WorkSaid.TheVariants.{Opening, Operation, Ending}
 use Rattle.work_script.specs.Grammar.{IsWorkOp}
-use Rattle.work_script.specs.Texts.{end_line, numbers_line, op_line}
-use Rattle.work_script.specs.Reading.{command_of, heard, heard_behind, in_order, in_room, may_stand, numbers_of, admitted, said_by, said_or, slots_of, word_of}
+use Rattle.work_script.specs.Texts.{end_line, numbers_line, work_op_line}
+use Rattle.work_script.specs.Reading.{work_command_of, work_line_heard, work_heard_behind, is_work_in_order, is_work_in_room, may_work_line_stand, numbers_of, work_admitted, said_by, work_said_or, slots_of, work_word_of}
 use Rattle.work_script.specs.Steps.{AreWithin}
 use Rattle.work_script.proofs.NumberLaws.{AreShort, numbers_back, numbers_feeds, numbers_found, numbers_spaces}
 
@@ -34,24 +34,24 @@ find_passes p (y ∷ ys) x e =
       | inr out ↦ find_passes p ys x (ap (λ (t : Bool). cond t (Some y) (find p ys)) (sym out) ∙ e)
     ]
 
-command_found : (word : List ℕ) (c : WorkCommand) → command_of word ≡ Some c → word ≡ word_of c
-unfolding command_of
-command_found word c e = (bytes_eq-Decides word (word_of c)).0 (find_passes (λ command. bytes_eq word (word_of command)) (At ∷ Queue ∷ Cancel ∷ End ∷ []) c e)
+command_found : (word : List ℕ) (c : WorkCommand) → work_command_of word ≡ Some c → word ≡ work_word_of c
+unfolding work_command_of
+command_found word c e = (bytes_eq-Decides word (work_word_of c)).0 (find_passes (λ command. bytes_eq word (work_word_of command)) (At ∷ Queue ∷ Cancel ∷ End ∷ []) c e)
 
-command_again : (c : WorkCommand) → command_of (word_of c) ≡ Some c
-unfolding command_of
+command_again : (c : WorkCommand) → work_command_of (work_word_of c) ≡ Some c
+unfolding work_command_of
 command_again At = refl
 command_again Queue = refl
 command_again Cancel = refl
 command_again End = refl
 
-word_spaces : (c : WorkCommand) → is_clear 32 (word_of c) ≡ true
+word_spaces : (c : WorkCommand) → is_clear 32 (work_word_of c) ≡ true
 word_spaces At = refl
 word_spaces Queue = refl
 word_spaces Cancel = refl
 word_spaces End = refl
 
-word_feeds : (c : WorkCommand) → is_clear 10 (word_of c) ≡ true
+word_feeds : (c : WorkCommand) → is_clear 10 (work_word_of c) ≡ true
 word_feeds At = refl
 word_feeds Queue = refl
 word_feeds Cancel = refl
@@ -61,7 +61,7 @@ word_feeds End = refl
 
 abbrev pub said_line : WorkSaid → List ℕ
 said_line (Opening at) = numbers_line (codes "at") (at ∷ [])
-said_line (Operation op) = op_line op
+said_line (Operation op) = work_op_line op
 said_line (Ending end) = end_line end
 
 -- what a line may say here, with no regard to order and room
@@ -72,11 +72,11 @@ IsSaid k (Ending end) = end < SCRIPT_TIME_LIMIT
 
 pub record Fits (k : WorkKnown) (said : WorkSaid) : Type 0 where
   pub is : IsSaid k said
-  pub order : in_order k said ≡ true
-  pub room : in_room k said ≡ true
+  pub order : is_work_in_order k said ≡ true
+  pub room : is_work_in_room k said ≡ true
 
-said_ok : (k : WorkKnown) (c : WorkCommand) (ns : List ℕ) → may_stand (is_some k.last) c ≡ true → AreWithin (slots_of k.count c) ns
-    → (numbers_line (word_of c) ns ≡ said_line (said_by c k.line ns)) × IsSaid k (said_by c k.line ns)
+said_ok : (k : WorkKnown) (c : WorkCommand) (ns : List ℕ) → may_work_line_stand (is_some k.last) c ≡ true → AreWithin (slots_of k.count c) ns
+    → (numbers_line (work_word_of c) ns ≡ said_line (said_by c k.line ns)) × IsSaid k (said_by c k.line ns)
 said_ok k At [] stands h = absurd h
 said_ok k At (a ∷ []) stands h = (refl, h.1)
 said_ok k At (a ∷ b ∷ ns) stands h = absurd h.2
@@ -96,10 +96,10 @@ said_ok k Queue (a ∷ b ∷ c ∷ d ∷ e ∷ ns) stands h = absurd h.2.2.2.2
 
 -- ---- a line that is heard
 
-placed_found : (k : WorkKnown) (said x : WorkSaid) → admitted k said ≡ Ok x → (said ≡ x) × (in_order k said ≡ true) × (in_room k said ≡ true)
-placed_found k said x e = by (in_order k said) (in_room k said) refl refl e
+placed_found : (k : WorkKnown) (said x : WorkSaid) → work_admitted k said ≡ Ok x → (said ≡ x) × (is_work_in_order k said ≡ true) × (is_work_in_room k said ≡ true)
+placed_found k said x e = by (is_work_in_order k said) (is_work_in_room k said) refl refl e
   where
-    by : (a b : Bool) → in_order k said ≡ a → in_room k said ≡ b → cond a (cond b (Ok said) (Err TooManyLines)) (Err OutOfOrder) ≡ Ok x → (said ≡ x) × (in_order k said ≡ true) × (in_room k said ≡ true)
+    by : (a b : Bool) → is_work_in_order k said ≡ a → is_work_in_room k said ≡ b → cond a (cond b (Ok said) (Err TooManyLines)) (Err OutOfOrder) ≡ Ok x → (said ≡ x) × (is_work_in_order k said ≡ true) × (is_work_in_room k said ≡ true)
     by true true o r h = ((let same : said ≡ x = cc in same), o, r)
     by true false o r h = absurd cc
     by false b o r h = absurd cc
@@ -109,7 +109,7 @@ pub record IsHeard (k : WorkKnown) (words : List (List ℕ)) (said : WorkSaid) :
   pub fits : Fits k said
 
 or_found : (k : WorkKnown) (c : WorkCommand) (first : List ℕ) (behind : List (List ℕ)) (r : Result (List ℕ) Kind) (x : WorkSaid)
-    → numbers_of (slots_of k.count c) behind ≡ r → first ≡ word_of c → may_stand (is_some k.last) c ≡ true → said_or k c r ≡ Ok x → IsHeard k (first ∷ behind) x
+    → numbers_of (slots_of k.count c) behind ≡ r → first ≡ work_word_of c → may_work_line_stand (is_some k.last) c ≡ true → work_said_or k c r ≡ Ok x → IsHeard k (first ∷ behind) x
 or_found k c first behind (Err kind) x is named stands e = absurd cc
 or_found k c first behind (Ok ns) x is named stands e =
     let f = numbers_found (slots_of k.count c) behind ns is in
@@ -120,19 +120,19 @@ or_found k c first behind (Ok ns) x is named stands e =
       fits = record { is = s.1; order = p.1; room = p.2 };
     })
 
-behind_found : (k : WorkKnown) (o : Option WorkCommand) (first : List ℕ) (behind : List (List ℕ)) (x : WorkSaid) → command_of first ≡ o → heard_behind k o behind ≡ Ok x → IsHeard k (first ∷ behind) x
+behind_found : (k : WorkKnown) (o : Option WorkCommand) (first : List ℕ) (behind : List (List ℕ)) (x : WorkSaid) → work_command_of first ≡ o → work_heard_behind k o behind ≡ Ok x → IsHeard k (first ∷ behind) x
 behind_found k None first behind x named e = absurd cc
-behind_found k (Some c) first behind x named e = elim (cases_Bool (may_stand (is_some k.last) c)) [
+behind_found k (Some c) first behind x named e = elim (cases_Bool (may_work_line_stand (is_some k.last) c)) [
   | inl stands ↦ or_found k c first behind (numbers_of (slots_of k.count c) behind) x refl (command_found first c named) stands
-      (sym (cond-true (may_stand (is_some k.last) c) _ _ stands) ∙ e)
-  | inr out ↦ absurd (let no = sym (cond-false (may_stand (is_some k.last) c) _ _ out) ∙ e in cc)
+      (sym (cond-true (may_work_line_stand (is_some k.last) c) _ _ stands) ∙ e)
+  | inr out ↦ absurd (let no = sym (cond-false (may_work_line_stand (is_some k.last) c) _ _ out) ∙ e in cc)
 ]
 
 -- a line that says something is spelled so
-pub heard_found : (k : WorkKnown) (words : List (List ℕ)) (x : WorkSaid) → heard k words ≡ Ok x → IsHeard k words x
-unfolding heard
+pub heard_found : (k : WorkKnown) (words : List (List ℕ)) (x : WorkSaid) → work_line_heard k words ≡ Ok x → IsHeard k words x
+unfolding work_line_heard
 heard_found k [] x e = absurd cc
-heard_found k (first ∷ behind) x e = behind_found k (command_of first) first behind x refl e
+heard_found k (first ∷ behind) x e = behind_found k (work_command_of first) first behind x refl e
 
 -- ---- again
 
@@ -147,9 +147,9 @@ pub record IsBy (k : WorkKnown) (said : WorkSaid) : Type 0 where
   pub command : WorkCommand
   pub numbers : List ℕ
   pub within : AreWithin (slots_of k.count command) numbers
-  pub stands : may_stand (is_some k.last) command ≡ true
+  pub stands : may_work_line_stand (is_some k.last) command ≡ true
   pub says : said_by command k.line numbers ≡ said
-  pub line : said_line said ≡ numbers_line (word_of command) numbers
+  pub line : said_line said ≡ numbers_line (work_word_of command) numbers
 
 by_said : (k : WorkKnown) (said : WorkSaid) → IsSaid k said → IsBy k said
 by_said k (Opening at) h = record { command = At; numbers = at ∷ []; within = (omega arith, h, tt); stands = refl; says = refl; line = refl }
@@ -173,21 +173,21 @@ by_said k (Operation (ops.Cancel line work)) h = record {
   line = refl;
 }
 
-placed_back : (k : WorkKnown) (said : WorkSaid) → in_order k said ≡ true → in_room k said ≡ true → admitted k said ≡ Ok said
-placed_back k said order room = cond-true (in_order k said) _ _ order ∙ cond-true (in_room k said) _ _ room
+placed_back : (k : WorkKnown) (said : WorkSaid) → is_work_in_order k said ≡ true → is_work_in_room k said ≡ true → work_admitted k said ≡ Ok said
+placed_back k said order room = cond-true (is_work_in_order k said) _ _ order ∙ cond-true (is_work_in_room k said) _ _ room
 
 -- what a line may say is read from its line
-pub heard_back : (k : WorkKnown) (said : WorkSaid) → k.count ≤ 10 ^ 13 → Fits k said → heard k (words_of (said_line said)) ≡ Ok said
-unfolding heard
+pub heard_back : (k : WorkKnown) (said : WorkSaid) → k.count ≤ 10 ^ 13 → Fits k said → work_line_heard k (words_of (said_line said)) ≡ Ok said
+unfolding work_line_heard
 heard_back k said few f =
     let b = by_said k said f.is in
     let short = bounds_short k.count b.command few in
-    ap (λ (l : List ℕ). heard k (words_of l)) b.line
-    ∙ ap (heard k) (words_again (word_of b.command) (map decimal b.numbers) (word_spaces b.command, numbers_spaces (slots_of k.count b.command) b.numbers short b.within))
-    ∙ ap (λ (o : Option WorkCommand). heard_behind k o (map decimal b.numbers)) (command_again b.command)
-    ∙ cond-true (may_stand (is_some k.last) b.command) _ _ b.stands
-    ∙ ap (said_or k b.command) (numbers_back (slots_of k.count b.command) b.numbers short b.within)
-    ∙ ap (admitted k) b.says
+    ap (λ (l : List ℕ). work_line_heard k (words_of l)) b.line
+    ∙ ap (work_line_heard k) (words_again (work_word_of b.command) (map decimal b.numbers) (word_spaces b.command, numbers_spaces (slots_of k.count b.command) b.numbers short b.within))
+    ∙ ap (λ (o : Option WorkCommand). work_heard_behind k o (map decimal b.numbers)) (command_again b.command)
+    ∙ cond-true (may_work_line_stand (is_some k.last) b.command) _ _ b.stands
+    ∙ ap (work_said_or k b.command) (numbers_back (slots_of k.count b.command) b.numbers short b.within)
+    ∙ ap (work_admitted k) b.says
     ∙ placed_back k said f.order f.room
 
 -- ---- no line feed stands in a line
@@ -200,7 +200,7 @@ pub said_clear : (k : WorkKnown) (said : WorkSaid) → k.count ≤ 10 ^ 13 → I
 said_clear k said few is =
     let b = by_said k said is in
     ap (is_clear 10) b.line
-    ∙ clear_spaced (word_of b.command) (map decimal b.numbers) (word_feeds b.command, numbers_feeds (slots_of k.count b.command) b.numbers (bounds_short k.count b.command few) b.within)
+    ∙ clear_spaced (work_word_of b.command) (map decimal b.numbers) (word_feeds b.command, numbers_feeds (slots_of k.count b.command) b.numbers (bounds_short k.count b.command few) b.within)
 
 pub count_clear : (ss : List NumberSlot) (ns : List ℕ) → AreShort ss → AreWithin ss ns → is_clear 10 (numbers_line (codes "count") ns) ≡ true
 count_clear ss ns short within = clear_spaced (codes "count") (map decimal ns) (refl, numbers_feeds ss ns short within)

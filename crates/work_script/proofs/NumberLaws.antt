@@ -8,16 +8,16 @@ use Rattle.text_words.proofs.Cuts.{AreClear, split_some}
 use Rattle.tm_script.specs.declared.faults.Kind.{Kind}
 use Rattle.tm_script.specs.declared.faults.Kind.TheVariants.{BadLine}
 use Rattle.work_script.specs.declared.words.NumberSlot.{NumberSlot}
-use Rattle.work_script.specs.Reading.{joined, number_at, number_in, numbers_of}
-use Rattle.work_script.specs.Steps.{AreWithin, words_behind}
+use Rattle.work_script.specs.Reading.{joined_numbers, number_at_place, number_for, numbers_of}
+use Rattle.work_script.specs.Steps.{AreWithin, work_words_behind}
 
 -- a word too many
 pub one_more : (ss : List NumberSlot) (o : Option (List ℕ)) (w : List ℕ) → length ss < 1
-    → o ≡ Some w → Err BadLine ≡ numbers_of ss (words_behind o)
+    → o ≡ Some w → Err BadLine ≡ numbers_of ss (work_words_behind o)
 unfolding numbers_of
 one_more [] o w none e =
     let some = split_some 32 w in
-    sym (ap (λ (x : Option (List ℕ)). numbers_of [] (words_behind x)) e ∙ ap (numbers_of []) some.2)
+    sym (ap (λ (x : Option (List ℕ)). numbers_of [] (work_words_behind x)) e ∙ ap (numbers_of []) some.2)
 one_more (s ∷ ss) o w none e = absurd (omega (arith, none))
 
 -- places of numbers that are short enough to be read
@@ -25,8 +25,8 @@ abbrev pub AreShort : List NumberSlot → Type 0
 AreShort [] = Unit {0}
 AreShort (s ∷ ss) = (s.bound ≤ 10 ^ 13) × AreShort ss
 
-number_ok : (s : NumberSlot) (w : List ℕ) (n : ℕ) → number_in s w ≡ Ok n → (decimal n ≡ w) × (s.least ≤ n) × (n < s.bound)
-unfolding number_in
+number_ok : (s : NumberSlot) (w : List ℕ) (n : ℕ) → number_for s w ≡ Ok n → (decimal n ≡ w) × (s.least ≤ n) × (n < s.bound)
+unfolding number_for
 number_ok s w n e = elim (cases_Bool (is_number w)) [
   | inr out ↦ absurd (let no = sym (cond-false (is_number w) _ _ out) ∙ e in cc)
   | inl is ↦ elim (cases_Bool (leb s.least (value_of w) && ltb (value_of w) s.bound)) [
@@ -42,8 +42,8 @@ number_ok s w n e = elim (cases_Bool (is_number w)) [
   ]
 ]
 
-number_back : (s : NumberSlot) (n : ℕ) → s.bound ≤ 10 ^ 13 → s.least ≤ n → n < s.bound → number_in s (decimal n) ≡ Ok n
-unfolding number_in
+number_back : (s : NumberSlot) (n : ℕ) → s.bound ≤ 10 ^ 13 → s.least ≤ n → n < s.bound → number_for s (decimal n) ≡ Ok n
+unfolding number_for
 number_back s n few low high =
     let wide : n < 10 ^ 13 = omega (arith, few, high) in
     let again = word_again n wide in
@@ -59,7 +59,7 @@ record IsJoined (r : Result ℕ Kind) (rs : Result (List ℕ) Kind) (ns : List �
   behind_is : rs ≡ Ok behind
   whole : first ∷ behind ≡ ns
 
-join_found : (r : Result ℕ Kind) (rs : Result (List ℕ) Kind) (ns : List ℕ) → joined r rs ≡ Ok ns → IsJoined r rs ns
+join_found : (r : Result ℕ Kind) (rs : Result (List ℕ) Kind) (ns : List ℕ) → joined_numbers r rs ≡ Ok ns → IsJoined r rs ns
 join_found (Ok n) (Ok ms) ns e = record { first = n; behind = ms; first_is = refl; behind_is = refl; whole = (let same : n ∷ ms ≡ ns = cc in same) }
 join_found (Ok n) (Err k) ns e = absurd cc
 join_found (Err j) (Ok ms) ns e = absurd cc
@@ -76,7 +76,7 @@ numbers_found [] [] ns e =
 numbers_found [] (w ∷ ws) ns e = absurd cc
 numbers_found (s ∷ ss) [] ns e = absurd cc
 numbers_found (s ∷ ss) (w ∷ ws) ns e =
-    let j = join_found (number_in s w) (numbers_of ss ws) ns e in
+    let j = join_found (number_for s w) (numbers_of ss ws) ns e in
     let one = number_ok s w j.first j.first_is in
     let rest = numbers_found ss ws j.behind j.behind_is in
     subst (AreSpelled (s ∷ ss) (w ∷ ws)) j.whole ((λ i. one.0 i ∷ rest.0 i), (one.1, one.2, rest.1))
@@ -86,7 +86,7 @@ unfolding numbers_of
 numbers_back [] [] short h = refl
 numbers_back [] (n ∷ ns) short h = absurd h
 numbers_back (s ∷ ss) [] short h = absurd h
-numbers_back (s ∷ ss) (n ∷ ns) short h = λ i. joined (number_back s n short.0 h.0 h.1 i) (numbers_back ss ns short.1 h.2 i)
+numbers_back (s ∷ ss) (n ∷ ns) short h = λ i. joined_numbers (number_back s n short.0 h.0 h.1 i) (numbers_back ss ns short.1 h.2 i)
 
 pub numbers_spaces : (ss : List NumberSlot) (ns : List ℕ) → AreShort ss → AreWithin ss ns → AreClear 32 (map decimal ns)
 numbers_spaces [] [] short h = tt
@@ -101,10 +101,10 @@ numbers_feeds (s ∷ ss) [] short h = absurd h
 numbers_feeds (s ∷ ss) (n ∷ ns) short h = (clear_decimal 10 n refl (omega (arith, short.0, h.1)), numbers_feeds ss ns short.1 h.2)
 
 -- one number, and nothing else
-pub one_within : (s : NumberSlot) (ns : List ℕ) → AreWithin (s ∷ []) ns → (ns ≡ number_at ns 0 ∷ []) × (s.least ≤ number_at ns 0) × (number_at ns 0 < s.bound)
+pub one_within : (s : NumberSlot) (ns : List ℕ) → AreWithin (s ∷ []) ns → (ns ≡ number_at_place ns 0 ∷ []) × (s.least ≤ number_at_place ns 0) × (number_at_place ns 0 < s.bound)
 one_within s [] h = absurd h
 one_within s (n ∷ []) h = (refl, h.0, h.1)
 one_within s (n ∷ m ∷ ns) h = absurd h.2
 
-pub one_number : (s : NumberSlot) (ws : List (List ℕ)) (ns : List ℕ) → numbers_of (s ∷ []) ws ≡ Ok ns → (ns ≡ number_at ns 0 ∷ []) × (s.least ≤ number_at ns 0) × (number_at ns 0 < s.bound)
+pub one_number : (s : NumberSlot) (ws : List (List ℕ)) (ns : List ℕ) → numbers_of (s ∷ []) ws ≡ Ok ns → (ns ≡ number_at_place ns 0 ∷ []) × (s.least ≤ number_at_place ns 0) × (number_at_place ns 0 < s.bound)
 one_number s ws ns e = one_within s ns (numbers_found (s ∷ []) ws ns e).1

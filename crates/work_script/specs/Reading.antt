@@ -26,8 +26,8 @@ use Rattle.work_script.specs.declared.words.WorkSaid.TheVariants.{Opening, Opera
 -- ---- numbers
 
 -- the number that a word spells, where it is within its limits
-unfoldable pub number_in : NumberSlot → List ℕ → Result ℕ Kind
-number_in slot word =
+unfoldable pub number_for : NumberSlot → List ℕ → Result ℕ Kind
+number_for slot word =
     if is_number word
     then (if nat_le slot.least (value_of word) && nat_lt (value_of word) slot.bound
     then Ok (value_of word) else Err OutOfRange)
@@ -44,11 +44,11 @@ first_kind OutOfRange k = OutOfRange
 first_kind j k = k
 
 -- a number and those behind it, or the first kind of fault
-abbrev pub joined : Result ℕ Kind → Result (List ℕ) Kind → Result (List ℕ) Kind
-joined (Ok n) (Ok ns) = Ok (n ∷ ns)
-joined (Ok n) (Err k) = Err k
-joined (Err j) (Ok ns) = Err j
-joined (Err j) (Err k) = Err (first_kind j k)
+abbrev pub joined_numbers : Result ℕ Kind → Result (List ℕ) Kind → Result (List ℕ) Kind
+joined_numbers (Ok n) (Ok ns) = Ok (n ∷ ns)
+joined_numbers (Ok n) (Err k) = Err k
+joined_numbers (Err j) (Ok ns) = Err j
+joined_numbers (Err j) (Err k) = Err (first_kind j k)
 
 -- the numbers that words spell at these places, or the first kind of fault that they have; there is
 -- a word for each place
@@ -56,25 +56,25 @@ unfoldable pub numbers_of : List NumberSlot → List (List ℕ) → Result (List
 numbers_of [] [] = Ok []
 numbers_of [] (w ∷ ws) = Err BadLine
 numbers_of (s ∷ ss) [] = Err BadLine
-numbers_of (s ∷ ss) (w ∷ ws) = joined (number_in s w) (numbers_of ss ws)
+numbers_of (s ∷ ss) (w ∷ ws) = joined_numbers (number_for s w) (numbers_of ss ws)
 
 -- the number at a place
-abbrev pub number_at : List ℕ → ℕ → ℕ
-number_at numbers i = slice_index_or numbers i 0
+abbrev pub number_at_place : List ℕ → ℕ → ℕ
+number_at_place numbers i = slice_index_or numbers i 0
 
 -- ---- lines
 
 -- how a first word is spelled
-abbrev pub word_of : WorkCommand → List ℕ
-word_of At = codes "at"
-word_of Queue = codes "queue"
-word_of Cancel = codes "cancel"
-word_of End = codes "end"
+abbrev pub work_word_of : WorkCommand → List ℕ
+work_word_of At = codes "at"
+work_word_of Queue = codes "queue"
+work_word_of Cancel = codes "cancel"
+work_word_of End = codes "end"
 
 -- the first word that is spelled so
-unfoldable pub command_of : List ℕ → Option WorkCommand
-command_of word =
-    find (λ command. bytes_eq word (word_of command)) (At ∷ Queue ∷ Cancel ∷ End ∷ [])
+unfoldable pub work_command_of : List ℕ → Option WorkCommand
+work_command_of word =
+    find (λ command. bytes_eq word (work_word_of command)) (At ∷ Queue ∷ Cancel ∷ End ∷ [])
 
 -- the place of a number below a bound
 abbrev pub below : (bound : ℕ) → NumberSlot
@@ -94,60 +94,61 @@ slots_of count End = below SCRIPT_TIME_LIMIT ∷ []
 
 -- what a line of this first word and these numbers says
 abbrev pub said_by : WorkCommand → (line : ℕ) → List ℕ → WorkSaid
-said_by At line ns = Opening (number_at ns 0)
+said_by At line ns = Opening (number_at_place ns 0)
 said_by Queue line ns =
-    Operation (ops.Queue line (number_at ns 0) (number_at ns 1) (number_at ns 2) (number_at ns 3))
-said_by Cancel line ns = Operation (ops.Cancel line (number_at ns 0))
-said_by End line ns = Ending (number_at ns 0)
+    Operation (ops.Queue line (number_at_place ns 0) (number_at_place ns 1)
+    (number_at_place ns 2) (number_at_place ns 3))
+said_by Cancel line ns = Operation (ops.Cancel line (number_at_place ns 0))
+said_by End line ns = Ending (number_at_place ns 0)
 
 -- operations stand inside a moment
-abbrev pub may_stand : (inside : Bool) → WorkCommand → Bool
-may_stand inside Queue = inside
-may_stand inside Cancel = inside
-may_stand inside _ = true
+abbrev pub may_work_line_stand : (inside : Bool) → WorkCommand → Bool
+may_work_line_stand inside Queue = inside
+may_work_line_stand inside Cancel = inside
+may_work_line_stand inside _ = true
 
 -- times ascend, and the end isn't before the last of them
-abbrev pub in_order : WorkKnown → WorkSaid → Bool
-in_order k (Opening at) = is_after k.last at
-in_order k (Ending end) = is_reached k.last end
-in_order k (Operation op) = true
+abbrev pub is_work_in_order : WorkKnown → WorkSaid → Bool
+is_work_in_order k (Opening at) = is_after k.last at
+is_work_in_order k (Ending end) = is_reached k.last end
+is_work_in_order k (Operation op) = true
 
 -- there are not too many lines, and not too many operations in the moment
-abbrev pub in_room : WorkKnown → WorkSaid → Bool
-in_room k (Operation op) = nat_le k.line MOST_LINES && nat_lt k.ops MOST_OPS
-in_room k _ = nat_le k.line MOST_LINES
+abbrev pub is_work_in_room : WorkKnown → WorkSaid → Bool
+is_work_in_room k (Operation op) = nat_le k.line MOST_LINES && nat_lt k.ops MOST_OPS
+is_work_in_room k _ = nat_le k.line MOST_LINES
 
 -- what a line says, where it is in order and there is room
-abbrev pub admitted : WorkKnown → WorkSaid → Result WorkSaid Kind
-admitted k said =
-    if in_order k said then (if in_room k said then Ok said else Err TooManyLines)
+abbrev pub work_admitted : WorkKnown → WorkSaid → Result WorkSaid Kind
+work_admitted k said =
+    if is_work_in_order k said then (if is_work_in_room k said then Ok said else Err TooManyLines)
     else Err OutOfOrder
 
 -- what a line says by its numbers, if they have no fault
-abbrev pub said_or : WorkKnown → WorkCommand → Result (List ℕ) Kind → Result WorkSaid Kind
-said_or k command (Err kind) = Err kind
-said_or k command (Ok ns) = admitted k (said_by command k.line ns)
+abbrev pub work_said_or : WorkKnown → WorkCommand → Result (List ℕ) Kind → Result WorkSaid Kind
+work_said_or k command (Err kind) = Err kind
+work_said_or k command (Ok ns) = work_admitted k (said_by command k.line ns)
 
 -- what the words behind a first word say
-abbrev pub heard_behind : WorkKnown → Option WorkCommand → List (List ℕ) → Result WorkSaid Kind
-heard_behind k None words = Err BadLine
-heard_behind k (Some command) words =
-    if may_stand (is_some k.last) command
-    then said_or k command (numbers_of (slots_of k.count command) words)
+abbrev pub work_heard_behind : WorkKnown → Option WorkCommand → List (List ℕ) → Result WorkSaid Kind
+work_heard_behind k None words = Err BadLine
+work_heard_behind k (Some command) words =
+    if may_work_line_stand (is_some k.last) command
+    then work_said_or k command (numbers_of (slots_of k.count command) words)
     else Err BadLine
 
 -- what a line says, by its words, or the first kind of fault that it has
-unfoldable pub heard : WorkKnown → List (List ℕ) → Result WorkSaid Kind
-heard k [] = Err BadLine
-heard k (first ∷ behind) = heard_behind k (command_of first) behind
+unfoldable pub work_line_heard : WorkKnown → List (List ℕ) → Result WorkSaid Kind
+work_line_heard k [] = Err BadLine
+work_line_heard k (first ∷ behind) = work_heard_behind k (work_command_of first) behind
 
 -- ---- the lines of moments and of the end
 
 -- what is known behind a line
-abbrev pub known_after : WorkKnown → WorkSaid → WorkKnown
-known_after k (Opening at) = record k { line = k.line + 1; last = Some at; ops = 0 }
-known_after k (Operation op) = record k { line = k.line + 1; ops = k.ops + 1 }
-known_after k (Ending end) = record k { line = k.line + 1 }
+abbrev pub work_known_after : WorkKnown → WorkSaid → WorkKnown
+work_known_after k (Opening at) = record k { line = k.line + 1; last = Some at; ops = 0 }
+work_known_after k (Operation op) = record k { line = k.line + 1; ops = k.ops + 1 }
+work_known_after k (Ending end) = record k { line = k.line + 1 }
 
 -- what is still to be read: operations of the open moment, further moments, and the end
 pub record WorkBody : Type 0 where
@@ -156,18 +157,18 @@ pub record WorkBody : Type 0 where
   pub end : ℕ
 
 -- a fault of this line
-abbrev pub fault_at : (line : ℕ) → Kind → ScriptFault
-fault_at line kind = record { line = line; kind = kind }
+abbrev pub work_fault_at : (line : ℕ) → Kind → ScriptFault
+work_fault_at line kind = record { line = line; kind = kind }
 
 -- where no line feed follows: a further line is missing, or the line isn't ended
 abbrev pub unended : (line : ℕ) → List ℕ → ScriptFault
-unended line [] = fault_at line NoEnd
-unended line (b ∷ bs) = fault_at line BadLine
+unended line [] = work_fault_at line NoEnd
+unended line (b ∷ bs) = work_fault_at line BadLine
 
 -- nothing stands behind the end
-abbrev pub closing : (line end : ℕ) → List (List ℕ) → Result WorkBody ScriptFault
-closing line end ([] ∷ []) = Ok (record { ops = []; moments = []; end = end })
-closing line end _ = Err (fault_at line BadLine)
+abbrev pub work_closing : (line end : ℕ) → List (List ℕ) → Result WorkBody ScriptFault
+work_closing line end ([] ∷ []) = Ok (record { ops = []; moments = []; end = end })
+work_closing line end _ = Err (work_fault_at line BadLine)
 
 -- a moment begins in front of what follows
 abbrev pub with_moment : (at : ℕ) → Result WorkBody ScriptFault → Result WorkBody ScriptFault
@@ -181,17 +182,19 @@ with_op op (Err fault) = Err fault
 with_op op (Ok b) = Ok (record b { ops = op ∷ b.ops })
 
 -- reading goes on behind a line, ends, or stops at its fault
-abbrev pub go_on : WorkKnown → Result WorkSaid Kind → List (List ℕ)
+abbrev pub work_read_on : WorkKnown → Result WorkSaid Kind → List (List ℕ)
     → (WorkKnown → Result WorkBody ScriptFault) → Result WorkBody ScriptFault
-go_on k (Err kind) parts rest = Err (fault_at k.line kind)
-go_on k (Ok (Opening at)) parts rest = with_moment at (rest (known_after k (Opening at)))
-go_on k (Ok (Operation op)) parts rest = with_op op (rest (known_after k (Operation op)))
-go_on k (Ok (Ending end)) parts rest = closing (k.line + 1) end parts
+work_read_on k (Err kind) parts rest = Err (work_fault_at k.line kind)
+work_read_on k (Ok (Opening at)) parts rest =
+    with_moment at (rest (work_known_after k (Opening at)))
+work_read_on k (Ok (Operation op)) parts rest =
+    with_op op (rest (work_known_after k (Operation op)))
+work_read_on k (Ok (Ending end)) parts rest = work_closing (k.line + 1) end parts
 
 -- What these parts of a text say, up to the end, or the first fault. The last part is what stands
 -- behind the last line feed.
 unfoldable pub body_from : List (List ℕ) → WorkKnown → Result WorkBody ScriptFault
-body_from [] k = Err (fault_at k.line NoEnd)
+body_from [] k = Err (work_fault_at k.line NoEnd)
 body_from (rest ∷ []) k = Err (unended k.line rest)
 body_from (line ∷ next ∷ more) k =
-    go_on k (heard k (words_of line)) (next ∷ more) (body_from (next ∷ more))
+    work_read_on k (work_line_heard k (words_of line)) (next ∷ more) (body_from (next ∷ more))

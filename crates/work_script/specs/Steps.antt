@@ -13,7 +13,7 @@ use Rattle.work_script.specs.declared.words.NumberSlot.{NumberSlot}
 use Rattle.work_script.specs.declared.words.WorkSaid.{WorkSaid}
 use Rattle.work_script.specs.declared.words.WorkSaid.TheVariants.{Opening, Operation, Ending}
 use Rattle.work_script.specs.declared.draft.Draft.{Draft}
-use Rattle.work_script.specs.Reading.{WorkBody, known_after}
+use Rattle.work_script.specs.Reading.{WorkBody, work_known_after}
 
 -- the numbers from `first` on are there, of so many as there may be
 pub record IsNumberList (numbers : List ℕ) (first : ℕ) : Type 0 where
@@ -27,14 +27,14 @@ AreWithin (s ∷ ss) (n ∷ ns) = (s.least ≤ n) × (n < s.bound) × AreWithin 
 AreWithin _ _ = ⊥
 
 -- the words behind a first one, which may be none
-abbrev pub words_behind : Option (List ℕ) → List (List ℕ)
-words_behind None = []
-words_behind (Some bytes) = words_of bytes
+abbrev pub work_words_behind : Option (List ℕ) → List (List ℕ)
+work_words_behind None = []
+work_words_behind (Some bytes) = words_of bytes
 
 -- the moments of a draft, the open one among them
-abbrev pub closed_with : List WorkMoment → Option ℕ → List WorkOp → List WorkMoment
-closed_with moments None ops = moments
-closed_with moments (Some at) ops = moments ++ record { at = at; ops = ops } ∷ []
+abbrev pub work_closed_with : List WorkMoment → Option ℕ → List WorkOp → List WorkMoment
+work_closed_with moments None ops = moments
+work_closed_with moments (Some at) ops = moments ++ record { at = at; ops = ops } ∷ []
 
 -- the moments of a draft and what is still to be read
 abbrev pub joined_moments : List WorkMoment → Option ℕ → List WorkOp → WorkBody → List WorkMoment
@@ -52,22 +52,22 @@ with_draft d (Ok b) = Ok (record {
 })
 
 -- a draft with a line more
-abbrev pub draft_after : Draft → WorkSaid → Draft
-draft_after d (Opening at) = record {
-  known = known_after d.known (Opening at);
-  moments = closed_with d.moments d.known.last d.ops;
+abbrev pub work_draft_after : Draft → WorkSaid → Draft
+work_draft_after d (Opening at) = record {
+  known = work_known_after d.known (Opening at);
+  moments = work_closed_with d.moments d.known.last d.ops;
   ops = [];
 }
-draft_after d (Operation op) =
-    record d { known = known_after d.known (Operation op); ops = d.ops ++ op ∷ [] }
-draft_after d (Ending end) = record d { known = known_after d.known (Ending end) }
+work_draft_after d (Operation op) =
+    record d { known = work_known_after d.known (Operation op); ops = d.ops ++ op ∷ [] }
+work_draft_after d (Ending end) = record d { known = work_known_after d.known (Ending end) }
 
 -- what a function returned is what reading gives; want of memory may stand for either
-abbrev pub Fails : ReadScript → Result WorkScript ScriptFault → Type 0
-Fails (Refused fault) read = read ≡ Err fault
-Fails NoMemory read = Unit {0}
+abbrev pub FailsWorkScript : ReadScript → Result WorkScript ScriptFault → Type 0
+FailsWorkScript (Refused fault) read = read ≡ Err fault
+FailsWorkScript NoMemory read = Unit {0}
 
 -- an answer is what reading gives
 abbrev pub Gives : Result WorkScript ReadScript → Result WorkScript ScriptFault → Type 0
 Gives (Ok s) read = read ≡ Ok s
-Gives (Err e) read = Fails e read
+Gives (Err e) read = FailsWorkScript e read

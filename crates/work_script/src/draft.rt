@@ -2,7 +2,7 @@
 
 ghost use Rattle.std.specs.Prelude.{◌≡◌, ◌+◌, ◌-◌, ◌<◌, ◌^◌, [], IfOk, OnOk};
 ghost use Rattle.work_script.specs.Faults.{known_first};
-ghost use Rattle.work_script.specs.Steps.{closed_with, draft_after};
+ghost use Rattle.work_script.specs.Steps.{work_closed_with, work_draft_after};
 ghost use Rattle.work_script.specs.declared.words.WorkSaid.{WorkSaid};
 
 use crate::lists::{WorkMoments, WorkOps};
@@ -46,7 +46,7 @@ impl Draft {
     /// Puts the open moment, where there is one, behind the closed ones.
     fn close(&mut self, alloc: Global) -> Result<(), NoMemory>
         ensures { OnOk result (self.new ≡ record self.old {
-          moments = closed_with self.old.moments self.old.known.last self.old.ops;
+          moments = work_closed_with self.old.moments self.old.known.last self.old.ops;
           ops = [];
         }) }
     {
@@ -60,7 +60,7 @@ impl Draft {
     /// A moment begins at this time.
     pub(crate) fn open(&mut self, alloc: Global, at: Jiffy) -> Result<(), NoMemory>
         requires { self.old.known.line < 2 ^ 32 - 1 }
-        ensures { OnOk result (self.new ≡ draft_after self.old (WorkSaid.Opening at)) }
+        ensures { OnOk result (self.new ≡ work_draft_after self.old (WorkSaid.Opening at)) }
     {
         self.close(alloc)?;
         self.known.last = Some(at);
@@ -73,7 +73,7 @@ impl Draft {
     pub(crate) fn add(&mut self, op: WorkOp) -> Result<(), NoMemory>
         requires lines { self.old.known.line < 2 ^ 32 - 1 }
         requires ops { self.old.known.ops < 2 ^ 32 - 1 }
-        ensures { OnOk result (self.new ≡ draft_after self.old (WorkSaid.Operation op)) }
+        ensures { OnOk result (self.new ≡ work_draft_after self.old (WorkSaid.Operation op)) }
     {
         self.ops.push(op)?;
         self.known.ops += 1;
@@ -85,7 +85,7 @@ impl Draft {
     pub(crate) fn script(self, alloc: Global, end: Jiffy) -> Result<WorkScript, NoMemory>
         ensures { IfOk result (λ s. s ≡ record {
           count = self.known.count;
-          moments = closed_with self.moments self.known.last self.ops;
+          moments = work_closed_with self.moments self.known.last self.ops;
           end = end;
         }) }
     {

@@ -3,10 +3,12 @@
 ghost use Rattle.std.specs.Prelude.{◌≡◌, ◌<◌, Some};
 ghost use Rattle.std.specs.Option.{option_copied};
 ghost use Rattle.text_words.specs.Words.{words_of};
-ghost use Rattle.work_script.specs.Faults.{count_in};
-ghost use Rattle.work_script.specs.Reading.{command_of, heard, heard_behind, in_order, in_room};
-ghost use Rattle.work_script.specs.Reading.{may_stand, numbers_of, admitted, said_by, slots_of};
-ghost use Rattle.work_script.specs.Steps.{AreWithin, words_behind};
+ghost use Rattle.work_script.specs.Faults.{work_count_in};
+ghost use Rattle.work_script.specs.Reading.{is_work_in_order, is_work_in_room, work_command_of};
+ghost use Rattle.work_script.specs.Reading.{work_heard_behind, work_line_heard};
+ghost use Rattle.work_script.specs.Reading.{may_work_line_stand, numbers_of, said_by, slots_of};
+ghost use Rattle.work_script.specs.Reading.{work_admitted};
+ghost use Rattle.work_script.specs.Steps.{AreWithin, work_words_behind};
 
 use crate::numbers::{NumberList, first_word, read_numbers};
 use crate::syntax::WorkOp;
@@ -17,9 +19,9 @@ use tm_base::{MOST_LINES, MOST_OPS, MOST_TIMERS, SCRIPT_TIME_LIMIT};
 use tm_script::Kind;
 
 /// The command that a first word names.
-#[tactic(auto, unfolding(crate::specs::Reading::command_of))]
+#[tactic(auto, unfolding(crate::specs::Reading::work_command_of))]
 fn command_named(word: &[u8]) -> Option<WorkCommand>
-    ensures { result ≡ command_of word.now }
+    ensures { result ≡ work_command_of word.now }
 {
     if word == b"at".as_slice() {
         Some(WorkCommand::At)
@@ -44,7 +46,7 @@ fn below(bound: u64) -> NumberSlot
 /// The numbers behind a command.
 fn read_command(count: u16, command: WorkCommand, words: Option<&[u8]>) -> Result<NumberList, Kind>
     ensures { result
-        ≡ numbers_of (slots_of count command) (words_behind (option_copied words.entry)) }
+        ≡ numbers_of (slots_of count command) (work_words_behind (option_copied words.entry)) }
 {
     let works = below(u64::from(count));
     match command {
@@ -87,7 +89,7 @@ fn said_by(count: u16, command: WorkCommand, line: u32, numbers: &NumberList) ->
 
 /// Whether a first word may stand inside a moment, or before the first.
 fn may_stand(inside: bool, command: WorkCommand) -> bool
-    ensures { result ≡ may_stand inside command }
+    ensures { result ≡ may_work_line_stand inside command }
 {
     match command {
         WorkCommand::Queue | WorkCommand::Cancel => inside,
@@ -97,7 +99,7 @@ fn may_stand(inside: bool, command: WorkCommand) -> bool
 
 /// Whether what a line says is in order.
 fn in_order(known: &WorkKnown, said: &WorkSaid) -> bool
-    ensures { result ≡ in_order known.now said.now }
+    ensures { result ≡ is_work_in_order known.now said.now }
 {
     match said {
         WorkSaid::Opening(at) => match known.last {
@@ -114,7 +116,7 @@ fn in_order(known: &WorkKnown, said: &WorkSaid) -> bool
 
 /// Whether there is room for a line that says this.
 fn in_room(known: &WorkKnown, said: &WorkSaid) -> bool
-    ensures { result ≡ in_room known.now said.now }
+    ensures { result ≡ is_work_in_room known.now said.now }
 {
     match said {
         WorkSaid::Operation(_) => known.line <= MOST_LINES && known.ops < MOST_OPS,
@@ -124,7 +126,7 @@ fn in_room(known: &WorkKnown, said: &WorkSaid) -> bool
 
 /// What a line says, where it is in order and there is room.
 fn place(known: &WorkKnown, said: WorkSaid) -> Result<WorkSaid, Kind>
-    ensures { result ≡ admitted known.now said }
+    ensures { result ≡ work_admitted known.now said }
 {
     if !in_order(known, &said) {
         return Err(Kind::OutOfOrder);
@@ -142,7 +144,8 @@ fn read_behind(
     words: Option<&[u8]>,
 ) -> Result<WorkSaid, Kind>
     ensures { result
-        ≡ heard_behind known.now (Some command) (words_behind (option_copied words.entry)) }
+        ≡ work_heard_behind known.now (Some command)
+        (work_words_behind (option_copied words.entry)) }
 {
     if !may_stand(known.last.is_some(), command) {
         return Err(Kind::BadLine);
@@ -152,9 +155,9 @@ fn read_behind(
 }
 
 /// What a line says, or the first kind of fault that it has.
-#[tactic(auto, unfolding(crate::specs::Reading::heard))]
+#[tactic(auto, unfolding(crate::specs::Reading::work_line_heard))]
 pub(crate) fn read_line(known: &WorkKnown, line: &[u8]) -> Result<WorkSaid, Kind>
-    ensures { result ≡ heard known.now (words_of line.now) }
+    ensures { result ≡ work_line_heard known.now (words_of line.now) }
 {
     let (first, behind) = first_word(line);
     let Some(command) = command_named(first) else {
@@ -164,9 +167,9 @@ pub(crate) fn read_line(known: &WorkKnown, line: &[u8]) -> Result<WorkSaid, Kind
 }
 
 /// The number of works, by its line.
-#[tactic(auto, unfolding(crate::specs::Faults::count_in))]
+#[tactic(auto, unfolding(crate::specs::Faults::work_count_in))]
 pub(crate) fn read_count(line: &[u8]) -> Result<u16, Kind>
-    ensures { result ≡ count_in (words_of line.now) }
+    ensures { result ≡ work_count_in (words_of line.now) }
 {
     let (first, behind) = first_word(line);
     if first != b"count".as_slice() {

@@ -3,8 +3,9 @@
 ghost use Rattle.std.specs.Prelude.{◌≡◌, ◌+◌, ◌<◌, ◌≤◌, ◌∷◌, [], IfOk, length};
 ghost use Rattle.std.specs.Option.{option_copied};
 ghost use Rattle.text_words.specs.Words.{words_of};
-ghost use Rattle.work_script.specs.Reading.{first_kind, joined, number_at, number_in, numbers_of};
-ghost use Rattle.work_script.specs.Steps.{words_behind};
+ghost use Rattle.work_script.specs.Reading.{first_kind, joined_numbers, number_at_place};
+ghost use Rattle.work_script.specs.Reading.{number_for, numbers_of};
+ghost use Rattle.work_script.specs.Steps.{work_words_behind};
 
 use crate::words::NumberSlot;
 use std::marker::Model;
@@ -57,7 +58,7 @@ impl NumberList {
     /// The number at a place; 0 where there is none.
     pub(crate) fn get(&self, i: usize) -> u64
         requires { i < MOST_NUMBERS }
-        ensures { result ≡ number_at self.now i }
+        ensures { result ≡ number_at_place self.now i }
     {
         let at = self.first + i;
         if at < MOST_NUMBERS {
@@ -69,9 +70,9 @@ impl NumberList {
 }
 
 /// The number that a word spells, where it is within its limits.
-#[tactic(auto, unfolding(crate::specs::Reading::number_in, text_words::specs::Numbers::number_of))]
+#[tactic(auto, unfolding(crate::specs::Reading::number_for, text_words::specs::Numbers::number_of))]
 fn number_in(slot: NumberSlot, word: &[u8]) -> Result<u64, Kind>
-    ensures { result ≡ number_in slot word.now }
+    ensures { result ≡ number_for slot word.now }
 {
     let Some(n) = read_number(word) else {
         return Err(Kind::BadNumber);
@@ -105,7 +106,7 @@ fn first_kind(this: Kind, that: Kind) -> Kind
 /// One number, and those of the words behind it.
 fn join(first: Result<u64, Kind>, behind: Result<NumberList, Kind>) -> Result<NumberList, Kind>
     requires { IfOk behind (λ ns. length ns < MOST_NUMBERS) }
-    ensures { result ≡ joined first behind }
+    ensures { result ≡ joined_numbers first behind }
 {
     match first {
         Ok(number) => match behind {
@@ -121,7 +122,7 @@ fn join(first: Result<u64, Kind>, behind: Result<NumberList, Kind>) -> Result<Nu
 
 /// The first word of a line, and what stands behind its space, where there is one.
 pub(crate) fn first_word(line: &[u8]) -> (&[u8], Option<&[u8]>)
-    ensures words { words_of line.now ≡ result.0.now ∷ words_behind (option_copied result.1) }
+    ensures words { words_of line.now ≡ result.0.now ∷ work_words_behind (option_copied result.1) }
 {
     match cut(line, b' ') {
         Some((word, rest)) => (word, Some(rest)),
@@ -134,7 +135,7 @@ pub(crate) fn first_word(line: &[u8]) -> (&[u8], Option<&[u8]>)
 #[tactic(auto, unfolding(crate::specs::Reading::numbers_of))]
 pub(crate) fn read_numbers(slots: &[NumberSlot], words: Option<&[u8]>) -> Result<NumberList, Kind>
     requires { length slots.now ≤ MOST_NUMBERS }
-    ensures value { result ≡ numbers_of slots.now (words_behind (option_copied words.entry)) }
+    ensures value { result ≡ numbers_of slots.now (work_words_behind (option_copied words.entry)) }
     ensures as_many { IfOk result (λ ns. length ns ≡ length slots.now) }
 {
     match slots {

@@ -5,7 +5,7 @@ ghost use Rattle.text_words.specs.Words.{lines_of};
 ghost use Rattle.work_script.specs.Faults.{counted, known_first, said_in, with_count};
 ghost use Rattle.work_script.specs.Grammar.{SpellsWorks};
 ghost use Rattle.work_script.specs.Reader.{IsOnlyWorksOf, IsWorksRefusalOf};
-ghost use Rattle.work_script.specs.Reading.{body_from, closing, fault_at, unended};
+ghost use Rattle.work_script.specs.Reading.{body_from, unended, work_closing, work_fault_at};
 ghost use Rattle.work_script.specs.Steps.{Gives, with_draft};
 
 use crate::draft::Draft;
@@ -19,7 +19,7 @@ use tm_script::{Kind, ReadScript, ScriptFault};
 
 /// A fault of this kind in this line.
 fn refused(line: u32, kind: Kind) -> ReadScript
-    ensures { result ≡ ReadScript.Refused (fault_at line kind) }
+    ensures { result ≡ ReadScript.Refused (work_fault_at line kind) }
 {
     ReadScript::Refused(ScriptFault { line, kind })
 }
@@ -39,7 +39,7 @@ fn unended(line: u32, rest: &[u8]) -> ReadScript
 fn close(alloc: Global, draft: Draft, end: Jiffy, rest: &[u8]) -> Result<WorkScript, ReadScript>
     requires { draft.known.line < 2 ^ 32 - 1 }
     ensures { Gives result
-        (with_draft draft (closing (draft.known.line + 1) end (lines_of rest.now))) }
+        (with_draft draft (work_closing (draft.known.line + 1) end (lines_of rest.now))) }
 {
     if !rest.is_empty() {
         return Err(refused(draft.known.line + 1, Kind::BadLine));

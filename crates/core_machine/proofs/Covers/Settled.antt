@@ -33,8 +33,8 @@ use Rattle.step_play.proofs.Queues.Sights.{cpus_seen, migrator_seen}
 use Rattle.core_machine.proofs.Views.Seen.{idle_seen, online_seen, wakeup_seen}
 use Rattle.core_machine.specs.declared.answers.cover.Cover.{Cover}
 use Rattle.core_machine.specs.declared.answers.cover.Cover.TheVariants as covers
-use Rattle.core_machine.specs.Covers.Answers.{IsHeldBy, IsWokenBy, first_global_of}
-use Rattle.core_machine.specs.Covers.Choice.{by_migrator, by_wakeup, choice_above, choice_for}
+use Rattle.core_machine.specs.Covers.Answers.{IsHeldByMigrators, IsWokenAt, first_global_of}
+use Rattle.core_machine.specs.Covers.Choice.{cover_by_migrator, cover_by_wakeup, choice_above, choice_for}
 use Rattle.core_machine.specs.Covers.Choice.{choice_of}
 use Rattle.core_machine.specs.Covers.Choice.{choice_where, first_wheel, waits}
 use Rattle.core_machine.proofs.Covers.Leading.{led_step}
@@ -42,8 +42,8 @@ use Rattle.core_machine.proofs.Covers.Lowest.{lowest_at, lowest_none}
 
 -- that a choice for CPU c answers
 abbrev pub Answers : World → (c : ℕ) → Cover → Type 0
-Answers w c (covers.Migrator g m) = IsHeldBy w c g.0 m.0
-Answers w c (covers.Wake d at) = IsWokenBy w c d.0 at
+Answers w c (covers.Migrator g m) = IsHeldByMigrators w c g.0 m.0
+Answers w c (covers.Wake d at) = IsWokenAt w c d.0 at
 
 -- what is said of a CPU that keeps a wakeup
 record KeepsAt (y : CpuRecord) (at : ℕ) : Type 0 where
@@ -220,10 +220,10 @@ module _ (w : World) (l : IsLawful w) (s : IsSettled w) (planned : IsPlanned w.t
     by_held held =
         let g = held.in_group in
         let m = held.runner in (
-          by_migrator g m,
+          cover_by_migrator g m,
           ap (choice_above w c) (lowest_at w planned c held.level g held.told.inactive held.on_path
               (leads_on w planned m g held.leads))
-              ∙ ap (option_map (by_migrator g))
+              ∙ ap (option_map (cover_by_migrator g))
               (led_above w planned c held.level m g held.on_path held.leads),
           record { held = held; group = refl; runner = refl },
         )
@@ -241,7 +241,7 @@ module _ (w : World) (l : IsLawful w) (s : IsSettled w) (planned : IsPlanned w.t
     ]
 
     woken_by : (top : TopWakes (machine_of w) c wheel) (d : ℕ) → Wakes top.expiry d →
-        IsWokenBy w c d (cpu_of w d).wakeup
+        IsWokenAt w c d (cpu_of w d).wakeup
     woken_by top d is = record {
       woken = inr (record top {
         wakes = record {
@@ -269,19 +269,19 @@ module _ (w : World) (l : IsLawful w) (s : IsSettled w) (planned : IsPlanned w.t
 
     above_top : (top : TopWakes (machine_of w) c wheel) →
         choice_above w c (lowest_active_group (state_of w) c)
-        ≡ option_map (by_wakeup w) (waker_by (state_of w) top.expiry)
+        ≡ option_map (cover_by_wakeup w) (waker_by (state_of w) top.expiry)
     above_top top =
         ap (choice_above w c)
         (lowest_none w planned c (top.level + 1) (quiet_to top) top.is_top)
-        ∙ ap (λ time. option_map (by_wakeup w) (waker_by (state_of w) time))
+        ∙ ap (λ time. option_map (cover_by_wakeup w) (waker_by (state_of w) time))
         (time_is w planned c top.level top.top top.expiry top.on_path top.is_top top.event)
 
     by_top : TopWakes (machine_of w) c wheel →
         Chosen (choice_above w c (lowest_active_group (state_of w) c))
     by_top top =
         let one = found top.expiry top.wakes.waker (waker_wakes top) in (
-          by_wakeup w one.0,
-          above_top top ∙ ap (option_map (by_wakeup w)) one.1,
+          cover_by_wakeup w one.0,
+          above_top top ∙ ap (option_map (cover_by_wakeup w)) one.1,
           woken_by top one.0 one.2,
         )
 
@@ -297,11 +297,11 @@ module _ (w : World) (l : IsLawful w) (s : IsSettled w) (planned : IsPlanned w.t
 
       for_first : Chosen (choice_for w c wheel)
       for_first =
-          let own = Some (by_wakeup w c) in
+          let own = Some (cover_by_wakeup w c) in
           let above = choice_above w c (lowest_active_group (state_of w) c) in
           elim (cases_Bool (nat_le (cpu_of w c).wakeup wheel)) [
             | inl soon ↦ (
-              by_wakeup w c,
+              cover_by_wakeup w c,
               cond-true (nat_le (cpu_of w c).wakeup wheel) own above soon,
               record {
                 woken = inl (record {

@@ -13,18 +13,18 @@ use Rattle.step_play.specs.Rules.StepRules as steps
 use Rattle.step_play.proofs.Queues.Sights.{cpus_seen}
 use Rattle.core_machine.proofs.Views.Seen.{wakeup_seen}
 use Rattle.core_machine.specs.declared.answers.cover.Cover.{Cover}
-use Rattle.core_machine.specs.Covers.Choice.{by_migrator, by_wakeup, choice_above, choice_for}
+use Rattle.core_machine.specs.Covers.Choice.{cover_by_migrator, cover_by_wakeup, choice_above, choice_for}
 use Rattle.core_machine.specs.Covers.Choice.{choice_of}
-use Rattle.core_machine.specs.Covers.Choice.{choice_where, first_wheel, shown}
+use Rattle.core_machine.specs.Covers.Choice.{choice_where, first_wheel, cover_shown}
 
 module _ (w : World) where
   wake_shown : (d : ℕ) → d < length w.cpus →
-      plain.by_wakeup (state_of w) d ≡ shown w (by_wakeup w d)
+      plain.by_wakeup (state_of w) d ≡ cover_shown w (cover_by_wakeup w d)
   wake_shown d low = ap (lines.Wake (record { 0 = d })) (wakeup_seen w d low)
 
   waker_shown : (time : ℕ) (o : Option ℕ) → plain.waker_by (state_of w) time ≡ o →
       option_map (plain.by_wakeup (state_of w)) o
-      ≡ option_map (shown w) (option_map (by_wakeup w) o)
+      ≡ option_map (cover_shown w) (option_map (cover_by_wakeup w) o)
   waker_shown time None is = refl
   waker_shown time (Some d) is =
       let f = found_there (plain.wakes_by (state_of w) time) 0 (length w.cpus) d
@@ -33,18 +33,18 @@ module _ (w : World) where
       ap Some (wake_shown d (omega (arith, below)))
 
   led_shown : (g : ℕ) (o : Option ℕ) → option_map (plain.by_migrator (state_of w) g) o
-      ≡ option_map (shown w) (option_map (by_migrator g) o)
+      ≡ option_map (cover_shown w) (option_map (cover_by_migrator g) o)
   led_shown g None = refl
   led_shown g (Some m) = refl
 
   above_shown : (c : ℕ) (o : Option ℕ) →
-      steps.cover_above w c o ≡ option_map (shown w) (choice_above w c o)
+      steps.cover_above w c o ≡ option_map (cover_shown w) (choice_above w c o)
   above_shown c None =
       waker_shown (steps.time_at_top w c) (plain.waker_by (state_of w) (steps.time_at_top w c)) refl
   above_shown c (Some g) = led_shown g (plain.led_to (state_of w) g)
 
   module _ (c wheel : ℕ) (low : c < length w.cpus) where
-    for_shown : steps.cover_for w c wheel ≡ option_map (shown w) (choice_for w c wheel)
+    for_shown : steps.cover_for w c wheel ≡ option_map (cover_shown w) (choice_for w c wheel)
     for_shown =
         let lowest = plain.lowest_active_group (state_of w) c in
         let soon = nat_le (cpu_of w c).wakeup wheel in
@@ -53,18 +53,18 @@ module _ (w : World) where
               cond-true soon (Some (plain.by_wakeup (state_of w) c)) (steps.cover_above w c lowest)
               is
               ∙ (ap Some (wake_shown c low)
-              ∙ sym (ap (option_map (shown w))
-              (cond-true soon (Some (by_wakeup w c)) (choice_above w c lowest) is)))
+              ∙ sym (ap (option_map (cover_shown w))
+              (cond-true soon (Some (cover_by_wakeup w c)) (choice_above w c lowest) is)))
           | inr is ↦
               cond-false soon (Some (plain.by_wakeup (state_of w) c)) (steps.cover_above w c lowest)
               is
               ∙ (above_shown c lowest
-              ∙ sym (ap (option_map (shown w))
-              (cond-false soon (Some (by_wakeup w c)) (choice_above w c lowest) is)))
+              ∙ sym (ap (option_map (cover_shown w))
+              (cond-false soon (Some (cover_by_wakeup w c)) (choice_above w c lowest) is)))
         ]
 
     pub covered : (x : Cover) → first_wheel (cpu_of w c) ≡ Some wheel → choice_of w c ≡ Some x →
-        steps.cover_by_queue w c ≡ Some (plain.answerer wheel (shown w x))
+        steps.cover_by_queue w c ≡ Some (plain.answerer wheel (cover_shown w x))
     covered x first is =
         let sleeps = (cpu_of w c).online && (cpu_of w c).idle in
         let o = first_wheel (cpu_of w c) in
@@ -75,7 +75,7 @@ module _ (w : World) where
               cond-true sleeps (steps.cover_where w c o) None on
               ∙ (ap (steps.cover_where w c) first
               ∙ (ap (option_map (plain.answerer wheel)) for_shown
-              ∙ ap (λ m. option_map (plain.answerer wheel) (option_map (shown w) m))
+              ∙ ap (λ m. option_map (plain.answerer wheel) (option_map (cover_shown w) m))
               (sym (cond-true sleeps (choice_where w c o) None on ∙ ap (choice_where w c) first)
               ∙ is)))
         ]

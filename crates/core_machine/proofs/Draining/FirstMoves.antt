@@ -22,7 +22,7 @@ use Rattle.step_play.specs.Rules.StepRules.{moved_by_steps, step_rules}
 use Rattle.step_play.proofs.Hotplug.{runs}
 use Rattle.step_play.proofs.Moves.{first_alike, may_move, move_idle, move_online, move_plays}
 use Rattle.step_play.proofs.Moves.{move_stays, move_wheel}
-use Rattle.core_machine.specs.Draining.Turns.{mover_at, timer_of}
+use Rattle.core_machine.specs.Draining.Turns.{mover_at, timer_found}
 use Rattle.core_machine.proofs.Draining.Sames.{moved_same}
 
 -- what was found first, where its timer was
@@ -30,24 +30,24 @@ module _ (w : World) (from : ℕ) (t : TimerId) where
   pub record Found : Type 0 where
     pub found : Class × Item
     pub first : first_to_move (cpu_of w from).bases ≡ Some found
-    pub timer : t ≡ timer_of found
+    pub timer : t ≡ timer_found found
 
   found_by : (o : Option (Class × Item)) → first_to_move (cpu_of w from).bases ≡ o →
-      Some t ≡ option_map timer_of o → Found
+      Some t ≡ option_map timer_found o → Found
   found_by None first none = absurd (none-some t (sym none))
   found_by (Some found) first same = record {
     found = found;
     first = first;
-    timer = same_Some t (timer_of found) same;
+    timer = same_Some t (timer_found found) same;
   }
 
-  pub found_first : Some t ≡ option_map timer_of (first_to_move (cpu_of w from).bases) → Found
+  pub found_first : Some t ≡ option_map timer_found (first_to_move (cpu_of w from).bases) → Found
   found_first is = found_by (first_to_move (cpu_of w from).bases) refl is
 
 module _ (law : StepsStayLawful) (w : World) (i : InRun resting w) (from to : ℕ)
     (low : from < length w.cpus) (offline : (cpu_of w from).online ≡ false)
     (placed : is_placed_in w.tree to ≡ true) (up : IsUp step_rules w to false) (t : TimerId)
-    (is : Some t ≡ option_map timer_of (first_to_move (cpu_of w from).bases)) where
+    (is : Some t ≡ option_map timer_found (first_to_move (cpu_of w from).bases)) where
   active : is_active (cpu_of w to) ≡ true
   active = runs w to up.online up.idles
 

@@ -15,23 +15,23 @@ use Rattle.core_machine.specs.declared.answers.cover.Cover.{Cover}
 use Rattle.core_machine.specs.declared.answers.cover.Cover.TheVariants as covers
 
 -- the cover by the migrators of group g, which lead to CPU m
-abbrev pub by_migrator : (g m : ℕ) → Cover
-by_migrator g m = covers.Migrator (record { 0 = g }) (record { 0 = m })
+abbrev pub cover_by_migrator : (g m : ℕ) → Cover
+cover_by_migrator g m = covers.Migrator (record { 0 = g }) (record { 0 = m })
 
 -- the cover by the wakeup of CPU d
-abbrev pub by_wakeup : World → (d : ℕ) → Cover
-by_wakeup w d = covers.Wake (record { 0 = d }) (cpu_of w d).wakeup
+abbrev pub cover_by_wakeup : World → (d : ℕ) → Cover
+cover_by_wakeup w d = covers.Wake (record { 0 = d }) (cpu_of w d).wakeup
 
 -- where the lowest active group of the CPU's path is this one, the CPU to which its migrators lead;
 -- where none is active, the lowest online idle placed one that wakes by the top's event towards it
 abbrev pub choice_above : World → (c : ℕ) → Option ℕ → Option Cover
-choice_above w c None = option_map (by_wakeup w) (waker_by (state_of w) (time_at_top w c))
-choice_above w c (Some g) = option_map (by_migrator g) (led_to (state_of w) g)
+choice_above w c None = option_map (cover_by_wakeup w) (waker_by (state_of w) (time_at_top w c))
+choice_above w c (Some g) = option_map (cover_by_migrator g) (led_to (state_of w) g)
 
 -- for a wheel expiry W: the CPU itself where its wakeup isn't past W
 abbrev pub choice_for : World → (c wheel : ℕ) → Option Cover
 choice_for w c wheel =
-    if nat_le (cpu_of w c).wakeup wheel then Some (by_wakeup w c)
+    if nat_le (cpu_of w c).wakeup wheel then Some (cover_by_wakeup w c)
     else choice_above w c (lowest_active_group (state_of w) c)
 
 -- the choice for the wheel expiry of the first global timer, where there is one
@@ -60,10 +60,10 @@ IsThere w (covers.Migrator g m) = (g.0 < length w.groups) × (m.0 < length w.cpu
 IsThere w (covers.Wake d at) = d.0 < length w.cpus
 
 -- as a report shows it: the group by its level and place
-abbrev pub shown : World → Cover → ShownCover
-shown w (covers.Migrator g m) =
+abbrev pub cover_shown : World → Cover → ShownCover
+cover_shown w (covers.Migrator g m) =
     lines.Migrator (level_of w.tree g.0) (place_of w.tree g.0) (record { 0 = m.0 })
-shown w (covers.Wake d at) = lines.Wake (record { 0 = d.0 }) at
+cover_shown w (covers.Wake d at) = lines.Wake (record { 0 = d.0 }) at
 
 -- a child of the tree is there (no public clause cites it)
 abbrev pub IsInWorld : World → Child → Type 0

@@ -37,8 +37,8 @@ pub record DrainedSome (old : World) (home : ℕ) (class : Class) (runner : ℕ)
   pub is : new ≡ handed_each home runner out old
 
 -- the timer that was found first
-abbrev pub timer_of : Class × Item → TimerId
-timer_of found = record { 0 = found.1.id }
+abbrev pub timer_found : Class × Item → TimerId
+timer_found found = record { 0 = found.1.id }
 
 -- a timer that came to a wheel expiry (no public clause cites it)
 abbrev pub mover_at : TimerId → (wheel : ℕ) → Mover

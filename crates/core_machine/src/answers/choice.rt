@@ -6,9 +6,9 @@ ghost use Rattle.tm_base.specs.declared.names.GroupId.{GroupId};
 ghost use Rattle.core_world.specs.Covered.{IsSettled};
 ghost use Rattle.core_world.specs.World.{cpu_of};
 ghost use Rattle.step_play.specs.Rules.StepRules.{cover_by_queue};
-ghost use Rattle.core_machine.specs.Covers.Answers.{IsHeldBy, IsWokenBy};
+ghost use Rattle.core_machine.specs.Covers.Answers.{IsHeldByMigrators, IsWokenAt};
 ghost use Rattle.core_machine.specs.Covers.Choice.{IsThere, choice_above, choice_for, choice_of};
-ghost use Rattle.core_machine.specs.Covers.Choice.{first_wheel, shown, waits};
+ghost use Rattle.core_machine.specs.Covers.Choice.{cover_shown, first_wheel, waits};
 ghost use Rattle.core_machine.specs.declared.answers.cover.Cover.TheVariants as covers;
 
 use crate::answers::above::{led_to, lowest_active_group, time_at_top, waker_by};
@@ -96,9 +96,9 @@ pub fn cover_of<B: TimerBase>(core: &Core<B>, cpu: CpuId) -> Option<Cover>
     ensures choice { result ≡ choice_of core.now cpu.0 }
     ensures in_range { IfSome result (IsThere core.now) }
     ensures held { IsSettled core.now → (g : GroupId) (m : CpuId) →
-        result ≡ Some (covers.Migrator g m) → IsHeldBy core.now cpu.0 g.0 m.0 }
+        result ≡ Some (covers.Migrator g m) → IsHeldByMigrators core.now cpu.0 g.0 m.0 }
     ensures woken { IsSettled core.now → (d : CpuId) (at : ℕ) →
-        result ≡ Some (covers.Wake d at) → IsWokenBy core.now cpu.0 d.0 at }
+        result ≡ Some (covers.Wake d at) → IsWokenAt core.now cpu.0 d.0 at }
     ensures there { IsSettled core.now → is_some result ≡ waits (cpu_of core.now cpu.0) }
 {
     core.kept();
@@ -108,7 +108,7 @@ pub fn cover_of<B: TimerBase>(core: &Core<B>, cpu: CpuId) -> Option<Cover>
 /// An answer as a report shows it.
 fn shown<B: TimerBase>(core: &Core<B>, cover: Cover) -> ShownCover
     requires { IsThere core.now cover }
-    ensures { result ≡ shown core.now cover }
+    ensures { result ≡ cover_shown core.now cover }
 {
     match cover {
         Cover::Migrator { group, cpu } => ShownCover::Migrator {

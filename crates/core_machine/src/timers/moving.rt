@@ -9,7 +9,7 @@ ghost use Rattle.play_rules.specs.Timers.{first_to_move};
 ghost use Rattle.core_world.specs.World.{cpu_of};
 ghost use Rattle.step_play.specs.Rules.Seen.{InPlay, InRun, resting};
 ghost use Rattle.step_play.specs.Rules.StepRules.{step_rules};
-ghost use Rattle.core_machine.specs.Draining.Turns.{mover_at, timer_of};
+ghost use Rattle.core_machine.specs.Draining.Turns.{mover_at, timer_found};
 
 use core_steps::{Core, law_step};
 use play_rules::Mover;
@@ -20,7 +20,7 @@ use wheel_core::TimerBase;
 /// each class in arming order.
 pub fn first_timer<B: TimerBase>(core: &Core<B>, from: CpuId) -> Option<TimerId>
     requires { from.0 < length core.now.cpus }
-    ensures { result ≡ option_map timer_of (first_to_move (cpu_of core.now from.0).bases) }
+    ensures { result ≡ option_map timer_found (first_to_move (cpu_of core.now from.0).bases) }
 {
     core.timers_kept(from);
     let class = core.class_to_move(from)?;

@@ -10,19 +10,19 @@ use Rattle.tree_plan.specs.Paths.{child_count_of, parent_of, bit_of}
 use Rattle.tm_report.specs.Words.{group_text}
 
 -- a group, by its level and its place there
-abbrev pub group_name : Shape → ℕ → List ℕ
-group_name t g = group_text (level_of t g) (place_of t g)
+abbrev pub tree_group_name : Shape → ℕ → List ℕ
+tree_group_name t g = group_text (level_of t g) (place_of t g)
 
 -- where a group stands: below a parent with its child number there, or at the top
 abbrev pub standing : Shape → ℕ → Option ℕ → List ℕ
 standing t g None = codes " top"
 standing t g (Some p) =
-    codes " parent " ++ group_name t p ++ codes " bit " ++ decimal (bit_of t (of_group g))
+    codes " parent " ++ tree_group_name t p ++ codes " bit " ++ decimal (bit_of t (of_group g))
 
 -- the line of a group: its name, where it stands, and how many children it has
 abbrev pub group_line : Shape → ℕ → List ℕ
 group_line t g =
-    codes "group " ++ group_name t g ++ standing t g (parent_of t (of_group g))
+    codes "group " ++ tree_group_name t g ++ standing t g (parent_of t (of_group g))
     ++ codes " children " ++ decimal (child_count_of t g)
 
 -- the line of a tree: how many levels and groups it has

@@ -6,7 +6,7 @@ ghost use Rattle.std.specs.List.{flat_map};
 ghost use Rattle.text_words.specs.Words.{ended};
 ghost use Rattle.tm_base.specs.Children.{of_group};
 ghost use Rattle.tree_plan.specs.Paths.{group_count_of, parent_of};
-ghost use Rattle.program_texts.specs.TreeText.Trees.{group_line, group_lines, group_name};
+ghost use Rattle.program_texts.specs.TreeText.Trees.{group_line, group_lines, tree_group_name};
 ghost use Rattle.program_texts.specs.TreeText.Trees.{measures_line, standing, tree_text};
 
 use std::alloc::Global;
@@ -39,7 +39,7 @@ fn push_measures(text: &mut Vec<u8>, tree: &Tree) -> Result<(), NoMemory>
 #[tactic(auto, using(std::proofs::lemmas::List::append_assoc))]
 fn push_group(text: &mut Vec<u8>, tree: &Tree, g: GroupId) -> Result<(), NoMemory>
     requires { g.0 < group_count_of tree.now }
-    ensures { OnOk result (text.new.items ≡ text.old.items ++ group_name tree.now g.0) }
+    ensures { OnOk result (text.new.items ≡ text.old.items ++ tree_group_name tree.now g.0) }
 {
     push_number(text, u64::from(tree.level(g)))?;
     push_count(text, b":", u64::from(tree.place(g)))?;

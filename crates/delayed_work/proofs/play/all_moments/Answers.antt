@@ -1,7 +1,7 @@
 use Rattle.std.proofs.Common.{arith, subst, sym}
 use Rattle.std.proofs.lemmas.Result.{err_from_is_err_and}
 use Rattle.delayed_work.specs.Play.{Stand, works_played}
-use Rattle.delayed_work.specs.Playable.{Stands}
+use Rattle.delayed_work.specs.Playable.{StandsToPlay}
 use Rattle.delayed_work.proofs.Goings.{stands_end, stands_first, stands_next, stands_spent}
 use Rattle.delayed_work.proofs.play.all_moments.Goals as goal
 
@@ -10,7 +10,7 @@ loop-count-init g c =
     let replies = g.J.Jobs.replies c.args.jobs.now in
     let script = c.args.script.now in
     let player = c.args.player.now in
-    subst (λ ms. Stands replies script.end script.count (record { now = 0; moments = ms; count = 0; playing = player }) (works_played replies script))
+    subst (λ ms. StandsToPlay replies script.end script.count (record { now = 0; moments = ms; count = 0; playing = player }) (works_played replies script))
     (sym c.as_slice-moments.ensures) (stands_first replies script player c.requires.script c.requires.start)
 
 pub returns-in_err-work-clause-err : goal.returns-in_err-work-clause-err

@@ -4,7 +4,7 @@ use Rattle.program_texts.specs.declared.commands.Command.{Command}
 use Rattle.program_texts.specs.declared.inputs.Input.TheVariants as inputs
 use Rattle.program_texts.specs.Brought.{script_by}
 use Rattle.program_texts.proofs.Told.{on_err, takes_none}
-use Rattle.program_replies.specs.Replies.{IsReplyBy, IsReplyTo, IsReply}
+use Rattle.program_replies.specs.Replies.{IsReplyBy, IsReplyTo, IsProgramReply}
 use Rattle.program_replies.proofs.Replying.{to_recipe}
 use Rattle.program_replies.proofs.words.reply_to.Goals as goal
 
@@ -18,7 +18,7 @@ returns-in-Some-recipe-clause-reply g c =
     let maker = sym c.in-Some-recipe.ensures in
     IfOk-weaker c.reply_to_recipe.result
     (IsReplyTo jobs table command (inputs.Script (script_by recipe)))
-    (IsReply jobs table c.args.words.now s s)
+    (IsProgramReply jobs table c.args.words.now s s)
     (λ reply to.
     let By : Option Command → Type 0 = λ o. IsReplyBy jobs table o s s reply in
     subst By c.in-Some.ensures.value (to_recipe jobs table command s recipe maker reply to))

@@ -1,7 +1,7 @@
 use Rattle.std.proofs.Common.{ℕ, sym, subst}
 use Rattle.program_texts.specs.declared.replies.Reply.{Reply}
 use Rattle.program_texts.specs.declared.statuses.TheConstants.{JOB_UNKNOWN, WORK_SPENT}
-use Rattle.program_texts.specs.Texts.{refused_text, job_unknown_text, work_spent_text}
+use Rattle.program_texts.specs.Texts.{refused_input_text, job_unknown_text, work_spent_text}
 use Rattle.program_texts.specs.Ends.{EndsAs, EndsWith}
 use Rattle.program_texts.proofs.Written.{made_ends}
 use Rattle.program_texts.proofs.writing.write_reply.Goals as goal
@@ -11,7 +11,7 @@ returns-in-Refused g c =
     let k = g.K.Sink.seen c.args.sink.now in
     let m = g.K.Sink.seen c.write_made.new.sink in
     let Ends : Reply → Type 0 = λ r. EndsAs r k m c.write_made.result in
-    let wanted = refused_text c.in-Refused.form c.in-Refused.fault in
+    let wanted = refused_input_text c.in-Refused.form c.in-Refused.fault in
     let Own : ℕ → Type 0 = λ own. EndsWith wanted own own k m c.write_made.result in
     let wrote =
     made_ends k m c.write_made.result c.refused_text.result wanted c.refused_status.result

@@ -8,7 +8,7 @@ use Rattle.walk_inactive.specs.shared_rule.Parts.{HeldPart, pass_parted}
 use Rattle.walk_inactive.specs.shared_rule.Passes.{HeldPass, passes_of}
 use Rattle.walk_inactive.specs.shared_cpus.Conditions.{CanRetell}
 use Rattle.walk_inactive.specs.shared_table.Readied.{HasNoneBehind}
-use Rattle.walk_inactive.specs.Ends.{HasWalked, reevaluated, retells_with, retold}
+use Rattle.walk_inactive.specs.Ends.{HasWalked, cpu_reevaluated, retells_with, pass_retold}
 use Rattle.shared_acts.proofs.Closing.{agree_of, can_retell, free_with, online_in}
 use Rattle.remote_expiry.proofs.Closing.{retells, told_anew}
 use Rattle.remote_expiry.proofs.interrupting.retell_part.Goals as goal
@@ -60,9 +60,9 @@ part_off-requires-clause-brought g c =
     ∙ retells table part held w.pass w.seated agree c.requires.free own w.marked in
     let one = ap (λ (z : HeldPart). z.brought) c.bring.ensures.part ∙ ap passes_of w.seated in
     let h = c.carry.ensures.retold on in (
-      retold c.carry.new.cpu_part.box w.pass,
+      pass_retold c.carry.new.cpu_part.box w.pass,
       ap (λ (z : HeldPart). z.brought) h.rest
-          ∙ ap (head_pass (retold c.carry.new.cpu_part.box)) one,
+          ∙ ap (head_pass (pass_retold c.carry.new.cpu_part.box)) one,
       c.law.ensures table w.pass w.seated ∙ sym (ap (λ (z : HeldPass). z.cpu) c.bring.ensures.pass),
     )
 
@@ -100,7 +100,7 @@ returns-clause-closed g c =
     ∙ retells table part held w.pass w.seated agree c.requires.free own w.marked in
     told_anew table part held w.pass w.seated agree c.requires.free c.carry.new.cpu_part
     c.part_off.new.pass (agree.idle own ∙ c.requires.idle)
-    (subst (λ (z : HeldPart). HasWalked kinds.Reeval reevaluated retold z c.carry.new.cpu_part)
+    (subst (λ (z : HeldPart). HasWalked kinds.Reeval cpu_reevaluated pass_retold z c.carry.new.cpu_part)
     c.bring.ensures.part (c.carry.ensures.retold on))
     (c.part_off.ensures.pass
     ∙ ap (λ n. pass_parted table n c.carry.new.cpu_part)

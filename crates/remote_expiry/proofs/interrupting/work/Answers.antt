@@ -1,6 +1,6 @@
 use Rattle.std.proofs.Common.{[], arith}
 use Rattle.std.proofs.lemmas.Result.{err_from_is_err_and}
-use Rattle.shared_acts.specs.Tries.{BreaksOff}
+use Rattle.shared_acts.specs.Tries.{BreaksOffPass}
 use Rattle.shared_acts.proofs.OwnDrains.{err_as}
 use Rattle.shared_acts.proofs.Served.{more_off, still_at_work}
 use Rattle.remote_expiry.specs.Trying.{HasWorked}
@@ -17,7 +17,7 @@ returns-in_err-drain_all g c =
     let e = err_from_is_err_and c.from_residual.result c.from_residual.ensures.1 in
     err_as c.from_residual.result
     (λ done. HasWorked table g.N.RunName.opening (g.J.Jobs.replies c.args.jobs.now) held after first
-    last) (BreaksOff table 1536 held after first last) e.0 e.1
+    last) (BreaksOffPass table 1536 held after first last) e.0 e.1
     (more_off table held after first last 0 1536 (omega arith) c.in_err-drain_all.ensures)
 
 pub look_up-requires-clause-at_work : goal.look_up-requires-clause-at_work

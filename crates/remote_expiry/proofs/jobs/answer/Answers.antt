@@ -1,7 +1,7 @@
 use Rattle.std.proofs.Common.{subst, sym}
 use Rattle.job_table.specs.declared.jobs.JobReply.{JobReply}
 use Rattle.shared_acts.specs.declared.runs.RanReply.TheVariants as ran
-use Rattle.remote_expiry.specs.Running.{HasAnswered}
+use Rattle.remote_expiry.specs.Running.{HasAnsweredJob}
 use Rattle.remote_expiry.proofs.Again.{done, marked}
 use Rattle.remote_expiry.proofs.jobs.answer.Goals as goal
 
@@ -10,7 +10,7 @@ returns-in-Done g c =
     let table = g.N.RunName.table in
     let o = g.N.RunName.opening in
     let held = c.args.pass.now in
-    subst (λ (r : JobReply). HasAnswered table o c.args.item.now r held held ran.Done)
+    subst (λ (r : JobReply). HasAnsweredJob table o c.args.item.now r held held ran.Done)
     (sym c.in-Done.is) (done table o c.args.item.now held c.requires.inside)
 
 pub returns-in-Mark : goal.returns-in-Mark
@@ -19,5 +19,5 @@ returns-in-Mark g c =
     let o = g.N.RunName.opening in
     let held = c.args.pass.now in
     let m = c.in-Mark.mark in
-    subst (λ (r : JobReply). HasAnswered table o c.args.item.now r held held (ran.Mark m))
+    subst (λ (r : JobReply). HasAnsweredJob table o c.args.item.now r held held (ran.Mark m))
     (sym c.in-Mark.is) (marked table o c.args.item.now held c.requires.inside m)

@@ -1,9 +1,9 @@
 use Rattle.std.proofs.Common.{subst, arith}
 use Rattle.std.proofs.lemmas.Result.{err_from_is_err_and}
-use Rattle.shared_acts.specs.Tries.{BreaksOff}
+use Rattle.shared_acts.specs.Tries.{BreaksOffPass}
 use Rattle.shared_acts.proofs.Gaining.{no_piece}
 use Rattle.shared_acts.proofs.OwnDrains.{err_as}
-use Rattle.remote_expiry.specs.Trying.{HasRounds, IsRound}
+use Rattle.remote_expiry.specs.Trying.{HasRounds, IsLookRound}
 use Rattle.remote_expiry.proofs.Levels.{few_rounds, no_round, one_round, round_work, rounds_done}
 use Rattle.remote_expiry.proofs.Levels.{rounds_off, rounds_up}
 use Rattle.remote_expiry.proofs.looking.look_at.Goals as goal
@@ -33,7 +33,7 @@ returns-in_err-look_once g c =
     let last = c.look_once.new.runs.runs in
     let e = err_from_is_err_and c.from_residual.result c.from_residual.ensures.1 in
     err_as c.from_residual.result (HasRounds table o jobs c.args.level held after first last)
-    (BreaksOff table 512 held after first last) e.0 e.1
+    (BreaksOffPass table 512 held after first last) e.0 e.1
     (rounds_off table o jobs c.loop-turn._turn c.loop-turn.tried held c.loop-turn.pass after first
     c.loop-turn.runs.runs last c.loop-turn.invariant c.law_shape.ensures.many
     c.in_err-look_once.ensures)
@@ -48,7 +48,7 @@ returns-in-Up g c =
     let after = c.look_once.new.pass in
     let runs = c.loop-turn.runs.runs in
     let last = c.look_once.new.runs.runs in
-    let sees = subst (IsRound table o jobs c.args.level tried c.look_once.new.tried mid after runs
+    let sees = subst (IsLookRound table o jobs c.args.level tried c.look_once.new.tried mid after runs
     last) c.in-Up.is c.in_ok-look_once.ensures in
     rounds_up table o jobs c.loop-turn._turn c.args.level tried c.args.pass.now mid after
     c.args.runs.now.runs runs last c.loop-turn.invariant c.law_shape.ensures.many sees.0 sees.1
@@ -63,7 +63,7 @@ returns-in-Done g c =
     let after = c.look_once.new.pass in
     let runs = c.loop-turn.runs.runs in
     let last = c.look_once.new.runs.runs in
-    let sees = subst (IsRound table o jobs c.args.level tried c.look_once.new.tried mid after runs
+    let sees = subst (IsLookRound table o jobs c.args.level tried c.look_once.new.tried mid after runs
     last) c.in-Done.is c.in_ok-look_once.ensures in
     rounds_done table o jobs c.loop-turn._turn c.args.level tried c.args.pass.now mid after
     c.args.runs.now.runs runs last c.loop-turn.invariant c.law_shape.ensures.many sees.0 sees.1
@@ -81,7 +81,7 @@ loop-turn-preserved g c =
     let last = c.look_once.new.runs.runs in
     one_round table o jobs c.loop-turn._turn _ tried more c.args.pass.now mid after
     c.args.runs.now.runs runs last c.loop-turn.invariant
-    (subst (IsRound table o jobs c.args.level tried more mid after runs last) c.in-Again.is
+    (subst (IsLookRound table o jobs c.args.level tried more mid after runs last) c.in-Again.is
     c.in_ok-look_once.ensures) (omega arith)
 
 pub unreachable-requires : goal.unreachable-requires

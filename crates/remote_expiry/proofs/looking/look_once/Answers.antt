@@ -5,7 +5,7 @@ use Rattle.core_world.specs.World.{World}
 use Rattle.walk_inactive.specs.shared_rule.Slots.{IsGrouped}
 use Rattle.shared_acts.proofs.OwnDrains.{err_as}
 use Rattle.shared_acts.proofs.Served.{still_at_work}
-use Rattle.remote_expiry.specs.Trying.{BreaksRound, IsRound}
+use Rattle.remote_expiry.specs.Trying.{BreaksRound, IsLookRound}
 use Rattle.remote_expiry.proofs.Rounds.{due_piece, round_off, sees_no_group, sees_nothing}
 use Rattle.remote_expiry.proofs.Rounds.{sees_others, tries_one}
 use Rattle.remote_expiry.proofs.looking.look_once.Goals as goal
@@ -33,7 +33,7 @@ returns-in_err-serve-in-Due g c =
     let w = c.requires.at_work in
     let e = err_from_is_err_and c.from_residual.result c.from_residual.ensures.1 in
     err_as c.from_residual.result
-    (IsRound table o jobs c.args.level c.args.tried.now c.add.new.self held after first last)
+    (IsLookRound table o jobs c.args.level c.args.tried.now c.add.new.self held after first last)
     (BreaksRound table o c.args.tried.now held after first last) e.0 e.1
     (round_off table o jobs c.args.now c.args.level c.args.tried.now held mid after first last
     c.in-Due.cpu w.pass w.seated w.is.opening c.in-Due.ensures c.in_err-serve-in-Due.ensures)

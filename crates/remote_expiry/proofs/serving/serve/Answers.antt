@@ -2,7 +2,7 @@ use Rattle.std.proofs.Common.{List, [], ◌∷◌, sym, ap, subst}
 use Rattle.std.specs.Prelude.{not}
 use Rattle.std.proofs.lemmas.Result.{err_from_is_err_and}
 use Rattle.wheel_core.specs.declared.item.Item.{Item}
-use Rattle.shared_acts.specs.Tries.{BreaksOff, HasTaken, HasTried}
+use Rattle.shared_acts.specs.Tries.{BreaksOffPass, HasTakenTimers, HasTried}
 use Rattle.shared_acts.proofs.OwnDrains.{err_as}
 use Rattle.shared_acts.proofs.Served.{has_left, has_taken, inside_of, no_work, ran_work}
 use Rattle.shared_acts.proofs.Served.{served_either, taken_work, tried_left}
@@ -18,7 +18,7 @@ returns-in_err-take g c =
     let e = err_from_is_err_and c.from_residual.result c.from_residual.ensures.1 in
     err_as c.from_residual.result
     (λ done. HasTried table g.N.RunName.opening (g.J.Jobs.replies c.args.jobs.now) c.args.due.0 held
-    after first last) (BreaksOff table 1 held after first last) e.0 e.1
+    after first last) (BreaksOffPass table 1 held after first last) e.0 e.1
     (no_work table held after 1 first last c.in_err-take.ensures.runs c.in_err-take.ensures.done)
 
 pub returns-then-not-branch : goal.returns-then-not-branch
@@ -78,7 +78,7 @@ returns g c =
     served_either table o (g.J.Jobs.replies c.args.jobs.now) d c.deref.result.now held mid
     c.run_all-ended.new.pass c.let_go.new.pass c.args.runs.now.runs c.take.new.runs.runs
     c.run_all-ended.new.runs.runs c.run_all-ended.result c.requires.at_work
-    (subst (λ (xs : List Item). HasTaken table o d xs held mid) (sym c.deref.ensures.value) taken)
+    (subst (λ (xs : List Item). HasTakenTimers table o d xs held mid) (sym c.deref.ensures.value) taken)
     c.in_ok-take.ensures.runs c.run_all-ended.ensures c.let_go.ensures
 
 pub take-requires-clause-at_work : goal.take-requires-clause-at_work

@@ -1,4 +1,4 @@
-use Rattle.run_shares.specs.Tasks.{Plan}
+use Rattle.run_shares.specs.Tasks.{RoundPlan}
 use Rattle.run_shares.proofs.Closing.{all_passes, each_did, is_round}
 use Rattle.run_rounds.proofs.rounds.round_begun.Goals as goal
 
@@ -7,7 +7,7 @@ finish-requires g c =
     let table = g.N.RunName.table in
     let o = g.N.RunName.opening in
     let jobs = g.J.Jobs.replies c.args.jobs.now in
-    let plan : Plan = record { due = c.args.due.now; ops = c.args.ops.now } in
+    let plan : RoundPlan = record { due = c.args.due.now; ops = c.args.ops.now } in
     let done = c.in-Ok.ensures in
     all_passes table o jobs plan done.shares c.in-Ok.passes.items c.in-Ok.lines.items
     (each_did table o jobs plan 0 done.shares done.each done.gathered.ended) done.count done.gathered
@@ -17,7 +17,7 @@ returns-in-Ok g c =
     let table = g.N.RunName.table in
     let o = g.N.RunName.opening in
     let jobs = g.J.Jobs.replies c.args.jobs.now in
-    let plan : Plan = record { due = c.args.due.now; ops = c.args.ops.now } in
+    let plan : RoundPlan = record { due = c.args.due.now; ops = c.args.ops.now } in
     let done = c.in-Ok.ensures in
     is_round table o jobs plan done.shares c.in-Ok.passes.items c.in-Ok.lines.items
     (each_did table o jobs plan 0 done.shares done.each done.gathered.ended) done.count done.gathered c.finish.result

@@ -1,7 +1,7 @@
 use Rattle.std.proofs.Common.{ap, subst, ◌∙◌}
 use Rattle.core_world.specs.World.{World}
 use Rattle.run_shares.specs.shared_table.Begun.{begun_passes}
-use Rattle.run_shares.specs.Tasks.{Plan}
+use Rattle.run_shares.specs.Tasks.{RoundPlan}
 use Rattle.run_shares.specs.Progress.{MayRound}
 use Rattle.run_rounds.proofs.rounds.round_over.Goals as goal
 
@@ -13,7 +13,7 @@ begin-requires-clause-opening g c = c.requires.opening
 
 pub round_begun-requires-clause-may : goal.round_begun-requires-clause-may
 round_begun-requires-clause-may g c κs within =
-    let plan : Plan = record { due = c.args.due.now; ops = c.args.ops.now } in
+    let plan : RoundPlan = record { due = c.args.due.now; ops = c.args.ops.now } in
     subst (λ (o : World). MayRound o c.args.now plan) c.requires.opening c.requires.may
 
 pub round_begun-requires-clause-passes : goal.round_begun-requires-clause-passes

@@ -1,18 +1,18 @@
 use Rattle.std.proofs.Common.{◌∙◌}
 use Rattle.std.proofs.lemmas.Result.{IfOk-weaker}
-use Rattle.run_shares.specs.Tasks.{Plan}
+use Rattle.run_shares.specs.Tasks.{RoundPlan}
 use Rattle.run_shares.proofs.Parting.{all_may}
 use Rattle.run_rounds.proofs.rounds.shares_of.Goals as goal
 
 pub do_all-requires-clause-may : goal.do_all-requires-clause-may
 do_all-requires-clause-may g c κs within =
-    let plan : Plan = record { due = c.args.due.now; ops = c.args.ops.now } in
+    let plan : RoundPlan = record { due = c.args.due.now; ops = c.args.ops.now } in
     all_may g.N.RunName.table g.N.RunName.opening c.args.now plan c.requires.may
     c.in_ok-tasks.tasks.items c.in_ok-tasks.ensures
 
 pub returns : goal.returns
 returns g c =
-    let plan : Plan = record { due = c.args.due.now; ops = c.args.ops.now } in
+    let plan : RoundPlan = record { due = c.args.due.now; ops = c.args.ops.now } in
     let tasks = c.in_ok-tasks.ensures in
     IfOk-weaker c.gather.result _ _
     (λ r gathered. record {

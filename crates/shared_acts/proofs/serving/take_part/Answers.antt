@@ -8,8 +8,8 @@ use Rattle.shared_timers.specs.shared_rule.Parts.{HeldPart}
 use Rattle.shared_timers.specs.shared_rule.Passes.{HeldPass}
 use Rattle.shared_timers.specs.shared_rule.Plays.{PartFits}
 use Rattle.shared_looks.specs.Marks.{IsTakable}
-use Rattle.shared_acts.specs.Pieces.{HandsOut, Piece}
-use Rattle.shared_acts.specs.Tries.{HasLeft, HasMarked, TakesOrLeaves}
+use Rattle.shared_acts.specs.Pieces.{HandsOutItems, Piece}
+use Rattle.shared_acts.specs.Tries.{HasLeftAlone, HasMarked, TakesOrLeaves}
 use Rattle.shared_acts.proofs.Closing.{free_with}
 use Rattle.shared_acts.proofs.OwnDrains.{err_as, room_alone}
 use Rattle.shared_acts.proofs.Served.{inside_of}
@@ -53,7 +53,7 @@ returns-then-not-may_take-clause-done g c =
     let is = same ∙ w.seated in
     let agree = c.may_take.ensures.agree w.pass is in
     let n = noted table part mid seen w.pass is agree c.may_take.ensures.seen in
-    subst (λ (b : BoxView). HasLeft table o b.cpu held seen) box
+    subst (λ (b : BoxView). HasLeftAlone table o b.cpu held seen) box
     (left_there table o part.box held mid seen w same cpu (c.law.ensures table w.pass w.seated)
     (subst PartFits (sym box) c.law-2.ensures.fits) agree
     (subst (λ (b : BoxView). HasGroup o.tree b.cpu) (sym box) c.requires.grouped)
@@ -160,6 +160,6 @@ returns-clause-done g c =
     (roomed_look table held mid seen n.did same cpu n.piece) marked (
       out.0,
       out.1,
-      subst (λ d. HandsOut d mark.cpu Global c.hand_all.new.items.items out.0)
+      subst (λ d. HandsOutItems d mark.cpu Global c.hand_all.new.items.items out.0)
           (c.mark.ensures.kept.cpu ∙ own) out.2,
     )

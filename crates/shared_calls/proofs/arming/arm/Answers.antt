@@ -2,7 +2,7 @@ use Rattle.std.proofs.Common.{◌+◌, ◌<◌, arith, length, sym, ap, ◌∙�
 use Rattle.std.specs.Prelude.{MatchResult}
 use Rattle.tm_base.specs.declared.names.TheConstants.{TIME_LIMIT}
 use Rattle.shared_table.specs.shared_rule.Parts.{HeldPart, without_guest}
-use Rattle.shared_calls.specs.Arms.{HasArmed, NotArmed, arming_of}
+use Rattle.shared_calls.specs.Arms.{HasArmed, NotArmed, timer_arming_of}
 use Rattle.shared_calls.proofs.arming.arm.Goals as goal
 
 pub arm_in-requires-clause-own : goal.arm_in-requires-clause-own
@@ -29,7 +29,7 @@ returns g c =
       c.arm_in.ensures.met,
       subst (λ n. MatchResult c.arm_in.result
           (HasArmed table c.args.now
-          (arming_of c.args.timer c.args.class (c.args.now + n) c.args.job c.args.arg c.args.line) part
+          (timer_arming_of c.args.timer c.args.class (c.args.now + n) c.args.job c.args.arg c.args.line) part
           held after)
           (NotArmed table g.N.RunName.opening c.args.timer.0 part held after)) c.from.ensures
           c.arm_in.ensures.done,

@@ -1,6 +1,6 @@
 use Rattle.std.proofs.Common.{sym, ap, ◌∙◌, subst}
 use Rattle.shared_table.specs.shared_rule.Parts.{HeldPart, without_guest}
-use Rattle.shared_calls.specs.Cancels.{IsAsked}
+use Rattle.shared_calls.specs.Cancels.{IsCancelAsked}
 use Rattle.shared_calls.proofs.cancelling.ask_box.Goals as goal
 
 pub ask_part-requires-clause-own : goal.ask_part-requires-clause-own
@@ -15,7 +15,7 @@ invariant_of-cpu_box g c = c.ask_part.ensures.free
 
 pub returns : goal.returns
 returns g c =
-    subst (λ (z : HeldPart). IsAsked g.N.RunName.table g.N.RunName.opening (without_guest z)
+    subst (λ (z : HeldPart). IsCancelAsked g.N.RunName.table g.N.RunName.opening (without_guest z)
     c.args.pass.now c.ask_part.new.pass c.ask_part.result) c.cpu_box.view_is c.ask_part.ensures.asked
 
 pub ask_part-requires-clause-run : goal.ask_part-requires-clause-run

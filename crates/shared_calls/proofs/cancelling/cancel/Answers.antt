@@ -2,15 +2,15 @@ use Rattle.std.proofs.Common.{sym, subst}
 use Rattle.tm_base.specs.declared.faults.OpFault.{OpFault}
 use Rattle.std.specs.Prelude.{Option}
 use Rattle.shared_table.specs.shared_rule.Passes.{HeldPass}
-use Rattle.shared_looks.specs.Looks.{IsPassOf}
-use Rattle.shared_calls.specs.Cancels.{IsAsked}
+use Rattle.shared_looks.specs.Looks.{IsPassBegunWith}
+use Rattle.shared_calls.specs.Cancels.{IsCancelAsked}
 use Rattle.shared_calls.proofs.Asking.{finish, refused}
 use Rattle.shared_calls.proofs.cancelling.cancel.Goals as goal
 
 pub cancel_named-requires-clause-run : goal.cancel_named-requires-clause-run
 cancel_named-requires-clause-run g c =
     let asked = c.ask.ensures.1 in
-    subst (λ (h : HeldPass). IsPassOf g.N.RunName.table g.N.RunName.opening h) (sym asked.pass_is)
+    subst (λ (h : HeldPass). IsPassBegunWith g.N.RunName.table g.N.RunName.opening h) (sym asked.pass_is)
     asked.of_run
 
 pub returns-in-Some : goal.returns-in-Some
@@ -19,7 +19,7 @@ returns-in-Some g c =
     let o = g.N.RunName.opening in
     let run = c.requires.run in
     let part = c.ask.ensures.0 in
-    let asked = subst (λ (m : Option OpFault). IsAsked table o part c.args.pass.now c.ask.new.pass m)
+    let asked = subst (λ (m : Option OpFault). IsCancelAsked table o part c.args.pass.now c.ask.new.pass m)
     c.in-Some.is c.ask.ensures.1 in (
       part,
       asked.by,
@@ -33,7 +33,7 @@ returns-in-None g c =
     let o = g.N.RunName.opening in
     let run = c.requires.run in
     let part = c.ask.ensures.0 in
-    let asked = subst (λ (m : Option OpFault). IsAsked table o part c.args.pass.now c.ask.new.pass m)
+    let asked = subst (λ (m : Option OpFault). IsCancelAsked table o part c.args.pass.now c.ask.new.pass m)
     c.in-None.is c.ask.ensures.1 in (
       part,
       asked.by,

@@ -1,7 +1,7 @@
 use Rattle.std.proofs.Common.{[], refl, subst, sym}
 use Rattle.shared_table.specs.shared_rule.Passes.{HeldPass}
 use Rattle.shared_looks.proofs.Looks.{no_loads, still_of}
-use Rattle.shared_calls.specs.Cancels.{HasTried, IsCancelled, IsElsewhere, IsNowhere}
+use Rattle.shared_calls.specs.Cancels.{HasTriedCancel, IsCancelled, IsElsewhere, IsNowhere}
 use Rattle.shared_calls.proofs.Trying.{short_more}
 use Rattle.shared_calls.proofs.cancelling.cancel_named.Goals as goal
 
@@ -10,7 +10,7 @@ loop-preserved g c =
     let o = g.N.RunName.opening in
     let was = c.loop.invariant in
     let one : IsElsewhere o c.args.timer.0 c.loop.pass c.try_cancel.new.pass =
-    subst (HasTried g.N.RunName.table o c.args.timer.0 c.args.line c.loop.pass
+    subst (HasTriedCancel g.N.RunName.table o c.args.timer.0 c.args.line c.loop.pass
     c.try_cancel.new.pass) c.in-Ok-Gone.field-0-is c.in-Ok-Gone.ensures in (
       short_more o c.args.timer.0 c.args.pass.now c.loop.pass c.try_cancel.new.pass was.0 one,
       still_of g.N.RunName.table o c.loop.pass c.try_cancel.new.pass one.look.word one.look.found
@@ -50,7 +50,7 @@ returns-in-Ok-Nowhere g c =
     let was = c.loop.invariant.0 in
     let after = c.try_cancel.new.pass in
     let last : IsNowhere o c.args.timer.0 c.loop.pass after =
-    subst (HasTried g.N.RunName.table o c.args.timer.0 c.args.line c.loop.pass after)
+    subst (HasTriedCancel g.N.RunName.table o c.args.timer.0 c.args.line c.loop.pass after)
     c.in-Ok-Nowhere.field-0-is c.in-Ok-Nowhere.ensures in
     record {
       looks = was.looks;
@@ -66,7 +66,7 @@ returns-in-Ok-Cancelled g c =
     let after = c.try_cancel.new.pass in
     let cpu = c.in-Ok-Cancelled.cpu in
     let last : IsCancelled table o c.args.timer.0 c.args.line c.loop.pass after cpu =
-    subst (HasTried table o c.args.timer.0 c.args.line c.loop.pass after)
+    subst (HasTriedCancel table o c.args.timer.0 c.args.line c.loop.pass after)
     c.in-Ok-Cancelled.field-0-is c.in-Ok-Cancelled.ensures in
     record {
       looks = was.looks;

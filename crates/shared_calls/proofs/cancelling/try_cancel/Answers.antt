@@ -2,7 +2,7 @@ use Rattle.std.proofs.Common.{◌<◌, length, sym, subst}
 use Rattle.core_world.specs.World.{World}
 use Rattle.shared_timers.specs.Exchanging.{timer_word}
 use Rattle.shared_looks.proofs.Looks.{of_run, still_of}
-use Rattle.shared_calls.specs.Cancels.{HasTried}
+use Rattle.shared_calls.specs.Cancels.{HasTriedCancel}
 use Rattle.shared_calls.proofs.Trying.{came_to, elsewhere}
 use Rattle.shared_calls.proofs.cancelling.try_cancel.Goals as goal
 
@@ -22,7 +22,7 @@ returns-in-Ok g c =
     let low : spot.cpu.0 < length o.cpus = subst (λ (w : World). spot.cpu.0 < length w.cpus)
     run.opening
     (c.see_timer-found.ensures.named run.pass run.seated spot (sym c.in-Some.ensures.exact)) in
-    subst (HasTried g.N.RunName.table o c.args.timer.0 c.args.line c.args.pass.now
+    subst (HasTriedCancel g.N.RunName.table o c.args.timer.0 c.args.line c.args.pass.now
     c.cancel_at.new.pass) (sym c.outcome.ensures)
     (came_to g.N.RunName.table o c.args.timer.0 c.args.line c.see_timer-found.result spot
     c.args.pass.now c.see_timer-found.new.self c.cancel_at.new.pass c.in-Ok.ensures.0

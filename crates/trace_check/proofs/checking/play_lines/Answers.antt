@@ -1,6 +1,6 @@
 use Rattle.std.proofs.Common.{◌+◌, ◌≤◌, arith, get_or, subst}
 use Rattle.std.specs.Prelude.{IfSome}
-use Rattle.trace_check.specs.Playing.{Plays}
+use Rattle.trace_check.specs.Playing.{PlaysLine}
 use Rattle.trace_check.proofs.PlayLaws.{all_played, begun, one_more, stopped}
 use Rattle.trace_check.proofs.checking.play_lines.Goals as goal
 
@@ -23,7 +23,7 @@ returns-in-None g c =
     stopped c.args.core.now c.args.lines.now c.args.out.now c.loop-line.line-index
     c.loop-line.core c.loop-line.made c.loop-line.out c.loop-line.invariant
     _ c.loop-line-test.true c.play_line.new.core c.play_line.new.out
-    (subst (Plays c.loop-line.core c.loop-line.made
+    (subst (PlaysLine c.loop-line.core c.loop-line.made
     (get_or c.args.lines.now c.loop-line.line-index _) c.loop-line.out c.play_line.new.out
     c.play_line.new.core) c.in-None.is c.in_ok-more.ensures.plays)
 
@@ -32,7 +32,7 @@ loop-line-preserved g c =
     one_more c.args.core.now c.args.lines.now c.args.out.now c.loop-line.line-index
     c.loop-line.core c.loop-line.made c.loop-line.out c.loop-line.invariant
     _ c.loop-line-test.true c.play_line.new.core c.play_line.new.out c.in-Some.more
-    (subst (Plays c.loop-line.core c.loop-line.made
+    (subst (PlaysLine c.loop-line.core c.loop-line.made
     (get_or c.args.lines.now c.loop-line.line-index _) c.loop-line.out c.play_line.new.out
     c.play_line.new.core) c.in-Some.is c.in_ok-more.ensures.plays)
     (subst (λ o. IfSome o (λ more. more ≤ c.loop-line.made + 1)) c.in-Some.is

@@ -1,6 +1,6 @@
 use Rattle.std.proofs.Common.{arith, refl, sym, ◌∙◌, subst, true≢false}
 use Rattle.tm_base.specs.declared.names.Child.TheVariants as sorts
-use Rattle.trace_check.specs.Leading.{IsInWorld, IsMigrator}
+use Rattle.trace_check.specs.Leading.{IsChildInWorld, IsMigrator}
 use Rattle.trace_check.proofs.LeadLaws.{leads_by, led_through, level_lower, none_above}
 use Rattle.trace_check.proofs.LeadLaws.{some_above, some_migrator}
 use Rattle.trace_check.proofs.leading.+led_from.Goals as goal
@@ -15,7 +15,7 @@ led_from-requires g t c =
     let w = c.args.core.now in
     let low = c.requires.levels in
     let fits = c.decreases in
-    let there = subst (IsInWorld w) c.in-Group.is c.in-Some.ensures.in_world in
+    let there = subst (IsChildInWorld w) c.in-Group.is c.in-Some.ensures.in_world in
     let lower = level_lower w c.kept.ensures.fits.lawful.sized c.kept.ensures.fits.planned
     c.args.group.0 c.in-Group.below.0 c.args.levels
     (subst (IsMigrator w c.args.group.0) c.in-Group.is c.in-Some.ensures.migrator) low in

@@ -1,5 +1,5 @@
 use Rattle.std.proofs.Common.{◌≡◌, ◌≤◌, drop}
-use Rattle.view_chart.specs.Model.{first_point}
+use Rattle.view_chart.specs.Model.{chart_first_point}
 use Rattle.view_chart.specs.Charts.{end_from}
 use Rattle.view_chart.proofs.charting.end_of.Given as goal
 
@@ -10,5 +10,5 @@ invariant-loop-line l =
       within : l.point.at ≤ l.window.to;
       end :
           end_from l.window l.point (drop l.line-index l.lines)
-          ≡ end_from l.window (first_point l.window) l.lines;
+          ≡ end_from l.window (chart_first_point l.window) l.lines;
     }

@@ -1,5 +1,5 @@
 use Rattle.std.proofs.Common.{◌≡◌, ◌≤◌, ◌++◌, drop}
-use Rattle.view_chart.specs.Model.{begun, spans_from}
+use Rattle.view_chart.specs.Model.{course_begun, spans_from}
 use Rattle.view_chart.proofs.model.add_spans.Given as goal
 
 abbrev pub invariant-loop-line : goal.invariant-loop-line
@@ -8,5 +8,5 @@ invariant-loop-line l =
       low : l.course.point.column ≤ l.course.point.at;
       spans :
           l.spans.items ++ spans_from l.window l.cpu.0 l.course (drop l.line-index l.lines)
-          ≡ l.fn.spans.items ++ spans_from l.window l.cpu.0 (begun l.window) l.lines;
+          ≡ l.fn.spans.items ++ spans_from l.window l.cpu.0 (course_begun l.window) l.lines;
     }

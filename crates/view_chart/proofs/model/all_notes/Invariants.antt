@@ -1,5 +1,5 @@
 use Rattle.std.proofs.Common.{◌≡◌, ◌≤◌, ◌++◌, drop}
-use Rattle.view_chart.specs.Model.{notes_from, first_point}
+use Rattle.view_chart.specs.Model.{notes_from, chart_first_point}
 use Rattle.view_chart.proofs.model.all_notes.Given as goal
 
 abbrev pub invariant-loop-line : goal.invariant-loop-line
@@ -8,5 +8,5 @@ invariant-loop-line l =
       low : l.point.column ≤ l.point.at;
       notes :
           l.notes.items ++ notes_from l.window l.point (drop l.line-index l.lines)
-          ≡ notes_from l.window (first_point l.window) l.lines;
+          ≡ notes_from l.window (chart_first_point l.window) l.lines;
     }

@@ -1,5 +1,5 @@
 use Rattle.std.proofs.Common.{◌≡◌, ◌≤◌, ◌++◌, drop}
-use Rattle.view_chart.specs.Model.{arrows_from, first_point}
+use Rattle.view_chart.specs.Model.{arrows_from, chart_first_point}
 use Rattle.view_chart.proofs.model.arrows_of.Given as goal
 
 abbrev pub invariant-loop-line : goal.invariant-loop-line
@@ -8,5 +8,5 @@ invariant-loop-line l =
       low : l.point.column ≤ l.point.at;
       arrows :
           l.arrows.items ++ arrows_from l.window l.point (drop l.line-index l.lines)
-          ≡ arrows_from l.window (first_point l.window) l.lines;
+          ≡ arrows_from l.window (chart_first_point l.window) l.lines;
     }

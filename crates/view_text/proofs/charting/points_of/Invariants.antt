@@ -1,5 +1,5 @@
 use Rattle.std.proofs.Common.{◌≡◌, ◌≤◌, ◌∷◌, ◌++◌, drop}
-use Rattle.view_chart.specs.Model.{first_point, points_from}
+use Rattle.view_chart.specs.Model.{chart_first_point, points_from}
 use Rattle.view_text.proofs.charting.points_of.Given as goal
 
 abbrev pub invariant-loop-line : goal.invariant-loop-line
@@ -8,5 +8,5 @@ invariant-loop-line l =
       low : l.point.column ≤ l.point.at;
       points :
           l.points.items ++ points_from l.window l.point (drop l.line-index l.lines)
-          ≡ first_point l.window ∷ points_from l.window (first_point l.window) l.lines;
+          ≡ chart_first_point l.window ∷ points_from l.window (chart_first_point l.window) l.lines;
     }

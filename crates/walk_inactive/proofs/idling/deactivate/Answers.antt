@@ -5,7 +5,7 @@ use Rattle.shared_cpus.specs.shared_rule.Parts.{HasGuest, HeldPart, pass_parted,
 use Rattle.shared_cpus.specs.shared_rule.Passes.{with_pass}
 use Rattle.shared_cpus.specs.Conditions.{CanIdle}
 use Rattle.shared_table.specs.Begun.{IsFree}
-use Rattle.walk_inactive.specs.Ends.{HasTold, HasWalked, at_rest, gone_idle, rested}
+use Rattle.walk_inactive.specs.Ends.{HasWalkTold, HasWalked, pass_at_rest, gone_idle, pass_rested}
 use Rattle.walk_inactive.proofs.Parted.{can_idle, has_guest, is_free, parted}
 use Rattle.walk_inactive.proofs.idling.deactivate.Goals as goal
 
@@ -33,7 +33,7 @@ part_off-requires-clause-brought g c =
     let p = c.requires.run.0 in
     let is = c.cpu_box.view_is in
     let new = c.rest.new.part in
-    let walked = subst (λ z. HasWalked kinds.Deactivate gone_idle at_rest z new)
+    let walked = subst (λ z. HasWalked kinds.Deactivate gone_idle pass_at_rest z new)
     c.bring.ensures.part c.rest.ensures in
     let cpu = sym (ap (λ (z : HeldPart). z.box.cpu) is) in
     subst (λ n. HasGuest n new) (sym (ap (λ z. z.cpu) c.bring.ensures.pass))
@@ -47,7 +47,7 @@ invariant_of-cpu_box g c =
     let p = c.requires.run.0 in
     let is = c.cpu_box.view_is in
     let new = c.rest.new.part in
-    let walked = subst (λ z. HasWalked kinds.Deactivate gone_idle at_rest z new)
+    let walked = subst (λ z. HasWalked kinds.Deactivate gone_idle pass_at_rest z new)
     c.bring.ensures.part c.rest.ensures in
     let cpu = sym (ap (λ (z : HeldPart). z.box.cpu) is) in
     subst IsFree (sym c.part_off.ensures.part)
@@ -58,18 +58,18 @@ pub returns-clause-told : goal.returns-clause-told
 returns-clause-told g c =
     let part : HeldPart = c.cpu_box.inside.part in
     let new = c.rest.new.part in
-    let walked = subst (λ z. HasWalked kinds.Deactivate gone_idle at_rest z new)
+    let walked = subst (λ z. HasWalked kinds.Deactivate gone_idle pass_at_rest z new)
     c.bring.ensures.part c.rest.ensures in
-    subst (λ (z : HeldPart). HasTold kinds.Deactivate gone_idle z.box c.part_off.new.part.box)
+    subst (λ (z : HeldPart). HasWalkTold kinds.Deactivate gone_idle z.box c.part_off.new.part.box)
     c.cpu_box.view_is
-    (subst (λ z. HasTold kinds.Deactivate gone_idle part.box z.box) (sym c.part_off.ensures.part)
+    (subst (λ z. HasWalkTold kinds.Deactivate gone_idle part.box z.box) (sym c.part_off.ensures.part)
     walked.told)
 
 pub returns-clause-rest : goal.returns-clause-rest
 returns-clause-rest g c =
     let part : HeldPart = c.cpu_box.inside.part in
     let new = c.rest.new.part in
-    let walked = subst (λ z. HasWalked kinds.Deactivate gone_idle at_rest z new)
+    let walked = subst (λ z. HasWalked kinds.Deactivate gone_idle pass_at_rest z new)
     c.bring.ensures.part c.rest.ensures in
     let back = sym c.part_off.ensures.part in
     let is = c.cpu_box.view_is in
@@ -83,7 +83,7 @@ returns-clause-pass g c =
     let p = c.requires.run.0 in
     let is = c.cpu_box.view_is in
     let new = c.rest.new.part in
-    let walked = subst (λ z. HasWalked kinds.Deactivate gone_idle at_rest z new)
+    let walked = subst (λ z. HasWalked kinds.Deactivate gone_idle pass_at_rest z new)
     c.bring.ensures.part c.rest.ensures in
     let cpu = sym (ap (λ (z : HeldPart). z.box.cpu) is) in
     let back = sym c.part_off.ensures.part in
@@ -91,4 +91,4 @@ returns-clause-pass g c =
     ∙ (λ i. pass_parted g.N.RunName.table (c.bring.ensures.pass i).cpu new)
     ∙ parted g.N.RunName.table part pass p c.requires.run.1
     (c.requires.own p c.requires.run.1 ∙ cpu) new walked
-    ∙ (λ i. with_pass (rested (back i).box) pass)
+    ∙ (λ i. with_pass (pass_rested (back i).box) pass)

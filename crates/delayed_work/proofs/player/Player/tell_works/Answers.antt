@@ -1,6 +1,6 @@
 use Rattle.std.proofs.Common.{◌≡◌, ◌-◌, ap, arith, length, ◌∙◌, ◌++◌}
 use Rattle.std.proofs.lemmas.Result.{err_from_is_err_and}
-use Rattle.delayed_work.specs.Lines.{left_line}
+use Rattle.delayed_work.specs.Lines.{left_work_line}
 use Rattle.delayed_work.specs.Play.{Playing, left_lines}
 use Rattle.delayed_work.specs.Works.{WorksState}
 use Rattle.delayed_work.proofs.Rows.{left_end, left_more}
@@ -33,7 +33,7 @@ pub loop-work-preserved : goal.loop-work-preserved
 loop-work-preserved g c = record {
   rest =
       left_more c.args.count c.loop-work.work c.loop-work.self-inside.text.items _ _ c.loop-work.self-inside.works c.loop-work.invariant.rest c.loop-work-test.true
-      (c.in_ok-tell_left.ensures ∙ ap (λ o. c.loop-work.self-inside.text.items ++ left_line c.loop-work.work o) c.left-left.ensures);
+      (c.in_ok-tell_left.ensures ∙ ap (λ o. c.loop-work.self-inside.text.items ++ left_work_line c.loop-work.work o) c.left-left.ensures);
   works = c.loop-work.invariant.works;
 }
 

@@ -1,7 +1,7 @@
 use Rattle.std.proofs.Common.{subst, sym}
 use Rattle.std.proofs.lemmas.Result.{err_from_is_err_and}
 use Rattle.delayed_work.specs.Ledger.{LedgerState}
-use Rattle.delayed_work.specs.Works.{IsLawful}
+use Rattle.delayed_work.specs.Works.{AreLawfulWorks}
 use Rattle.delayed_work.proofs.Making.{new_lawful}
 use Rattle.delayed_work.proofs.works.Works.new.Goals as goal
 
@@ -11,7 +11,7 @@ returns-in_err-ledger g c =
 
 pub invariant_of-result : goal.invariant_of-result
 invariant_of-result g c =
-    subst (λ (l : LedgerState). IsLawful (record { bases = c.args.bases.plain; ledger = l; time = 0 }))
+    subst (λ (l : LedgerState). AreLawfulWorks (record { bases = c.args.bases.plain; ledger = l; time = 0 }))
     (sym c.in_ok-ledger.ensures)
     (new_lawful c.args.bases.plain c.args.count c.journal-journal.ensures.consistent c.requires.empty
     c.requires.few)

@@ -1,7 +1,7 @@
 use Rattle.std.proofs.Common.{◌<◌, ◌^◌, ap, sym, ◌∙◌, arith}
 use Rattle.cpu_bases.specs.CpuBases.{RoomyBases}
 use Rattle.delayed_work.specs.declared.standing.End.TheVariants.{Ran}
-use Rattle.delayed_work.specs.Ledger.{LedgerState, ended}
+use Rattle.delayed_work.specs.Ledger.{LedgerState, work_ended}
 use Rattle.delayed_work.specs.Works.{bases_queued, ledger_queued}
 use Rattle.delayed_work.proofs.Lawful.{again_lawful, ended_lawful, first_within, lawful_as}
 use Rattle.delayed_work.proofs.works.Works.run_next.Goals as goal
@@ -21,7 +21,7 @@ invariant_of-self-in_default-reply g c =
     }) (λ same. cc) (sym c.standing-standing.ensures ∙ c.in-Ready.is))
     (ap (λ (b : RoomyBases). b.plain) c.in_ok-reserve-2.ensures.ok)
     (c.end.ensures.plain
-    ∙ ap (λ (l : LedgerState). ended c.in-Some.work Ran l) c.reserve.ensures.plain)
+    ∙ ap (λ (l : LedgerState). work_ended c.in-Some.work Ran l) c.reserve.ensures.plain)
     (λ i. c.args.now)
 
 pub invariant_of-self-2 : goal.invariant_of-self-2
@@ -42,5 +42,5 @@ invariant_of-self-2 g c =
     (c.accept-placed.ensures.ledger
     ∙ ap (λ (l : LedgerState). ledger_queued c.in-Some.work c.in-Again.delay c.in-Ready.job c.in-Ready.arg l)
     (c.end.ensures.plain
-    ∙ ap (λ (l : LedgerState). ended c.in-Some.work Ran l) c.reserve.ensures.plain))
+    ∙ ap (λ (l : LedgerState). work_ended c.in-Some.work Ran l) c.reserve.ensures.plain))
     (λ i. c.args.now)
