@@ -14,10 +14,10 @@ use Rattle.view_story.specs.declared.seen.CpuSeen.{CpuSeen}
 use Rattle.view_story.specs.declared.seen.Queued.{Queued}
 use Rattle.view_story.specs.declared.seen.Stage.TheVariants as stages
 use Rattle.view_story.specs.declared.seen.TimerSeen.{TimerSeen}
-use Rattle.view_story.specs.Sight.{Sight}
+use Rattle.view_story.specs.Sight.{StorySight}
 use Rattle.view_story.specs.Seen.{cpu_at, with_cpu}
 use Rattle.view_story.specs.Places.{is_queued_in, ops_at}
-use Rattle.view_story.specs.Runs.{is_after}
+use Rattle.view_story.specs.Runs.{is_op_after}
 
 -- A CPU HAS TO BE COVERED: it is online and idle, and global timers are queued on it
 abbrev pub needs_cover : CpuSeen → Bool
@@ -32,21 +32,21 @@ abbrev pub needs_between : (from to : ℕ) → CpuSeen → Bool
 needs_between from to c = nat_le from c.cpu.0 && nat_lt c.cpu.0 to && needs_cover c
 
 -- some CPU from this one on has no cover yet; nothing is known where a timer isn't clear
-abbrev pub some_uncovered : Sight → (from : ℕ) → Bool
+abbrev pub some_uncovered : StorySight → (from : ℕ) → Bool
 some_uncovered s from = (s.point.unclear == 0) && list_any (needs_from from) s.cpus
 
 -- some CPU between two
-abbrev pub some_passed : Sight → (from to : ℕ) → Bool
+abbrev pub some_passed : StorySight → (from to : ℕ) → Bool
 some_passed s from to = (s.point.unclear == 0) && list_any (needs_between from to) s.cpus
 
 -- the wheel expiry of a timer that may be queued, or 0
-abbrev pub wheel_in : Option Queued → ℕ
-wheel_in None = 0
-wheel_in (Some q) = q.wheel
+abbrev pub queued_wheel_in : Option Queued → ℕ
+queued_wheel_in None = 0
+queued_wheel_in (Some q) = q.wheel
 
 -- the wheel expiry of a timer, or 0
 abbrev pub wheel_of : TimerSeen → ℕ
-wheel_of t = wheel_in t.place
+wheel_of t = queued_wheel_in t.place
 
 -- a global timer of a CPU has this wheel expiry
 abbrev pub has_wheel : CpuId → (wheel : ℕ) → TimerSeen → Bool
@@ -57,7 +57,7 @@ abbrev pub has_earlier : CpuId → (wheel : ℕ) → TimerSeen → Bool
 has_earlier cpu wheel t = is_queued_in cpu classes.Global t && nat_lt (wheel_of t) wheel
 
 -- a wheel expiry is the first of a CPU's global timers
-abbrev pub is_first_global : Sight → CpuId → (wheel : ℕ) → Bool
+abbrev pub is_first_global : StorySight → CpuId → (wheel : ℕ) → Bool
 is_first_global s cpu wheel =
     list_any (has_wheel cpu wheel) s.timers && not (list_any (has_earlier cpu wheel) s.timers)
 
@@ -72,13 +72,13 @@ may_be_wakeup c now at =
     c.state.online && c.state.idle && (nat_le c.quiet now || (c.quiet == at))
 
 -- a CPU may wake for others: it is in the hierarchy, and there no CPU is active
-abbrev pub wakes_for : Script → Sight → CpuId → Bool
+abbrev pub wakes_for : Script → StorySight → CpuId → Bool
 wakes_for script s waker =
     not (set.contains script.isolated waker.0) && not (list_any (is_active script) s.cpus)
 
 -- WHO MAY ANSWER for a timer of a CPU: an active CPU, where the timer's CPU doesn't wake in time by
 -- itself; or a CPU that wakes in time, itself or where none is active
-abbrev pub answers : Script → Sight → CpuId → (wheel : ℕ) → ShownCover → Bool
+abbrev pub answers : Script → StorySight → CpuId → (wheel : ℕ) → ShownCover → Bool
 answers script s cpu wheel (shown.Migrator level place migrator) =
     is_active script (cpu_at s migrator)
     && not (set.contains script.isolated cpu.0)
@@ -89,20 +89,20 @@ answers script s cpu wheel (shown.Wake waker at) =
     && ((waker.0 == cpu.0) || wakes_for script s waker)
 
 -- an operation of the moment has no answer yet
-abbrev pub is_owed : Script → Sight → Bool
-is_owed script s = list_any (is_after s.point) (ops_at script s.point)
+abbrev pub is_owed : Script → StorySight → Bool
+is_owed script s = list_any (is_op_after s.point) (ops_at script s.point)
 
 -- timers are queued on a CPU, if there is one
-abbrev pub has_timers : Sight → Option CpuId → Bool
+abbrev pub has_timers : StorySight → Option CpuId → Bool
 has_timers s None = false
 has_timers s (Some cpu) = nat_lt 0 (cpu_at s cpu).timers
 
 -- a CPU that went offline has timers still
-abbrev pub is_unmoved : Sight → Bool
+abbrev pub is_unmoved : StorySight → Bool
 is_unmoved s = has_timers s s.point.dead
 
 -- WHAT IS WRONG with the line of a cover
-unfoldable pub cover_fault : Script → Sight → CpuId → (wheel : ℕ) → ShownCover → Option Fault
+unfoldable pub cover_fault : Script → StorySight → CpuId → (wheel : ℕ) → ShownCover → Option Fault
 cover_fault script s cpu wheel cover =
     if is_owed script s then Some faults.Skipped
     else if is_unmoved s then Some faults.Unmoved
@@ -116,7 +116,7 @@ cover_fault script s cpu wheel cover =
     else None
 
 -- the wakeup that a cover shows
-unfoldable pub learned_wakeup : Sight → ShownCover → Sight
+unfoldable pub learned_wakeup : StorySight → ShownCover → StorySight
 learned_wakeup s (shown.Migrator level place cpu) = s
 learned_wakeup s (shown.Wake cpu at) = with_cpu s (record (cpu_at s cpu) { quiet = at })
 
@@ -125,7 +125,7 @@ abbrev pub next_number : ℕ → ℕ
 next_number n = if nat_lt n 65535 then n + 1 else n
 
 -- what the line of a cover tells
-unfoldable pub learned_cover : Sight → CpuId → ShownCover → Sight
+unfoldable pub learned_cover : StorySight → CpuId → ShownCover → StorySight
 learned_cover s cpu cover =
     record (learned_wakeup s cover) {
       point = record (learned_wakeup s cover).point {

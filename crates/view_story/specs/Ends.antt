@@ -18,9 +18,9 @@ use Rattle.view_story.specs.declared.judge.Verdict.TheVariants as verdicts
 use Rattle.view_story.specs.declared.statuses.TheConstants.{FITS, MISFIT, MOST_STORY_BYTES}
 use Rattle.view_story.specs.declared.statuses.TheConstants.{NO_MEMORY, NO_STORY, READ_FAULT}
 use Rattle.view_story.specs.declared.statuses.TheConstants.{TOO_LONG, USAGE, WRITE_FAULT}
-use Rattle.view_story.specs.Judge.{judged, start}
+use Rattle.view_story.specs.Judge.{start, story_judged}
 use Rattle.view_story.specs.Texts.{read_fault_text, report_refused, script_refused}
-use Rattle.view_story.specs.Texts.{too_long_text, usage_text, verdict_text}
+use Rattle.view_story.specs.Texts.{story_verdict_text, too_long_text, usage_text}
 
 -- the status of a verdict
 abbrev pub status_of : Verdict → ℕ
@@ -30,8 +30,8 @@ status_of (verdicts.Misfit line fault) = MISFIT
 -- what is written of the lines of a report: what is said of them
 pub record IsTold (script : Script) (play : Bool) (ls : List Line) (text : List ℕ) (status : ℕ) :
     Type 0 where
-  pub text_is : text ≡ verdict_text (judged script (start script play) 0 ls)
-  pub status_is : status ≡ status_of (judged script (start script play) 0 ls)
+  pub text_is : text ≡ story_verdict_text (story_judged script (start script play) 0 ls)
+  pub status_is : status ≡ status_of (story_judged script (start script play) 0 ls)
 
 -- WHAT IS WRITTEN of the bytes behind a script: what is said of the report that they are, or the
 -- first fault
@@ -58,18 +58,19 @@ order_of (word ∷ []) = if bytes_eq (string_bytes word) (codes "play") then Som
 order_of (word ∷ other ∷ more) = None
 
 -- what is written of the source, which went from old to new
-pub data IsOutput (play : Bool) (old new : SourceSeen) (text : List ℕ) (status : ℕ) : Type 0 where
+pub data IsStoryOutput (play : Bool) (old new : SourceSeen) (text : List ℕ) (status : ℕ)
+    : Type 0 where
   answered : (bytes : List ℕ) → TakesAll old new MOST_STORY_BYTES bytes
-      → IsJudged play bytes text status → IsOutput play old new text status
+      → IsJudged play bytes text status → IsStoryOutput play old new text status
   broken : SourceFailed old new → text ≡ read_fault_text → status ≡ READ_FAULT
-      → IsOutput play old new text status
+      → IsStoryOutput play old new text status
   long : TakesCount old new (MOST_STORY_BYTES + 1) → text ≡ too_long_text → status ≡ TOO_LONG
-      → IsOutput play old new text status
+      → IsStoryOutput play old new text status
 
 -- .. by the order that the words name, if they do
 abbrev pub IsOutputBy : Option Bool → (old new : SourceSeen) → (text : List ℕ) → (status : ℕ)
     → Type 0
-IsOutputBy (Some play) old new text status = IsOutput play old new text status
+IsOutputBy (Some play) old new text status = IsStoryOutput play old new text status
 IsOutputBy None old new text status = (text ≡ usage_text) × (status ≡ USAGE)
 
 -- all of the text was written, with this status; or writing stopped before its end

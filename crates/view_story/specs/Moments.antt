@@ -18,9 +18,9 @@ use Rattle.view_story.specs.declared.seen.Stage.{Stage}
 use Rattle.view_story.specs.declared.seen.Stage.TheVariants as stages
 use Rattle.view_story.specs.declared.seen.State.{State}
 use Rattle.view_story.specs.declared.seen.TimerSeen.{TimerSeen}
-use Rattle.view_story.specs.Sight.{Sight}
-use Rattle.view_story.specs.Seen.{cpu_at, opening_of, or_else}
-use Rattle.view_story.specs.Places.{ahead, ops_at, same_class}
+use Rattle.view_story.specs.Sight.{StorySight}
+use Rattle.view_story.specs.Seen.{cpu_at, opening_of, seen_or}
+use Rattle.view_story.specs.Places.{ahead, is_same_class, ops_at}
 use Rattle.view_story.specs.Runs.{may_interrupt}
 use Rattle.view_story.specs.Covers.{is_owed, is_unmoved, some_uncovered}
 
@@ -38,7 +38,7 @@ abbrev pub is_hotplug : Op → Bool
 is_hotplug op = hotplugs op.what
 
 -- at most one CPU may have an interrupt by a time
-abbrev pub few_interrupt : Sight → (by : ℕ) → Bool
+abbrev pub few_interrupt : StorySight → (by : ℕ) → Bool
 few_interrupt s by = nat_le (count_by (may_interrupt s.point.time by) s.cpus) 1
 
 -- a CPU makes a moment of a time: it is active, or its wakeup isn't later
@@ -46,28 +46,28 @@ abbrev pub makes_moment : (at : ℕ) → CpuSeen → Bool
 makes_moment at c = c.state.online && (not c.state.idle || nat_le c.quiet at)
 
 -- at most one CPU may have an interrupt in a later moment, by a time
-abbrev pub few_come : Sight → (by : ℕ) → Bool
+abbrev pub few_come : StorySight → (by : ℕ) → Bool
 few_come s by = nat_le (count_by (makes_moment by) s.cpus) 1
 
 -- PLAIN: the moment is played without threads, since it has an operation that takes a CPU offline
 -- or online, or none and at most one CPU with an interrupt; all moments of `play` are
-unfoldable pub is_plain : Script → Sight → Bool
+unfoldable pub is_plain : Script → StorySight → Bool
 is_plain script s =
     s.point.play
     || list_any is_hotplug (ops_at script s.point)
     || (length (ops_at script s.point) == 0) && few_interrupt s s.point.time
 
 -- active
-abbrev pub is_awake : State → Bool
-is_awake opening = opening.online && not opening.idle
+abbrev pub is_active_state : State → Bool
+is_active_state opening = opening.online && not opening.idle
 
 -- a CPU was active as the moment began
 abbrev pub was_active : CpuSeen → (now : ℕ) → Bool
-was_active c now = is_awake (opening_of c now)
+was_active c now = is_active_state (opening_of c now)
 
 -- LOOKED FOR: a global timer of a CPU that sleeps must have run before a time: in a moment that was
 -- played without threads, now or since
-unfoldable pub is_looked_for : Script → Sight → Queued → (to : ℕ) → Bool
+unfoldable pub is_looked_for : Script → StorySight → Queued → (to : ℕ) → Bool
 is_looked_for script s q to =
     if nat_le q.wheel s.point.time && is_plain script s then true
     else nat_lt (max q.wheel (ahead s.point.time 1)) to
@@ -75,22 +75,22 @@ is_looked_for script s q to =
 
 -- a timer of an online CPU that is due before a time must have run: a pinned one always; one of a
 -- CPU that had an interrupt; a global one of a CPU that sleeps where it was looked for
-unfoldable pub is_missed_on : Script → Sight → CpuSeen → Queued → (to : ℕ) → Bool
+unfoldable pub is_missed_on : Script → StorySight → CpuSeen → Queued → (to : ℕ) → Bool
 is_missed_on script s c q to =
-    if same_class q.class classes.Pinned then true
+    if is_same_class q.class classes.Pinned then true
     else if was_active c s.point.time && nat_le q.wheel s.point.time then true
     else if not c.state.idle then nat_lt (ahead s.point.time 1) to
-    else same_class q.class classes.Global && is_looked_for script s q to
+    else is_same_class q.class classes.Global && is_looked_for script s q to
 
 -- queued so
-abbrev pub is_missed_at : Script → Sight → (clear : Bool) → (to : ℕ) → Option Queued → Bool
+abbrev pub is_missed_at : Script → StorySight → (clear : Bool) → (to : ℕ) → Option Queued → Bool
 is_missed_at script s clear to None = false
 is_missed_at script s clear to (Some q) =
     if not clear || nat_le to q.wheel then false
     else (cpu_at s q.home).state.online && is_missed_on script s (cpu_at s q.home) q to
 
 -- MISSED: a timer must have run before a time, and hasn't
-abbrev pub is_missed : Script → Sight → (to : ℕ) → TimerSeen → Bool
+abbrev pub is_missed : Script → StorySight → (to : ℕ) → TimerSeen → Bool
 is_missed script s to t = is_missed_at script s t.clear to t.place
 
 -- the moments of the script from the next one on
@@ -103,8 +103,8 @@ abbrev pub is_from : (to : ℕ) → Moment → Bool
 is_from to m = nat_le to m.at
 
 -- how many of these moments come before a time
-abbrev pub count_before : List Moment → (to : ℕ) → ℕ
-count_before ms to = or_else (position (is_from to) ms) (length ms)
+abbrev pub moments_before : List Moment → (to : ℕ) → ℕ
+moments_before ms to = seen_or (position (is_from to) ms) (length ms)
 
 -- a moment has operations
 abbrev pub has_ops : Moment → Bool
@@ -115,14 +115,14 @@ abbrev pub some_ops : List Moment → (count : ℕ) → Bool
 some_ops ms count = nat_le count (length ms) && list_any has_ops (take count ms)
 
 -- WHAT IS MISSING where the lines leave a moment for a time: an answer, a move, a cover, a run
-unfoldable pub leave_fault : Script → Sight → (to : ℕ) → Option Fault
+unfoldable pub leave_fault : Script → StorySight → (to : ℕ) → Option Fault
 leave_fault script s to =
     if is_owed script s
-    || some_ops (moments_left script s.point) (count_before (moments_left script s.point) to)
+    || some_ops (moments_left script s.point) (moments_before (moments_left script s.point) to)
     then Some faults.Skipped
     else if is_unmoved s then Some faults.Unmoved
     else if s.point.listed && some_uncovered s s.point.covered then Some faults.Uncovered
-    else if nat_lt 0 (count_before (moments_left script s.point) to) && some_uncovered s 0
+    else if nat_lt 0 (moments_before (moments_left script s.point) to) && some_uncovered s 0
     then Some faults.Uncovered
     else if list_any (is_missed script s to) s.timers then Some faults.Missed
     else None
@@ -134,7 +134,7 @@ is_at at (Some m) = m.at == at
 
 -- the script has a moment at this time, among these
 abbrev pub is_listed : List Moment → (at : ℕ) → Bool
-is_listed ms at = is_at at (slice_get ms (count_before ms at))
+is_listed ms at = is_at at (slice_get ms (moments_before ms at))
 
 -- a place of the script's moments, so many further
 abbrev pub later_by : (next count : ℕ) → ℕ
@@ -142,7 +142,7 @@ later_by next count =
     if nat_le next 4294967295 && nat_le count 4294967295 then next + count else next
 
 -- A TIME IS ONE OF A MOMENT: not behind the end, and the end, one of the script, or one of a CPU
-unfoldable pub is_moment : Script → Sight → (at : ℕ) → Bool
+unfoldable pub is_moment : Script → StorySight → (at : ℕ) → Bool
 is_moment script s at =
     nat_le at script.end
     && ((at == script.end)
@@ -155,8 +155,8 @@ point_at script p at = record p {
   time = at;
   listed = is_listed (moments_left script p) at;
   next = if is_listed (moments_left script p) at
-      then later_by (later_by p.next (count_before (moments_left script p) at)) 1
-      else later_by p.next (count_before (moments_left script p) at);
+      then later_by (later_by p.next (moments_before (moments_left script p) at)) 1
+      else later_by p.next (moments_before (moments_left script p) at);
   stage = stages.Tellers;
   answered_cpu = record { 0 = 0 };
   answered = 0;
@@ -172,12 +172,12 @@ point_at script p at = record p {
 }
 
 -- the moment of a time, where it is another one
-unfoldable pub gone_to : Script → Sight → (at : ℕ) → Sight
+unfoldable pub gone_to : Script → StorySight → (at : ℕ) → StorySight
 gone_to script s at =
     if at == s.point.time then s else record s { point = point_at script s.point at }
 
 -- what is wrong with a time, in a moment that isn't the last
-abbrev pub time_fault_in : Script → Sight → (at : ℕ) → Option Fault
+abbrev pub time_fault_in : Script → StorySight → (at : ℕ) → Option Fault
 time_fault_in script s at =
     if nat_lt at s.point.time then Some faults.BackInTime
     else if at == s.point.time then None
@@ -185,7 +185,7 @@ time_fault_in script s at =
     else leave_fault script s at
 
 -- by which lines may still come
-abbrev pub time_fault_by : Stage → Script → Sight → (at : ℕ) → Option Fault
+abbrev pub time_fault_by : Stage → Script → StorySight → (at : ℕ) → Option Fault
 time_fault_by stages.Tellers script s at = time_fault_in script s at
 time_fault_by stages.Moves script s at = time_fault_in script s at
 time_fault_by stages.Covers script s at = time_fault_in script s at
@@ -193,5 +193,5 @@ time_fault_by stages.Lefts script s at = Some faults.NotTheEnd
 time_fault_by stages.Over script s at = Some faults.NotTheEnd
 
 -- WHAT IS WRONG with a line at a time, before it is looked at
-unfoldable pub time_fault : Script → Sight → (at : ℕ) → Option Fault
+unfoldable pub time_fault : Script → StorySight → (at : ℕ) → Option Fault
 time_fault script s at = time_fault_by s.point.stage script s at

@@ -22,21 +22,22 @@ use Rattle.view_story.specs.declared.seen.Point.{Point}
 use Rattle.view_story.specs.declared.seen.Queued.{Queued}
 use Rattle.view_story.specs.declared.seen.State.{State}
 use Rattle.view_story.specs.declared.seen.TimerSeen.{TimerSeen}
-use Rattle.view_story.specs.Sight.{Sight}
-use Rattle.view_story.specs.Seen.{cpu_at, opening_of, or_else, timer_at, up, with_cpu}
-use Rattle.view_story.specs.Places.{ahead, is_contested, level_in, ops_at, others_act, requeued}
-use Rattle.view_story.specs.Places.{fit_of, same_class}
-use Rattle.view_story.specs.Runs.{is_after}
+use Rattle.view_story.specs.Sight.{StorySight}
+use Rattle.view_story.specs.Seen.{cpu_at, opening_of, seen_or, timer_at, up, with_cpu}
+use Rattle.view_story.specs.Places.{ahead, arming_level_in, is_contested, ops_at, others_act}
+use Rattle.view_story.specs.Places.{requeued}
+use Rattle.view_story.specs.Places.{fit_of, is_same_class}
+use Rattle.view_story.specs.Runs.{is_op_after}
 use Rattle.view_story.specs.Covers.{is_active}
 
 -- an operation of this CPU that comes behind the one that was answered last
 abbrev pub comes_next : Point → CpuId → Op → Bool
-comes_next p cpu op = (op.cpu.0 == cpu.0) && is_after p op
+comes_next p cpu op = (op.cpu.0 == cpu.0) && is_op_after p op
 
 -- an operation is to be answered before another
 abbrev pub is_owed_above : Point → Op → Op → Bool
-is_owed_above p answered op =
-    is_after p op
+is_owed_above p point_answered op =
+    is_op_after p op
     && (if p.play then nat_lt op.line answered.line else nat_lt op.cpu.0 answered.cpu.0)
 
 -- that operation, where none is to be answered before
@@ -46,7 +47,7 @@ next_in p ops (Some op) = if list_any (is_owed_above p op) ops then None else So
 
 -- THE OPERATION THAT A LINE ANSWERS: the next of its CPU, where none of a lower CPU is left; in the
 -- order of `play` the next of all
-unfoldable pub answered_op : Script → Sight → CpuId → Option Op
+unfoldable pub answered_op : Script → StorySight → CpuId → Option Op
 answered_op script s cpu =
     next_in s.point (ops_at script s.point)
     (find (comes_next s.point cpu) (ops_at script s.point))
@@ -71,7 +72,7 @@ is_other_online script own c =
     not (c.cpu.0 == own.0) && c.state.online && not (set.contains script.isolated c.cpu.0)
 
 -- a CPU is the last of the hierarchy that is online
-abbrev pub is_last_online : Script → Sight → CpuId → Bool
+abbrev pub is_last_online : Script → StorySight → CpuId → Bool
 is_last_online script s cpu =
     not (set.contains script.isolated cpu.0)
     && not (list_any (is_other_online script cpu) s.cpus)
@@ -86,7 +87,7 @@ is_offline whats.Wake = false
 is_offline whats.Online = false
 
 -- the number of the refusal of an operation but for timers that are queued, or 0
-unfoldable pub number_of : Script → Sight → Op → ℕ
+unfoldable pub number_of : Script → StorySight → Op → ℕ
 number_of script s op =
     if (refusal op.what (cpu_at s op.cpu).state == 0) && is_offline op.what
     && is_last_online script s op.cpu then 5
@@ -113,7 +114,7 @@ unless holds fault = if holds then None else Some fault
 abbrev pub sooner_at : CpuId → (than : ℕ) → Option Queued → Bool
 sooner_at cpu than None = false
 sooner_at cpu than (Some q) =
-    (q.home.0 == cpu.0) && not (same_class q.class classes.Deferrable) && nat_lt q.wheel than
+    (q.home.0 == cpu.0) && not (is_same_class q.class classes.Deferrable) && nat_lt q.wheel than
 
 -- a timer is
 abbrev pub is_sooner : CpuId → (than : ℕ) → TimerSeen → Bool
@@ -123,34 +124,34 @@ is_sooner cpu than t = sooner_at cpu than t.place
 abbrev pub pinned_sooner_at : CpuId → (than : ℕ) → Option Queued → Bool
 pinned_sooner_at cpu than None = false
 pinned_sooner_at cpu than (Some q) =
-    (q.home.0 == cpu.0) && same_class q.class classes.Pinned && nat_lt q.wheel than
+    (q.home.0 == cpu.0) && is_same_class q.class classes.Pinned && nat_lt q.wheel than
 
 -- a timer is
 abbrev pub is_pinned_sooner : CpuId → (than : ℕ) → TimerSeen → Bool
 is_pinned_sooner cpu than t = pinned_sooner_at cpu than t.place
 
 -- some timer of a CPU that isn't deferrable is due before a time
-abbrev pub some_sooner : Sight → CpuId → (than : ℕ) → Bool
+abbrev pub some_sooner : StorySight → CpuId → (than : ℕ) → Bool
 some_sooner s cpu than = list_any (is_sooner cpu than) s.timers
 
 -- some pinned one is
-abbrev pub some_pinned_sooner : Sight → CpuId → (than : ℕ) → Bool
+abbrev pub some_pinned_sooner : StorySight → CpuId → (than : ℕ) → Bool
 some_pinned_sooner s cpu than = list_any (is_pinned_sooner cpu than) s.timers
 
 -- THE FIRST EVENT of a CPU: none is before, and one is at that time, or there is none
-abbrev pub is_first_event : Sight → CpuId → (first : ℕ) → Bool
+abbrev pub is_first_event : StorySight → CpuId → (first : ℕ) → Bool
 is_first_event s cpu first =
     not (some_sooner s cpu first) && ((first == NEVER) || some_sooner s cpu (up first))
 
 -- .. of its pinned timers
-abbrev pub is_first_pinned : Sight → CpuId → (first : ℕ) → Bool
+abbrev pub is_first_pinned : StorySight → CpuId → (first : ℕ) → Bool
 is_first_pinned s cpu first =
     not (some_pinned_sooner s cpu first)
     && ((first == NEVER) || some_pinned_sooner s cpu (up first))
 
 -- OPEN: the events of a CPU may be others than the lines so far tell, where other CPUs act in the
 -- same moment, where it slept as the moment began, and where a timer isn't clear
-abbrev pub is_open : Script → Sight → CpuId → Bool
+abbrev pub is_open : Script → StorySight → CpuId → Bool
 is_open script s cpu =
     nat_lt 0 s.point.unclear
     || others_act script s cpu
@@ -163,43 +164,44 @@ is_other_active script own c = not (c.cpu.0 == own.0) && is_active script c
 -- A WAKEUP FITS a CPU that goes idle: where another CPU of the hierarchy stays active it is its
 -- first pinned event; where it is the last no later than its first event, and where isolated that
 -- event
-abbrev pub fits_wakeup : Script → Sight → CpuId → (until : ℕ) → Bool
+abbrev pub fits_wakeup : Script → StorySight → CpuId → (until : ℕ) → Bool
 fits_wakeup script s cpu until =
     if set.contains script.isolated cpu.0 then is_first_event s cpu until
     else if list_any (is_other_active script cpu) s.cpus then is_first_pinned s cpu until
     else not (some_sooner s cpu until)
 
 -- what is wrong with going idle
-abbrev pub idle_fault : Script → Sight → CpuId → (until : ℕ) → Option Fault
+abbrev pub idle_fault : Script → StorySight → CpuId → (until : ℕ) → Option Fault
 idle_fault script s cpu until =
     if is_open script s cpu then None
     else if some_sooner s cpu (ahead s.point.time 2) then Some faults.Soon
     else unless (fits_wakeup script s cpu until) faults.Wakeup
 
 -- what is wrong with staying
-abbrev pub stay_fault : Script → Sight → CpuId → (first : ℕ) → Option Fault
+abbrev pub stay_fault : Script → StorySight → CpuId → (first : ℕ) → Option Fault
 stay_fault script s cpu first =
     if nat_lt (ahead s.point.time 1) first then Some faults.Late
     else if is_open script s cpu then None
     else unless (is_first_event s cpu first) faults.First
 
 -- what is wrong with an arming
-abbrev pub arm_fault : Script → Sight → CpuId → TimerId → Class → Asked → Option Fault
+abbrev pub arm_fault : Script → StorySight → CpuId → TimerId → Class → Asked → Option Fault
 arm_fault script s cpu timer class asked =
     if not (is_nowhere (timer_at s timer)) && not (is_contested script s timer cpu)
     then Some faults.StillQueued
-    else unless (is_some (level_in s cpu class s.point.time asked)) faults.Wheel
+    else unless (is_some (arming_level_in s cpu class s.point.time asked)) faults.Wheel
 
 -- the timer that an arming shows
-abbrev pub armed_fault : Script → Sight → CpuId → TimerId → Class → (delay : ℕ) → TimerId → Class
+abbrev pub armed_fault : Script → StorySight → CpuId → TimerId → Class → (delay : ℕ) → TimerId
+    → Class
     → (wheel : ℕ) → Option Fault
 armed_fault script s cpu timer class delay shown told wheel =
-    if not (timer.0 == shown.0) || not (same_class class told) then Some faults.NoOperation
+    if not (timer.0 == shown.0) || not (is_same_class class told) then Some faults.NoOperation
     else arm_fault script s cpu timer class
     (record { expires = ahead s.point.time delay; wheel = wheel })
 
 -- what is wrong with a cancelling
-abbrev pub cancelled_fault : Script → Sight → CpuId → (timer shown : TimerId) → (home : CpuId)
+abbrev pub cancelled_fault : Script → StorySight → CpuId → (timer shown : TimerId) → (home : CpuId)
     → Option Fault
 cancelled_fault script s cpu timer shown home =
     if not (timer.0 == shown.0) then Some faults.NoOperation
@@ -207,14 +209,14 @@ cancelled_fault script s cpu timer shown home =
     faults.NotQueuedThere
 
 -- .. with one that found nothing
-abbrev pub none_fault : Script → Sight → CpuId → (timer shown : TimerId) → Option Fault
+abbrev pub none_fault : Script → StorySight → CpuId → (timer shown : TimerId) → Option Fault
 none_fault script s cpu timer shown =
     if not (timer.0 == shown.0) then Some faults.NoOperation
     else unless (is_nowhere (timer_at s timer) || is_contested script s timer cpu)
     faults.StillQueued
 
 -- what is wrong with an answer that isn't a refusal, by what the operation does
-abbrev pub done_by : What → Answer → Script → Sight → CpuId → Option Fault
+abbrev pub done_by : What → Answer → Script → StorySight → CpuId → Option Fault
 done_by (whats.Arm timer class delay job arg) (answers.Armed shown told wheel) script s cpu =
     armed_fault script s cpu timer class delay shown told wheel
 done_by (whats.Cancel timer) (answers.Cancelled shown home) script s cpu =
@@ -229,7 +231,7 @@ done_by whats.Online answers.CameOnline script s cpu = None
 done_by what answer script s cpu = Some faults.NoOperation
 
 -- of an operation
-unfoldable pub done_fault : Script → Sight → Op → Answer → Option Fault
+unfoldable pub done_fault : Script → StorySight → Op → Answer → Option Fault
 done_fault script s op answer = done_by op.what answer script s op.cpu
 
 -- what is wrong with a refusal of this number
@@ -239,7 +241,7 @@ refused_fault op expected line number =
     else unless (not (expected == 0) && (expected == number)) faults.MayNotRefuse
 
 -- what is wrong with a refusal since the timer is queued
-abbrev pub queued_fault_of : TimerId → Script → Sight → Op → (expected line number : ℕ) → CpuId
+abbrev pub queued_fault_of : TimerId → Script → StorySight → Op → (expected line number : ℕ) → CpuId
     → Option Fault
 queued_fault_of timer script s op expected line number holder =
     if not (op.line == line) then Some faults.NoOperation
@@ -248,7 +250,7 @@ queued_fault_of timer script s op expected line number holder =
     faults.NotQueuedThere
 
 -- .. of an arming alone
-abbrev pub queued_fault_by : What → Script → Sight → Op → (expected line number : ℕ) → CpuId
+abbrev pub queued_fault_by : What → Script → StorySight → Op → (expected line number : ℕ) → CpuId
     → Option Fault
 queued_fault_by (whats.Arm timer class delay job arg) script s op expected line number holder =
     queued_fault_of timer script s op expected line number holder
@@ -260,27 +262,27 @@ queued_fault_by whats.Offline script s op expected line number holder = Some fau
 queued_fault_by whats.Online script s op expected line number holder = Some faults.MayNotRefuse
 
 -- of an operation
-unfoldable pub queued_fault : Script → Sight → Op → (expected line number : ℕ) → CpuId
+unfoldable pub queued_fault : Script → StorySight → Op → (expected line number : ℕ) → CpuId
     → Option Fault
 queued_fault script s op expected line number holder =
     queued_fault_by op.what script s op expected line number holder
 
 -- what is wrong with an operation that was done, where its CPU's state refuses it or not
-abbrev pub unrefused_fault : Script → Sight → Op → (expected : ℕ) → Answer → Option Fault
+abbrev pub unrefused_fault : Script → StorySight → Op → (expected : ℕ) → Answer → Option Fault
 unrefused_fault script s op expected answer =
     if not (expected == 0) then Some faults.MustRefuse else done_fault script s op answer
 
 -- by what the line shows
-abbrev pub answer_by : Answer → Script → Sight → Op → (expected : ℕ) → Option Fault
-answer_by (answers.Refused line number) script s op expected =
+abbrev pub answer_fault_by : Answer → Script → StorySight → Op → (expected : ℕ) → Option Fault
+answer_fault_by (answers.Refused line number) script s op expected =
     refused_fault op expected line number
-answer_by (answers.RefusedQueued line number holder) script s op expected =
+answer_fault_by (answers.RefusedQueued line number holder) script s op expected =
     queued_fault script s op expected line number holder
-answer_by answer script s op expected = unrefused_fault script s op expected answer
+answer_fault_by answer script s op expected = unrefused_fault script s op expected answer
 
 -- WHAT IS WRONG with an answer to an operation
-unfoldable pub answer_fault : Script → Sight → Op → Answer → Option Fault
-answer_fault script s op answer = answer_by answer script s op (number_of script s op)
+unfoldable pub answer_fault : Script → StorySight → Op → Answer → Option Fault
+answer_fault script s op answer = answer_fault_by answer script s op (number_of script s op)
 
 -- a CPU whose state changes
 abbrev pub changed_cpu : CpuSeen → (now : ℕ) → State → CpuSeen
@@ -291,7 +293,7 @@ changed_cpu c now state = record c {
 }
 
 -- a CPU is in another state, with no interrupt before a time
-unfoldable pub with_state : Sight → CpuId → (online idle : Bool) → (quiet : ℕ) → Sight
+unfoldable pub with_state : StorySight → CpuId → (online idle : Bool) → (quiet : ℕ) → StorySight
 with_state s cpu online idle quiet =
     with_cpu s
     (record (changed_cpu (cpu_at s cpu) s.point.time (record { online = online; idle = idle })) {
@@ -299,13 +301,14 @@ with_state s cpu online idle quiet =
     })
 
 -- an arming
-abbrev pub armed : Sight → CpuId → TimerId → Class → (delay job arg wheel turn : ℕ) → Queued
-armed s cpu timer class delay job arg wheel turn = record {
+abbrev pub arming_seen : StorySight → CpuId → TimerId → Class → (delay job arg wheel turn : ℕ)
+    → Queued
+arming_seen s cpu timer class delay job arg wheel turn = record {
   home = cpu;
   class = class;
   expires = ahead s.point.time delay;
   wheel = wheel;
-  level = or_else (level_in s cpu class s.point.time
+  level = seen_or (arming_level_in s cpu class s.point.time
       (record { expires = ahead s.point.time delay; wheel = wheel })) 0;
   job = job;
   arg = arg;
@@ -313,9 +316,9 @@ armed s cpu timer class delay job arg wheel turn = record {
 }
 
 -- what an arming tells
-abbrev pub arming_by : What → Script → Sight → CpuId → (wheel turn : ℕ) → Sight
+abbrev pub arming_by : What → Script → StorySight → CpuId → (wheel turn : ℕ) → StorySight
 arming_by (whats.Arm timer class delay job arg) script s cpu wheel turn =
-    requeued s timer (Some (armed s cpu timer class delay job arg wheel turn)) cpu
+    requeued s timer (Some (arming_seen s cpu timer class delay job arg wheel turn)) cpu
     (fit_of script s timer cpu
     (record { in_order = is_nowhere (timer_at s timer); settles = true }))
 arming_by (whats.Cancel timer) script s cpu wheel turn = s
@@ -325,11 +328,11 @@ arming_by whats.Offline script s cpu wheel turn = s
 arming_by whats.Online script s cpu wheel turn = s
 
 -- of an operation
-unfoldable pub learned_arming : Script → Sight → Op → (wheel turn : ℕ) → Sight
+unfoldable pub learned_arming : Script → StorySight → Op → (wheel turn : ℕ) → StorySight
 learned_arming script s op wheel turn = arming_by op.what script s op.cpu wheel turn
 
 -- what an answer tells
-abbrev pub learned_by : Answer → Script → Sight → Op → (turn : ℕ) → Sight
+abbrev pub learned_by : Answer → Script → StorySight → Op → (turn : ℕ) → StorySight
 learned_by (answers.Armed timer class wheel) script s op turn =
     learned_arming script s op wheel turn
 learned_by (answers.Cancelled timer home) script s op turn =
@@ -346,7 +349,7 @@ learned_by (answers.Refused line number) script s op turn = s
 learned_by (answers.RefusedQueued line number holder) script s op turn = s
 
 -- of an operation
-unfoldable pub learned_answer : Script → Sight → Op → Answer → (turn : ℕ) → Sight
+unfoldable pub learned_answer : Script → StorySight → Op → Answer → (turn : ℕ) → StorySight
 learned_answer script s op answer turn = learned_by answer script s op turn
 
 -- the CPU that went offline, if one did
@@ -363,8 +366,8 @@ gone_by (answers.Refused line number) cpu = None
 gone_by (answers.RefusedQueued line number holder) cpu = None
 
 -- the point behind an answer
-abbrev pub answered : Point → Op → Answer → Point
-answered p op answer = record p {
+abbrev pub point_answered : Point → Op → Answer → Point
+point_answered p op answer = record p {
   answered_cpu = op.cpu;
   answered = op.line;
   leaving = gone_by answer op.cpu;
@@ -372,25 +375,25 @@ answered p op answer = record p {
 }
 
 -- what is told with the operation answered
-abbrev pub with_answer : Sight → Op → Answer → Sight
-with_answer s op answer = record s { point = answered s.point op answer }
+abbrev pub with_answer : StorySight → Op → Answer → StorySight
+with_answer s op answer = record s { point = point_answered s.point op answer }
 
 -- what is wrong with the line of an answer to an operation, if there is one
-abbrev pub line_by : Script → Sight → Answer → Option Op → Option Fault
+abbrev pub line_by : Script → StorySight → Answer → Option Op → Option Fault
 line_by script s answer None = Some faults.NoOperation
 line_by script s answer (Some op) = answer_fault script s op answer
 
 -- WHAT IS WRONG with the line of an answer
-unfoldable pub answer_line_fault : Script → Sight → CpuId → Answer → Option Fault
+unfoldable pub answer_line_fault : Script → StorySight → CpuId → Answer → Option Fault
 answer_line_fault script s cpu answer = line_by script s answer (answered_op script s cpu)
 
 -- what is told behind an answer to an operation, if there is one
-abbrev pub after_by : Script → Sight → Answer → (turn : ℕ) → Option Op → Sight
+abbrev pub after_by : Script → StorySight → Answer → (turn : ℕ) → Option Op → StorySight
 after_by script s answer turn None = s
 after_by script s answer turn (Some op) =
     with_answer (learned_answer script s op answer turn) op answer
 
 -- what is told behind the line of an answer
-unfoldable pub after_answer : Script → Sight → CpuId → Answer → (turn : ℕ) → Sight
+unfoldable pub after_answer : Script → StorySight → CpuId → Answer → (turn : ℕ) → StorySight
 after_answer script s cpu answer turn =
     after_by script s answer turn (answered_op script s cpu)

@@ -23,7 +23,7 @@ use Rattle.view_story.specs.declared.seen.Queued.{Queued}
 use Rattle.view_story.specs.declared.seen.TimerSeen.{TimerSeen}
 use Rattle.view_story.specs.declared.seen.Touch.{Touch}
 use Rattle.view_story.specs.declared.seen.Touch.TheVariants as touches
-use Rattle.view_story.specs.Sight.{Sight}
+use Rattle.view_story.specs.Sight.{StorySight}
 use Rattle.view_story.specs.Seen.{cpu_at, down, opening_of, timer_at, up, with_cpu}
 use Rattle.view_story.specs.Seen.{with_timer}
 
@@ -34,8 +34,8 @@ rank_of classes.Global = 1
 rank_of classes.Deferrable = 2
 
 -- two classes are the same
-abbrev pub same_class : Class → Class → Bool
-same_class one other = rank_of one == rank_of other
+abbrev pub is_same_class : Class → Class → Bool
+is_same_class one other = rank_of one == rank_of other
 
 -- a time ahead of another
 abbrev pub ahead : (now delay : ℕ) → ℕ
@@ -44,17 +44,17 @@ ahead now delay = if nat_lt now TIME_LIMIT then now + delay else now
 -- queued in the base of a CPU and a class
 abbrev pub is_in : CpuId → Class → Option Queued → Bool
 is_in cpu class None = false
-is_in cpu class (Some q) = (q.home.0 == cpu.0) && same_class q.class class
+is_in cpu class (Some q) = (q.home.0 == cpu.0) && is_same_class q.class class
 
 -- a timer is
 abbrev pub is_queued_in : CpuId → Class → TimerSeen → Bool
 is_queued_in cpu class t = is_in cpu class t.place
 
 -- the clock of a class
-abbrev pub clock_of : Clocks → Class → ℕ
-clock_of clocks classes.Pinned = clocks.pinned
-clock_of clocks classes.Global = clocks.global
-clock_of clocks classes.Deferrable = clocks.deferrable
+abbrev pub class_clock_of : Clocks → Class → ℕ
+class_clock_of clocks classes.Pinned = clocks.pinned
+class_clock_of clocks classes.Global = clocks.global
+class_clock_of clocks classes.Deferrable = clocks.deferrable
 
 -- THE WHEEL'S RULE: the level of a timer that asks for an expiry and has this wheel expiry, in a
 -- base of a clock; none where the rule gives another wheel expiry
@@ -78,7 +78,7 @@ level_by expires one other wheel =
 abbrev pub explains_at : CpuId → Class → (by : ℕ) → Asked → Option Queued → Bool
 explains_at cpu class by asked None = false
 explains_at cpu class by asked (Some q) =
-    (q.home.0 == cpu.0) && same_class q.class class && nat_le q.wheel by
+    (q.home.0 == cpu.0) && is_same_class q.class class && nat_le q.wheel by
     && is_some (level_at asked.expires q.wheel asked.wheel)
 
 -- a timer does
@@ -87,7 +87,7 @@ explains cpu class by asked t = explains_at cpu class by asked t.place
 
 -- where the CPU has slept up to this moment its global base may have handed out a timer by now, or
 -- not, and a timer that is due may hold a base's clock back
-abbrev pub level_late : Sight → CpuId → Class → (by : ℕ) → Asked → Option ℕ
+abbrev pub level_late : StorySight → CpuId → Class → (by : ℕ) → Asked → Option ℕ
 level_late s cpu class by asked =
     level_or (level_by asked.expires by (ahead by 1) asked.wheel)
     (if list_any (explains cpu class by asked) s.timers then Some 0 else None)
@@ -95,25 +95,25 @@ level_late s cpu class by asked =
 -- AN ARMING in a base that is forwarded to a time: the level, where the wheel's rule gives the
 -- wheel expiry that is shown; the base's clock is this time, or behind what it handed out in this
 -- moment
-unfoldable pub level_in : Sight → CpuId → Class → (by : ℕ) → Asked → Option ℕ
-level_in s cpu class by asked =
+unfoldable pub arming_level_in : StorySight → CpuId → Class → (by : ℕ) → Asked → Option ℕ
+arming_level_in s cpu class by asked =
     level_or
-    (level_at asked.expires (max (clock_of (cpu_at s cpu).clocks class) by) asked.wheel)
+    (level_at asked.expires (max (class_clock_of (cpu_at s cpu).clocks class) by) asked.wheel)
     (if (opening_of (cpu_at s cpu) s.point.time).idle then level_late s cpu class by asked
     else None)
 
 -- the timer that an operation names
-abbrev pub named_by : What → Option TimerId
-named_by (whats.Arm timer class delay job arg) = Some timer
-named_by (whats.Cancel timer) = Some timer
-named_by whats.Idle = None
-named_by whats.Wake = None
-named_by whats.Offline = None
-named_by whats.Online = None
+abbrev pub timer_named_by : What → Option TimerId
+timer_named_by (whats.Arm timer class delay job arg) = Some timer
+timer_named_by (whats.Cancel timer) = Some timer
+timer_named_by whats.Idle = None
+timer_named_by whats.Wake = None
+timer_named_by whats.Offline = None
+timer_named_by whats.Online = None
 
 -- an operation does
 abbrev pub timer_named : Op → Option TimerId
-timer_named op = named_by op.what
+timer_named op = timer_named_by op.what
 
 -- it is this timer
 abbrev pub is_timer : TimerId → Option TimerId → Bool
@@ -139,7 +139,7 @@ abbrev pub is_other : CpuId → Op → Bool
 is_other cpu op = not (op.cpu.0 == cpu.0)
 
 -- OTHERS ACT: operations of other CPUs stand in the same moment, and may come before or after
-abbrev pub others_act : Script → Sight → CpuId → Bool
+abbrev pub others_act : Script → StorySight → CpuId → Bool
 others_act script s cpu =
     not s.point.play && list_any (is_other cpu) (ops_at script s.point)
 
@@ -163,12 +163,12 @@ abbrev pub is_hot : TimerSeen → (now : ℕ) → Bool
 is_hot t now = is_hot_at now t.place
 
 -- operations of other CPUs in this moment are of the same timer
-abbrev pub is_shared : Script → Sight → TimerId → CpuId → Bool
+abbrev pub is_shared : Script → StorySight → TimerId → CpuId → Bool
 is_shared script s timer cpu = list_any (names_other timer cpu) (ops_at script s.point)
 
 -- MET: operations of other CPUs in this moment may have come before or after the lines of this one,
 -- and are of the same timer; or a line before left open where it is. In the order of `play` none is
-unfoldable pub is_met : Script → Sight → TimerId → CpuId → Bool
+unfoldable pub is_met : Script → StorySight → TimerId → CpuId → Bool
 is_met script s timer cpu =
     if s.point.play then false
     else not (timer_at s timer).clear
@@ -176,7 +176,7 @@ is_met script s timer cpu =
     || is_shared script s timer cpu
 
 -- CONTESTED: so may lines of other CPUs, where it is met, or another CPU may run it
-unfoldable pub is_contested : Script → Sight → TimerId → CpuId → Bool
+unfoldable pub is_contested : Script → StorySight → TimerId → CpuId → Bool
 is_contested script s timer cpu =
     is_met script s timer cpu
     || (not s.point.play && is_hot (timer_at s timer) s.point.time)
@@ -214,12 +214,12 @@ counted_out c class =
     record c { globals = globals_without class c.globals; timers = down c.timers }
 
 -- a place is counted in
-unfoldable pub entered : Sight → Option Queued → Sight
-entered s None = s
-entered s (Some q) = with_cpu s (counted_in (cpu_at s q.home) q.class)
+unfoldable pub place_entered : StorySight → Option Queued → StorySight
+place_entered s None = s
+place_entered s (Some q) = with_cpu s (counted_in (cpu_at s q.home) q.class)
 
 -- .. or out
-unfoldable pub left_behind : Sight → Option Queued → Sight
+unfoldable pub left_behind : StorySight → Option Queued → StorySight
 left_behind s None = s
 left_behind s (Some q) = with_cpu s (counted_out (cpu_at s q.home) q.class)
 
@@ -247,14 +247,14 @@ with_place t place now cpu fit = record t {
 
 -- the fit of a line that tells all of its timer, or not: where operations of other CPUs in the
 -- moment are of the same timer it settles nothing
-abbrev pub fit_of : Script → Sight → TimerId → CpuId → (whole : Fit) → Fit
+abbrev pub fit_of : Script → StorySight → TimerId → CpuId → (whole : Fit) → Fit
 fit_of script s timer cpu whole =
     record whole { settles = whole.settles && not (is_shared script s timer cpu) }
 
 -- REQUEUED: a CPU has changed where a timer is queued
-unfoldable pub requeued : Sight → TimerId → Option Queued → CpuId → Fit → Sight
+unfoldable pub requeued : StorySight → TimerId → Option Queued → CpuId → Fit → StorySight
 requeued s timer place cpu fit =
-    record (with_timer (entered (left_behind s (timer_at s timer).place) place)
+    record (with_timer (place_entered (left_behind s (timer_at s timer).place) place)
     (with_place (timer_at s timer) place s.point.time cpu fit)) {
       point = record s.point {
         unclear = unclear_after s.point.unclear (timer_at s timer).clear

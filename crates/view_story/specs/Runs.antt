@@ -20,10 +20,11 @@ use Rattle.view_story.specs.declared.seen.Out.{Out}
 use Rattle.view_story.specs.declared.seen.Point.{Point}
 use Rattle.view_story.specs.declared.seen.Queued.{Queued}
 use Rattle.view_story.specs.declared.seen.State.{State}
-use Rattle.view_story.specs.Sight.{Sight}
-use Rattle.view_story.specs.Seen.{cpu_at, opening_of, or_else, timer_at, up, with_cpu}
-use Rattle.view_story.specs.Places.{ahead, fit_of, is_met, level_in, ops_at, rank_of, requeued}
-use Rattle.view_story.specs.Places.{same_class}
+use Rattle.view_story.specs.Sight.{StorySight}
+use Rattle.view_story.specs.Seen.{cpu_at, opening_of, seen_or, timer_at, up, with_cpu}
+use Rattle.view_story.specs.Places.{ahead, arming_level_in, fit_of, is_met, ops_at, rank_of}
+use Rattle.view_story.specs.Places.{requeued}
+use Rattle.view_story.specs.Places.{is_same_class}
 
 -- a place, where the line tells of it
 abbrev pub place_told : RunLine → (clear : Bool) → Option Queued → Option Queued
@@ -32,31 +33,31 @@ place_told run clear (Some q) =
     if clear && (q.home.0 == run.home.0) && (q.wheel == run.wheel) then Some q else None
 
 -- where the timer was queued, if the line tells of that place
-unfoldable pub told_place : Sight → RunLine → Option Queued
+unfoldable pub told_place : StorySight → RunLine → Option Queued
 told_place s run =
     place_told run (timer_at s run.timer).clear (timer_at s run.timer).place
 
 -- a CPU that began a moment so has an interrupt by a time, by its wakeup
-abbrev pub interrupts : State → (quiet by : ℕ) → Bool
-interrupts opening quiet by = opening.online && (not opening.idle || nat_le quiet by)
+abbrev pub has_interrupt_by : State → (quiet by : ℕ) → Bool
+has_interrupt_by opening quiet by = opening.online && (not opening.idle || nat_le quiet by)
 
 -- A CPU MAY HAVE AN INTERRUPT by a time: it was active, or its wakeup isn't later
 abbrev pub may_interrupt : (now by : ℕ) → CpuSeen → Bool
-may_interrupt now by c = interrupts (opening_of c now) c.quiet by
+may_interrupt now by c = has_interrupt_by (opening_of c now) c.quiet by
 
 -- A CPU MAY RUN timers of this class of that home: its own, or global ones of a CPU that slept,
 -- where both are in the hierarchy
-abbrev pub may_run : Script → Sight → RunLine → Class → Bool
-may_run script s run class =
+abbrev pub may_run_line : Script → StorySight → RunLine → Class → Bool
+may_run_line script s run class =
     if run.runner.0 == run.home.0 then true
-    else same_class class classes.Global
+    else is_same_class class classes.Global
     && not (set.contains script.isolated run.runner.0)
     && not (set.contains script.isolated run.home.0)
     && (opening_of (cpu_at s run.home) s.point.time).idle
 
 -- THE ORDER OF HAND-OUT of a base: by wheel expiry, of a higher level first, armed last first
-abbrev pub is_before : Out → Queued → Bool
-is_before out q =
+abbrev pub is_out_before : Out → Queued → Bool
+is_out_before out q =
     if not (out.wheel == q.wheel) then nat_lt out.wheel q.wheel
     else if not (out.level == q.level) then nat_lt q.level out.level
     else nat_lt q.turn out.turn
@@ -65,10 +66,10 @@ is_before out q =
 abbrev pub comes_behind : (now : ℕ) → Queued → Option Out → Bool
 comes_behind now q None = true
 comes_behind now q (Some out) =
-    not (out.at == now) || not (same_class out.class q.class) || is_before out q
+    not (out.at == now) || not (is_same_class out.class q.class) || is_out_before out q
 
 -- the timer's turn has come in its base
-abbrev pub is_its_turn : Sight → Queued → Bool
+abbrev pub is_its_turn : StorySight → Queued → Bool
 is_its_turn s q = comes_behind s.point.time q (cpu_at s q.home).out
 
 -- whose timers a CPU runs: 0 its own pinned ones, 1 global, 2 deferrable, 3 those of others
@@ -82,22 +83,22 @@ ranks_behind rank run class (Some runner) =
     not (runner.0 == run.runner.0) || nat_le rank (rank_in run class)
 
 -- the run does
-abbrev pub stands_behind : Sight → RunLine → Class → Bool
+abbrev pub stands_behind : StorySight → RunLine → Class → Bool
 stands_behind s run class = ranks_behind s.point.rank run class s.point.runner
 
 -- the level at which the timer is armed again
-abbrev pub again_level : Sight → RunLine → Class → (delay wheel : ℕ) → Option ℕ
+abbrev pub again_level : StorySight → RunLine → Class → (delay wheel : ℕ) → Option ℕ
 again_level s run class delay wheel =
-    level_in s run.runner class s.point.time
+    arming_level_in s run.runner class s.point.time
     (record { expires = ahead s.point.time delay; wheel = wheel })
 
 -- ARMED AGAIN: a reply shows the arming, on the CPU that ran the timer, in that class, that far
 -- ahead; or the timer was passed over, where another CPU may have armed it
-abbrev pub shows_again : Script → Sight → RunLine → Class → (delay : ℕ) → ShownReply → Bool
+abbrev pub shows_again : Script → StorySight → RunLine → Class → (delay : ℕ) → ShownReply → Bool
 shows_again script s run class delay shown.Done = false
 shows_again script s run class delay (shown.Mark mark) = false
 shows_again script s run class delay (shown.Again told wheel) =
-    same_class told class && is_some (again_level s run class delay wheel)
+    is_same_class told class && is_some (again_level s run class delay wheel)
 shows_again script s run class delay (shown.Skip cpu) = is_met script s run.timer run.runner
 
 -- done
@@ -116,7 +117,7 @@ is_mark mark (shown.Skip cpu) = false
 
 -- THE FOUR JOBS: 0 is done, 1 asks to be armed again as global its argument ahead, 2 as pinned, 3
 -- marks its argument
-unfoldable pub is_reply : Script → Sight → RunLine → Queued → Bool
+unfoldable pub is_reply : Script → StorySight → RunLine → Queued → Bool
 is_reply script s run q =
     if q.job == 0 then is_done run.reply
     else if q.job == 1 then shows_again script s run classes.Global q.arg run.reply
@@ -125,23 +126,23 @@ is_reply script s run q =
     else false
 
 -- what is wrong with the run of a timer that was queued so
-abbrev pub place_fault : Script → Sight → RunLine → Queued → Option Fault
-place_fault script s run q =
-    if not (may_run script s run q.class) then Some faults.NotForRunner
+abbrev pub run_place_fault : Script → StorySight → RunLine → Queued → Option Fault
+run_place_fault script s run q =
+    if not (may_run_line script s run q.class) then Some faults.NotForRunner
     else if not (is_its_turn s q) then Some faults.Turn
     else if not (stands_behind s run q.class) then Some faults.Order
     else None
 
 -- an operation comes behind the one that was answered last: in the order of `play` by its line,
 -- else by its CPU first
-abbrev pub is_after : Point → Op → Bool
-is_after p op =
+abbrev pub is_op_after : Point → Op → Bool
+is_op_after p op =
     if p.play || (op.cpu.0 == p.answered_cpu.0) then nat_lt p.answered op.line
     else nat_lt p.answered_cpu.0 op.cpu.0 || (p.answered == 0)
 
 -- an operation of a lower CPU is to be answered before a run of this one
 abbrev pub is_owed_before : Point → CpuId → Op → Bool
-is_owed_before p runner op = is_after p op && nat_lt op.cpu.0 runner.0
+is_owed_before p runner op = is_op_after p op && nat_lt op.cpu.0 runner.0
 
 -- a CPU isn't below the one before
 abbrev pub is_not_below : (before : Option CpuId) → CpuId → Bool
@@ -158,13 +159,13 @@ run_may_stand p ops runner =
     && not (list_any (is_owed_before p runner) ops)
 
 -- of a place that the line tells, or doesn't
-abbrev pub fault_by : Script → Sight → RunLine → Option Queued → Option Fault
-fault_by script s run (Some q) = place_fault script s run q
+abbrev pub fault_by : Script → StorySight → RunLine → Option Queued → Option Fault
+fault_by script s run (Some q) = run_place_fault script s run q
 fault_by script s run None =
     if is_met script s run.timer run.runner then None else Some faults.NotQueuedSo
 
 -- WHAT IS WRONG with the line of a timer that ran
-unfoldable pub run_fault : Script → Sight → RunLine → Option Fault
+unfoldable pub run_fault : Script → StorySight → RunLine → Option Fault
 run_fault script s run =
     if not (run_may_stand s.point (ops_at script s.point) run.runner) then Some faults.Order
     else if nat_lt s.point.time run.wheel then Some faults.Early
@@ -183,20 +184,20 @@ arg_in None = 0
 arg_in (Some q) = q.arg
 
 -- the timer as it is queued again
-abbrev pub armed_again : Option Queued → Sight → RunLine → Class → (wheel turn : ℕ) → Queued
+abbrev pub armed_again : Option Queued → StorySight → RunLine → Class → (wheel turn : ℕ) → Queued
 armed_again place s run class wheel turn = record {
   home = run.runner;
   class = class;
   expires = ahead s.point.time (arg_in place);
   wheel = wheel;
-  level = or_else (again_level s run class (arg_in place) wheel) 0;
+  level = seen_or (again_level s run class (arg_in place) wheel) 0;
   job = job_in place;
   arg = arg_in place;
   turn = turn;
 }
 
 -- the timer as a reply leaves it
-abbrev pub place_by : ShownReply → Option Queued → Sight → RunLine → (turn : ℕ) → Option Queued
+abbrev pub place_by : ShownReply → Option Queued → StorySight → RunLine → (turn : ℕ) → Option Queued
 place_by shown.Done place s run turn = None
 place_by (shown.Mark mark) place s run turn = None
 place_by (shown.Again class wheel) place s run turn =
@@ -204,24 +205,24 @@ place_by (shown.Again class wheel) place s run turn =
 place_by (shown.Skip cpu) place s run turn = None
 
 -- the timer as it is queued behind its run
-abbrev pub place_after : Sight → RunLine → (turn : ℕ) → Option Queued
+abbrev pub place_after : StorySight → RunLine → (turn : ℕ) → Option Queued
 place_after s run turn = place_by run.reply (timer_at s run.timer).place s run turn
 
 -- the clocks of a home behind a hand-out
-abbrev pub clocks_after : Clocks → Class → (wheel : ℕ) → Clocks
-clocks_after clocks classes.Pinned wheel =
+abbrev pub home_clocks_after : Clocks → Class → (wheel : ℕ) → Clocks
+home_clocks_after clocks classes.Pinned wheel =
     record clocks { pinned = max clocks.pinned (up wheel) }
-clocks_after clocks classes.Global wheel =
+home_clocks_after clocks classes.Global wheel =
     record clocks { global = max clocks.global (up wheel) }
-clocks_after clocks classes.Deferrable wheel =
+home_clocks_after clocks classes.Deferrable wheel =
     record clocks { deferrable = max clocks.deferrable (up wheel) }
 
 -- a base of a home handed a timer out
-unfoldable pub handed_out : Sight → Queued → Sight
-handed_out s q =
+unfoldable pub hand_out_seen : StorySight → Queued → StorySight
+hand_out_seen s q =
     with_cpu s
     (record (cpu_at s q.home) {
-      clocks = clocks_after (cpu_at s q.home).clocks q.class q.wheel;
+      clocks = home_clocks_after (cpu_at s q.home).clocks q.class q.wheel;
       out = Some (record {
         at = s.point.time;
         class = q.class;
@@ -232,27 +233,27 @@ handed_out s q =
     })
 
 -- a timer went out, where the line tells of its place
-abbrev pub out_of : Sight → Option Queued → Sight
+abbrev pub out_of : StorySight → Option Queued → StorySight
 out_of s None = s
-out_of s (Some q) = handed_out s q
+out_of s (Some q) = hand_out_seen s q
 
 -- the timer of a line did
-unfoldable pub taken_out : Sight → RunLine → Sight
+unfoldable pub taken_out : StorySight → RunLine → StorySight
 taken_out s run = out_of s (told_place s run)
 
 -- what is wrong with the reply of a timer that was queued so
-abbrev pub reply_by : Script → Sight → RunLine → Option Queued → Option Fault
+abbrev pub reply_by : Script → StorySight → RunLine → Option Queued → Option Fault
 reply_by script s run None = None
 reply_by script s run (Some q) =
     if is_reply script s run q then None else Some faults.Reply
 
 -- .. behind the hand-out
-unfoldable pub reply_fault : Script → Sight → RunLine → Option Fault
+unfoldable pub reply_fault : Script → StorySight → RunLine → Option Fault
 reply_fault script s run = reply_by script s run (told_place s run)
 
 -- the point behind a run
-abbrev pub ran : Point → RunLine → (rank : ℕ) → Point
-ran p run rank = record p {
+abbrev pub point_ran : Point → RunLine → (rank : ℕ) → Point
+point_ran p run rank = record p {
   runner = Some run.runner;
   rank = rank;
   leaving = None;
@@ -265,11 +266,11 @@ rank_after None run = 0
 rank_after (Some q) run = rank_in run q.class
 
 -- what is told with a run at this rank
-abbrev pub with_run : Sight → RunLine → (rank : ℕ) → Sight
-with_run s run rank = record s { point = ran s.point run rank }
+abbrev pub with_run : StorySight → RunLine → (rank : ℕ) → StorySight
+with_run s run rank = record s { point = point_ran s.point run rank }
 
 -- what a run tells, behind the hand-out
-unfoldable pub learned_run : Script → Sight → RunLine → (turn : ℕ) → Sight
+unfoldable pub learned_run : Script → StorySight → RunLine → (turn : ℕ) → StorySight
 learned_run script s run turn =
     with_run
     (requeued s run.timer (place_after s run turn) run.runner
@@ -285,10 +286,10 @@ fault_or None later = later
 fault_or (Some fault) later = Some fault
 
 -- WHAT IS WRONG with a run and its reply
-unfoldable pub run_line_fault : Script → Sight → RunLine → Option Fault
+unfoldable pub run_line_fault : Script → StorySight → RunLine → Option Fault
 run_line_fault script s run =
     fault_or (run_fault script s run) (reply_fault script (taken_out s run) run)
 
 -- what is told behind a run
-unfoldable pub after_run : Script → Sight → RunLine → (turn : ℕ) → Sight
+unfoldable pub after_run : Script → StorySight → RunLine → (turn : ℕ) → StorySight
 after_run script s run turn = learned_run script (taken_out s run) run turn

@@ -8,7 +8,7 @@ use Rattle.view_story.specs.declared.seen.TimerSeen.{TimerSeen}
 use Rattle.view_story.specs.declared.seen.Touch.TheVariants as touches
 use Rattle.view_story.specs.declared.seen.State.{State}
 use Rattle.view_story.specs.declared.seen.CpuSeen.{CpuSeen}
-use Rattle.view_story.specs.Sight.{Sight}
+use Rattle.view_story.specs.Sight.{StorySight}
 
 -- a timer of which nothing was told is queued nowhere
 abbrev pub fresh_timer : TimerId → TimerSeen
@@ -47,30 +47,30 @@ abbrev pub opening_of : CpuSeen → (now : ℕ) → State
 opening_of c now = if c.changed == now then c.before else c.state
 
 -- what is there, or else this
-abbrev pub or_else : {X : Type 0} → Option X → X → X
-or_else None x = x
-or_else (Some y) x = y
+abbrev pub seen_or : {X : Type 0} → Option X → X → X
+seen_or None x = x
+seen_or (Some y) x = y
 
 -- a timer, which is queued nowhere where the script has none of this number
-abbrev pub timer_at : Sight → TimerId → TimerSeen
-timer_at s t = or_else (slice_get s.timers t.0) (fresh_timer t)
+abbrev pub timer_at : StorySight → TimerId → TimerSeen
+timer_at s t = seen_or (slice_get s.timers t.0) (fresh_timer t)
 
 -- a CPU, which is offline where the script has none of this number
-abbrev pub cpu_at : Sight → CpuId → CpuSeen
-cpu_at s c = or_else (slice_get s.cpus c.0) (absent_cpu c)
+abbrev pub cpu_at : StorySight → CpuId → CpuSeen
+cpu_at s c = seen_or (slice_get s.cpus c.0) (absent_cpu c)
 
 -- the timers with one changed
-abbrev pub put_timer : List TimerSeen → TimerSeen → List TimerSeen
-put_timer ts t = if nat_lt t.timer.0 (length ts) then slice_set ts t.timer.0 t else ts
+abbrev pub with_timer_seen : List TimerSeen → TimerSeen → List TimerSeen
+with_timer_seen ts t = if nat_lt t.timer.0 (length ts) then slice_set ts t.timer.0 t else ts
 
 -- the CPUs with one changed
-abbrev pub put_cpu : List CpuSeen → CpuSeen → List CpuSeen
-put_cpu cs c = if nat_lt c.cpu.0 (length cs) then slice_set cs c.cpu.0 c else cs
+abbrev pub with_cpu_seen : List CpuSeen → CpuSeen → List CpuSeen
+with_cpu_seen cs c = if nat_lt c.cpu.0 (length cs) then slice_set cs c.cpu.0 c else cs
 
 -- what is told with a timer changed
-unfoldable pub with_timer : Sight → TimerSeen → Sight
-with_timer s t = record s { timers = put_timer s.timers t }
+unfoldable pub with_timer : StorySight → TimerSeen → StorySight
+with_timer s t = record s { timers = with_timer_seen s.timers t }
 
 -- .. with a CPU changed
-unfoldable pub with_cpu : Sight → CpuSeen → Sight
-with_cpu s c = record s { cpus = put_cpu s.cpus c }
+unfoldable pub with_cpu : StorySight → CpuSeen → StorySight
+with_cpu s c = record s { cpus = with_cpu_seen s.cpus c }

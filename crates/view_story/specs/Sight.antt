@@ -5,7 +5,7 @@ use Rattle.view_story.specs.declared.seen.CpuSeen.{CpuSeen}
 use Rattle.view_story.specs.declared.seen.Point.{Point}
 
 -- the timers and the CPUs by number, and where the lines stand
-pub record Sight : Type 0 where
+pub record StorySight : Type 0 where
   pub timers : List TimerSeen
   pub cpus : List CpuSeen
   pub point : Point

@@ -27,39 +27,41 @@ clause_text clauses.Close = codes ": Close: "
 clause_text clauses.Order = codes ": Order: "
 
 -- what is wrong, in a sentence
-abbrev pub fault_text : Fault → List ℕ
-fault_text faults.Foreign = codes "no run prints such a line\n"
-fault_text faults.BackInTime = codes "its time is before that of the line above\n"
-fault_text faults.NoMoment = codes "there is no moment at its time\n"
-fault_text faults.NotTheEnd = codes "the run ends elsewhere\n"
-fault_text faults.Unended = codes "the report ends before the run\n"
-fault_text faults.Skipped = codes "an operation of the script has no answer before it\n"
-fault_text faults.NoOperation = codes "it answers no operation that comes next for its CPU\n"
-fault_text faults.StillQueued = codes "the timer is queued\n"
-fault_text faults.NotQueuedThere = codes "the timer isn't queued on that CPU\n"
-fault_text faults.MustRefuse = codes "the state of its CPU refuses the operation\n"
-fault_text faults.MayNotRefuse = codes "the state of its CPU doesn't refuse the operation so\n"
-fault_text faults.Wheel = codes "the timer wheel gives another expiry\n"
-fault_text faults.Turn = codes "another timer comes before it\n"
-fault_text faults.NotQueuedSo = codes "the timer isn't queued there with that expiry\n"
-fault_text faults.Early = codes "the timer isn't due\n"
-fault_text faults.NoInterrupt = codes "the CPU that runs it has no interrupt\n"
-fault_text faults.NotForRunner = codes "that CPU may not run the timer\n"
-fault_text faults.Reply = codes "the job of the timer replies otherwise\n"
-fault_text faults.Missed = codes "a timer that was due has not run before it\n"
-fault_text faults.First = codes "the first event of its CPU is another one\n"
-fault_text faults.Soon = codes "its CPU has an event within a jiffy, and so doesn't go idle\n"
-fault_text faults.Late = codes "the first event of its CPU is more than a jiffy ahead\n"
-fault_text faults.Wakeup = codes "the wakeup isn't that of its CPU's first events\n"
-fault_text faults.Uncovered = codes "an idle CPU has no cover before it\n"
-fault_text faults.NoCover = codes "its CPU has no cover here\n"
-fault_text faults.Answer = codes "who it names doesn't answer for the first global timer\n"
-fault_text faults.Control = codes "it names another CPU than the one that takes over\n"
-fault_text faults.Moved = codes "no such timer moves there\n"
-fault_text faults.Unmoved = codes "a timer of a CPU that went offline has not moved before it\n"
-fault_text faults.Left = codes "no such timer is left\n"
-fault_text faults.Untold = codes "a timer that is left isn't told before it\n"
-fault_text faults.Order = codes "it stands at another place in its moment\n"
+abbrev pub story_fault_text : Fault → List ℕ
+story_fault_text faults.Foreign = codes "no run prints such a line\n"
+story_fault_text faults.BackInTime = codes "its time is before that of the line above\n"
+story_fault_text faults.NoMoment = codes "there is no moment at its time\n"
+story_fault_text faults.NotTheEnd = codes "the run ends elsewhere\n"
+story_fault_text faults.Unended = codes "the report ends before the run\n"
+story_fault_text faults.Skipped = codes "an operation of the script has no answer before it\n"
+story_fault_text faults.NoOperation = codes "it answers no operation that comes next for its CPU\n"
+story_fault_text faults.StillQueued = codes "the timer is queued\n"
+story_fault_text faults.NotQueuedThere = codes "the timer isn't queued on that CPU\n"
+story_fault_text faults.MustRefuse = codes "the state of its CPU refuses the operation\n"
+story_fault_text faults.MayNotRefuse =
+    codes "the state of its CPU doesn't refuse the operation so\n"
+story_fault_text faults.Wheel = codes "the timer wheel gives another expiry\n"
+story_fault_text faults.Turn = codes "another timer comes before it\n"
+story_fault_text faults.NotQueuedSo = codes "the timer isn't queued there with that expiry\n"
+story_fault_text faults.Early = codes "the timer isn't due\n"
+story_fault_text faults.NoInterrupt = codes "the CPU that runs it has no interrupt\n"
+story_fault_text faults.NotForRunner = codes "that CPU may not run the timer\n"
+story_fault_text faults.Reply = codes "the job of the timer replies otherwise\n"
+story_fault_text faults.Missed = codes "a timer that was due has not run before it\n"
+story_fault_text faults.First = codes "the first event of its CPU is another one\n"
+story_fault_text faults.Soon = codes "its CPU has an event within a jiffy, and so doesn't go idle\n"
+story_fault_text faults.Late = codes "the first event of its CPU is more than a jiffy ahead\n"
+story_fault_text faults.Wakeup = codes "the wakeup isn't that of its CPU's first events\n"
+story_fault_text faults.Uncovered = codes "an idle CPU has no cover before it\n"
+story_fault_text faults.NoCover = codes "its CPU has no cover here\n"
+story_fault_text faults.Answer = codes "who it names doesn't answer for the first global timer\n"
+story_fault_text faults.Control = codes "it names another CPU than the one that takes over\n"
+story_fault_text faults.Moved = codes "no such timer moves there\n"
+story_fault_text faults.Unmoved =
+    codes "a timer of a CPU that went offline has not moved before it\n"
+story_fault_text faults.Left = codes "no such timer is left\n"
+story_fault_text faults.Untold = codes "a timer that is left isn't told before it\n"
+story_fault_text faults.Order = codes "it stands at another place in its moment\n"
 
 -- what is wrong with a line of a script
 abbrev pub script_kind_text : ScriptKind → List ℕ
@@ -79,18 +81,18 @@ report_kind_text causes.NoLineFeed = codes ": no line feed ends it\n"
 -- a line that can't stand where it does: its number, the clause, and what is wrong
 unfoldable pub misfit_text : (line : ℕ) → Fault → List ℕ
 misfit_text line fault =
-    codes "line " ++ (decimal line ++ (clause_text (clause_of fault) ++ fault_text fault))
+    codes "line " ++ (decimal line ++ (clause_text (clause_of fault) ++ story_fault_text fault))
 
 -- a report that can be a story
-unfoldable pub fits_text : (lines runs : ℕ) → List ℕ
-fits_text lines runs =
+unfoldable pub story_fits_text : (lines runs : ℕ) → List ℕ
+story_fits_text lines runs =
     codes "story: fits, "
     ++ (decimal lines ++ (codes " lines, " ++ (decimal runs ++ codes " runs\n")))
 
 -- WHAT IS WRITTEN of a report
-abbrev pub verdict_text : Verdict → List ℕ
-verdict_text (verdicts.Fits lines runs) = fits_text lines runs
-verdict_text (verdicts.Misfit line fault) = misfit_text line fault
+abbrev pub story_verdict_text : Verdict → List ℕ
+story_verdict_text (verdicts.Fits lines runs) = story_fits_text lines runs
+story_verdict_text (verdicts.Misfit line fault) = misfit_text line fault
 
 -- the text where there is no script
 unfoldable pub script_refused : ScriptFault → List ℕ

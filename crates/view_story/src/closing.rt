@@ -3,8 +3,8 @@
 ghost use Rattle.std.specs.Prelude.{◌≡◌};
 ghost use Rattle.std.specs.List.{list_any};
 ghost use Rattle.view_story.specs.Closing.{are_ends, control_fault, end_fault, handed_fault};
-ghost use Rattle.view_story.specs.Closing.{is_left};
-ghost use Rattle.view_story.specs.Closing.{is_lower_active, is_lower_online, is_placed_online};
+ghost use Rattle.view_story.specs.Closing.{is_left_queued};
+ghost use Rattle.view_story.specs.Closing.{is_lower_active, is_lower_online, is_seen_online};
 ghost use Rattle.view_story.specs.Closing.{is_untold};
 ghost use Rattle.view_story.specs.Closing.{learned_control, learned_handed, learned_left};
 ghost use Rattle.view_story.specs.Closing.{learned_moved};
@@ -22,7 +22,7 @@ use tm_script::Script;
 
 /// Whether a CPU of the hierarchy is online.
 fn is_placed_online(script: &Script, cpu: &CpuSeen) -> bool
-    ensures { result ≡ is_placed_online script.now cpu.now }
+    ensures { result ≡ is_seen_online script.now cpu.now }
 {
     cpu.state.online && !script.isolated.has(cpu.cpu)
 }
@@ -285,7 +285,7 @@ fn some_untold(timers: &[TimerSeen], from: u16, to: u16) -> bool
 
 /// Whether a timer is queued so.
 fn is_left(timer: &TimerSeen, cpu: CpuId, class: Class, wheel: Jiffy) -> bool
-    ensures { result ≡ is_left timer.now cpu class wheel }
+    ensures { result ≡ is_left_queued timer.now cpu class wheel }
 {
     match timer.place {
         Some(queued) => {

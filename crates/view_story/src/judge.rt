@@ -1,13 +1,15 @@
 //! The fold over the lines of a report.
 
 ghost use Rattle.std.specs.Prelude.{◌≡◌, ◌↔◌, IfOk, None};
-ghost use Rattle.view_story.specs.Judge.{EachFits, IsFirstFault, IsFitting, ending};
-ghost use Rattle.view_story.specs.Judge.{active_cpu, after_last, answer_of, behind_after};
+ghost use Rattle.view_story.specs.Judge.{EachStoryLineFits, IsFirstFault, IsFittingStory, ending};
+ghost use Rattle.view_story.specs.Judge.{active_cpu, after_last, answer_of_line, behind_after};
 ghost use Rattle.view_story.specs.Judge.{behind_fault, ended};
 ghost use Rattle.view_story.specs.Judge.{closing_after, closing_fault, closing_time, come_to};
 ghost use Rattle.view_story.specs.Judge.{first_point};
-ghost use Rattle.view_story.specs.Judge.{fresh_cpus, fresh_timers, judged, last_fault, left_for};
-ghost use Rattle.view_story.specs.Judge.{line_after, line_fault, start, told_after, told_fault};
+ghost use Rattle.view_story.specs.Judge.{fresh_cpus, fresh_timers, last_fault, left_for};
+ghost use Rattle.view_story.specs.Judge.{story_judged};
+ghost use Rattle.view_story.specs.Judge.{line_after, line_fault, start, told_after};
+ghost use Rattle.view_story.specs.Judge.{told_moment_fault};
 ghost use Rattle.view_story.specs.Judge.{told_of};
 ghost use Rattle.view_story.specs.Moments.{time_fault};
 
@@ -78,7 +80,7 @@ fn told_of(line: &Line) -> Option<(Jiffy, Told)>
 
 /// The answer to an operation that a line shows.
 fn answer_of(line: &Line) -> Option<(Jiffy, CpuId, Answer)>
-    ensures { result ≡ answer_of line.now }
+    ensures { result ≡ answer_of_line line.now }
 {
     match *line {
         Line::Arm {
@@ -134,9 +136,9 @@ fn answer_of(line: &Line) -> Option<(Jiffy, CpuId, Answer)>
 }
 
 /// Takes a line of an interrupt or an operation, in its moment.
-#[tactic(auto, unfolding(crate::specs::Judge::told_fault, crate::specs::Judge::told_after))]
+#[tactic(auto, unfolding(crate::specs::Judge::told_moment_fault, crate::specs::Judge::told_after))]
 fn take_told(script: &Script, seen: &mut Seen, told: Told, turn: u64) -> Option<Fault>
-    ensures fault { result ≡ told_fault script.now seen.old told }
+    ensures fault { result ≡ told_moment_fault script.now seen.old told }
     ensures after { result ≡ None → seen.new ≡ told_after script.now seen.old told turn }
 {
     if !matches!(seen.point().stage, Stage::Tellers) {
@@ -430,7 +432,7 @@ fn judge_from(
     lines: &[Line],
     play: bool,
 ) -> Result<Verdict, NoMemory>
-    ensures { IfOk result (λ v. v ≡ judged script.now (start script.now play) 0 lines.now) }
+    ensures { IfOk result (λ v. v ≡ story_judged script.now (start script.now play) 0 lines.now) }
 {
     let mut seen = start(alloc, script, play)?;
     let mut number = 0;
@@ -473,9 +475,9 @@ pub fn judge_lines(
     play: bool,
 ) -> Result<Verdict, NoMemory>
     ensures exact { IfOk result
-        (λ v. v ≡ judged script.now (start script.now play) 0 lines.now) }
+        (λ v. v ≡ story_judged script.now (start script.now play) 0 lines.now) }
     ensures fits { IfOk result
-        (λ v. IsFitting v ↔ EachFits script.now (start script.now play) 0 lines.now) }
+        (λ v. IsFittingStory v ↔ EachStoryLineFits script.now (start script.now play) 0 lines.now) }
     ensures first { IfOk result
         (λ v. IsFirstFault script.now (start script.now play) lines.now v) }
 {

@@ -4,7 +4,7 @@
 ghost use Rattle.std.specs.Prelude.{◌≡◌, position};
 ghost use Rattle.std.specs.List.{list_any};
 ghost use Rattle.view_story.specs.Covers.{is_owed, is_unmoved};
-ghost use Rattle.view_story.specs.Moments.{count_before, few_come, few_interrupt, gone_to};
+ghost use Rattle.view_story.specs.Moments.{few_come, few_interrupt, gone_to, moments_before};
 ghost use Rattle.view_story.specs.Moments.{is_hotplug, is_listed};
 ghost use Rattle.view_story.specs.Moments.{is_looked_for, is_missed, is_missed_on, is_moment};
 ghost use Rattle.view_story.specs.Moments.{is_plain};
@@ -158,7 +158,7 @@ fn first_from(moments: &[Moment], to: Jiffy) -> Option<usize>
 
 /// How many of these moments come before a time.
 fn count_before(moments: &[Moment], to: Jiffy) -> usize
-    ensures { result ≡ count_before moments.now to }
+    ensures { result ≡ moments_before moments.now to }
 {
     match first_from(moments, to) {
         Some(count) => count,

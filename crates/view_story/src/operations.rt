@@ -3,7 +3,7 @@
 ghost use Rattle.std.specs.Prelude.{◌≡◌, None, find};
 ghost use Rattle.std.specs.List.{list_any};
 ghost use Rattle.view_story.specs.Operations.{after_answer, answer_fault, answer_line_fault};
-ghost use Rattle.view_story.specs.Operations.{answered};
+ghost use Rattle.view_story.specs.Operations.{point_answered};
 ghost use Rattle.view_story.specs.Operations.{answered_op, arm_fault, changed_cpu, comes_next};
 ghost use Rattle.view_story.specs.Operations.{done_fault};
 ghost use Rattle.view_story.specs.Operations.{fits_wakeup, idle_fault, is_first_event};
@@ -565,7 +565,7 @@ fn learn_answer(script: &Script, seen: &mut Seen, op: &Op, answer: Answer, turn:
 
 /// The point behind an answer.
 fn answered(point: Point, op: &Op, answer: Answer) -> Point
-    ensures { result ≡ answered point op.now answer }
+    ensures { result ≡ point_answered point op.now answer }
 {
     let gone = match answer {
         Answer::WentOffline => Some(op.cpu),

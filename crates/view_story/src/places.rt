@@ -2,12 +2,14 @@
 
 ghost use Rattle.std.specs.Prelude.{◌≡◌};
 ghost use Rattle.std.specs.List.{list_any};
-ghost use Rattle.view_story.specs.Places.{ahead, clock_of, counted_in, counted_out, entered};
+ghost use Rattle.view_story.specs.Places.{ahead, class_clock_of, counted_in, counted_out};
+ghost use Rattle.view_story.specs.Places.{place_entered};
 ghost use Rattle.view_story.specs.Places.{explains, is_contested, is_hot, is_met, is_other};
 ghost use Rattle.view_story.specs.Places.{is_queued_in};
-ghost use Rattle.view_story.specs.Places.{is_settled, left_behind, level_at, level_by, level_in};
+ghost use Rattle.view_story.specs.Places.{arming_level_in, is_settled, left_behind, level_at};
+ghost use Rattle.view_story.specs.Places.{level_by};
 ghost use Rattle.view_story.specs.Places.{level_late, names_other, ops_at, others_act, rank_of};
-ghost use Rattle.view_story.specs.Places.{requeued, same_class, timer_named, touched_by};
+ghost use Rattle.view_story.specs.Places.{is_same_class, requeued, timer_named, touched_by};
 ghost use Rattle.view_story.specs.Places.{fit_of, is_shared, touched_other, unclear_after};
 
 use crate::seen::{Clocks, CpuSeen, Queued, Seen, TimerSeen, Touch, down, opening_of, up};
@@ -17,7 +19,7 @@ use wheel_core::wheel_expiry;
 
 /// Whether two classes are the same.
 pub fn same_class(one: Class, other: Class) -> bool
-    ensures { result ≡ same_class one other }
+    ensures { result ≡ is_same_class one other }
 {
     rank_of(one) == rank_of(other)
 }
@@ -56,7 +58,7 @@ pub fn is_queued_in(timer: &TimerSeen, cpu: CpuId, class: Class) -> bool
 
 /// The clock of a class.
 fn clock_of(clocks: Clocks, class: Class) -> Jiffy
-    ensures { result ≡ clock_of clocks class }
+    ensures { result ≡ class_clock_of clocks class }
 {
     match class {
         Class::Pinned => clocks.pinned,
@@ -134,9 +136,9 @@ fn level_late(seen: &Seen, cpu: CpuId, class: Class, by: Jiffy, asked: Asked) ->
 
 /// The level at which a timer is armed in a base that is forwarded to a time, where the wheel's
 /// rule gives the wheel expiry that is shown.
-#[tactic(auto, unfolding(crate::specs::Places::level_in))]
+#[tactic(auto, unfolding(crate::specs::Places::arming_level_in))]
 pub fn level_in(seen: &Seen, cpu: CpuId, class: Class, by: Jiffy, asked: Asked) -> Option<u8>
-    ensures { result ≡ level_in seen.now cpu class by asked }
+    ensures { result ≡ arming_level_in seen.now cpu class by asked }
 {
     let own = seen.cpu(cpu);
     let clock = clock_of(own.clocks, class).max(by);
@@ -324,9 +326,9 @@ fn counted_out(cpu: CpuSeen, class: Class) -> CpuSeen
 }
 
 /// Counts a place in.
-#[tactic(auto, unfolding(crate::specs::Places::entered))]
+#[tactic(auto, unfolding(crate::specs::Places::place_entered))]
 fn enter_place(seen: &mut Seen, place: Option<Queued>)
-    ensures { seen.new ≡ entered seen.old place }
+    ensures { seen.new ≡ place_entered seen.old place }
 {
     if let Some(queued) = place {
         let own = seen.cpu(queued.home);

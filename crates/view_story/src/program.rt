@@ -1,7 +1,7 @@
 //! The whole program.
 
 ghost use Rattle.std.specs.Prelude.{◌≡◌, ◌≤◌, IfOk, length};
-ghost use Rattle.view_story.specs.Ends.{IsEnd, IsJudged, IsOutput, IsOutputBy, IsReportJudged};
+ghost use Rattle.view_story.specs.Ends.{IsEnd, IsJudged, IsOutputBy, IsReportJudged, IsStoryOutput};
 ghost use Rattle.view_story.specs.Ends.{IsTold, Tells};
 ghost use Rattle.view_story.specs.Ends.{order_of, status_of};
 
@@ -134,7 +134,7 @@ fn order_of(words: &[String]) -> Option<bool>
 /// What is written of the source, which is read to its end.
 fn judge_source<S: Source>(alloc: Global, source: &mut S, play: bool) -> Result<Output, NoMemory>
     ensures { IfOk result
-        (λ o. IsOutput play (S.seen source.old) (S.seen source.new) o.text.items o.status) }
+        (λ o. IsStoryOutput play (S.seen source.old) (S.seen source.new) o.text.items o.status) }
 {
     match read_all(alloc, source, MOST_STORY_BYTES) {
         Ok(bytes) => judge_bytes(alloc, &bytes, play),

@@ -2,10 +2,11 @@
 
 ghost use Rattle.std.specs.Prelude.{◌≡◌, None};
 ghost use Rattle.std.specs.List.{list_any};
-ghost use Rattle.view_story.specs.Runs.{after_run, again_level, armed_again, clocks_after};
-ghost use Rattle.view_story.specs.Runs.{handed_out, is_after, is_before, is_its_turn};
+ghost use Rattle.view_story.specs.Runs.{after_run, again_level, armed_again, home_clocks_after};
+ghost use Rattle.view_story.specs.Runs.{hand_out_seen, is_its_turn, is_op_after, is_out_before};
 ghost use Rattle.view_story.specs.Runs.{is_not_below, is_owed_before, is_reply, learned_run};
-ghost use Rattle.view_story.specs.Runs.{may_interrupt, may_run, place_after, place_fault, ran};
+ghost use Rattle.view_story.specs.Runs.{may_interrupt, may_run_line, place_after, point_ran};
+ghost use Rattle.view_story.specs.Runs.{run_place_fault};
 ghost use Rattle.view_story.specs.Runs.{rank_after, rank_in, reply_fault, run_fault};
 ghost use Rattle.view_story.specs.Runs.{run_line_fault, run_may_stand, shows_again};
 ghost use Rattle.view_story.specs.Runs.{stands_behind, taken_out, told_place};
@@ -58,7 +59,7 @@ pub fn may_interrupt(cpu: &CpuSeen, now: Jiffy, by: Jiffy) -> bool
 /// Whether the CPU may run timers of that class of that home: its own, or global ones of a CPU that
 /// slept, where both are in the hierarchy.
 fn may_run(script: &Script, seen: &Seen, run: &RunLine, class: Class) -> bool
-    ensures { result ≡ may_run script.now seen.now run.now class }
+    ensures { result ≡ may_run_line script.now seen.now run.now class }
 {
     if run.runner.0 == run.home.0 {
         return true;
@@ -71,7 +72,7 @@ fn may_run(script: &Script, seen: &Seen, run: &RunLine, class: Class) -> bool
 
 /// Whether a timer went out of its base before another, by the order of hand-out.
 fn is_before(out: &Out, queued: &Queued) -> bool
-    ensures { result ≡ is_before out.now queued.now }
+    ensures { result ≡ is_out_before out.now queued.now }
 {
     if out.wheel != queued.wheel {
         out.wheel < queued.wheel
@@ -150,7 +151,7 @@ fn is_reply(script: &Script, seen: &Seen, run: &RunLine, queued: &Queued) -> boo
 
 /// What is wrong with the run of a timer that was queued so.
 fn place_fault(script: &Script, seen: &Seen, run: &RunLine, queued: &Queued) -> Option<Fault>
-    ensures { result ≡ place_fault script.now seen.now run.now queued.now }
+    ensures { result ≡ run_place_fault script.now seen.now run.now queued.now }
 {
     if !may_run(script, seen, run, queued.class) {
         Some(Fault::NotForRunner)
@@ -176,7 +177,7 @@ fn stands_behind(seen: &Seen, run: &RunLine, class: Class) -> bool
 
 /// Whether an operation comes behind the one that was answered last.
 pub fn is_after(point: &Point, op: &Op) -> bool
-    ensures { result ≡ is_after point.now op.now }
+    ensures { result ≡ is_op_after point.now op.now }
 {
     if point.play || op.cpu.0 == point.answered_cpu.0 {
         op.line > point.answered
@@ -294,7 +295,7 @@ fn armed_again(
 
 /// The clocks of a home behind a hand-out.
 fn clocks_after(clocks: Clocks, class: Class, wheel: Jiffy) -> Clocks
-    ensures { result ≡ clocks_after clocks class wheel }
+    ensures { result ≡ home_clocks_after clocks class wheel }
 {
     let clock = up(wheel);
     match class {
@@ -314,9 +315,9 @@ fn clocks_after(clocks: Clocks, class: Class, wheel: Jiffy) -> Clocks
 }
 
 /// Keeps that a base of a home handed a timer out.
-#[tactic(auto, unfolding(crate::specs::Runs::handed_out))]
+#[tactic(auto, unfolding(crate::specs::Runs::hand_out_seen))]
 fn hand_out(seen: &mut Seen, queued: &Queued)
-    ensures { seen.new ≡ handed_out seen.old queued.now }
+    ensures { seen.new ≡ hand_out_seen seen.old queued.now }
 {
     let home = seen.cpu(queued.home);
     let now = seen.point().time;
@@ -335,7 +336,7 @@ fn hand_out(seen: &mut Seen, queued: &Queued)
 
 /// The point behind a run.
 fn ran(point: Point, run: &RunLine, rank: u8) -> Point
-    ensures { result ≡ ran point run.now rank }
+    ensures { result ≡ point_ran point run.now rank }
 {
     Point {
         runner: Some(run.runner),

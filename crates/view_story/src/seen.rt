@@ -159,9 +159,9 @@ pub struct Seen {
 }
 
 impl Model for Seen {
-    ghost use Rattle.view_story.specs.Sight.{Sight};
+    ghost use Rattle.view_story.specs.Sight.{StorySight};
 
-    ghost Value = { Sight };
+    ghost Value = { StorySight };
 
     ghost view = { λ s. record { timers = s.timers.items; cpus = s.cpus.items; point = s.point } };
 }

@@ -1,11 +1,12 @@
 //! What the program writes.
 
 ghost use Rattle.std.specs.Prelude.{◌≡◌, IfOk};
-ghost use Rattle.view_story.specs.Texts.{clause_text, fault_text, fits_text, misfit_text};
+ghost use Rattle.view_story.specs.Texts.{clause_text, misfit_text, story_fault_text};
+ghost use Rattle.view_story.specs.Texts.{story_fits_text};
 ghost use Rattle.view_story.specs.Texts.{read_fault_text, report_kind_text, report_refused};
 ghost use Rattle.view_story.specs.Texts.{script_kind_text, script_refused, too_long_text};
 ghost use Rattle.view_story.specs.Texts.{usage_text};
-ghost use Rattle.view_story.specs.Texts.{verdict_text};
+ghost use Rattle.view_story.specs.Texts.{story_verdict_text};
 
 use crate::faults::{Clause, Fault};
 use crate::judge::Verdict;
@@ -33,7 +34,7 @@ fn clause_text(clause: Clause) -> &'static [u8]
 
 /// What is wrong, in a sentence.
 fn fault_text(fault: Fault) -> &'static [u8]
-    ensures { result.now ≡ fault_text fault }
+    ensures { result.now ≡ story_fault_text fault }
 {
     match fault {
         Fault::Foreign => b"no run prints such a line\n",
@@ -85,9 +86,9 @@ fn misfit_text(alloc: Global, line: u64, fault: Fault) -> Result<Vec<u8>, NoMemo
 }
 
 /// A report that can be a story.
-#[tactic(auto, using(std::proofs::lemmas::List::append_assoc), unfolding(crate::specs::Texts::fits_text))]
+#[tactic(auto, using(std::proofs::lemmas::List::append_assoc), unfolding(crate::specs::Texts::story_fits_text))]
 fn fits_text(alloc: Global, lines: u64, runs: u64) -> Result<Vec<u8>, NoMemory>
-    ensures { IfOk result (λ text. text.items ≡ fits_text lines runs) }
+    ensures { IfOk result (λ text. text.items ≡ story_fits_text lines runs) }
 {
     let mut text = Vec::new(alloc);
     push_bytes(&mut text, b"story: fits, ")?;
@@ -100,7 +101,7 @@ fn fits_text(alloc: Global, lines: u64, runs: u64) -> Result<Vec<u8>, NoMemory>
 
 /// What is said of a report.
 pub fn verdict_text(alloc: Global, verdict: Verdict) -> Result<Vec<u8>, NoMemory>
-    ensures { IfOk result (λ text. text.items ≡ verdict_text verdict) }
+    ensures { IfOk result (λ text. text.items ≡ story_verdict_text verdict) }
 {
     match verdict {
         Verdict::Fits { lines, runs } => fits_text(alloc, lines, runs),
