@@ -1,7 +1,7 @@
 mod FieldLists
 mod FieldWords
-mod FieldLaws
-mod LineLaws
+pub mod FieldLaws
+pub mod LineLaws
 mod BodyLaws
 pub mod HeadLaws
-mod TraceLaws
+pub mod TraceLaws

@@ -1,4 +1,4 @@
--- a line that is read is spelled as what it says, and what a line says is read from it
+-- for crates above: a line that is read is spelled as what it says, and what a line says is read from it
 use Rattle.std.proofs.Common.{◌≡◌, ℕ, ◌≤◌, Bool, true, cond, leb, List, [], ◌∷◌, map, Option, Some, None, Result, Ok, Err, refl, sym, ap, subst, ◌∙◌, inl, inr}
 use Rattle.std.specs.Prelude.{codes, find}
 use Rattle.std.specs.Str.{bytes_eq}

@@ -1,4 +1,4 @@
--- a trace that is read is spelled so, and what spells a trace is read
+-- for crates above: a trace that is read is spelled so, and what spells a trace is read
 use Rattle.std.proofs.Common.{◌≡◌, ℕ, ◌+◌, ◌≤◌, true, false, cond, List, [], ◌∷◌, ◌++◌, map, length, Option, Some, None, Ok, refl, sym, ap, subst, ◌∙◌, arith, append_assoc, length-append}
 use Rattle.std.specs.Prelude.{codes}
 use Rattle.std.specs.Str.{bytes_eq}
@@ -137,7 +137,7 @@ pub spelled_by : (bytes first behind : List ℕ) (t : Trace) → lines_of bytes 
 spelled_by bytes first behind t cut is r =
     (r.is, sym (lines_found bytes (trace_lines t) (cut ∙ (λ i. is i ∷ r.spelled i) ∙ sym (parts_of t))))
 
-limits_small : (t : Trace) → IsTrace t → AreSmall (limits_of t)
+pub limits_small : (t : Trace) → IsTrace t → AreSmall (limits_of t)
 limits_small t is = small_of (as_script t) is.machine
 
 abbrev nodes_line : Trace → List ℕ
