@@ -7,7 +7,8 @@ use Rattle.linux_rules.specs.declared.judge.Misfit.{Misfit}
 use Rattle.linux_rules.specs.declared.judge.Tally.{Tally}
 use Rattle.linux_rules.specs.declared.judge.Verdict.{Verdict}
 use Rattle.linux_rules.specs.declared.judge.Verdict.TheVariants.{Fits, Broken, NoTrace}
-use Rattle.linux_rules.specs.Judge.{late_count, no_sight, text_after, text_verdict}
+use Rattle.linux_rules.specs.Judge.{no_sight, open_at, start, text_after, text_verdict}
+use Rattle.linux_rules.specs.Marks.{kept_lines}
 
 -- the misfits of a trace, in order, and how it ends
 pub record AllSaid : Type 0 where
@@ -33,9 +34,13 @@ all_by (Some (NoTrace line fault)) k ms after rest =
 
 -- ALL that is said of a trace whose lines are these, from here on, behind these misfits
 abbrev pub all_of : Course → List Misfit → List (List ℕ) → AllSaid
-all_of k ms [] = record { misfits = ms; end = Fits k.tally (late_count k.seen) }
+all_of k ms [] = record { misfits = ms; end = Fits k.tally (open_at k.seen) }
 all_of k ms (text ∷ texts) =
     all_by (text_verdict k text) k ms (text_after k text) (λ c found. all_of c found texts)
+
+-- ALL that is said of a trace of these lines: of those that count
+abbrev pub all_said : List (List ℕ) → AllSaid
+all_said texts = all_of (start texts) [] (kept_lines texts)
 
 -- what comes first: a misfit, or the end
 abbrev pub first_said : List Misfit → Verdict → Verdict

@@ -2,10 +2,10 @@
 
 ghost use Rattle.std.specs.Prelude.{◌≡◌, [], IfOk};
 ghost use Rattle.text_words.specs.Words.{lines_of};
-ghost use Rattle.linux_rules.specs.Judge.{judged, start, text_verdict};
-ghost use Rattle.linux_all.specs.All.{HasTaken, all_of, first_said, forgotten};
+ghost use Rattle.linux_rules.specs.Judge.{said_of, start_behind, text_verdict};
+ghost use Rattle.linux_all.specs.All.{HasTaken, all_of, all_said, first_said, forgotten};
 
-use linux_rules::{Course, Misfit, Verdict, late_count, new_course, take_text};
+use linux_rules::{Course, Misfit, Verdict, begin_course, last_start, open_at, take_text};
 use linux_seen::counts::counted;
 use linux_seen::seen::Seen;
 use linux_timers::TimersSeen;
@@ -53,14 +53,15 @@ fn take_next(
     }
 }
 
-/// What the function on lists finds in a trace.
-fn find_all(alloc: Global, bytes: &[u8]) -> Result<Found, NoMemory>
+/// What the function on lists finds in these lines, behind so many that don't count.
+fn find_all(alloc: Global, lost: u64, bytes: &[u8]) -> Result<Found, NoMemory>
     ensures misfits { IfOk result
-        (λ found. found.misfits.items ≡ (all_of start [] (lines_of bytes.now)).misfits) }
+        (λ found. found.misfits.items
+        ≡ (all_of (start_behind lost) [] (lines_of bytes.now)).misfits) }
     ensures end { IfOk result
-        (λ found. found.end ≡ (all_of start [] (lines_of bytes.now)).end) }
+        (λ found. found.end ≡ (all_of (start_behind lost) [] (lines_of bytes.now)).end) }
 {
-    let mut course = new_course(alloc);
+    let mut course = begin_course(alloc, lost);
     let mut misfits = Vec::new(alloc);
     let mut rest = bytes;
     while let Some((text, after)) = cut(rest, b'\n') {
@@ -72,21 +73,32 @@ fn find_all(alloc: Global, bytes: &[u8]) -> Result<Found, NoMemory>
     if let Some(end) = take_next(alloc, &mut course, &mut misfits, rest)? {
         return Ok(Found { misfits, end });
     }
-    let end = Verdict::Fits(course.tally, late_count(&course.seen));
+    let end = Verdict::Fits(course.tally, open_at(&course.seen));
     Ok(Found { misfits, end })
 }
 
-/// All misfits of a trace: after each nothing is known, as after lost lines, and what follows is
+/// What the function on lists finds in the lines that count.
+fn find_kept(alloc: Global, bytes: &[u8]) -> Result<Found, NoMemory>
+    ensures misfits { IfOk result
+        (λ found. found.misfits.items ≡ (all_said (lines_of bytes.now)).misfits) }
+    ensures end { IfOk result
+        (λ found. found.end ≡ (all_said (lines_of bytes.now)).end) }
+{
+    let (lost, kept) = last_start(bytes);
+    find_all(alloc, lost as u64, kept)
+}
+
+/// All misfits of a trace, in the lines that count: after each nothing is known, as after lost lines, and what follows is
 /// held against what is learnt again from the next line on. The first misfit, or the end where
 /// there is none, is the verdict of `check_trace`. The only error is want of memory.
 pub fn check_all(alloc: Global, bytes: &[u8]) -> Result<Found, NoMemory>
     ensures misfits { IfOk result
-        (λ found. found.misfits.items ≡ (all_of start [] (lines_of bytes.now)).misfits) }
+        (λ found. found.misfits.items ≡ (all_said (lines_of bytes.now)).misfits) }
     ensures end { IfOk result
-        (λ found. found.end ≡ (all_of start [] (lines_of bytes.now)).end) }
+        (λ found. found.end ≡ (all_said (lines_of bytes.now)).end) }
     ensures first { IfOk result
-        (λ found. first_said found.misfits.items found.end ≡ judged start (lines_of bytes.now)) }
+        (λ found. first_said found.misfits.items found.end ≡ said_of (lines_of bytes.now)) }
 {
-    let found = find_all(alloc, bytes)?;
+    let found = find_kept(alloc, bytes)?;
     Ok(found)
 }

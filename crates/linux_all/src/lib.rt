@@ -5,4 +5,4 @@
 mod finding;
 
 pub use finding::{Found, check_all};
-pub use linux_rules::{Misfit, Tally, Verdict, check_trace};
+pub use linux_rules::{Misfit, Open, Tally, Verdict, check_trace};

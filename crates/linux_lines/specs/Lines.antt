@@ -1,7 +1,7 @@
 -- the lines of a trace
 use Rattle.std.specs.Prelude.{ℕ, ◌-◌, List, [], ◌∷◌, Bool, true, false, option_map}
 use Rattle.std.specs.Prelude.{◌&&◌, ◌||◌, ◌==◌, nat_lt, codes, Option, Some, None, is_some}
-use Rattle.std.specs.Prelude.{Result, Ok, Err, bytes_eq, if◌then◌else◌}
+use Rattle.std.specs.Prelude.{Result, Ok, Err, bytes_eq, if◌then◌else◌, option_and_then}
 use Rattle.std.specs.List.{list_all}
 use Rattle.std.specs.Char.{is_ascii_digit}
 use Rattle.tm_base.specs.declared.limits.TheConstants.{CPU_SET_SIZE}
@@ -30,7 +30,7 @@ use Rattle.linux_lines.specs.declared.timers.TimerName.{TimerName}
 use Rattle.linux_lines.specs.declared.numbers.Base.TheVariants.{Ten}
 use Rattle.linux_lines.specs.Times.{stamp_time}
 use Rattle.linux_lines.specs.Timers.{timer_event_of, timer_name_of}
-use Rattle.linux_lines.specs.Parts.{before, behind, bracketed, parts_of}
+use Rattle.linux_lines.specs.Parts.{before, behind, bracketed, parts_of, without}
 use Rattle.linux_lines.specs.Numbers.{number_of}
 use Rattle.linux_lines.specs.Fields.{◌>>=◌, child_at, expiry_at, mask_at, number_at, place_at}
 use Rattle.linux_lines.specs.Fields.{pointer_at}
@@ -117,13 +117,15 @@ update_in parts = do
     expiries = expiries;
   })
 
--- the kind of an event of a CPU, by its name
+-- the kind of an event of a CPU, by its name; from 6.19 on a CPU is available, not online
 unfoldable pub cpu_kind_of : List ℕ → Option CpuKind
 cpu_kind_of name =
     if bytes_eq name (codes "tmigr_cpu_online:") then Some kinds.Online
+    else if bytes_eq name (codes "tmigr_cpu_available:") then Some kinds.Online
     else if bytes_eq name (codes "tmigr_cpu_active:") then Some kinds.Awake
     else if bytes_eq name (codes "tmigr_cpu_idle:") then Some kinds.Asleep
     else if bytes_eq name (codes "tmigr_cpu_offline:") then Some kinds.Offline
+    else if bytes_eq name (codes "tmigr_cpu_unavailable:") then Some kinds.Offline
     else if bytes_eq name (codes "tmigr_cpu_new_timer:") then Some kinds.NewTimer
     else if bytes_eq name (codes "tmigr_cpu_new_timer_idle:") then Some kinds.StillAsleep
     else if bytes_eq name (codes "tmigr_handle_remote_cpu:") then Some kinds.RunElsewhere
@@ -180,26 +182,6 @@ is_loss (first ∷ second ∷ rest) =
     if bytes_eq first (codes "#####") then bytes_eq second (codes "CPU")
     else is_some (behind (codes "CPU:") first) && bytes_eq second (codes "[LOST")
 
--- the CPU of a number that a machine may have
-abbrev pub cpu_of_number : Option ℕ → Result CpuId LineFault
-cpu_of_number None = Err BadCpu
-cpu_of_number (Some cpu) = if nat_lt cpu CPU_SET_SIZE then Ok (record { 0 = cpu }) else Err BadCpu
-
--- the CPU that digits name
-unfoldable pub cpu_in : List ℕ → Result CpuId LineFault
-cpu_in digits = cpu_of_number (number_of Ten digits)
-
--- the CPU of a line, and the parts behind it
-abbrev pub head_from : Option (List ℕ) → List (List ℕ)
-    → Result (CpuId × List (List ℕ)) LineFault → Result (CpuId × List (List ℕ)) LineFault
-head_from None parts rest = rest
-head_from (Some digits) parts rest = cpu_in digits >>= λ cpu. Ok (cpu, parts)
-
--- the first CPU in square brackets, and the parts behind it
-abbrev pub head_in : List (List ℕ) → Result (CpuId × List (List ℕ)) LineFault
-head_in [] = Err NoEvent
-head_in (p ∷ ps) = head_from (bracketed p) ps (head_in ps)
-
 -- a time as it is spelled
 abbrev pub are_digits_or_dots : List ℕ → Bool
 are_digits_or_dots bytes = list_all (λ b. is_ascii_digit b || b == 46) bytes
@@ -215,18 +197,40 @@ abbrev pub is_stamp : List ℕ → Bool
 is_stamp part = is_time (before (codes ":") part)
 
 -- the time, before which there may be flags, and the parts behind it
-abbrev pub stamped_in : List (List ℕ) → Result (Option ℕ × List (List ℕ)) LineFault
-stamped_in [] = Err NoEvent
-stamped_in (p ∷ []) = if is_stamp p then Ok (stamp_time p, []) else Err NoEvent
+abbrev pub stamped_in : List (List ℕ) → Option (Option ℕ × List (List ℕ))
+stamped_in [] = None
+stamped_in (p ∷ []) = if is_stamp p then Some (stamp_time p, []) else None
 stamped_in (p ∷ q ∷ ps) =
-    if is_stamp p then Ok (stamp_time p, q ∷ ps)
-    else if is_stamp q then Ok (stamp_time q, ps)
-    else Err NoEvent
+    if is_stamp p then Some (stamp_time p, q ∷ ps)
+    else if is_stamp q then Some (stamp_time q, ps)
+    else None
+
+-- the number in square brackets, where the part is that
+abbrev pub number_bracketed : List ℕ → Option ℕ
+number_bracketed part = option_and_then (number_of Ten) (bracketed part)
+
+-- a number with a time behind it is the CPU's; a task's name may have numbers in brackets too
+abbrev pub head_by : Option ℕ → Option (Option ℕ × List (List ℕ))
+    → Option (ℕ × (Option ℕ × List (List ℕ))) → Option (ℕ × (Option ℕ × List (List ℕ)))
+head_by None stamped rest = rest
+head_by (Some cpu) None rest = rest
+head_by (Some cpu) (Some x) rest = Some (cpu, x)
+
+-- the first number in square brackets with a time behind it, the time, and the parts behind that
+abbrev pub head_in : List (List ℕ) → Option (ℕ × (Option ℕ × List (List ℕ)))
+head_in [] = None
+head_in (p ∷ ps) = head_by (number_bracketed p) (stamped_in ps) (head_in ps)
+
+-- the CPU of a number that a machine may have
+unfoldable pub cpu_of_number : ℕ → Result CpuId LineFault
+cpu_of_number cpu = if nat_lt cpu CPU_SET_SIZE then Ok (record { 0 = cpu }) else Err BadCpu
 
 -- an event of a timer or a softirq, where its name is one
-abbrev pub timer_in : CpuId → Option ℕ → Option TimerName → List (List ℕ) → Result Line LineFault
-timer_in cpu at None parts = Ok (Foreign cpu)
-timer_in cpu at (Some name) parts = timer_event_of name parts >>= λ x. Ok (OfTimer cpu at x)
+abbrev pub timer_in : CpuId → Option ℕ → Option TimerName → Bool → List (List ℕ)
+    → Result Line LineFault
+timer_in cpu at None strange parts = Ok (Foreign cpu strange)
+timer_in cpu at (Some name) strange parts =
+    timer_event_of name parts >>= λ x. Ok (OfTimer cpu at x)
 
 -- an event of this CPU at this time, where its name is known; or else the line is this
 abbrev pub told_in : CpuId → Option ℕ → Option EventName → List (List ℕ) → Result Line LineFault
@@ -234,18 +238,51 @@ abbrev pub told_in : CpuId → Option ℕ → Option EventName → List (List �
 told_in cpu at None parts other = other
 told_in cpu at (Some name) parts other = happening_of name parts >>= λ x. Ok (Told cpu at x)
 
+-- an event's own name: perf script puts its system in front
+unfoldable pub bare : List ℕ → List ℕ
+bare name =
+    without (codes "irq:") (without (codes "timer:") (without (codes "timer_migration:") name))
+
+-- an event of timer migration, by its name
+abbrev pub is_migration : List ℕ → Bool
+is_migration name = is_some (behind (codes "tmigr_") name)
+
+-- the parts behind this name
+abbrev pub called_in : CpuId → Option ℕ → List ℕ → List (List ℕ) → Result Line LineFault
+called_in cpu at name parts =
+    told_in cpu at (event_of name) parts
+    (timer_in cpu at (timer_name_of name) (is_migration name) parts)
+
 -- the parts from the name on
 abbrev pub named_in : CpuId → Option ℕ → List (List ℕ) → Result Line LineFault
-named_in cpu at [] = Ok (Foreign cpu)
-named_in cpu at (name ∷ parts) =
-    told_in cpu at (event_of name) parts (timer_in cpu at (timer_name_of name) parts)
+named_in cpu at [] = Ok (Foreign cpu false)
+named_in cpu at (name ∷ parts) = called_in cpu at (bare name) parts
 
--- the event of a line
-abbrev pub event_in : List (List ℕ) → Result Line LineFault
-event_in parts = do
-  head ← head_in parts
-  named ← stamped_in head.1
-  named_in head.0 named.0 named.1
+-- ---- what is no event
+
+-- the first part is this word
+abbrev pub begins_with : List ℕ → List (List ℕ) → Bool
+begins_with word [] = false
+begins_with word (p ∷ ps) = bytes_eq p word
+
+-- what trace-cmd report says of the whole file, and where a stack goes on
+unfoldable pub is_aside : List ℕ → Bool
+is_aside line =
+    is_some (behind (codes "cpus=") line)
+    || (is_some (behind (codes "CPU ") line) && is_some (before (codes " is empty") line))
+    || begins_with (codes "=>") (parts_of line)
+
+-- a line by its head: without one it is none of a trace, unless it stands aside
+abbrev pub event_by : Option (ℕ × (Option ℕ × List (List ℕ))) → Bool → Result Line LineFault
+event_by None aside = if aside then Ok Remark else Err NoEvent
+event_by (Some head) aside = do
+  cpu ← cpu_of_number head.0
+  named_in cpu head.1.0 head.1.1
+
+-- lines that trace-cmd report says were lost: CPU:N [EVENTS DROPPED], with their number or without
+abbrev pub is_dropped : List ℕ → Bool
+is_dropped line =
+    is_some (behind (codes "CPU:") line) && is_some (before (codes "EVENTS DROPPED]") line)
 
 -- a line without parts
 abbrev pub has_none : List (List ℕ) → Bool
@@ -259,6 +296,12 @@ is_remark line = is_some (behind (codes "#") line) || has_none (parts_of line)
 -- what a line says
 unfoldable pub line_of : List ℕ → Result Line LineFault
 line_of line =
-    if is_loss (parts_of line) then Ok Loss
+    if is_loss (parts_of line) || is_dropped line then Ok Loss
     else if is_remark line then Ok Remark
-    else event_in (parts_of line)
+    else event_by (head_in (parts_of line)) (is_aside line)
+
+-- ---- where the buffers begin
+
+-- the kernel's word that a CPU's buffer begins here, since what it had before was overwritten
+abbrev pub is_mark : List ℕ → Bool
+is_mark line = is_some (behind (codes "##### CPU ") line)

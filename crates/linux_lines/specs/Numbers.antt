@@ -7,7 +7,7 @@ use Rattle.linux_lines.specs.declared.faults.LineFault.TheVariants.{BadNumber, O
 use Rattle.linux_lines.specs.declared.faults.LineFault.TheVariants.{HiddenPointer}
 use Rattle.linux_lines.specs.declared.numbers.Base.{Base}
 use Rattle.linux_lines.specs.declared.numbers.Base.TheVariants.{Ten, Sixteen}
-use Rattle.linux_lines.specs.Parts.{behind}
+use Rattle.linux_lines.specs.Parts.{without}
 
 -- the value of a digit, or 16 where the byte is none
 abbrev pub digit_of : ℕ → ℕ
@@ -40,14 +40,9 @@ number_of base (c ∷ cs) = number_from base 0 (c ∷ cs)
 unfoldable pub number_in : Base → List ℕ → Result ℕ LineFault
 number_in base word = ok_or (number_of base word) BadNumber
 
--- what stands behind, or all where that isn't there
-abbrev pub or_all : Option (List ℕ) → List ℕ → List ℕ
-or_all None word = word
-or_all (Some rest) word = rest
-
 -- in base sixteen, with 0x in front or without
 unfoldable pub mask_in : List ℕ → Result ℕ LineFault
-mask_in word = number_in Sixteen (or_all (behind (codes "0x") word) word)
+mask_in word = number_in Sixteen (without (codes "0x") word)
 
 -- the address that a word spells; the kernel may hide it
 unfoldable pub pointer_in : List ℕ → Result ℕ LineFault

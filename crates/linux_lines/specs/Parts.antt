@@ -20,11 +20,20 @@ abbrev pub behind : List ℕ → List ℕ → Option (List ℕ)
 behind first part =
     if bytes_eq (take (length first) part) first then Some (drop (length first) part) else None
 
+-- what stands behind, or all where that isn't there
+abbrev pub or_all : Option (List ℕ) → List ℕ → List ℕ
+or_all None word = word
+or_all (Some rest) word = rest
+
 -- what stands before these last bytes of a part
 abbrev pub before : List ℕ → List ℕ → Option (List ℕ)
 before last part =
     if bytes_eq (drop (length part - length last) part) last
     then Some (take (length part - length last) part) else None
+
+-- a part without these first bytes, where it begins so
+abbrev pub without : List ℕ → List ℕ → List ℕ
+without first part = or_all (behind first part) part
 
 -- what stands in square brackets, where the part is that
 abbrev pub bracketed : List ℕ → Option (List ℕ)

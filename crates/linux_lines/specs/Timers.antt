@@ -15,8 +15,8 @@ use Rattle.linux_lines.specs.declared.timers.TheConstants.{LAST_BUCKET}
 use Rattle.linux_lines.specs.declared.timers.TimerName.{TimerName}
 use Rattle.linux_lines.specs.declared.timers.TimerName.TheVariants as names
 use Rattle.linux_lines.specs.declared.numbers.Base.TheVariants.{Ten}
-use Rattle.linux_lines.specs.Parts.{before, behind, has_key, value_in}
-use Rattle.linux_lines.specs.Numbers.{number_in, or_all}
+use Rattle.linux_lines.specs.Parts.{before, behind, has_key, value_in, or_all}
+use Rattle.linux_lines.specs.Numbers.{number_in}
 use Rattle.linux_lines.specs.Fields.{◌>>=◌, number_at, pointer_at}
 
 -- the largest number of 64 bits

@@ -47,13 +47,14 @@ pub struct Exchange {
 /// What a line says of a CPU of the hierarchy.
 #[derive(Clone, Copy)]
 pub enum CpuKind {
-    /// `tmigr_cpu_online`: the CPU comes online.
+    /// `tmigr_cpu_online`, from 6.19 on `tmigr_cpu_available`: the CPU comes to the hierarchy.
     Online,
     /// `tmigr_cpu_active`: it wakes, and its walk of activation begins.
     Awake,
     /// `tmigr_cpu_idle`: its walk of deactivation has ended.
     Asleep,
-    /// `tmigr_cpu_offline`: the same for a CPU that goes offline.
+    /// `tmigr_cpu_offline`, from 6.19 on `tmigr_cpu_unavailable`: the same for a CPU that leaves
+    /// the hierarchy.
     Offline,
     /// `tmigr_cpu_new_timer`: an idle CPU tells another first expiry.
     NewTimer,
@@ -175,8 +176,9 @@ pub enum Line {
     Remark,
     /// Lines were lost here.
     Loss,
-    /// An event of another name, of this CPU.
-    Foreign(CpuId),
+    /// An event of another name, of this CPU; and whether its name begins as those of timer
+    /// migration do.
+    Foreign(CpuId, bool),
     /// An event of timer migration, of this CPU. The time in nanoseconds is that at the head of the
     /// line, to its microsecond's end where it has microseconds; None where it counts lines.
     Told(CpuId, Option<u64>, Happening),

@@ -3,9 +3,9 @@
 /// Why a line is no line of a trace.
 #[derive(Clone, Copy, Debug, PartialEq, Eq)]
 pub enum LineFault {
-    /// There is no CPU in square brackets with a time behind it.
+    /// There is no number in square brackets with a time behind it.
     NoEvent,
-    /// The CPU's number is 512 or above, or no number.
+    /// The CPU's number is 512 or above.
     BadCpu,
     /// A field of the event isn't there.
     FieldMissing,

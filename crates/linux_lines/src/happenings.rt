@@ -144,18 +144,22 @@ fn read_update(bytes: &[u8]) -> Result<Update, LineFault>
     })
 }
 
-/// Which event of a CPU has this name.
+/// Which event of a CPU has this name. From 6.19 on a CPU is available in place of online.
 #[tactic(auto, unfolding(crate::specs::Lines::cpu_kind_of))]
 fn cpu_kind_of(name: &[u8]) -> Option<CpuKind>
     ensures { result ≡ cpu_kind_of name.now }
 {
     if name == b"tmigr_cpu_online:".as_slice() {
         Some(CpuKind::Online)
+    } else if name == b"tmigr_cpu_available:".as_slice() {
+        Some(CpuKind::Online)
     } else if name == b"tmigr_cpu_active:".as_slice() {
         Some(CpuKind::Awake)
     } else if name == b"tmigr_cpu_idle:".as_slice() {
         Some(CpuKind::Asleep)
     } else if name == b"tmigr_cpu_offline:".as_slice() {
+        Some(CpuKind::Offline)
+    } else if name == b"tmigr_cpu_unavailable:".as_slice() {
         Some(CpuKind::Offline)
     } else if name == b"tmigr_cpu_new_timer:".as_slice() {
         Some(CpuKind::NewTimer)

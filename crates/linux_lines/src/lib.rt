@@ -19,4 +19,4 @@ pub use events::{
     Place, TimerEvent, Update,
 };
 pub use faults::LineFault;
-pub use lines::read_line;
+pub use lines::{is_mark, read_line};

@@ -5,7 +5,7 @@ ghost use Rattle.linux_lines.specs.Numbers.{digit_of, with_digit, number_of, num
 ghost use Rattle.linux_lines.specs.Numbers.{mask_in, within};
 
 use crate::LineFault;
-use crate::parts::behind;
+use crate::parts::without;
 
 /// The base of a number.
 #[derive(Clone, Copy)]
@@ -99,10 +99,7 @@ pub fn read_pointer(word: &[u8]) -> Result<u64, LineFault>
 pub fn read_mask(word: &[u8]) -> Result<u64, LineFault>
     ensures { result ≡ mask_in word.now }
 {
-    match behind(word, b"0x") {
-        Some(digits) => read_number(Base::Sixteen, digits),
-        None => read_number(Base::Sixteen, word),
-    }
+    read_number(Base::Sixteen, without(word, b"0x"))
 }
 
 /// A number that has to be at most this.

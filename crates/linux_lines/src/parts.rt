@@ -1,8 +1,8 @@
 //! The parts of a line: what stands between its runs of blanks.
 
 ghost use Rattle.std.specs.Prelude.{◌≡◌, ◌<◌, [], ◌∷◌, length, Ok, Err, IfSome, IfNone};
-ghost use Rattle.std.specs.Prelude.{MatchOption, MatchResult};
-ghost use Rattle.linux_lines.specs.Parts.{parts_of, behind, bracketed, value_in};
+ghost use Rattle.std.specs.Prelude.{MatchOption, MatchResult, is_some};
+ghost use Rattle.linux_lines.specs.Parts.{parts_of, before, behind, bracketed, value_in, without};
 
 use crate::LineFault;
 use text_words::cut;
@@ -34,6 +34,23 @@ pub fn behind<'a>(part: &'a [u8], first: &[u8]) -> Option<&'a [u8]>
         (λ rest. behind first.now part.now ≡ Some rest.now) }
 {
     part.strip_prefix(first)
+}
+
+/// A part without these first bytes, where it begins so.
+pub fn without<'a>(part: &'a [u8], first: &[u8]) -> &'a [u8]
+    ensures { result.now ≡ without first.now part.now }
+{
+    match part.strip_prefix(first) {
+        Some(rest) => rest,
+        None => part,
+    }
+}
+
+/// Whether a part ends in these bytes.
+pub fn ends_in(part: &[u8], last: &[u8]) -> bool
+    ensures { result ≡ is_some (before last.now part.now) }
+{
+    part.strip_suffix(last).is_some()
 }
 
 /// What stands in square brackets, where the part is that.

@@ -20,7 +20,7 @@ use Rattle.linux_rules.specs.declared.judge.Verdict.{Verdict}
 use Rattle.linux_rules.specs.Judge.{EachFits, fault_of, learned, line_misfit, misfit_by}
 use Rattle.linux_rules.specs.Judge.{rest_by, said_after, said_verdict, stuck_misfit}
 use Rattle.linux_rules.specs.Judge.{seen_after, text_after, text_verdict, told_misfit, verdict_of}
-use Rattle.linux_rules.specs.Judge.{IsFitting, first_misfit, judged, start, timer_misfit}
+use Rattle.linux_rules.specs.Judge.{IsFitting, first_misfit, judged, timer_misfit}
 use Rattle.linux_timers.specs.Rule.{timer_fault}
 use Rattle.linux_rules.specs.Agrees.{RestAnswers, RestsAnswer}
 use Rattle.linux_rules.proofs.Verdicts.{fits_each}
@@ -62,7 +62,7 @@ module _ (hold : AnswersHold) where
   by_line k (Err fault) is = tt
   by_line k (Ok lines.Remark) is = λ rest. absurd (true≢false (sym rest))
   by_line k (Ok lines.Loss) is = λ rest. absurd (true≢false (sym rest))
-  by_line k (Ok (lines.Foreign cpu)) is = λ rest. absurd (true≢false (sym rest))
+  by_line k (Ok (lines.Foreign cpu odd)) is = λ rest. absurd (true≢false (sym rest))
   by_line k (Ok (lines.OfTimer cpu at e)) is = λ rest. absurd (true≢false (sym rest))
   by_line k (Ok (lines.Told cpu at h)) is =
       hold (learned (timed k.seen at) (counted k.tally.lines) cpu h)
@@ -82,7 +82,7 @@ module _ (hold : AnswersHold) where
   rests_answer k [] fits = tt
   rests_answer k (t ∷ ts) fits = (by_text k t fits.0, rests_answer (text_after k t) ts fits.1)
 
-  pub answers_law : (texts : List (List ℕ)) (v : Verdict) → v ≡ judged start texts →
-      IsFitting v → RestsAnswer start texts
-  answers_law texts v is fits =
-      rests_answer start texts (fits_each start texts (subst IsFitting is fits))
+  pub answers_law : (k : Course) (texts : List (List ℕ)) (v : Verdict) → v ≡ judged k texts →
+      IsFitting v → RestsAnswer k texts
+  answers_law k texts v is fits =
+      rests_answer k texts (fits_each k texts (subst IsFitting is fits))

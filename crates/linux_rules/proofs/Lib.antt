@@ -1,3 +1,4 @@
+mod LastMark
 pub mod Verdicts
 mod Answered
 pub mod Places

@@ -36,7 +36,7 @@ use Rattle.linux_seen.specs.Counts.{counted, MOST}
 use Rattle.linux_seen.specs.Seen.{Sight, cpu_at, group_at, timed}
 use Rattle.linux_seen.specs.Words.{follows, word_after}
 use Rattle.linux_rules.specs.declared.judge.Course.{Course}
-use Rattle.linux_rules.specs.Orders.{Waiting, caught_up, comes_first, is_next, is_on, may_precede}
+use Rattle.linux_rules.specs.Orders.{Waiting, caught_up, comes_first, is_held, is_next, is_on, may_precede}
 use Rattle.linux_rules.specs.Orders.{taken, taken_on}
 use Rattle.linux_rules.specs.Exchanges.{child_after, cpu_after, dated, group_after, learned_child}
 use Rattle.linux_rules.specs.Exchanges.{learned_exchange, learned_walk, source_seen, waiting_after}
@@ -46,7 +46,7 @@ use Rattle.linux_rules.specs.Cpus.{with_hung, with_leaf, with_link, with_look, w
 use Rattle.linux_rules.specs.Cpus.{with_writer}
 use Rattle.linux_rules.specs.Queues.{with_event, with_group_event, with_hidden}
 use Rattle.linux_rules.specs.Queues.{with_leaf_event}
-use Rattle.linux_rules.specs.Judge.{learned, no_sight, noted, said_after, seen_after, start, tally_after}
+use Rattle.linux_rules.specs.Judge.{learned, no_sight, noted, said_after, seen_after, start_behind, tally_after}
 use Rattle.linux_rules.specs.Judge.{text_after}
 use Rattle.linux_rules.specs.Witness.{HasOrder, IsInOrder, OrdersHold}
 use Rattle.linux_rules.specs.Witness.{exchanges_after, exchanges_by, exchanges_said, follows_last}
@@ -163,7 +163,8 @@ module _ (line now : ℕ) (s : Sight) (cpu : CpuId) (e : Exchange) (all order : 
   no_last none None is = refl
   no_last none (Some b) is = absurd (none-some _ (sym none ∙ h.words g b is))
 
-  takes_none : word_of s g ≡ None → Caught (a ∷ all) order g (taken None g s.late a)
+  takes_none : word_of s g ≡ None →
+      Caught (a ∷ all) order s.cpus cpu g (taken None s.cpus cpu g s.late a)
   takes_none none = (
     a ∷ order,
     pushed (a ∷ all) order g a s.late order refl
@@ -175,20 +176,9 @@ module _ (line now : ℕ) (s : Sight) (cpu : CpuId) (e : Exchange) (all order : 
       find (is_on g) order ≡ Some b → word ≡ word_after b.exchange
   last_word word some b is = same_Some word (word_after b.exchange) (sym some ∙ h.words g b is)
 
-  takes_next : (word : Word) → word_of s g ≡ Some word → is_next g word s.late a ≡ true →
-      Caught (a ∷ all) order g (caught_up (length s.late) g (word_after e) s.late)
-  takes_next word some next =
-      let follow = last_part (is_on g a) (follows word e)
-      (first_part (is_on g a && follows word e) (comes_first g s.late a) next) in
-      let first = last_part (is_on g a && follows word e) (comes_first g s.late a) next in
-      caught (a ∷ all) order g (length s.late) (word_after e) s.late (a ∷ order)
-      (pushed (a ∷ all) order g a s.late order refl
-      (next_last (a ∷ all) order g word a order refl (last_word word some) follow) older
-      (next_first (a ∷ all) order g a s.late refl first) h.waits h.ordered each
-      (λ p differ. refl))
-
   sets_aside : (word : Word) → word_of s g ≡ Some word →
-      Caught (a ∷ all) order g (record { word = word; late = s.late ++ a ∷ [] })
+      (now_order : List Late)
+      × Catch (a ∷ all) order g (record { word = word; late = s.late ++ a ∷ [] }) now_order
   sets_aside word some = (
     order,
     record {
@@ -205,21 +195,50 @@ module _ (line now : ℕ) (s : Sight) (cpu : CpuId) (e : Exchange) (all order : 
     },
   )
 
-  takes_on : (word : Word) → word_of s g ≡ Some word → (b : Bool) → is_next g word s.late a ≡ b →
-      Caught (a ∷ all) order g (taken_on word g s.late a)
+  takes_next : (word : Word) → word_of s g ≡ Some word →
+      is_next s.cpus cpu g word s.late a ≡ true →
+      Caught (a ∷ all) order s.cpus cpu g
+      (caught_up s.cpus cpu (length s.late) g (word_after e) s.late)
+  takes_next word some next =
+      let free = first_part (is_on g a && follows word e && comes_first g s.late a)
+      (not (is_held s.cpus cpu g word a)) next in
+      let follow = last_part (is_on g a) (follows word e)
+      (first_part (is_on g a && follows word e) (comes_first g s.late a) free) in
+      let first = last_part (is_on g a && follows word e) (comes_first g s.late a) free in
+      caught (a ∷ all) order s.cpus cpu g (length s.late) (word_after e) s.late (a ∷ order)
+      (pushed (a ∷ all) order g a s.late order refl
+      (next_last (a ∷ all) order g word a order refl (last_word word some) follow) older
+      (next_first (a ∷ all) order g a s.late refl first) h.waits h.ordered each
+      (λ p differ. refl))
+
+  takes_late : (word : Word) → word_of s g ≡ Some word →
+      Caught (a ∷ all) order s.cpus cpu g
+      (caught_up s.cpus cpu (length (s.late ++ a ∷ [])) g word (s.late ++ a ∷ []))
+  unfolding sets_aside
+  takes_late word some =
+      caught (a ∷ all) order s.cpus cpu g (length (s.late ++ a ∷ [])) word (s.late ++ a ∷ []) order
+      (sets_aside word some).1
+
+  takes_on : (word : Word) → word_of s g ≡ Some word → (b : Bool) →
+      is_next s.cpus cpu g word s.late a ≡ b →
+      Caught (a ∷ all) order s.cpus cpu g (taken_on word s.cpus cpu g s.late a)
   takes_on word some true next =
-      subst (λ w. Caught (a ∷ all) order g w) (sym (cond-true (is_next g word s.late a)
-      (caught_up (length s.late) g (word_after e) s.late)
-      (record { word = word; late = s.late ++ a ∷ [] }) next))
+      subst (λ w. Caught (a ∷ all) order s.cpus cpu g w)
+      (sym (cond-true (is_next s.cpus cpu g word s.late a)
+      (caught_up s.cpus cpu (length s.late) g (word_after e) s.late)
+      (caught_up s.cpus cpu (length (s.late ++ a ∷ [])) g word (s.late ++ a ∷ [])) next))
       (takes_next word some next)
   takes_on word some false next =
-      subst (λ w. Caught (a ∷ all) order g w) (sym (cond-false (is_next g word s.late a)
-      (caught_up (length s.late) g (word_after e) s.late)
-      (record { word = word; late = s.late ++ a ∷ [] }) next)) (sets_aside word some)
+      subst (λ w. Caught (a ∷ all) order s.cpus cpu g w)
+      (sym (cond-false (is_next s.cpus cpu g word s.late a)
+      (caught_up s.cpus cpu (length s.late) g (word_after e) s.late)
+      (caught_up s.cpus cpu (length (s.late ++ a ∷ [])) g word (s.late ++ a ∷ [])) next))
+      (takes_late word some)
 
-  takes : (word : Option Word) → word_of s g ≡ word → Caught (a ∷ all) order g (taken word g s.late a)
+  takes : (word : Option Word) → word_of s g ≡ word →
+      Caught (a ∷ all) order s.cpus cpu g (taken word s.cpus cpu g s.late a)
   takes None none = takes_none none
-  takes (Some word) some = takes_on word some (is_next g word s.late a) refl
+  takes (Some word) some = takes_on word some (is_next s.cpus cpu g word s.late a) refl
 
   -- ---- what is seen after it
 
@@ -360,10 +379,10 @@ hidden_alike s runs.Own group = alike_same s
 hidden_alike s runs.Unknown group = group_event_alike s group None
 hidden_alike s (runs.Of cpu) group = group_event_alike s group None
 
-first_alike : (s : Sight) (line : ℕ) (cpu : CpuId) (found : Option ℕ) →
-    Alike s (with_first s line cpu found)
+first_alike : (s : Sight) (line : ℕ) (cpu : CpuId) (found : Option ℕ) (u : Update) →
+    Alike s (with_first s line cpu found u)
 unfolding with_first
-first_alike s line cpu found = alike_cpu s _
+first_alike s line cpu found u = alike_cpu s _
 
 update_alike : (s : Sight) (line : ℕ) (cpu : CpuId) (u : Update) →
     Alike s (learned_update s line cpu u)
@@ -374,7 +393,7 @@ update_alike s line cpu u =
     let hidden = with_hidden t run u.group in
     alike_then s hidden _
     (alike_then s t hidden (event_alike s run cpu u) (hidden_alike t run u.group))
-    (first_alike hidden line cpu (first_seen s cpu u))
+    (first_alike hidden line cpu (first_seen s cpu u) u)
 
 -- ---- one line
 
@@ -450,7 +469,7 @@ unfolding seen_after
 line_holds line s all lines.Remark h =
     (h.0, held_later line (counted line) s all h.0 (counted_high line) h.1)
 line_holds line s all lines.Loss h = ([], nothing_held (counted line))
-line_holds line s all (lines.Foreign cpu) h =
+line_holds line s all (lines.Foreign cpu odd) h =
     holds_alike (counted line) s (noted s (counted line) cpu) all (alike_cpu s _)
     (h.0, held_later line (counted line) s all h.0 (counted_high line) h.1)
 line_holds line s all (lines.OfTimer cpu at e) h =
@@ -486,5 +505,5 @@ orders_hold all k (text ∷ texts) h = (
   orders_hold (exchanges_after all k text) (text_after k text) texts (text_holds k all text h),
 )
 
-pub orders_law : (texts : List (List ℕ)) → OrdersHold [] start texts
-orders_law texts = orders_hold [] start texts ([], nothing_held 0)
+pub orders_law : (lost : ℕ) (texts : List (List ℕ)) → OrdersHold [] (start_behind lost) texts
+orders_law lost texts = orders_hold [] (start_behind lost) texts ([], nothing_held lost)

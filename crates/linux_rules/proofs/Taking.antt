@@ -13,10 +13,12 @@ use Rattle.std.proofs.lemmas.List.Sorted.{IsPermutation-append_right, IsPermutat
 use Rattle.std.proofs.lemmas.List.Sorted.{IsPermutation-middle, IsPermutation-refl}
 use Rattle.std.proofs.lemmas.List.Sorted.{IsPermutation-trans, length_permutation}
 use Rattle.std.proofs.lemmas.Map.Views.{All-remove_key}
+use Rattle.tm_base.specs.declared.names.CpuId.{CpuId}
+use Rattle.linux_seen.specs.declared.seen.CpuSeen.{CpuSeen}
 use Rattle.linux_seen.specs.declared.seen.Late.{Late}
 use Rattle.linux_seen.specs.declared.seen.Word.{Word}
 use Rattle.linux_seen.specs.Words.{follows, word_after}
-use Rattle.linux_rules.specs.Orders.{IsCaughtUp, Waiting, caught_up, comes_first, is_next, is_on, may_precede}
+use Rattle.linux_rules.specs.Orders.{IsCaughtUp, Waiting, caught_up, comes_first, is_held, is_next, is_on, may_precede}
 use Rattle.linux_rules.specs.Orders.{taken_next}
 use Rattle.linux_rules.specs.Witness.{IsInOrder, follows_last, may_follow}
 
@@ -129,31 +131,34 @@ module _ (all before : List Late) (group : ℕ) where
       subst (λ g. AllPass (λ a. not (is_on g a) || may_precede x a) ls) (sym on)
       (AllPass-from_list_all (λ a. not (is_on group a) || may_precede x a) ls first)
 
+module _ (all before : List Late) (cs : List CpuSeen) (own : CpuId) (group : ℕ) where
   caught_one : (word : Word) (ls order : List Late) (x : Late) →
       Catch all before group (waiting word ls) order →
-      find (is_next group word ls) ls ≡ Some x →
+      find (is_next cs own group word ls) ls ≡ Some x →
       Catch all before group
-      (waiting (word_after x.exchange) (remove_key (is_next group word ls) ls)) (x ∷ order)
+      (waiting (word_after x.exchange) (remove_key (is_next cs own group word ls) ls)) (x ∷ order)
   caught_one word ls order x c is =
-      let next = passes (is_next group word ls) ls x is in
+      let next = passes (is_next cs own group word ls) ls x is in
+      let free = first_part (is_on group x && follows word x.exchange && comes_first group ls x)
+      (not (is_held cs own group word x)) next in
       let on_follows = first_part (is_on group x && follows word x.exchange)
-      (comes_first group ls x) next in
+      (comes_first group ls x) free in
       let first = last_part (is_on group x && follows word x.exchange)
-      (comes_first group ls x) next in
+      (comes_first group ls x) free in
       let on = eqb-true x.exchange.place.group group
       (first_part (is_on group x) (follows word x.exchange) on_follows) in
       let follow = last_part (is_on group x) (follows word x.exchange) on_follows in
-      let rest = remove_key (is_next group word ls) ls in
-      pushed x rest order on (next_last word x order on c.last follow)
-      (all_found (is_next group word ls) (λ a. AllPass (may_follow a) order) ls x c.waits is)
-      (All-remove_key (is_next group word ls) (λ a. may_follow a x ≡ true) ls
-      (next_first x ls on first))
-      (All-remove_key (is_next group word ls) (λ a. AllPass (may_follow a) order) ls c.waits)
+      let rest = remove_key (is_next cs own group word ls) ls in
+      pushed all before group x rest order on (next_last all before group word x order on c.last follow)
+      (all_found (is_next cs own group word ls) (λ a. AllPass (may_follow a) order) ls x c.waits is)
+      (All-remove_key (is_next cs own group word ls) (λ a. may_follow a x ≡ true) ls
+      (next_first all before group x ls on first))
+      (All-remove_key (is_next cs own group word ls) (λ a. AllPass (may_follow a) order) ls c.waits)
       c.ordered
       (IsPermutation-trans all (order ++ ls) (x ∷ (order ++ rest)) c.each
       (IsPermutation-trans (order ++ ls) (order ++ x ∷ rest) (x ∷ (order ++ rest))
       (IsPermutation-append_right order ls (x ∷ rest)
-      (without (is_next group word ls) ls x is))
+      (without (is_next cs own group word ls) ls x is))
       (IsPermutation-middle order x rest)))
       c.others
 
@@ -164,37 +169,37 @@ module _ (all before : List Late) (group : ℕ) where
       (go_on : Word → List Late → Waiting) →
       ((w : Word) (rest later : List Late) → Catch all before group (waiting w rest) later →
       Caught (go_on w rest)) →
-      (o : Option Late) → find (is_next group word ls) ls ≡ o →
-      Caught (taken_next o (is_next group word ls) word ls go_on)
+      (o : Option Late) → find (is_next cs own group word ls) ls ≡ o →
+      Caught (taken_next o (is_next cs own group word ls) word ls go_on)
   caught_by word ls order c go_on goes None is = (order, c)
   caught_by word ls order c go_on goes (Some x) is =
-      goes (word_after x.exchange) (remove_key (is_next group word ls) ls) (x ∷ order)
+      goes (word_after x.exchange) (remove_key (is_next cs own group word ls) ls) (x ∷ order)
       (caught_one word ls order x c is)
 
   pub caught : (n : ℕ) (word : Word) (ls order : List Late) →
-      Catch all before group (waiting word ls) order → Caught (caught_up n group word ls)
+      Catch all before group (waiting word ls) order → Caught (caught_up cs own n group word ls)
   caught zero word ls order c = (order, c)
   caught (suc n) word ls order c =
-      caught_by word ls order c (caught_up n group) (caught n)
-      (find (is_next group word ls) ls) refl
+      caught_by word ls order c (caught_up cs own n group) (caught n)
+      (find (is_next cs own group word ls) ls) refl
 
 -- ---- the bound is enough
 
-module _ (group : ℕ) where
+module _ (cs : List CpuSeen) (own : CpuId) (group : ℕ) where
   enough_by : (n : ℕ) (word : Word) (ls : List Late) → length ls ≤ suc n →
       ((w : Word) (rest : List Late) → length rest ≤ n →
-      IsCaughtUp group (caught_up n group w rest)) →
-      (o : Option Late) → find (is_next group word ls) ls ≡ o →
-      IsCaughtUp group (taken_next o (is_next group word ls) word ls (caught_up n group))
+      IsCaughtUp cs own group (caught_up cs own n group w rest)) →
+      (o : Option Late) → find (is_next cs own group word ls) ls ≡ o →
+      IsCaughtUp cs own group (taken_next o (is_next cs own group word ls) word ls (caught_up cs own n group))
   enough_by n word ls most rest None is = is
   enough_by n word ls most rest (Some x) is =
-      let left = remove_key (is_next group word ls) ls in
-      let fewer = length_permutation ls (x ∷ left) (without (is_next group word ls) ls x is) in
+      let left = remove_key (is_next cs own group word ls) ls in
+      let fewer = length_permutation ls (x ∷ left) (without (is_next cs own group word ls) ls x is) in
       rest (word_after x.exchange) left (omega (arith, fewer, most))
 
   pub enough : (n : ℕ) (word : Word) (ls : List Late) → length ls ≤ n →
-      IsCaughtUp group (caught_up n group word ls)
+      IsCaughtUp cs own group (caught_up cs own n group word ls)
   enough zero word [] most = refl
   enough zero word (x ∷ xs) most = absurd (omega (arith, most))
   enough (suc n) word ls most =
-      enough_by n word ls most (enough n) (find (is_next group word ls) ls) refl
+      enough_by n word ls most (enough n) (find (is_next cs own group word ls) ls) refl

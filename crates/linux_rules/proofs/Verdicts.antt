@@ -11,7 +11,7 @@ use Rattle.linux_rules.specs.Judge.{EachFits, IsFirstAt, IsFitting, judged, line
 use Rattle.linux_rules.specs.Judge.{first_misfit, timer_misfit}
 use Rattle.linux_timers.specs.Rule.{timer_fault}
 use Rattle.linux_seen.specs.Counts.{counted}
-use Rattle.linux_rules.specs.Judge.{said_verdict, start, text_after, text_verdict, verdict_of}
+use Rattle.linux_rules.specs.Judge.{said_verdict, text_after, text_verdict, verdict_of}
 use Rattle.linux_rules.specs.Judge.{verdict_or}
 
 -- no line decides that all fits
@@ -64,15 +64,15 @@ first_at k (t ∷ ts) n =
     choose (text_verdict k t) (judged (text_after k t) ts) (IsFirstAt (text_after k t) ts)
     (first_at (text_after k t) ts) n
 
-pub fits_law : (texts : List (List ℕ)) (v : Verdict) → v ≡ judged start texts
-    → IsFitting v ↔ EachFits start texts
-fits_law texts v e = (
-  λ h. fits_each start texts (subst IsFitting e h),
-  λ h. subst IsFitting (sym e) (each_fits start texts h),
+pub fits_law : (k : Course) (texts : List (List ℕ)) (v : Verdict) → v ≡ judged k texts
+    → IsFitting v ↔ EachFits k texts
+fits_law k texts v e = (
+  λ h. fits_each k texts (subst IsFitting e h),
+  λ h. subst IsFitting (sym e) (each_fits k texts h),
 )
 
-pub first_law : (texts : List (List ℕ)) (v : Verdict) → v ≡ judged start texts
-    → (IsFitting v → ⊥) → IsFirstAt start texts v
-first_law texts v e n =
-    subst (λ (w : Verdict). IsFirstAt start texts w) (sym e)
-    (first_at start texts (λ h. n (subst IsFitting (sym e) h)))
+pub first_law : (k : Course) (texts : List (List ℕ)) (v : Verdict) → v ≡ judged k texts
+    → (IsFitting v → ⊥) → IsFirstAt k texts v
+first_law k texts v e n =
+    subst (λ (w : Verdict). IsFirstAt k texts w) (sym e)
+    (first_at k texts (λ h. n (subst IsFitting (sym e) h)))

@@ -9,6 +9,7 @@ use Rattle.linux_seen.specs.Seen.{Sight}
 use Rattle.linux_told.specs.Agrees.{IsAnswered}
 use Rattle.linux_rules.specs.declared.judge.Course.{Course}
 use Rattle.linux_rules.specs.Judge.{rests_after, start, text_after}
+use Rattle.linux_rules.specs.Marks.{kept_lines}
 
 -- where a line leaves no walk under way, for each CPU's told expiry that is to come somebody
 -- answers in each machine that agrees with what was seen, or the answer is open
@@ -25,4 +26,5 @@ RestsAnswer k (text ∷ texts) =
 -- AT EACH REST of a trace each idle CPU's told expiry that is to come is answered for, in every
 -- machine that agrees with what was seen, or open
 abbrev pub EachRestAnswers : List ℕ → Type 0
-EachRestAnswers bytes = RestsAnswer start (lines_of bytes)
+EachRestAnswers bytes =
+    RestsAnswer (start (lines_of bytes)) (kept_lines (lines_of bytes))

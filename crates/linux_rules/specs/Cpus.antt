@@ -27,6 +27,7 @@ use Rattle.linux_seen.specs.Walks.{may_end, may_rest, quiet}
 use Rattle.linux_rules.specs.Exchanges.{fault_or, spot_of, with_cpu, with_group}
 use Rattle.linux_rules.specs.Queues.{first_after, run_told, spoken, told_fault, with_event}
 use Rattle.linux_rules.specs.Queues.{with_hidden}
+use Rattle.linux_rules.specs.Firsts.{is_child, some_sooner}
 
 -- a CPU falls asleep at the end of its walk, and where it was awake
 abbrev pub sleep_fault : Option Bool → Walk → Option Rule
@@ -147,11 +148,20 @@ with_look s line own look =
 abbrev pub looked : Sight → ℕ → CpuId → ℕ → Sight
 looked s line own group = with_look s line own (look_seen s own group)
 
+-- the update finds the group asleep at which the CPU's walk has to end, since a migrator was left
+abbrev pub slept_at : Update → CpuSeen → Bool
+slept_at u c = u.group_active == 0 && same_pointer c.left (Some u.group)
+
 -- the CPU has gone on in its walk or its run by an update, and found a wakeup or not
-unfoldable pub with_first : Sight → ℕ → CpuId → Option ℕ → Sight
-with_first s line own first =
+unfoldable pub with_first : Sight → ℕ → CpuId → Option ℕ → Update → Sight
+with_first s line own first u =
     with_cpu s
-    (record (cpu_at s own) { walk = quiet (cpu_at s own).walk; last = line; first = first })
+    (record (cpu_at s own) {
+      walk = quiet (cpu_at s own).walk;
+      last = line;
+      first = first;
+      slept = slept_at u (cpu_at s own);
+    })
 
 -- the wakeup that a CPU's walk has found after its update
 unfoldable pub first_seen : Sight → CpuId → Update → Option ℕ
@@ -163,7 +173,7 @@ unfoldable pub learned_update : Sight → ℕ → CpuId → Update → Sight
 learned_update s line own u =
     with_first
     (with_hidden (with_event s (cpu_at s own).run own u) (cpu_at s own).run u.group) line own
-    (first_seen s own u)
+    (first_seen s own u) u
 
 -- a group that may stand at this level
 abbrev pub is_level : Option Spot → ℕ → Bool
@@ -182,13 +192,15 @@ must_rise (Hung next) = false
 -- what an update of a group's queue breaks
 abbrev pub update_fault : Sight → CpuId → Update → Option Rule
 update_fault s own u =
-    if not (is_level (group_at s u.group).spot u.level) then Some rules.Tree
+    if not (is_level (group_at s u.group).spot u.level) || not (is_child s (cpu_at s own).run own u)
+    then Some rules.Tree
     else if must_rise (cpu_at s own).walk then Some rules.Walk
     else if not (u.child_active == 0) then Some rules.Event
     else if u.expiries.stored == NO_EXPIRY then None
     else if nat_lt u.expiries.stored u.expiries.first
     || (not (u.child == 0) && not (u.expiries.child_first == u.expiries.stored))
     then Some rules.Event
+    else if some_sooner s (cpu_at s own).run own u s.clock then Some rules.First
     else None
 
 -- the walk that hangs a child below its parent

@@ -1,5 +1,5 @@
 -- exchanges on groups: the rules that one may break, and what is known after it
-use Rattle.std.specs.Prelude.{ℕ, ◌==◌, ◌&&◌, ◌||◌, not, Bool, true, List}
+use Rattle.std.specs.Prelude.{ℕ, ◌==◌, ◌&&◌, ◌||◌, not, Bool, true, false, List}
 use Rattle.std.specs.Prelude.{Option, Some, None, is_none, if◌then◌else◌}
 use Rattle.std.specs.List.{list_any}
 use Rattle.tm_base.specs.declared.names.CpuId.{CpuId}
@@ -76,14 +76,15 @@ dated s line cpu e = record {
 }
 
 -- the word before, where the exchange may be made on it
-abbrev pub word_if : Option Word → ℕ → List Late → Late → Option Word
-word_if None group ls a = None
-word_if (Some word) group ls a = if is_next group word ls a then Some word else None
+abbrev pub word_if : Option Word → List CpuSeen → CpuId → ℕ → List Late → Late → Option Word
+word_if None cs own group ls a = None
+word_if (Some word) cs own group ls a =
+    if is_next cs own group word ls a then Some word else None
 
 -- the word on which an exchange is made, where it is known
 unfoldable pub word_seen : Sight → ℕ → CpuId → Exchange → Option Word
 word_seen s line cpu e =
-    word_if (group_at s e.place.group).word e.place.group s.late (dated s line cpu e)
+    word_if (group_at s e.place.group).word s.cpus cpu e.place.group s.late (dated s line cpu e)
 
 -- ---- what is known afterwards
 
@@ -112,14 +113,20 @@ told_by c None e = c
 told_by c (Some from) e =
     if from == 0 then record c { leaf = Some e.place.group; bit = Some e.bit; told = true } else c
 
+-- the group at which a walk of deactivation has to end, since a migrator is left
+abbrev pub left_by : Exchange → Option ℕ
+left_by e = if not e.joins && not (e.migrator == 0) then Some e.place.group else None
+
 -- the CPU that made it, after it
 unfoldable pub cpu_after : CpuSeen → ℕ → Option Word → Exchange → CpuSeen
 cpu_after c line before e =
     record (told_by c (came_from c.walk e) e) {
-      walk = walk_after before e;
+      walk = walk_after c.walk before e;
       last = line;
       run = runs.Own;
       first = first_begun e c.first;
+      left = left_by e;
+      slept = false;
     }
 
 -- what an exchange teaches of its child
@@ -131,7 +138,7 @@ learned_child s (Some from) e =
 -- the word of its group and the late exchanges after it
 abbrev pub waiting_after : Sight → ℕ → CpuId → Exchange → Waiting
 waiting_after s line cpu e =
-    taken (group_at s e.place.group).word e.place.group s.late (dated s line cpu e)
+    taken (group_at s e.place.group).word s.cpus cpu e.place.group s.late (dated s line cpu e)
 
 -- with these late exchanges
 abbrev pub with_late : Sight → List Late → Sight

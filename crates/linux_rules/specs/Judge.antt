@@ -1,7 +1,7 @@
 -- the fold over the lines of a trace
 use Rattle.std.specs.Prelude.{◌≡◌, ◌⊎◌, ℕ, Bool, true, false, List, [], ◌∷◌}
 use Rattle.std.specs.Prelude.{Option, Some, None, Result, Ok, Err, if◌then◌else◌}
-use Rattle.std.specs.Prelude.{length}
+use Rattle.std.specs.Prelude.{length, find, ◌==◌, ◌&&◌}
 use Rattle.text_words.specs.Words.{lines_of}
 use Rattle.tm_base.specs.declared.names.CpuId.{CpuId}
 use Rattle.linux_lines.specs.declared.faults.LineFault.{LineFault}
@@ -18,6 +18,7 @@ use Rattle.linux_seen.specs.declared.rules.Rule.TheVariants as rules
 use Rattle.linux_rules.specs.declared.judge.Tally.{Tally}
 use Rattle.linux_rules.specs.declared.judge.Course.{Course}
 use Rattle.linux_rules.specs.declared.judge.Misfit.{Misfit}
+use Rattle.linux_rules.specs.declared.judge.Open.{Open}
 use Rattle.linux_rules.specs.declared.judge.Verdict.{Verdict}
 use Rattle.linux_rules.specs.declared.judge.Verdict.TheVariants.{Fits, Broken, NoTrace}
 use Rattle.linux_seen.specs.declared.seen.Late.{Late}
@@ -33,7 +34,10 @@ use Rattle.linux_timers.specs.Tallies.{no_timer_tally, timer_tally_after}
 use Rattle.linux_seen.specs.Counts.{counted, counted_if}
 use Rattle.linux_seen.specs.Whom.{edge_whom, event_whom}
 use Rattle.linux_seen.specs.Tree.{cpu_joining_fault, group_joining_fault, spot_fits}
-use Rattle.linux_seen.specs.Walks.{may_rest}
+use Rattle.linux_seen.specs.Walks.{is_open, may_rest}
+use Rattle.linux_seen.specs.declared.seen.CpuSeen.{CpuSeen}
+use Rattle.linux_rules.specs.Firsts.{is_on_way}
+use Rattle.linux_rules.specs.Marks.{kept_lines, lost_lines}
 use Rattle.linux_rules.specs.Exchanges.{exchange_fault, learned_exchange, with_cpu}
 use Rattle.linux_rules.specs.Orders.{first_late, late_on, stuck_rule}
 use Rattle.linux_rules.specs.Cpus.{cpu_fault, learned_cpu, learned_cpu_link, learned_group_link}
@@ -43,9 +47,11 @@ use Rattle.linux_told.specs.Told.{answers_if, missing_whom, no_answers, told_fit
 
 -- ---- one event
 
--- the CPU looks after others in the middle of its walk
-abbrev pub handling_fault : Sight → CpuId → Option Rule
-handling_fault s cpu = if may_rest (cpu_at s cpu).walk then None else Some rules.Walk
+-- the CPU looks after others in the middle of its walk, or at a group that isn't on its way up
+abbrev pub handling_fault : Sight → CpuId → ℕ → Option Rule
+handling_fault s cpu group =
+    if may_rest (cpu_at s cpu).walk && is_on_way s (cpu_at s cpu) group then None
+    else Some rules.Walk
 
 -- the rule that an event's own line breaks
 unfoldable pub fault_of : Sight → CpuId → Happening → Option Rule
@@ -55,7 +61,7 @@ fault_of s cpu (CpuJoined joined j) = cpu_joining_fault s joined j
 fault_of s cpu (Exchanged e) = exchange_fault s cpu e
 fault_of s cpu (CpuTold t) = cpu_fault s cpu t
 fault_of s cpu (Updated u) = update_fault s cpu u
-fault_of s cpu (Handling group) = handling_fault s cpu
+fault_of s cpu (Handling group) = handling_fault s cpu group
 
 -- what is known after an event
 unfoldable pub learned : Sight → ℕ → CpuId → Happening → Sight
@@ -135,7 +141,7 @@ noted s line cpu = with_cpu s (record (cpu_at s cpu) { last = line })
 unfoldable pub seen_after : Sight → ℕ → Line → Sight
 seen_after s line Remark = s
 seen_after s line Loss = no_sight
-seen_after s line (Foreign cpu) = noted s line cpu
+seen_after s line (Foreign cpu odd) = noted s line cpu
 seen_after s line (Told cpu at h) = learned (timed s at) line cpu h
 seen_after s line (OfTimer cpu at e) = noted s line cpu
 
@@ -143,7 +149,7 @@ seen_after s line (OfTimer cpu at e) = noted s line cpu
 unfoldable pub line_misfit : Sight → ℕ → Line → Option Misfit
 line_misfit s line Remark = None
 line_misfit s line Loss = None
-line_misfit s line (Foreign cpu) = None
+line_misfit s line (Foreign cpu odd) = None
 line_misfit s line (Told cpu at h) = told_misfit (timed s at) line cpu h
 line_misfit s line (OfTimer cpu at e) = None
 
@@ -169,7 +175,7 @@ is_exchange (Told cpu at (Updated u)) = false
 is_exchange (Told cpu at (Handling group)) = false
 is_exchange Remark = false
 is_exchange Loss = false
-is_exchange (Foreign cpu) = false
+is_exchange (Foreign cpu odd) = false
 is_exchange (OfTimer cpu at e) = false
 
 -- a line of timer migration
@@ -177,14 +183,30 @@ abbrev pub is_told : Line → Bool
 is_told (Told cpu at h) = true
 is_told Remark = false
 is_told Loss = false
-is_told (Foreign cpu) = false
+is_told (Foreign cpu odd) = false
 is_told (OfTimer cpu at e) = false
+
+-- an event of timer migration that isn't known
+abbrev pub is_strange : Line → Bool
+is_strange (Foreign cpu strange) = strange
+is_strange (Told cpu at h) = false
+is_strange Remark = false
+is_strange Loss = false
+is_strange (OfTimer cpu at e) = false
+
+-- the first of such lines: this one, unless there was one before
+abbrev pub first_line : Bool → ℕ → ℕ → ℕ
+first_line is_such line before = if is_such && before == 0 then line else before
+
+-- the last of such lines
+abbrev pub last_line : Bool → ℕ → ℕ → ℕ
+last_line is_such line before = if is_such then line else before
 
 -- a line that tells of lost ones
 abbrev pub is_loss_line : Line → Bool
 is_loss_line Loss = true
 is_loss_line Remark = false
-is_loss_line (Foreign cpu) = false
+is_loss_line (Foreign cpu odd) = false
 is_loss_line (Told cpu at h) = false
 is_loss_line (OfTimer cpu at e) = false
 
@@ -193,17 +215,21 @@ abbrev pub rests_after : Line → Sight → Bool
 rests_after (Told cpu at h) s = at_rest s
 rests_after Remark s = false
 rests_after Loss s = false
-rests_after (Foreign cpu) s = false
+rests_after (Foreign cpu odd) s = false
 rests_after (OfTimer cpu at e) s = false
 
 -- the counts after a line, with these of runs and of timers, by what is known then
 unfoldable pub tally_after : Tally → Runs → TimerTally → Line → Sight → Tally
 tally_after t runs timers said s = record {
   lines = counted t.lines;
+  lost = t.lost;
   events = counted_if (is_told said) t.events;
   exchanges = counted_if (is_exchange said) t.exchanges;
   rests = counted_if (rests_after said s) t.rests;
+  rested = last_line (rests_after said s) (counted t.lines) t.rested;
   losses = counted_if (is_loss_line said) t.losses;
+  unknown = counted_if (is_strange said) t.unknown;
+  unknown_at = first_line (is_strange said) (counted t.lines) t.unknown_at;
   answers = answers_if (rests_after said s) t.answers s;
   runs = runs;
   differences = differences_after t.differences s said;
@@ -216,19 +242,31 @@ tally_after t runs timers said s = record {
 abbrev pub no_tally : Tally
 no_tally = record {
   lines = 0;
+  lost = 0;
   events = 0;
   exchanges = 0;
   rests = 0;
+  rested = 0;
   losses = 0;
+  unknown = 0;
+  unknown_at = 0;
   answers = no_answers;
   runs = no_runs;
   differences = no_differences;
   timers = no_timer_tally;
 }
 
--- before the first line
-abbrev pub start : Course
-start = record { seen = no_sight; timers = no_timers; tally = no_tally }
+-- before the first line that counts, behind so many that don't
+abbrev pub start_behind : ℕ → Course
+start_behind lost = record {
+  seen = no_sight;
+  timers = no_timers;
+  tally = record no_tally { lines = lost; lost = lost };
+}
+
+-- before the first line of a trace that counts
+abbrev pub start : List (List ℕ) → Course
+start texts = start_behind (lost_lines texts)
 
 -- the verdict of a misfit
 abbrev pub verdict_of : Option Misfit → Option Verdict
@@ -262,9 +300,17 @@ text_verdict k text = said_verdict k (line_of text)
 unfoldable pub text_after : Course → List ℕ → Course
 text_after k text = said_after k (line_of text)
 
--- how many exchanges are late
-abbrev pub late_count : Sight → ℕ
-late_count s = length s.late
+-- the CPU
+abbrev pub named : Option CpuSeen → Option CpuId
+named None = None
+named (Some c) = Some c.cpu
+
+-- what is open: how many exchanges are late, and the first CPU that is in the middle of a walk
+abbrev pub open_at : Sight → Open
+open_at s = record {
+  late = length s.late;
+  walker = named (find (λ c. is_open c.walk) s.cpus);
+}
 
 -- the first of two verdicts
 abbrev pub verdict_or : Option Verdict → Verdict → Verdict
@@ -273,21 +319,25 @@ verdict_or (Some verdict) later = verdict
 
 -- what is said of a trace whose lines are these, from here on
 abbrev pub judged : Course → List (List ℕ) → Verdict
-judged k [] = Fits k.tally (late_count k.seen)
+judged k [] = Fits k.tally (open_at k.seen)
 judged k (text ∷ texts) = verdict_or (text_verdict k text) (judged (text_after k text) texts)
+
+-- WHAT IS SAID OF A TRACE of these lines: of those that count
+abbrev pub said_of : List (List ℕ) → Verdict
+said_of texts = judged (start texts) (kept_lines texts)
 
 -- each line fits, by what was seen before it
 abbrev pub EachFits : Course → List (List ℕ) → Type 0
 EachFits k [] = Unit {0}
 EachFits k (text ∷ texts) = (text_verdict k text ≡ None) × EachFits (text_after k text) texts
 
--- EACH LINE FITS, by what was seen before it
+-- EACH LINE that counts FITS, by what was seen before it
 abbrev pub EachLineFits : List ℕ → Type 0
-EachLineFits bytes = EachFits start (lines_of bytes)
+EachLineFits bytes = EachFits (start (lines_of bytes)) (kept_lines (lines_of bytes))
 
 -- the verdict of a trace that fits
 abbrev pub IsFitting : Verdict → Type 0
-IsFitting (Fits tally late) = Unit {0}
+IsFitting (Fits tally ends) = Unit {0}
 IsFitting (Broken misfit) = ⊥
 IsFitting (NoTrace line fault) = ⊥
 
@@ -300,4 +350,5 @@ IsFirstAt k (text ∷ texts) verdict =
 
 -- the verdict is what the first line that doesn't fit decides
 abbrev pub IsFirstFault : List ℕ → Verdict → Type 0
-IsFirstFault bytes verdict = IsFirstAt start (lines_of bytes) verdict
+IsFirstFault bytes verdict =
+    IsFirstAt (start (lines_of bytes)) (kept_lines (lines_of bytes)) verdict

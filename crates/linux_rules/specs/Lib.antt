@@ -1,7 +1,9 @@
 pub mod Orders
 pub mod Exchanges
 pub mod Cpus
+pub mod Firsts
 pub mod Queues
+pub mod Marks
 pub mod Judge
 pub mod Agrees
 pub mod Witness

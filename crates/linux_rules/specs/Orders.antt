@@ -1,16 +1,20 @@
 -- the order of a group's exchanges between CPUs, by their lines: an exchange is made between its
 -- CPU's line before and its own
-use Rattle.std.specs.Prelude.{◌≡◌, ℕ, ◌==◌, ◌&&◌, ◌||◌, not, nat_lt, nat_le, zero, suc, Bool, true}
+use Rattle.std.specs.Prelude.{◌≡◌, ℕ, ◌==◌, ◌&&◌, ◌||◌, not, nat_lt, nat_le, zero, suc, Bool, true, false}
 use Rattle.std.specs.Prelude.{List, [], ◌∷◌, ◌++◌, length, find, Option, Some, None}
 use Rattle.std.specs.Prelude.{count_by, if◌then◌else◌}
 use Rattle.std.specs.List.{list_all, list_any}
 use Rattle.std.specs.Set.{remove_key}
+use Rattle.tm_base.specs.declared.names.CpuId.{CpuId}
 use Rattle.linux_lines.specs.declared.events.Exchange.{Exchange}
 use Rattle.linux_seen.specs.declared.rules.Rule.{Rule}
 use Rattle.linux_seen.specs.declared.rules.Rule.TheVariants as rules
 use Rattle.linux_seen.specs.declared.seen.Word.{Word}
 use Rattle.linux_seen.specs.declared.seen.Late.{Late}
 use Rattle.linux_seen.specs.declared.seen.CpuSeen.{CpuSeen}
+use Rattle.linux_seen.specs.declared.seen.Walk.{Walk}
+use Rattle.linux_seen.specs.declared.seen.Walk.TheVariants.{Unknown, Closed, Rising, Falling}
+use Rattle.linux_seen.specs.declared.seen.Walk.TheVariants.{Ending, Hung}
 use Rattle.linux_seen.specs.Words.{follows, word_after}
 use Rattle.linux_seen.specs.Rests.{has_bit, is_asleep, same_truth}
 use Rattle.linux_seen.specs.Tree.{parent_fits}
@@ -31,9 +35,34 @@ may_precede a b =
 abbrev pub comes_first : ℕ → List Late → Late → Bool
 comes_first group ls a = list_all (λ b. not (is_on group b) || may_precede a b) ls
 
--- an exchange that may be made next on this group, whose word is this, while these are late
-abbrev pub is_next : ℕ → Word → List Late → Late → Bool
-is_next group word ls a = is_on group a && follows word a.exchange && comes_first group ls a
+-- a walk of deactivation comes to this group
+abbrev pub falls_to : ℕ → Walk → Bool
+falls_to group (Falling next) = next.group == group
+falls_to group Unknown = false
+falls_to group Closed = false
+falls_to group (Rising next) = false
+falls_to group Ending = false
+falls_to group (Hung next) = false
+
+-- a CPU, neither this one nor that of the exchange, is on its way to that group, and may have been
+-- there before the exchange
+abbrev pub is_coming : CpuId → ℕ → Late → CpuSeen → Bool
+is_coming own group a c =
+    not (c.cpu.0 == own.0) && not (c.cpu.0 == a.cpu.0) && nat_lt c.last a.line
+    && falls_to group c.walk
+
+-- A CHILD THAT COMES BACK WAITS: where its bit still stands, a CPU that is on its way to the group
+-- may have taken it out before, and its line is to come
+abbrev pub is_held : List CpuSeen → CpuId → ℕ → Word → Late → Bool
+is_held cs own group word a =
+    a.exchange.joins && has_bit word.active a.exchange.bit && list_any (is_coming own group a) cs
+
+-- an exchange that may be made next on this group, whose word is this, while these are late, at a
+-- line of this CPU
+abbrev pub is_next : List CpuSeen → CpuId → ℕ → Word → List Late → Late → Bool
+is_next cs own group word ls a =
+    is_on group a && follows word a.exchange && comes_first group ls a
+    && not (is_held cs own group word a)
 
 -- a group's word, and the exchanges that are late
 pub record Waiting : Type 0 where
@@ -48,33 +77,34 @@ taken_next (Some a) is_it word ls go_on =
     go_on (word_after a.exchange) (remove_key is_it ls)
 
 -- the late exchanges on a group that may be made now are taken, one after another, at most so many
-abbrev pub caught_up : ℕ → ℕ → Word → List Late → Waiting
-caught_up zero group word ls = record { word = word; late = ls }
-caught_up (suc n) group word ls =
-    taken_next (find (is_next group word ls) ls) (is_next group word ls) word ls
-    (caught_up n group)
+abbrev pub caught_up : List CpuSeen → CpuId → ℕ → ℕ → Word → List Late → Waiting
+caught_up cs own zero group word ls = record { word = word; late = ls }
+caught_up cs own (suc n) group word ls =
+    taken_next (find (is_next cs own group word ls) ls) (is_next cs own group word ls) word ls
+    (caught_up cs own n group)
 
 -- none of these late exchanges may be made next on this group
-abbrev pub IsCaughtUp : ℕ → Waiting → Type 0
-IsCaughtUp group w = find (is_next group w.word w.late) w.late ≡ None
+abbrev pub IsCaughtUp : List CpuSeen → CpuId → ℕ → Waiting → Type 0
+IsCaughtUp cs own group w = find (is_next cs own group w.word w.late) w.late ≡ None
 
 -- IT IS ENOUGH to take as many of them as there are late ones
 abbrev pub CatchesUp : Type 0
 CatchesUp =
-    (group : ℕ) (word : Word) (ls : List Late) →
-    IsCaughtUp group (caught_up (length ls) group word ls)
+    (cs : List CpuSeen) (own : CpuId) (group : ℕ) (word : Word) (ls : List Late) →
+    IsCaughtUp cs own group (caught_up cs own (length ls) group word ls)
 
 -- on a word that is known: an exchange that may be made next is taken, and late ones behind it;
--- else it is late itself
-abbrev pub taken_on : Word → ℕ → List Late → Late → Waiting
-taken_on word group ls a =
-    if is_next group word ls a then caught_up (length ls) group (word_after a.exchange) ls
-    else record { word = word; late = ls ++ a ∷ [] }
+-- else it waits behind the late ones, of which some may be made now
+abbrev pub taken_on : Word → List CpuSeen → CpuId → ℕ → List Late → Late → Waiting
+taken_on word cs own group ls a =
+    if is_next cs own group word ls a
+    then caught_up cs own (length ls) group (word_after a.exchange) ls
+    else caught_up cs own (length (ls ++ a ∷ [])) group word (ls ++ a ∷ [])
 
 -- a group's word and the late exchanges after an exchange; where no word is known it is taken
-abbrev pub taken : Option Word → ℕ → List Late → Late → Waiting
-taken None group ls a = record { word = word_after a.exchange; late = ls }
-taken (Some word) group ls a = taken_on word group ls a
+abbrev pub taken : Option Word → List CpuSeen → CpuId → ℕ → List Late → Late → Waiting
+taken None cs own group ls a = record { word = word_after a.exchange; late = ls }
+taken (Some word) cs own group ls a = taken_on word cs own group ls a
 
 -- ---- exchanges that stay late
 

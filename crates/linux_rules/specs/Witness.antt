@@ -20,6 +20,7 @@ use Rattle.linux_rules.specs.declared.judge.Course.{Course}
 use Rattle.linux_rules.specs.Orders.{is_on, may_precede}
 use Rattle.linux_rules.specs.Exchanges.{dated}
 use Rattle.linux_rules.specs.Judge.{start, text_after}
+use Rattle.linux_rules.specs.Marks.{kept_lines}
 
 -- ---- an order
 
@@ -53,7 +54,7 @@ exchanges_by all s line (Told cpu at (Updated u)) = all
 exchanges_by all s line (Told cpu at (Handling group)) = all
 exchanges_by all s line Remark = all
 exchanges_by all s line Loss = []
-exchanges_by all s line (Foreign cpu) = all
+exchanges_by all s line (Foreign cpu odd) = all
 exchanges_by all s line (OfTimer cpu at e) = all
 
 -- .. a text that is a line
@@ -78,4 +79,5 @@ OrdersHold all k (text ∷ texts) =
 -- AT EACH LINE of a trace its exchanges since lines were lost last, but those that are late, stand
 -- in an order that the trace allows
 abbrev pub HasOrders : List ℕ → Type 0
-HasOrders bytes = OrdersHold [] start (lines_of bytes)
+HasOrders bytes =
+    OrdersHold [] (start (lines_of bytes)) (kept_lines (lines_of bytes))

@@ -7,10 +7,11 @@ ghost use Rattle.linux_rules.specs.Cpus.{look_seen, looked, moved_on, number_at,
 ghost use Rattle.linux_rules.specs.Cpus.{with_look};
 ghost use Rattle.linux_rules.specs.Cpus.{with_hung, with_leaf, with_link, with_named, with_writer};
 ghost use Rattle.linux_rules.specs.Cpus.{hung, is_elsewhere, is_level, must_rise, state_fault};
-ghost use Rattle.linux_rules.specs.Cpus.{first_seen, learned_update, with_first};
+ghost use Rattle.linux_rules.specs.Cpus.{first_seen, learned_update, slept_at, with_first};
 ghost use Rattle.linux_rules.specs.Cpus.{update_fault, walk_told};
 
 use crate::exchanges::spot_of;
+use crate::firsts::{is_child, some_sooner};
 use crate::queues::{first_after, forget_hidden, learn_event, run_told, spoken, told_fault};
 use linux_lines::{CpuEvent, CpuKind, Joining, NO_EXPIRY, Place, Update};
 use linux_seen::Rule;
@@ -214,16 +215,30 @@ pub fn look_at(seen: &mut Seen, line: u64, own: CpuId, group: u64) -> Result<(),
     learn_look(seen, line, own, look)
 }
 
+/// Whether an update finds the group asleep at which the CPU's walk has to end.
+fn slept_at(update: &Update, cpu: &CpuSeen) -> bool
+    ensures { result ≡ slept_at update.now cpu.now }
+{
+    update.group_active == 0 && same_pointer(cpu.left, Some(update.group))
+}
+
 /// Keeps that a CPU went on in its walk or its run by an update, and the wakeup that it has found.
 #[tactic(auto, unfolding(crate::specs::Cpus::with_first))]
-fn learn_first(seen: &mut Seen, line: u64, own: CpuId, first: Option<u64>) -> Result<(), NoMemory>
-    ensures { OnOk result (seen.new ≡ with_first seen.old line own first) }
+fn learn_first(
+    seen: &mut Seen,
+    line: u64,
+    own: CpuId,
+    first: Option<u64>,
+    update: &Update,
+) -> Result<(), NoMemory>
+    ensures { OnOk result (seen.new ≡ with_first seen.old line own first update.now) }
 {
     let writer = seen.cpu(own);
     seen.put_cpu(CpuSeen {
         walk: quiet(writer.walk),
         last: line,
         first,
+        slept: slept_at(update, &writer),
         ..writer
     })
 }
@@ -247,7 +262,7 @@ pub fn learn_update(seen: &mut Seen, line: u64, own: CpuId, update: &Update) -> 
     let first = first_seen(seen, own, update);
     learn_event(seen, run, own, update)?;
     forget_hidden(seen, run, update.group)?;
-    learn_first(seen, line, own, first)?;
+    learn_first(seen, line, own, first, update)?;
     Ok(())
 }
 
@@ -285,7 +300,7 @@ pub fn update_fault(seen: &Seen, own: CpuId, update: &Update) -> Option<Rule>
     let group = seen.group(update.group);
     let writer = seen.cpu(own);
     let times = update.expiries;
-    if !is_level(group.spot, update.level) {
+    if !is_level(group.spot, update.level) || !is_child(seen, writer.run, own, update) {
         return Some(Rule::Tree);
     }
     if must_rise(writer.walk) {
@@ -299,6 +314,9 @@ pub fn update_fault(seen: &Seen, own: CpuId, update: &Update) -> Option<Rule>
     }
     if times.stored < times.first || update.child != 0 && times.child_first != times.stored {
         return Some(Rule::Event);
+    }
+    if some_sooner(seen, writer.run, own, update) {
+        return Some(Rule::First);
     }
     None
 }

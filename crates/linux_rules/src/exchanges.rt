@@ -3,7 +3,7 @@
 ghost use Rattle.std.specs.Prelude.{◌≡◌, OnOk};
 ghost use Rattle.linux_rules.specs.Exchanges.{bit_is_right, child_after, cpu_after, dated};
 ghost use Rattle.linux_rules.specs.Exchanges.{exchange_fault, group_after, learned_exchange};
-ghost use Rattle.linux_rules.specs.Exchanges.{place_fault, spot_of, told_by, word_if};
+ghost use Rattle.linux_rules.specs.Exchanges.{left_by, place_fault, spot_of, told_by, word_if};
 ghost use Rattle.linux_rules.specs.Exchanges.{learned_child, learned_group, learned_walk};
 ghost use Rattle.linux_rules.specs.Exchanges.{source_seen, with_word, word_seen};
 
@@ -90,12 +90,19 @@ fn dated(seen: &Seen, line: u64, cpu: CpuId, exchange: &Exchange) -> Late
 }
 
 /// The word before, where the exchange may be made on it.
-fn word_if(word: Option<Word>, group: u64, waiting: &[Late], late: &Late) -> Option<Word>
-    ensures { result ≡ word_if word group waiting.now late.now }
+fn word_if(
+    word: Option<Word>,
+    cpus: &[CpuSeen],
+    own: CpuId,
+    group: u64,
+    waiting: &[Late],
+    late: &Late,
+) -> Option<Word>
+    ensures { result ≡ word_if word cpus.now own group waiting.now late.now }
 {
     match word {
         Some(known) => {
-            if is_next(group, known, waiting, late) {
+            if is_next(cpus, own, group, known, waiting, late) {
                 Some(known)
             } else {
                 None
@@ -112,7 +119,8 @@ fn word_seen(seen: &Seen, line: u64, cpu: CpuId, exchange: &Exchange) -> Option<
 {
     let group = seen.group(exchange.place.group);
     let late = dated(seen, line, cpu, exchange);
-    word_if(group.word, exchange.place.group, seen.late(), &late)
+    let at = exchange.place.group;
+    word_if(group.word, seen.cpus(), cpu, at, seen.late(), &late)
 }
 
 /// Where a line says that a group stands.
@@ -172,6 +180,17 @@ fn told_by(own: CpuSeen, from: Option<u64>, exchange: &Exchange) -> CpuSeen
     }
 }
 
+/// The group at which a walk of deactivation has to end, since its exchange there left a migrator.
+fn left_by(exchange: &Exchange) -> Option<u64>
+    ensures { result ≡ left_by exchange.now }
+{
+    if !exchange.joins && exchange.migrator != 0 {
+        Some(exchange.place.group)
+    } else {
+        None
+    }
+}
+
 /// What is known of a CPU after its exchange on this word.
 #[tactic(auto, unfolding(crate::specs::Exchanges::cpu_after))]
 fn cpu_after(own: CpuSeen, line: u64, before: Option<Word>, exchange: &Exchange) -> CpuSeen
@@ -179,10 +198,12 @@ fn cpu_after(own: CpuSeen, line: u64, before: Option<Word>, exchange: &Exchange)
 {
     let told = told_by(own, came_from(own.walk, exchange), exchange);
     CpuSeen {
-        walk: walk_after(before, exchange),
+        walk: walk_after(own.walk, before, exchange),
         last: line,
         run: Run::Own,
         first: first_begun(exchange, own.first),
+        left: left_by(exchange),
+        slept: false,
         ..told
     }
 }
@@ -218,7 +239,7 @@ fn learn_group(seen: &mut Seen, line: u64, cpu: CpuId, exchange: &Exchange) -> R
 {
     let group = seen.group(exchange.place.group);
     let late = dated(seen, line, cpu, exchange);
-    let word = take(seen, group.word, exchange.place.group, late)?;
+    let word = take(seen, group.word, cpu, exchange.place.group, late)?;
     learn_word(seen, exchange, word)?;
     Ok(())
 }

@@ -1,13 +1,14 @@
 //! The fold over the lines of a trace.
 
-ghost use Rattle.std.specs.Prelude.{◌≡◌, ◌↔◌, IfOk, OnOk, None, is_some, true};
+ghost use Rattle.std.specs.Prelude.{◌≡◌, ◌↔◌, IfOk, OnOk, None, find, is_some, true};
 ghost use Rattle.text_words.specs.Words.{lines_of};
 ghost use Rattle.linux_rules.specs.Judge.{fault_of, rest_misfit};
-ghost use Rattle.linux_rules.specs.Judge.{is_exchange, is_loss_line, is_told, judged, late_count};
+ghost use Rattle.linux_rules.specs.Judge.{first_line, is_exchange, is_loss_line, is_strange, is_told};
+ghost use Rattle.linux_rules.specs.Judge.{judged, last_line, named, open_at, said_of, start_behind};
 ghost use Rattle.linux_rules.specs.Judge.{late_misfit, learned, line_misfit, rests_after};
 ghost use Rattle.linux_rules.specs.Judge.{seen_after, stuck_late, stuck_misfit};
 ghost use Rattle.linux_rules.specs.Orders.{first_late};
-ghost use Rattle.linux_rules.specs.Judge.{start, tally_after, text_after, text_verdict};
+ghost use Rattle.linux_rules.specs.Judge.{tally_after, text_after, text_verdict};
 ghost use Rattle.linux_rules.specs.Judge.{told_misfit};
 ghost use Rattle.linux_rules.specs.Judge.{EachLineFits, IsFirstFault, IsFitting};
 ghost use Rattle.linux_rules.specs.Judge.{handling_fault, noted, timer_misfit};
@@ -15,6 +16,7 @@ ghost use Rattle.linux_rules.specs.Agrees.{EachRestAnswers};
 ghost use Rattle.linux_rules.specs.Witness.{HasOrders};
 ghost use Rattle.linux_rules.specs.Cpus.{learned_place, moved_on};
 ghost use Rattle.linux_seen.specs.Rests.{rest_fits};
+ghost use Rattle.linux_seen.specs.Walks.{is_open};
 ghost use Rattle.linux_told.specs.Told.{told_fits};
 
 use crate::cpus::{
@@ -22,6 +24,8 @@ use crate::cpus::{
     move_on, update_fault,
 };
 use crate::exchanges::{exchange_fault, learn_exchange};
+use crate::firsts::is_on_way;
+use crate::marks::last_start;
 use crate::orders::{first_late, late_on, stuck_rule};
 use linux_lines::{Happening, Line, LineFault, Place, read_line};
 use linux_runs::{Differences, Runs, differences_after, no_differences, no_runs, runs_after};
@@ -29,7 +33,7 @@ use linux_seen::counts::{counted, counted_if};
 use linux_seen::rests::{at_rest, rest_fits};
 use linux_seen::seen::{CpuSeen, Late, Seen};
 use linux_seen::tree::{cpu_joining_fault, group_joining_fault, spot_fits};
-use linux_seen::walks::may_rest;
+use linux_seen::walks::{is_open, may_rest};
 use linux_seen::whom::{edge_whom, event_whom};
 use linux_seen::{Rule, Whom};
 use linux_timers::{
@@ -46,14 +50,22 @@ use tm_base::{CpuId, NoMemory};
 pub struct Tally {
     /// Lines of any kind, with what stands behind the last line feed.
     pub lines: u64,
+    /// Those before the last line that says that a CPU's buffer begins there: they don't count.
+    pub lost: u64,
     /// Events of timer migration.
     pub events: u64,
     /// Exchanges on groups among them.
     pub exchanges: u64,
     /// Events after which no walk was under way.
     pub rests: u64,
+    /// The line of the last of these, or 0.
+    pub rested: u64,
     /// Places where lines were lost.
     pub losses: u64,
+    /// Events whose names begin as those of timer migration do, and that aren't known.
+    pub unknown: u64,
+    /// The line of the first of these, or 0.
+    pub unknown_at: u64,
     /// Who answered for what idle CPUs had told, at each rest.
     pub answers: Answers,
     /// Runs of other CPUs' timers, by how late they were.
@@ -75,12 +87,21 @@ pub struct Misfit {
     pub whom: Whom,
 }
 
+/// What is open at the end of a trace.
+#[derive(Clone, Copy)]
+pub struct Open {
+    /// So many exchanges are late; the line of one that comes before them may come after the
+    /// trace's end.
+    pub late: usize,
+    /// The first CPU that is in the middle of a walk.
+    pub walker: Option<CpuId>,
+}
+
 /// What is said of a trace.
 #[derive(Clone, Copy)]
 pub enum Verdict {
-    /// Each line fits. So many exchanges are late at the end; the line of one that comes before
-    /// them may come after the trace's end.
-    Fits(Tally, usize),
+    /// Each line that counts fits.
+    Fits(Tally, Open),
     /// A line breaks a rule.
     Broken(Misfit),
     /// This line, from 1, is none of a trace.
@@ -113,16 +134,16 @@ fn fault_of(seen: &Seen, cpu: CpuId, happening: &Happening) -> Option<Rule>
         Happening::Exchanged(exchange) => exchange_fault(seen, cpu, exchange),
         Happening::CpuTold(event) => cpu_fault(seen, cpu, event),
         Happening::Updated(update) => update_fault(seen, cpu, update),
-        Happening::Handling(_) => handling_fault(seen, cpu),
+        Happening::Handling(group) => handling_fault(seen, cpu, *group),
     }
 }
 
 /// The rule that looking after others breaks.
-fn handling_fault(seen: &Seen, cpu: CpuId) -> Option<Rule>
-    ensures { result ≡ handling_fault seen.now cpu }
+fn handling_fault(seen: &Seen, cpu: CpuId, group: u64) -> Option<Rule>
+    ensures { result ≡ handling_fault seen.now cpu group }
 {
     let own = seen.cpu(cpu);
-    if may_rest(own.walk) {
+    if may_rest(own.walk) && is_on_way(seen, &own, group) {
         None
     } else {
         Some(Rule::Walk)
@@ -265,7 +286,7 @@ fn take_line(
             *seen = Seen::new(alloc);
             Ok(None)
         }
-        Line::Foreign(cpu) => {
+        Line::Foreign(cpu, _) => {
             note_line(seen, line, *cpu)?;
             Ok(None)
         }
@@ -301,6 +322,29 @@ fn is_told(said: &Line) -> bool
     }
 }
 
+fn is_strange(said: &Line) -> bool
+    ensures { result ≡ is_strange said.now }
+{
+    match said {
+        Line::Foreign(_, strange) => *strange,
+        _ => false,
+    }
+}
+
+/// The first of such lines: this one, unless there was one before.
+fn first_line(is_such: bool, line: u64, before: u64) -> u64
+    ensures { result ≡ first_line is_such line before }
+{
+    if is_such && before == 0 { line } else { before }
+}
+
+/// The last of such lines.
+fn last_line(is_such: bool, line: u64, before: u64) -> u64
+    ensures { result ≡ last_line is_such line before }
+{
+    if is_such { line } else { before }
+}
+
 fn is_loss_line(said: &Line) -> bool
     ensures { result ≡ is_loss_line said.now }
 {
@@ -326,10 +370,14 @@ fn tally_after(tally: Tally, runs: Runs, timers: TimerTally, said: &Line, seen: 
 {
     Tally {
         lines: counted(tally.lines),
+        lost: tally.lost,
         events: counted_if(is_told(said), tally.events),
         exchanges: counted_if(is_exchange(said), tally.exchanges),
         rests: counted_if(rests_after(said, seen), tally.rests),
+        rested: last_line(rests_after(said, seen), counted(tally.lines), tally.rested),
         losses: counted_if(is_loss_line(said), tally.losses),
+        unknown: counted_if(is_strange(said), tally.unknown),
+        unknown_at: first_line(is_strange(said), counted(tally.lines), tally.unknown_at),
         answers: answers_if(rests_after(said, seen), tally.answers, seen),
         runs,
         differences: differences_after(tally.differences, seen, said),
@@ -386,26 +434,50 @@ pub fn take_text(
     }
 }
 
-/// How many exchanges are late.
-pub fn late_count(seen: &Seen) -> usize
-    ensures { result ≡ late_count seen.now }
+/// The CPU of what was seen.
+fn named(seen: Option<CpuSeen>) -> Option<CpuId>
+    ensures { result ≡ named seen }
 {
-    seen.late().len()
+    match seen {
+        Some(cpu) => Some(cpu.cpu),
+        None => None,
+    }
 }
 
-/// Before the first line; takes no memory.
-pub fn new_course(alloc: Global) -> Course
-    ensures { result ≡ start }
+/// The first CPU that is in the middle of a walk.
+fn first_walker(cpus: &[CpuSeen]) -> Option<CpuSeen>
+    ensures { result ≡ find (λ c. is_open c.walk) cpus.now }
+{
+    cpus.iter().copied().find(|cpu| is_open(cpu.walk))
+}
+
+/// What is open: how many exchanges are late, and the first CPU that is in the middle of a walk.
+pub fn open_at(seen: &Seen) -> Open
+    ensures { result ≡ open_at seen.now }
+{
+    Open {
+        late: seen.late().len(),
+        walker: named(first_walker(seen.cpus())),
+    }
+}
+
+/// Before the first line that counts, behind so many that don't; takes no memory.
+pub fn begin_course(alloc: Global, lost: u64) -> Course
+    ensures { result ≡ start_behind lost }
 {
     Course {
         seen: Seen::new(alloc),
         timers: TimersSeen::new(alloc),
         tally: Tally {
-            lines: 0,
+            lines: lost,
+            lost,
             events: 0,
             exchanges: 0,
             rests: 0,
+            rested: 0,
             losses: 0,
+            unknown: 0,
+            unknown_at: 0,
             answers: no_answers(),
             runs: no_runs(),
             differences: no_differences(),
@@ -414,11 +486,11 @@ pub fn new_course(alloc: Global) -> Course
     }
 }
 
-/// What the function on lists says of a trace.
-fn judge_lines(alloc: Global, bytes: &[u8]) -> Result<Verdict, NoMemory>
-    ensures { IfOk result (λ v. v ≡ judged start (lines_of bytes.now)) }
+/// What the function on lists says of these lines, behind so many that don't count.
+fn judge_lines(alloc: Global, lost: u64, bytes: &[u8]) -> Result<Verdict, NoMemory>
+    ensures { IfOk result (λ v. v ≡ judged (start_behind lost) (lines_of bytes.now)) }
 {
-    let mut course = new_course(alloc);
+    let mut course = begin_course(alloc, lost);
     let mut rest = bytes;
     while let Some((text, after)) = cut(rest, b'\n') {
         if let Some(verdict) = take_text(alloc, &mut course, text)? {
@@ -429,20 +501,29 @@ fn judge_lines(alloc: Global, bytes: &[u8]) -> Result<Verdict, NoMemory>
     if let Some(verdict) = take_text(alloc, &mut course, rest)? {
         return Ok(verdict);
     }
-    Ok(Verdict::Fits(course.tally, late_count(&course.seen)))
+    Ok(Verdict::Fits(course.tally, open_at(&course.seen)))
 }
 
-/// What is said of a trace. A misfit names the first line at which one is found, and the first rule
+/// What the function on lists says of the lines that count.
+fn judge_kept(alloc: Global, bytes: &[u8]) -> Result<Verdict, NoMemory>
+    ensures { IfOk result (λ v. v ≡ said_of (lines_of bytes.now)) }
+{
+    let (lost, kept) = last_start(bytes);
+    judge_lines(alloc, lost as u64, kept)
+}
+
+/// What is said of a trace: of its lines from the last one on that says that a CPU's buffer begins
+/// there, since what stands before lacks what was overwritten. A misfit names the first line at which one is found, and the first rule
 /// there in the order of `Rule`; an exchange that no other explains is found at the next one on its
 /// group, and named by its own line. The only error is want of memory.
 pub fn check_trace(alloc: Global, bytes: &[u8]) -> Result<Verdict, NoMemory>
-    ensures exact { IfOk result (λ v. v ≡ judged start (lines_of bytes.now)) }
+    ensures exact { IfOk result (λ v. v ≡ said_of (lines_of bytes.now)) }
     ensures fits { IfOk result (λ v. IsFitting v ↔ EachLineFits bytes.now) }
     ensures first { IfOk result (λ v. (IsFitting v → ⊥) → IsFirstFault bytes.now v) }
     ensures answered { IfOk result (λ v. IsFitting v → EachRestAnswers bytes.now) }
     ensures ordered { IfOk result (λ v. IsFitting v → HasOrders bytes.now) }
 {
     law_rests();
-    let verdict = judge_lines(alloc, bytes)?;
+    let verdict = judge_kept(alloc, bytes)?;
     Ok(verdict)
 }

@@ -4,8 +4,13 @@
 
 pub mod cpus;
 pub mod exchanges;
+mod firsts;
 pub mod judge;
+pub mod marks;
 pub mod orders;
 pub mod queues;
 
-pub use judge::{Course, Misfit, Tally, Verdict, check_trace, late_count, new_course, take_text};
+pub use judge::{
+    Course, Misfit, Open, Tally, Verdict, begin_course, check_trace, open_at, take_text,
+};
+pub use marks::last_start;

@@ -5,18 +5,18 @@ ghost use Rattle.std.specs.Prelude.{IfSome, None, OnOk};
 ghost use Rattle.std.specs.List.{list_any};
 ghost use Rattle.std.specs.Set.{remove_key};
 ghost use Rattle.linux_rules.specs.Orders.{CatchesUp, caught_up, comes_first, first_late, is_next};
-ghost use Rattle.linux_rules.specs.Orders.{is_on};
+ghost use Rattle.linux_rules.specs.Orders.{falls_to, is_coming, is_held, is_on};
 ghost use Rattle.linux_rules.specs.Orders.{could_change, is_changed, late_on, may_come};
 ghost use Rattle.linux_rules.specs.Orders.{may_precede, stuck_by, stuck_rule, taken, taken_on};
 
 use linux_lines::Exchange;
 use linux_seen::Rule;
 use linux_seen::rests::{has_bit, is_asleep};
-use linux_seen::seen::{CpuSeen, Late, Seen, Word};
+use linux_seen::seen::{CpuSeen, Late, Seen, Walk, Word};
 use linux_seen::tree::parent_fits;
 use linux_seen::walks::{may_join, may_leave};
 use linux_seen::words::{follows, word_after};
-use tm_base::NoMemory;
+use tm_base::{CpuId, NoMemory};
 
 /// The most exchanges that are late on a group while their order is looked for.
 pub const MOST_LATE: usize = 40;
@@ -45,48 +45,104 @@ fn comes_first(group: u64, waiting: &[Late], late: &Late) -> bool
         .all(|other| !is_on(group, other) || may_precede(late, other))
 }
 
-/// Whether an exchange may be made next on a group of this word, while these are late.
-pub fn is_next(group: u64, word: Word, waiting: &[Late], late: &Late) -> bool
-    ensures { result ≡ is_next group word waiting.now late.now }
+/// Whether a CPU, neither this one nor that of the exchange, is on its way to that group, and may
+/// have been there before the exchange.
+fn is_coming(own: CpuId, group: u64, late: &Late, cpu: &CpuSeen) -> bool
+    ensures { result ≡ is_coming own group late.now cpu.now }
 {
-    is_on(group, late) && follows(word, &late.exchange) && comes_first(group, waiting, late)
+    cpu.cpu.0 != own.0
+        && cpu.cpu.0 != late.cpu.0
+        && cpu.last < late.line
+        && falls_to(group, cpu.walk)
+}
+
+/// Whether a walk of deactivation comes to this group.
+fn falls_to(group: u64, walk: Walk) -> bool
+    ensures { result ≡ falls_to group walk }
+{
+    match walk {
+        Walk::Falling(next) => next.group == group,
+        _ => false,
+    }
+}
+
+fn some_coming(own: CpuId, group: u64, late: &Late, cpus: &[CpuSeen]) -> bool
+    ensures { result ≡ list_any (is_coming own group late.now) cpus.now }
+{
+    cpus.iter().any(|cpu| is_coming(own, group, late, cpu))
+}
+
+/// Whether a child that comes back has to wait: its bit still stands, and a CPU that is on its way
+/// to the group may have taken it out before, with its line to come (`tmigr_inactive_up`).
+fn is_held(cpus: &[CpuSeen], own: CpuId, group: u64, word: Word, late: &Late) -> bool
+    ensures { result ≡ is_held cpus.now own group word late.now }
+{
+    late.exchange.joins
+        && has_bit(word.active, late.exchange.bit)
+        && some_coming(own, group, late, cpus)
+}
+
+/// Whether an exchange may be made next on a group of this word, while these are late, at a line of
+/// this CPU.
+pub fn is_next(
+    cpus: &[CpuSeen],
+    own: CpuId,
+    group: u64,
+    word: Word,
+    waiting: &[Late],
+    late: &Late,
+) -> bool
+    ensures { result ≡ is_next cpus.now own group word waiting.now late.now }
+{
+    is_on(group, late)
+        && follows(word, &late.exchange)
+        && comes_first(group, waiting, late)
+        && !is_held(cpus, own, group, word, late)
 }
 
 /// The place of the late exchange that may be made next on a group of this word.
-fn place_of_next(group: u64, word: Word, waiting: &[Late]) -> Option<usize>
-    ensures value { result ≡ position (is_next group word waiting.now) waiting.now }
+fn place_of_next(
+    cpus: &[CpuSeen],
+    own: CpuId,
+    group: u64,
+    word: Word,
+    waiting: &[Late],
+) -> Option<usize>
+    ensures value { result ≡ position (is_next cpus.now own group word waiting.now) waiting.now }
     ensures within { IfSome result (λ at. at < length waiting.now) }
 {
     waiting
         .iter()
-        .position(|late| is_next(group, word, waiting, late))
+        .position(|late| is_next(cpus, own, group, word, waiting, late))
 }
 
 /// Takes the late exchange that may be made next on a group of this word, if there is one.
-fn take_next(seen: &mut Seen, group: u64, word: Word) -> Option<Late>
-    ensures value { result ≡ find (is_next group word seen.old.late) seen.old.late }
+fn take_next(seen: &mut Seen, own: CpuId, group: u64, word: Word) -> Option<Late>
+    ensures value { result
+        ≡ find (is_next seen.old.cpus own group word seen.old.late) seen.old.late }
     ensures left { IfSome result (λ a. seen.new ≡ record seen.old {
-      late = remove_key (is_next group word seen.old.late) seen.old.late;
+      late = remove_key (is_next seen.old.cpus own group word seen.old.late) seen.old.late;
     }) }
     ensures none { result ≡ None → seen.new ≡ seen.old }
 {
-    let at = place_of_next(group, word, seen.late())?;
+    let at = place_of_next(seen.cpus(), own, group, word, seen.late())?;
     Some(seen.take_late(at))
 }
 
 /// Takes the late exchanges on a group that may be made now, one after another, at most so many;
 /// the group's word is then what it answers.
-fn catch_up(seen: &mut Seen, rounds: usize, group: u64, word: Word) -> Word
-    ensures word { result ≡ (caught_up rounds group word seen.old.late).word }
+fn catch_up(seen: &mut Seen, own: CpuId, rounds: usize, group: u64, word: Word) -> Word
+    ensures word { result
+        ≡ (caught_up seen.old.cpus own rounds group word seen.old.late).word }
     ensures late { seen.new ≡ record seen.old {
-      late = (caught_up rounds group word seen.old.late).late;
+      late = (caught_up seen.old.cpus own rounds group word seen.old.late).late;
     } }
 {
     if rounds == 0 {
         return word;
     }
-    match take_next(seen, group, word) {
-        Some(late) => catch_up(seen, rounds - 1, group, word_after(&late.exchange)),
+    match take_next(seen, own, group, word) {
+        Some(late) => catch_up(seen, own, rounds - 1, group, word_after(&late.exchange)),
         None => word,
     }
 }
@@ -97,32 +153,48 @@ pub fn law_caught_up()
     ensures { CatchesUp }
 {}
 
-/// Takes an exchange on a known word with late ones behind it, or sets it aside; the group's word
-/// is then what it answers.
-fn take_on(seen: &mut Seen, word: Word, group: u64, late: Late) -> Result<Word, NoMemory>
-    ensures word { IfOk result (λ w. w ≡ (taken_on word group seen.old.late late).word) }
+/// Takes an exchange on a known word with late ones behind it, or sets it aside behind those that may
+/// be made now; the group's word is then what it answers.
+fn take_on(
+    seen: &mut Seen,
+    word: Word,
+    own: CpuId,
+    group: u64,
+    late: Late,
+) -> Result<Word, NoMemory>
+    ensures word { IfOk result
+        (λ w. w ≡ (taken_on word seen.old.cpus own group seen.old.late late).word) }
     ensures late { OnOk result (seen.new ≡ record seen.old {
-      late = (taken_on word group seen.old.late late).late;
+      late = (taken_on word seen.old.cpus own group seen.old.late late).late;
     }) }
 {
-    if is_next(group, word, seen.late(), &late) {
+    if is_next(seen.cpus(), own, group, word, seen.late(), &late) {
         let rounds = seen.late().len();
-        return Ok(catch_up(seen, rounds, group, word_after(&late.exchange)));
+        let next = word_after(&late.exchange);
+        return Ok(catch_up(seen, own, rounds, group, next));
     }
     seen.set_aside(late)?;
-    Ok(word)
+    let rounds = seen.late().len();
+    Ok(catch_up(seen, own, rounds, group, word))
 }
 
 /// Takes an exchange with late ones behind it, or sets it aside; the group's word is then what it
 /// answers.
-pub fn take(seen: &mut Seen, word: Option<Word>, group: u64, late: Late) -> Result<Word, NoMemory>
-    ensures word { IfOk result (λ w. w ≡ (taken word group seen.old.late late).word) }
+pub fn take(
+    seen: &mut Seen,
+    word: Option<Word>,
+    own: CpuId,
+    group: u64,
+    late: Late,
+) -> Result<Word, NoMemory>
+    ensures word { IfOk result
+        (λ w. w ≡ (taken word seen.old.cpus own group seen.old.late late).word) }
     ensures late { OnOk result (seen.new ≡ record seen.old {
-      late = (taken word group seen.old.late late).late;
+      late = (taken word seen.old.cpus own group seen.old.late late).late;
     }) }
 {
     match word {
-        Some(known) => take_on(seen, known, group, late),
+        Some(known) => take_on(seen, known, own, group, late),
         None => Ok(word_after(&late.exchange)),
     }
 }

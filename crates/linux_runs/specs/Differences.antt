@@ -68,7 +68,7 @@ twice_by RunElsewhere s t = false
 unfoldable pub differences_after : Differences → Sight → Line → Differences
 differences_after d s Remark = d
 differences_after d s Loss = d
-differences_after d s (Foreign cpu) = d
+differences_after d s (Foreign cpu odd) = d
 differences_after d s (Told cpu at (GroupMade place)) = d
 differences_after d s (Told cpu at (GroupJoined child j)) = d
 differences_after d s (Told cpu at (CpuJoined joined j)) = d

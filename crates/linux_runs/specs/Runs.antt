@@ -3,6 +3,7 @@ use Rattle.std.specs.Prelude.{ℕ, ◌-◌, ◌==◌, ◌&&◌, ◌||◌, not, n
 use Rattle.std.specs.Prelude.{Option, Some, None, is_some, is_none, if◌then◌else◌}
 use Rattle.std.specs.List.{list_any}
 use Rattle.tm_base.specs.declared.names.CpuId.{CpuId}
+use Rattle.linux_lines.specs.declared.events.TheConstants.{NO_EXPIRY}
 use Rattle.linux_lines.specs.declared.events.CpuEvent.{CpuEvent}
 use Rattle.linux_lines.specs.declared.events.CpuKind.{CpuKind}
 use Rattle.linux_lines.specs.declared.events.CpuKind.TheVariants.{Online, Awake, Asleep, Offline}
@@ -38,6 +39,9 @@ no_runs = record {
   astray = 0;
   itself = 0;
   queued = 0;
+  stopped = 0;
+  told = 0;
+  past = 0;
 }
 
 -- how long an event has been due at this time, where both are known
@@ -92,13 +96,30 @@ elsewhere r s own at t =
           (counted_late r (lateness at (cpu_at s t.cpu).event)).queued;
     }
 
+-- the walk of a CPU that falls asleep ended at a group that it found asleep: the exchange there had
+-- left a migrator, which was gone when the group was updated
+abbrev pub stopped_by : Runs → CpuSeen → Runs
+stopped_by r c = record r { stopped = counted_if c.slept r.stopped }
+
+-- an expiry that is told at this time is past
+abbrev pub is_past : ℕ → ℕ → Bool
+is_past now expiry = nat_lt expiry now
+
+-- an expiry that a CPU tells as it falls asleep, where there is one and the line has a time
+abbrev pub told_by : Runs → Option ℕ → ℕ → Runs
+told_by r None expiry = r
+told_by r (Some now) expiry = record r {
+  told = counted_if (not (expiry == NO_EXPIRY)) r.told;
+  past = counted_if (is_past now expiry) r.past;
+}
+
 -- the runs after an event of a CPU
 abbrev pub run_counted : CpuKind → Runs → Sight → CpuId → Option ℕ → CpuEvent → Runs
 run_counted RunElsewhere r s own at t = elsewhere r s own at t
 run_counted Online r s own at t = r
 run_counted Awake r s own at t = r
-run_counted Asleep r s own at t = r
-run_counted Offline r s own at t = r
+run_counted Asleep r s own at t = told_by (stopped_by r (cpu_at s own)) at t.expiry
+run_counted Offline r s own at t = stopped_by r (cpu_at s own)
 run_counted NewTimer r s own at t = r
 run_counted StillAsleep r s own at t = r
 
@@ -106,7 +127,7 @@ run_counted StillAsleep r s own at t = r
 unfoldable pub runs_after : Runs → Sight → Line → Runs
 runs_after r s Remark = r
 runs_after r s Loss = r
-runs_after r s (Foreign cpu) = r
+runs_after r s (Foreign cpu odd) = r
 runs_after r s (Told cpu at (GroupMade place)) = r
 runs_after r s (Told cpu at (GroupJoined child j)) = r
 runs_after r s (Told cpu at (CpuJoined joined j)) = r

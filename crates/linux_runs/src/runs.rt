@@ -3,9 +3,10 @@
 ghost use Rattle.std.specs.Prelude.{◌≡◌};
 ghost use Rattle.std.specs.List.{list_any};
 ghost use Rattle.linux_runs.specs.Runs.{counted_late, elsewhere, is_astray, is_before, is_lower};
+ghost use Rattle.linux_runs.specs.Runs.{stopped_by, told_by};
 ghost use Rattle.linux_runs.specs.Runs.{lateness, no_runs, run_counted, runs_after, word_astray};
 
-use linux_lines::{CpuEvent, CpuKind, Happening, Line};
+use linux_lines::{CpuEvent, CpuKind, Happening, Line, NO_EXPIRY};
 use linux_seen::counts::{counted, counted_if};
 use linux_seen::rests::known_word;
 use linux_seen::seen::{CpuSeen, Seen, Word};
@@ -48,6 +49,13 @@ pub struct Runs {
     pub itself: u64,
     /// Runs for a CPU while a lower child of its leaf has an event of the same expiry.
     pub queued: u64,
+    /// Walks of CPUs that fall asleep which ended at a group that their update found asleep
+    /// (`tmigr_inactive_up`): the group's event may be carried by nobody.
+    pub stopped: u64,
+    /// Expiries that CPUs tell as they fall asleep, by lines with a time.
+    pub told: u64,
+    /// Those among them that are past by then: with the clock `mono` there are few.
+    pub past: u64,
 }
 
 /// No run.
@@ -64,6 +72,9 @@ pub fn no_runs() -> Runs
         astray: 0,
         itself: 0,
         queued: 0,
+        stopped: 0,
+        told: 0,
+        past: 0,
     }
 }
 
@@ -214,6 +225,32 @@ fn run_counted(runs: Runs, seen: &Seen, own: CpuId, at: Option<u64>, event: &Cpu
 {
     match event.kind {
         CpuKind::RunElsewhere => elsewhere(runs, seen, own, at, event),
+        CpuKind::Asleep => told_by(stopped_by(runs, &seen.cpu(own)), at, event.expiry),
+        CpuKind::Offline => stopped_by(runs, &seen.cpu(own)),
         _ => runs,
+    }
+}
+
+/// Whether the walk of a CPU that falls asleep ended at a group that it found asleep is counted.
+fn stopped_by(runs: Runs, cpu: &CpuSeen) -> Runs
+    ensures { result ≡ stopped_by runs cpu.now }
+{
+    Runs {
+        stopped: counted_if(cpu.slept, runs.stopped),
+        ..runs
+    }
+}
+
+/// An expiry that a CPU tells at this time as it falls asleep is counted.
+fn told_by(runs: Runs, at: Option<u64>, expiry: u64) -> Runs
+    ensures { result ≡ told_by runs at expiry }
+{
+    match at {
+        Some(now) => Runs {
+            told: counted_if(expiry != NO_EXPIRY, runs.told),
+            past: counted_if(expiry < now, runs.past),
+            ..runs
+        },
+        None => runs,
     }
 }

@@ -46,6 +46,8 @@ unknown_cpu cpu = record {
   wakeup = None;
   first = None;
   looks = None;
+  left = None;
+  slept = false;
 }
 
 -- what is there, or else this

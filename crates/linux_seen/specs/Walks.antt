@@ -58,14 +58,25 @@ leads e = same_number (named_by e.migrator) (Some e.bit)
 abbrev pub next_of : Exchange → Bool → Next
 next_of e surely = record { group = e.parent; from = e.place.group; surely = surely }
 
+-- a walk of activation that goes on; one that hung a group stays open over an interrupt, since it is
+-- made with interrupts on
+abbrev pub going_on : Walk → Next → Walk
+going_on (Hung old) next = Hung next
+going_on (Rising old) next = Rising next
+going_on (Falling old) next = Rising next
+going_on Unknown next = Rising next
+going_on Closed next = Rising next
+going_on Ending next = Rising next
+
 -- an activation after its exchange
-abbrev pub rise_from : Option Word → Exchange → Walk
-rise_from (Some word) e = if word.migrator == 0 then Rising (next_of e true) else Closed
-rise_from None e = if leads e then Rising (next_of e false) else Closed
+abbrev pub rise_from : Walk → Option Word → Exchange → Walk
+rise_from walk (Some word) e =
+    if word.migrator == 0 then going_on walk (next_of e true) else Closed
+rise_from walk None e = if leads e then going_on walk (next_of e false) else Closed
 
 -- a walk of activation goes on exactly where there was no migrator
-abbrev pub rise : Option Word → Exchange → Walk
-rise before e = if e.parent == 0 then Closed else rise_from before e
+abbrev pub rise : Walk → Option Word → Exchange → Walk
+rise walk before e = if e.parent == 0 then Closed else rise_from walk before e
 
 -- a deactivation after its exchange
 abbrev pub fall_from : Option Word → Exchange → Walk
@@ -78,8 +89,8 @@ fall before e =
     if e.parent == 0 || not (e.migrator == 0) then Ending else fall_from before e
 
 -- a walk after its exchange
-abbrev pub walk_after : Option Word → Exchange → Walk
-walk_after before e = if e.joins then rise before e else fall before e
+abbrev pub walk_after : Walk → Option Word → Exchange → Walk
+walk_after walk before e = if e.joins then rise walk before e else fall before e
 
 -- the CPU may do something else than walk
 abbrev pub may_rest : Walk → Bool

@@ -25,6 +25,8 @@ pub enum Rule {
     /// An event is stored for a sleeping child alone; it is the child's first, at a leaf what the
     /// CPU tells, and no earlier than the group's.
     Event,
+    /// A group's cached first event is no later than one that another child has there.
+    First,
     /// A CPU's timers are run by another one when its event in its leaf is due.
     Remote,
     /// An idle CPU keeps the first event of a sleeping top to which its walk has come, or none.

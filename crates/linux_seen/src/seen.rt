@@ -137,6 +137,11 @@ pub struct CpuSeen {
     pub first: Option<u64>,
     /// The group to which it came last to run timers of others.
     pub looks: Option<Look>,
+    /// The group at which its walk of deactivation has to end, since its exchange there left a
+    /// migrator.
+    pub left: Option<u64>,
+    /// Whether the update there found that group asleep all the same.
+    pub slept: bool,
 }
 
 /// A group of which nothing was seen.
@@ -173,6 +178,8 @@ pub fn unknown_cpu(cpu: CpuId) -> CpuSeen
         wakeup: None,
         first: None,
         looks: None,
+        left: None,
+        slept: false,
     }
 }
 

@@ -2,6 +2,7 @@
 
 ghost use Rattle.std.specs.Prelude.{◌≡◌};
 ghost use Rattle.linux_seen.specs.Walks.{allows, begins, came_from, fall, is_open, leads, may_end};
+ghost use Rattle.linux_seen.specs.Walks.{going_on};
 ghost use Rattle.linux_seen.specs.Walks.{may_join, may_leave, may_rest, next_of, quiet, rise};
 ghost use Rattle.linux_seen.specs.Walks.{walk_after};
 
@@ -85,10 +86,21 @@ fn next_of(exchange: &Exchange, surely: bool) -> Next
     }
 }
 
+/// A walk of activation that goes on. One that hung a group stays open over an interrupt, since it
+/// is made with interrupts on (`tmigr_setup_groups`).
+fn going_on(walk: Walk, next: Next) -> Walk
+    ensures { result ≡ going_on walk next }
+{
+    match walk {
+        Walk::Hung(_) => Walk::Hung(next),
+        _ => Walk::Rising(next),
+    }
+}
+
 /// A walk of activation after an exchange on this word: it goes on exactly where there was no
 /// migrator.
-fn rise(before: Option<Word>, exchange: &Exchange) -> Walk
-    ensures { result ≡ rise before exchange.now }
+fn rise(walk: Walk, before: Option<Word>, exchange: &Exchange) -> Walk
+    ensures { result ≡ rise walk before exchange.now }
 {
     if exchange.parent == 0 {
         return Walk::Closed;
@@ -96,14 +108,14 @@ fn rise(before: Option<Word>, exchange: &Exchange) -> Walk
     match before {
         Some(word) => {
             if word.migrator == 0 {
-                Walk::Rising(next_of(exchange, true))
+                going_on(walk, next_of(exchange, true))
             } else {
                 Walk::Closed
             }
         }
         None => {
             if leads(exchange) {
-                Walk::Rising(next_of(exchange, false))
+                going_on(walk, next_of(exchange, false))
             } else {
                 Walk::Closed
             }
@@ -132,11 +144,11 @@ fn fall(before: Option<Word>, exchange: &Exchange) -> Walk
 }
 
 /// A CPU's walk after an exchange on this word.
-pub fn walk_after(before: Option<Word>, exchange: &Exchange) -> Walk
-    ensures { result ≡ walk_after before exchange.now }
+pub fn walk_after(walk: Walk, before: Option<Word>, exchange: &Exchange) -> Walk
+    ensures { result ≡ walk_after walk before exchange.now }
 {
     if exchange.joins {
-        rise(before, exchange)
+        rise(walk, before, exchange)
     } else {
         fall(before, exchange)
     }

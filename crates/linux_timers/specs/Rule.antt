@@ -85,7 +85,7 @@ event_fits s cpu at (Softirq vec) = true
 unfoldable pub timer_fault : TimerSight → Line → Option CpuId
 timer_fault s Remark = None
 timer_fault s Loss = None
-timer_fault s (Foreign cpu) = None
+timer_fault s (Foreign cpu odd) = None
 timer_fault s (Told cpu at h) = None
 timer_fault s (OfTimer cpu at e) = if event_fits s cpu at e then None else Some cpu
 
@@ -157,6 +157,6 @@ timers_told s cpu (Handling group) = s
 unfoldable pub timers_after : TimerSight → ℕ → Line → TimerSight
 timers_after s line Remark = s
 timers_after s line Loss = no_timers
-timers_after s line (Foreign cpu) = s
+timers_after s line (Foreign cpu odd) = s
 timers_after s line (Told cpu at h) = timers_told s cpu h
 timers_after s line (OfTimer cpu at e) = timers_learned s line cpu at e

@@ -49,7 +49,7 @@ run_counted t state cpu e = record {
 unfoldable pub timer_tally_after : TimerTally → TimerSight → Line → TimerTally
 timer_tally_after t s Remark = t
 timer_tally_after t s Loss = t
-timer_tally_after t s (Foreign cpu) = t
+timer_tally_after t s (Foreign cpu odd) = t
 timer_tally_after t s (Told cpu at h) = t
 timer_tally_after t s (OfTimer cpu at (Armed a)) = record t { armed = counted t.armed }
 timer_tally_after t s (OfTimer cpu at (Removed timer)) = t

@@ -302,7 +302,7 @@ pub fn take_timers(
 {
     match said {
         Line::Remark => Ok(()),
-        Line::Foreign(_) => Ok(()),
+        Line::Foreign(_, _) => Ok(()),
         Line::Loss => {
             *seen = TimersSeen::new(alloc);
             Ok(())

@@ -8,14 +8,14 @@ use Rattle.tm_io.specs.Seen.{SinkSeen, SourceSeen, SourceFailed}
 use Rattle.tm_io.specs.Sources.{TakesAll, TakesCount}
 use Rattle.linux_all.specs.linux_rules.declared.judge.Verdict.{Verdict}
 use Rattle.linux_all.specs.linux_rules.declared.judge.Verdict.TheVariants.{Fits, Broken, NoTrace}
-use Rattle.linux_all.specs.linux_rules.Judge.{judged, start}
+use Rattle.linux_all.specs.linux_rules.Judge.{said_of}
 use Rattle.linux_view.specs.declared.commands.Reply.{Reply}
 use Rattle.linux_view.specs.declared.commands.Reply.TheVariants.{Usage, BrokenSource, LongSource}
 use Rattle.linux_view.specs.declared.commands.Reply.TheVariants.{Judged}
-use Rattle.linux_view.specs.declared.statuses.TheConstants.{FITS, MISFIT, MOST_TRACE_BYTES}
+use Rattle.linux_view.specs.declared.statuses.TheConstants.{MISFIT, MOST_TRACE_BYTES}
 use Rattle.linux_view.specs.declared.statuses.TheConstants.{NO_MEMORY, NO_TRACE, READ_FAULT}
 use Rattle.linux_view.specs.declared.statuses.TheConstants.{TOO_LONG, USAGE, WRITE_FAULT}
-use Rattle.linux_view.specs.Texts.{read_fault_line, too_long_line, usage_line, verdict_text}
+use Rattle.linux_view.specs.Texts.{fits_status, read_fault_line, too_long_line, usage_line, verdict_text}
 
 -- the one word `linux`
 abbrev pub is_linux : List (String Global) → Bool
@@ -32,7 +32,7 @@ reply_text (Judged verdict) = verdict_text verdict
 
 -- the status of a verdict
 abbrev pub status_of_verdict : Verdict → ℕ
-status_of_verdict (Fits tally late) = FITS
+status_of_verdict (Fits tally ends) = fits_status tally
 status_of_verdict (Broken misfit) = MISFIT
 status_of_verdict (NoTrace line fault) = NO_TRACE
 
@@ -50,7 +50,7 @@ IsReply BrokenSource words old new = SourceFailed old new
 IsReply LongSource words old new = TakesCount old new (MOST_TRACE_BYTES + 1)
 IsReply (Judged verdict) words old new =
     (bytes : List ℕ) × TakesAll old new MOST_TRACE_BYTES bytes
-    × (verdict ≡ judged start (lines_of bytes))
+    × (verdict ≡ said_of (lines_of bytes))
 
 -- all of the text was written, with this status; or writing stopped before its end
 pub data IsEnd (text : List ℕ) (whole : ℕ) (old new : SinkSeen) (status : ℕ) : Type 0 where

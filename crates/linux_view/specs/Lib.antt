@@ -1,3 +1,4 @@
+pub mod Notes
 pub mod Texts
 pub mod Ends
 pub use Rattle.linux_all.specs as linux_all

@@ -2,7 +2,6 @@
 use Rattle.std.specs.Prelude.{ℕ, zero, suc, ◌+◌, ◌/◌, ◌%◌, nat_lt, List, [], ◌∷◌, ◌++◌, codes, ◌==◌}
 use Rattle.std.specs.Prelude.{◌&&◌}
 use Rattle.std.specs.Prelude.{Option, Some, None, if◌then◌else◌, flat_map, length, nat_eq}
-use Rattle.std.specs.Fmt.{decimal}
 use Rattle.tm_base.specs.declared.names.CpuId.{CpuId}
 use Rattle.linux_lines.specs.declared.faults.LineFault.{LineFault}
 use Rattle.linux_lines.specs.declared.faults.LineFault.TheVariants.{NoEvent, BadCpu, FieldMissing}
@@ -10,18 +9,20 @@ use Rattle.linux_lines.specs.declared.faults.LineFault.TheVariants.{BadNumber, O
 use Rattle.linux_lines.specs.declared.faults.LineFault.TheVariants.{HiddenPointer}
 use Rattle.linux_seen.specs.declared.rules.Rule.{Rule}
 use Rattle.linux_seen.specs.declared.rules.Rule.TheVariants.{Group, Tree, Node, Walk, Exchange}
-use Rattle.linux_seen.specs.declared.rules.Rule.TheVariants.{Order, Cpu, Event, Remote, Wakeup}
+use Rattle.linux_seen.specs.declared.rules.Rule.TheVariants.{Order, Cpu, Event, First, Remote, Wakeup}
 use Rattle.linux_seen.specs.declared.rules.Rule.TheVariants.{Rest, Told}
 use Rattle.linux_seen.specs.declared.rules.Rule.TheVariants.{Timer}
 use Rattle.linux_all.specs.linux_rules.declared.judge.Tally.{Tally}
+use Rattle.linux_view.specs.Notes.{count_text, notes_text}
 use Rattle.linux_told.specs.declared.told.Answers.{Answers}
 use Rattle.linux_seen.specs.declared.whom.Whom.{Whom}
 use Rattle.linux_runs.specs.declared.runs.Runs.{Runs}
 use Rattle.linux_runs.specs.declared.differences.Differences.{Differences}
 use Rattle.linux_timers.specs.declared.tallies.TimerTally.{TimerTally}
-use Rattle.linux_view.specs.declared.statuses.TheConstants.{FITS, MISFIT, NO_TRACE}
+use Rattle.linux_view.specs.declared.statuses.TheConstants.{FITS, MISFIT, NO_TRACE, NOTHING}
 use Rattle.linux_view.specs.declared.texts.TheConstants.{POINTER_DIGITS}
 use Rattle.linux_all.specs.linux_rules.declared.judge.Misfit.{Misfit}
+use Rattle.linux_all.specs.linux_rules.declared.judge.Open.{Open}
 use Rattle.linux_all.specs.linux_rules.declared.judge.Verdict.{Verdict}
 use Rattle.linux_all.specs.linux_rules.declared.judge.Verdict.TheVariants.{Fits, Broken, NoTrace}
 
@@ -54,6 +55,8 @@ rule_text Order =
     codes "the search for an order gave up, as more than 40 exchanges on a group are late (tmigr_active_up, tmigr_inactive_up)"
 rule_text Cpu =
     codes "a CPU wakes where it sleeps, and only a sleeping one is run elsewhere (tmigr_cpu_activate, tmigr_handle_remote_cpu)"
+rule_text First =
+    codes "a group's first event is no later than one that another child has there (tmigr_next_groupevt)"
 rule_text Remote =
     codes "a CPU's timers are run elsewhere when its event is due (tmigr_handle_remote_cpu)"
 rule_text Event = codes "an event is the first of a sleeping child (tmigr_update_events)"
@@ -69,15 +72,11 @@ rule_text Timer =
 -- why a line is no line of a trace
 unfoldable pub fault_text : LineFault → List ℕ
 fault_text NoEvent = codes "there is no [CPU] with a time behind it"
-fault_text BadCpu = codes "the CPU is no number below 512"
+fault_text BadCpu = codes "the CPU is past 511, the last one that is known here"
 fault_text FieldMissing = codes "a field is missing"
 fault_text BadNumber = codes "a field is no number"
 fault_text OutOfRange = codes "a field is out of range"
 fault_text HiddenPointer = codes "pointers are hidden: boot with no_hash_pointers"
-
--- a number behind these bytes
-unfoldable pub count_text : List ℕ → ℕ → List ℕ
-count_text before n = before ++ decimal n
 
 -- what was counted, under this heading
 unfoldable pub tally_text : List ℕ → Tally → List ℕ
@@ -143,18 +142,22 @@ unfoldable pub others_text : Tally → List ℕ
 others_text t =
     runs_text t.runs ++ events_text t.differences ++ orders_text t.runs t.timers.forwarded
 
--- what stands last: what isn't known, and the timers
-unfoldable pub last_text : Tally → ℕ → List ℕ
-last_text t late = open_text t.runs late ++ timers_text t.timers
+-- what stands last: what isn't known, the timers, and notes
+unfoldable pub last_text : Tally → Open → List ℕ
+last_text t ends = open_text t.runs ends.late ++ timers_text t.timers ++ notes_text t ends
 
 -- all counts, under this heading
-unfoldable pub counts_text : List ℕ → Tally → ℕ → List ℕ
-counts_text heading t late =
-    tally_text heading t ++ answers_text t.answers ++ others_text t ++ last_text t late
+unfoldable pub counts_text : List ℕ → Tally → Open → List ℕ
+counts_text heading t ends =
+    tally_text heading t ++ answers_text t.answers ++ others_text t ++ last_text t ends
+
+-- the heading of a trace that fits, or has no event of timer migration
+abbrev pub fits_heading : Tally → List ℕ
+fits_heading t = if t.events == 0 then codes "nothing to judge: lines " else codes "fits: lines "
 
 -- the text of a trace that fits
-abbrev pub fits_text : Tally → ℕ → List ℕ
-fits_text t late = counts_text (codes "fits: lines ") t late
+abbrev pub fits_text : Tally → Open → List ℕ
+fits_text t ends = counts_text (fits_heading t) t ends
 
 -- one digit in hexadecimal
 abbrev pub hex_digit : ℕ → ℕ
@@ -193,7 +196,7 @@ no_trace_text line fault =
 
 -- THE TEXT of a verdict
 unfoldable pub verdict_text : Verdict → List ℕ
-verdict_text (Fits tally late) = fits_text tally late
+verdict_text (Fits tally ends) = fits_text tally ends
 verdict_text (Broken misfit) = broken_text misfit
 verdict_text (NoTrace line fault) = no_trace_text line fault
 
@@ -204,8 +207,8 @@ misfits_text ms = flat_map broken_text ms
 -- what stands behind so many misfits: their number with all counts, or that a line is none of a
 -- trace
 unfoldable pub end_text : ℕ → Verdict → List ℕ
-end_text n (Fits tally late) =
-    count_text (codes "misfits: ") n ++ counts_text (codes "\nread: lines ") tally late
+end_text n (Fits tally ends) =
+    count_text (codes "misfits: ") n ++ counts_text (codes "\nread: lines ") tally ends
 end_text n (Broken misfit) = broken_text misfit
 end_text n (NoTrace line fault) = no_trace_text line fault
 
@@ -214,8 +217,12 @@ abbrev pub all_text : List Misfit → Verdict → List ℕ
 all_text [] end = verdict_text end
 all_text (m ∷ ms) end = misfits_text (m ∷ ms) ++ end_text (length (m ∷ ms)) end
 
+-- the status of a trace that fits, or has no event of timer migration
+abbrev pub fits_status : Tally → ℕ
+fits_status t = if t.events == 0 then NOTHING else FITS
+
 -- the status of all that was found
 abbrev pub all_status : List Misfit → Verdict → ℕ
-all_status ms (Fits tally late) = if nat_eq (length ms) 0 then FITS else MISFIT
+all_status ms (Fits tally ends) = if nat_eq (length ms) 0 then fits_status tally else MISFIT
 all_status ms (Broken misfit) = MISFIT
 all_status ms (NoTrace line fault) = NO_TRACE

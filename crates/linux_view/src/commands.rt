@@ -5,9 +5,9 @@ ghost use Rattle.tm_io.specs.Seen.{SourceUnbroken};
 ghost use Rattle.linux_view.specs.Ends.{IsEnd, IsReply, Reads, is_linux, reply_text, status_of};
 
 use crate::statuses::{
-    FITS, MISFIT, MOST_TRACE_BYTES, NO_MEMORY, NO_TRACE, READ_FAULT, TOO_LONG, USAGE, WRITE_FAULT,
+    MISFIT, MOST_TRACE_BYTES, NO_MEMORY, NO_TRACE, READ_FAULT, TOO_LONG, USAGE, WRITE_FAULT,
 };
-use crate::texts::{print_verdict, read_fault_text, too_long_text, usage_text};
+use crate::texts::{fits_status, print_verdict, read_fault_text, too_long_text, usage_text};
 use linux_all::{Verdict, check_trace};
 use std::alloc::Global;
 use text_words::push_bytes;
@@ -85,7 +85,7 @@ fn status_of(reply: Reply) -> u8
         Reply::Usage => USAGE,
         Reply::BrokenSource => READ_FAULT,
         Reply::LongSource => TOO_LONG,
-        Reply::Judged(Verdict::Fits(_, _)) => FITS,
+        Reply::Judged(Verdict::Fits(tally, _)) => fits_status(&tally),
         Reply::Judged(Verdict::Broken(_)) => MISFIT,
         Reply::Judged(Verdict::NoTrace(_, _)) => NO_TRACE,
     }

@@ -26,5 +26,8 @@ pub const TOO_LONG: u8 = 7;
 /// What was read is no trace.
 pub const NO_TRACE: u8 = 10;
 
+/// No event of timer migration was read.
+pub const NOTHING: u8 = 13;
+
 /// A line breaks a rule.
 pub const MISFIT: u8 = 12;

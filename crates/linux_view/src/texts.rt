@@ -2,7 +2,8 @@
 
 ghost use Rattle.std.specs.Prelude.{◌≡◌, ◌<◌, ◌++◌, codes, IfOk, OnOk};
 ghost use Rattle.linux_view.specs.Texts.{all_status, all_text, answers_text, broken_text};
-ghost use Rattle.linux_view.specs.Texts.{count_text};
+ghost use Rattle.linux_view.specs.Notes.{count_text};
+ghost use Rattle.linux_view.specs.Texts.{fits_heading, fits_status};
 ghost use Rattle.linux_view.specs.Texts.{counts_text, end_text, fault_text, misfits_text};
 ghost use Rattle.linux_view.specs.Texts.{no_trace_text, read_fault_line, too_long_line};
 ghost use Rattle.linux_view.specs.Texts.{rule_text, tally_text, usage_line, verdict_text};
@@ -12,15 +13,16 @@ ghost use Rattle.linux_view.specs.Texts.{orders_text};
 ghost use Rattle.linux_view.specs.Texts.{others_text, runs_text, tick_runs_text};
 ghost use Rattle.linux_view.specs.Texts.{last_text, whom_text};
 
-use crate::statuses::{FITS, MISFIT, NO_TRACE};
+use crate::notes::{push_count, push_notes};
+use crate::statuses::{FITS, MISFIT, NO_TRACE, NOTHING};
 use crate::timer_texts::push_timers;
-use linux_all::{Found, Misfit, Tally, Verdict};
+use linux_all::{Found, Misfit, Open, Tally, Verdict};
 use linux_lines::LineFault;
 use linux_runs::{Differences, Runs};
 use linux_seen::{Rule, Whom};
 use linux_told::Answers;
 use std::alloc::Global;
-use text_words::{push_bytes, push_number};
+use text_words::push_bytes;
 use tm_base::{CpuId, NoMemory};
 
 /// The digits of a pointer in hexadecimal, as the kernel writes it.
@@ -65,6 +67,8 @@ fn rule_text(rule: Rule) -> &'static [u8]
               are late (tmigr_active_up, tmigr_inactive_up)",
         Rule::Cpu => b"a CPU wakes where it sleeps, and only a sleeping one is run elsewhere \
               (tmigr_cpu_activate, tmigr_handle_remote_cpu)",
+        Rule::First => b"a group's first event is no later than one that another child has there \
+              (tmigr_next_groupevt)",
         Rule::Remote => b"a CPU's timers are run elsewhere when its event is due \
               (tmigr_handle_remote_cpu)",
         Rule::Event => b"an event is the first of a sleeping child (tmigr_update_events)",
@@ -87,22 +91,12 @@ fn fault_text(fault: LineFault) -> &'static [u8]
 {
     match fault {
         LineFault::NoEvent => b"there is no [CPU] with a time behind it",
-        LineFault::BadCpu => b"the CPU is no number below 512",
+        LineFault::BadCpu => b"the CPU is past 511, the last one that is known here",
         LineFault::FieldMissing => b"a field is missing",
         LineFault::BadNumber => b"a field is no number",
         LineFault::OutOfRange => b"a field is out of range",
         LineFault::HiddenPointer => b"pointers are hidden: boot with no_hash_pointers",
     }
-}
-
-/// A number behind these bytes.
-#[tactic(auto, using(std::proofs::lemmas::List::append_assoc), unfolding(crate::specs::Texts::count_text))]
-pub fn push_count(text: &mut Vec<u8>, before: &[u8], n: u64) -> Result<(), NoMemory>
-    ensures { OnOk result (text.new.items ≡ text.old.items ++ count_text before.now n) }
-{
-    push_bytes(text, before)?;
-    push_number(text, n)?;
-    Ok(())
 }
 
 /// The counts of what was read and checked, under a heading.
@@ -197,11 +191,12 @@ fn push_open(text: &mut Vec<u8>, runs: Runs, late: u64) -> Result<(), NoMemory>
 
 /// What stands last: what isn't known, and the timers.
 #[tactic(auto, using(std::proofs::lemmas::List::append_assoc), unfolding(crate::specs::Texts::last_text))]
-fn push_last(text: &mut Vec<u8>, tally: Tally, late: u64) -> Result<(), NoMemory>
-    ensures { OnOk result (text.new.items ≡ text.old.items ++ last_text tally late) }
+fn push_last(text: &mut Vec<u8>, tally: Tally, ends: Open) -> Result<(), NoMemory>
+    ensures { OnOk result (text.new.items ≡ text.old.items ++ last_text tally ends) }
 {
-    push_open(text, tally.runs, late)?;
+    push_open(text, tally.runs, ends.late as u64)?;
     push_timers(text, tally.timers)?;
+    push_notes(text, tally, ends)?;
     Ok(())
 }
 
@@ -218,14 +213,14 @@ fn push_others(text: &mut Vec<u8>, tally: Tally) -> Result<(), NoMemory>
 
 /// All counts, under a heading.
 #[tactic(auto, unfolding(crate::specs::Texts::counts_text))]
-fn push_counts(text: &mut Vec<u8>, heading: &[u8], tally: Tally, late: u64) -> Result<(), NoMemory>
+fn push_counts(text: &mut Vec<u8>, heading: &[u8], tally: Tally, ends: Open) -> Result<(), NoMemory>
     ensures { OnOk result
-        (text.new.items ≡ text.old.items ++ counts_text heading.now tally late) }
+        (text.new.items ≡ text.old.items ++ counts_text heading.now tally ends) }
 {
     push_tally(text, heading, tally)?;
     push_answers(text, tally.answers)?;
     push_others(text, tally)?;
-    push_last(text, tally, late)?;
+    push_last(text, tally, ends)?;
     Ok(())
 }
 
@@ -322,6 +317,24 @@ fn push_no_trace(text: &mut Vec<u8>, line: u64, fault: LineFault) -> Result<(), 
     Ok(())
 }
 
+/// The heading of a trace that fits, or has no event of timer migration.
+fn fits_heading(tally: &Tally) -> &'static [u8]
+    ensures { result.now ≡ fits_heading tally.now }
+{
+    if tally.events == 0 {
+        b"nothing to judge: lines "
+    } else {
+        b"fits: lines "
+    }
+}
+
+/// The status of a trace that fits, or has no event of timer migration.
+pub fn fits_status(tally: &Tally) -> u8
+    ensures { result ≡ fits_status tally.now }
+{
+    if tally.events == 0 { NOTHING } else { FITS }
+}
+
 /// The text of a verdict. The only error is want of memory.
 #[tactic(auto, unfolding(crate::specs::Texts::verdict_text))]
 pub fn print_verdict(alloc: Global, verdict: Verdict) -> Result<Vec<u8>, NoMemory>
@@ -329,8 +342,8 @@ pub fn print_verdict(alloc: Global, verdict: Verdict) -> Result<Vec<u8>, NoMemor
 {
     let mut text = Vec::new(alloc);
     match verdict {
-        Verdict::Fits(tally, late) => {
-            push_counts(&mut text, b"fits: lines ", tally, late as u64)?
+        Verdict::Fits(tally, ends) => {
+            push_counts(&mut text, fits_heading(&tally), tally, ends)?
         },
         Verdict::Broken(misfit) => push_broken(&mut text, misfit)?,
         Verdict::NoTrace(line, fault) => push_no_trace(&mut text, line, fault)?,
@@ -354,9 +367,9 @@ fn push_end(text: &mut Vec<u8>, count: usize, end: Verdict) -> Result<(), NoMemo
     ensures { OnOk result (text.new.items ≡ text.old.items ++ end_text count end) }
 {
     match end {
-        Verdict::Fits(tally, late) => {
+        Verdict::Fits(tally, ends) => {
             push_count(text, b"misfits: ", count as u64)?;
-            push_counts(text, b"\nread: lines ", tally, late as u64)?;
+            push_counts(text, b"\nread: lines ", tally, ends)?;
         },
         Verdict::Broken(misfit) => push_broken(text, misfit)?,
         Verdict::NoTrace(line, fault) => push_no_trace(text, line, fault)?,
@@ -386,8 +399,8 @@ pub fn all_status(found: &Found) -> u8
     ensures { result ≡ all_status found.now.misfits.items found.now.end }
 {
     match found.end {
-        Verdict::Fits(_, _) => if found.misfits.is_empty() {
-            FITS
+        Verdict::Fits(tally, _) => if found.misfits.is_empty() {
+            fits_status(&tally)
         } else {
             MISFIT
         },

@@ -3,7 +3,7 @@
 ghost use Rattle.std.specs.Prelude.{◌≡◌, ◌++◌, OnOk};
 ghost use Rattle.linux_view.specs.Texts.{timer_counts_text, timers_text};
 
-use crate::texts::push_count;
+use crate::notes::push_count;
 use linux_timers::TimerTally;
 use text_words::push_bytes;
 use tm_base::NoMemory;

@@ -13,8 +13,7 @@ use Rattle.trace_explain.specs.trace_check.declared.verdict.Verdict.TheVariants 
 use Rattle.trace_explain.specs.trace_check.Answers.{start_for}
 use Rattle.trace_explain.specs.Explained.{IsExplained}
 use Rattle.text_words.specs.Words.{lines_of}
-use Rattle.linux_view.specs.linux_rules.Judge.{start}
-use Rattle.linux_view.specs.linux_all.All.{all_of}
+use Rattle.linux_view.specs.linux_all.All.{all_said}
 use Rattle.linux_view.specs.Texts.{all_status, all_text}
 use Rattle.linux_view.specs.declared.statuses.TheConstants.{FITS, MISFIT, NO_TRACE}
 use Rattle.view_text.specs.Texts.{window_text}
@@ -63,7 +62,7 @@ pub data IsTelling (bytes text : List ℕ) (status : ℕ) : Type 0 where
 
 -- WHAT `linux --all` WRITES: all that is wrong with the trace that the bytes are
 pub record IsAllTold (bytes text : List ℕ) (status : ℕ) : Type 0 where
-  pub text_is : text ≡ all_text (all_of start [] (lines_of bytes)).misfits
-      (all_of start [] (lines_of bytes)).end
-  pub status_is : status ≡ all_status (all_of start [] (lines_of bytes)).misfits
-      (all_of start [] (lines_of bytes)).end
+  pub text_is : text ≡ all_text (all_said (lines_of bytes)).misfits
+      (all_said (lines_of bytes)).end
+  pub status_is : status ≡ all_status (all_said (lines_of bytes)).misfits
+      (all_said (lines_of bytes)).end

@@ -33,7 +33,7 @@ fn each_kind_of_line_is_told_apart(rt: HostRuntime) -> Result<(), Fail> {
     let started = b"##### CPU 2 buffer started ####";
     assert!(rt; matches!(read_line(started), Ok(Line::Loss)));
     let foreign = b"   Web Content-12  ( 12) [511] d..1.  5.916042: cpu_idle: state=1 cpu_id=511";
-    assert!(rt; matches!(read_line(foreign), Ok(Line::Foreign(cpu)) if cpu.0 == 511));
+    assert!(rt; matches!(read_line(foreign), Ok(Line::Foreign(cpu, false)) if cpu.0 == 511));
     let report = b"      <idle>-0     [001]  5.916042: tmigr_handle_remote: group=0xff lvl=1";
     assert!(rt;
         matches!(
@@ -51,6 +51,55 @@ fn each_kind_of_line_is_told_apart(rt: HostRuntime) -> Result<(), Fail> {
     Ok(())
 }
 
+// Linux 6.19 renamed the events of a CPU that comes and goes; the rest are lines as the kernel's file
+// `trace`, `trace-cmd report` and `perf script` print them.
+#[test]
+fn lines_of_later_kernels_and_of_tools_are_read(rt: HostRuntime) -> Result<(), Fail> {
+    let comes = b"cpuhp/1-24 [001] d..1. 5.9: tmigr_cpu_available: cpu=1 parent=a0 wakeup=7";
+    assert!(rt;
+        matches!(
+            read_line(comes),
+            Ok(Line::Told(_, _, Happening::CpuTold(event)))
+            if matches!(event.kind, CpuKind::Online)
+        )
+    );
+    let leaves = b"cpuhp/1-24 [001] d..1. 5.9: tmigr_cpu_unavailable: cpu=1 parent=a0 wakeup=7";
+    assert!(rt;
+        matches!(
+            read_line(leaves),
+            Ok(Line::Told(_, _, Happening::CpuTold(event)))
+            if matches!(event.kind, CpuKind::Offline)
+        )
+    );
+    let bracket = b"   irq/[7] x-12  [003] d..1.  5.916042: cpu_idle: state=1 cpu_id=3";
+    assert!(rt; matches!(read_line(bracket), Ok(Line::Foreign(cpu, false)) if cpu.0 == 3));
+    let perf = b"         swapper     0 [001]  5.916042: timer_migration:tmigr_handle_remote: \
+          group=0xff lvl=1";
+    assert!(rt;
+        matches!(
+            read_line(perf),
+            Ok(Line::Told(_, _, Happening::Handling(255)))
+        )
+    );
+    let strange = b"a-1 [001] 5.9: tmigr_cpu_resting: cpu=1";
+    assert!(rt; matches!(read_line(strange), Ok(Line::Foreign(_, true))));
+    for aside in [
+        b"cpus=9".as_slice(),
+        b"CPU 3 is empty".as_slice(),
+        b" => tmigr_cpu_deactivate".as_slice(),
+        b"=> do_idle (ffffffff8fd0e4c4)".as_slice(),
+    ] {
+        assert!(rt; matches!(read_line(aside), Ok(Line::Remark)));
+    }
+    for loss in [
+        b"CPU:3 [EVENTS DROPPED]".as_slice(),
+        b"CPU:3 [12 EVENTS DROPPED]".as_slice(),
+    ] {
+        assert!(rt; matches!(read_line(loss), Ok(Line::Loss)));
+    }
+    Ok(())
+}
+
 #[test]
 fn what_is_no_line_is_refused_with_its_cause(rt: HostRuntime) -> Result<(), Fail> {
     let cases = [
@@ -65,7 +114,7 @@ fn what_is_no_line_is_refused_with_its_cause(rt: HostRuntime) -> Result<(), Fail
         ),
         (
             b"a-1 [0x1] 5.9: cpu_idle: state=1".as_slice(),
-            LineFault::BadCpu,
+            LineFault::NoEvent,
         ),
         (
             b"a-1 [001] 5.9: tmigr_handle_remote: group=(____ptrval____)".as_slice(),

@@ -47,7 +47,7 @@ fn a_run_is_counted_by_how_late_it_is(rt: HostRuntime) -> Result<(), Fail> {
 #[test]
 fn nothing_but_a_run_is_counted(rt: HostRuntime) -> Result<(), Fail> {
     let seen = Seen::new(rt.alloc());
-    let runs = runs_after(no_runs(), &seen, &Line::Foreign(CpuId(3)));
+    let runs = runs_after(no_runs(), &seen, &Line::Foreign(CpuId(3), false));
     assert_eq!(rt; runs.unsure, 0);
     let differences = differences_after(no_differences(), &seen, &run_at(2_000_000));
     assert_eq!(rt; differences.twice, 0);

@@ -4,4 +4,4 @@ use Rattle.linux_rules.proofs.Taking.{enough}
 use Rattle.linux_rules.proofs.orders.law_caught_up.Goals as goal
 
 pub returns : goal.returns
-returns c = λ group word ls. enough group (length ls) word ls (omega arith)
+returns c = λ cs own group word ls. enough cs own group (length ls) word ls (omega arith)

@@ -8,5 +8,5 @@ returns c =
     four c.args.text.now.items c.push_tally.new.text.items c.push_answers.new.text.items
     c.push_others.new.text.items c.push_last.new.text.items (tally_text c.args.heading.now c.args.tally)
     (answers_text c.args.tally.answers) (others_text c.args.tally)
-    (last_text c.args.tally c.args.late) c.in_ok-push_tally.ensures
+    (last_text c.args.tally c.args.ends) c.in_ok-push_tally.ensures
     c.in_ok-push_answers.ensures c.in_ok-push_others.ensures c.in_ok-push_last.ensures

@@ -1,7 +1,8 @@
 use Rattle.std.specs.Prelude.{codes}
 use Rattle.linux_view.proofs.Digits.{three}
 use Rattle.linux_view.proofs.texts.push_runs.Goals as goal
-use Rattle.linux_view.specs.Texts.{count_text, late_runs_text, runs_text, tick_runs_text}
+use Rattle.linux_view.specs.Notes.{count_text}
+use Rattle.linux_view.specs.Texts.{late_runs_text, runs_text, tick_runs_text}
 
 pub returns : goal.returns
 unfolding runs_text
