@@ -1,0 +1,3 @@
+pub mod Asleep
+pub mod Nobody
+pub mod Tests
