@@ -17,7 +17,7 @@ unfolding hex_digits
 hex_none text zero n none = sym (append-nil text)
 hex_none text (suc count) n none = absurd (omega (arith, none))
 
--- three pieces behind a text, and four
+-- three pieces behind a text, four and five
 pub three : (t u v z a b d : List ℕ) → u ≡ t ++ a → v ≡ u ++ b → z ≡ v ++ d →
     z ≡ t ++ (a ++ b ++ d)
 three t u v z a b d first second third =
@@ -31,3 +31,10 @@ four t u v z end a b d e first second third fourth =
     fourth
     ∙ (ap (λ x. x ++ e) (three t u v z a b d first second third)
     ∙ append_assoc t (a ++ b ++ d) e)
+
+pub five : (t u v z y end a b d e f : List ℕ) → u ≡ t ++ a → v ≡ u ++ b → z ≡ v ++ d → y ≡ z ++ e →
+    end ≡ y ++ f → end ≡ t ++ (a ++ b ++ d ++ e ++ f)
+five t u v z y end a b d e f first second third fourth fifth =
+    fifth
+    ∙ (ap (λ x. x ++ f) (four t u v z y a b d e first second third fourth)
+    ∙ append_assoc t (a ++ b ++ d ++ e) f)

@@ -34,13 +34,15 @@ walk_note (Some cpu) rested =
     ++ count_text (codes " is in the middle of one, and there was no rest since line ") rested
     ++ codes "\n"
 
--- most of the expiries that CPUs tell as they fall asleep are past
-unfoldable pub clock_note : Runs → List ℕ
-clock_note r =
-    if nat_lt (r.told / 2) r.past
-    then count_text (codes "clock: ") r.past ++ count_text (codes " of ") r.told
+-- how many of the expiries that CPUs tell as they fall asleep are past
+unfoldable pub past_text : Runs → List ℕ
+past_text r =
+    count_text (codes "clock: ") r.past ++ count_text (codes " of ") r.told
     ++ codes " expiries told at tmigr_cpu_idle were past by then, so the trace clock isn't mono\n"
-    else []
+
+-- .. where most of them are
+unfoldable pub clock_note : Runs → List ℕ
+clock_note r = if nat_lt (r.told / 2) r.past then past_text r else []
 
 -- walks that ended at a group that was asleep by then: the cause of forgotten timers
 unfoldable pub asleep_note : Runs → List ℕ

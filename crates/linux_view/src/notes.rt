@@ -2,7 +2,7 @@
 
 ghost use Rattle.std.specs.Prelude.{◌≡◌, ◌++◌, OnOk};
 ghost use Rattle.linux_view.specs.Notes.{asleep_note, clock_note, count_text, lost_note, notes_text};
-ghost use Rattle.linux_view.specs.Notes.{run_notes_text, unknown_note, walk_note};
+ghost use Rattle.linux_view.specs.Notes.{past_text, run_notes_text, unknown_note, walk_note};
 
 use linux_all::{Open, Tally};
 use linux_runs::Runs;
@@ -10,7 +10,7 @@ use text_words::{push_bytes, push_number};
 use tm_base::{CpuId, NoMemory};
 
 /// A number behind these bytes.
-#[tactic(auto, using(std::proofs::lemmas::List::append_assoc), unfolding(crate::specs::Texts::count_text))]
+#[tactic(auto, using(std::proofs::lemmas::List::append_assoc), unfolding(crate::specs::Notes::count_text))]
 pub fn push_count(text: &mut Vec<u8>, before: &[u8], n: u64) -> Result<(), NoMemory>
     ensures { OnOk result (text.new.items ≡ text.old.items ++ count_text before.now n) }
 {
@@ -68,18 +68,27 @@ fn push_walk(text: &mut Vec<u8>, walker: Option<CpuId>, rested: u64) -> Result<(
     Ok(())
 }
 
+/// How many of the expiries that CPUs tell as they fall asleep are past.
+#[tactic(auto, using(std::proofs::lemmas::List::append_assoc), unfolding(crate::specs::Notes::past_text))]
+fn push_past(text: &mut Vec<u8>, runs: Runs) -> Result<(), NoMemory>
+    ensures { OnOk result (text.new.items ≡ text.old.items ++ past_text runs) }
+{
+    push_count(text, b"clock: ", runs.past)?;
+    push_count(text, b" of ", runs.told)?;
+    push_bytes(
+        text,
+        b" expiries told at tmigr_cpu_idle were past by then, so the trace clock isn't mono\n",
+    )?;
+    Ok(())
+}
+
 /// Most of the expiries that CPUs tell as they fall asleep are past.
 #[tactic(auto, using(std::proofs::lemmas::List::append_assoc), unfolding(crate::specs::Notes::clock_note))]
 fn push_clock(text: &mut Vec<u8>, runs: Runs) -> Result<(), NoMemory>
     ensures { OnOk result (text.new.items ≡ text.old.items ++ clock_note runs) }
 {
-    if runs.past > runs.told / 2 {
-        push_count(text, b"clock: ", runs.past)?;
-        push_count(text, b" of ", runs.told)?;
-        push_bytes(
-            text,
-            b" expiries told at tmigr_cpu_idle were past by then, so the trace clock isn't mono\n",
-        )?;
+    if runs.told / 2 < runs.past {
+        push_past(text, runs)?;
     }
     Ok(())
 }

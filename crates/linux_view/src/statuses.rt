@@ -27,7 +27,7 @@ pub const TOO_LONG: u8 = 7;
 pub const NO_TRACE: u8 = 10;
 
 /// No event of timer migration was read.
-pub const NOTHING: u8 = 13;
+pub const NOTHING: u8 = 14;
 
 /// A line breaks a rule.
 pub const MISFIT: u8 = 12;
