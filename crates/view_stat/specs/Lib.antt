@@ -1,0 +1,3 @@
+pub mod Watched
+pub mod Stats
+pub mod Telling

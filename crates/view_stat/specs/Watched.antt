@@ -1,0 +1,179 @@
+-- A PLAY THAT IS WATCHED: the rules of a machine, with counts beside its state. Each rule does to
+-- the machine what it does, and five of them count: as time goes by, as an interrupt begins and
+-- ends, and as a CPU is taken and let go
+use Rattle.std.specs.Prelude.{ℕ, zero, suc, ◌+◌, ◌-◌, ◌==◌, ◌&&◌, not, Bool, true, false, List}
+use Rattle.std.specs.Prelude.{if◌then◌else◌, option_map}
+use Rattle.tm_base.specs.declared.names.Class.{Class}
+use Rattle.tm_base.specs.declared.names.Class.TheVariants.{Pinned, Global, Deferrable}
+use Rattle.play_rules.specs.Rules.{Drained, Moved, Placed, Rules}
+use Rattle.view_counts.specs.declared.counts.Cause.{Cause}
+use Rattle.view_counts.specs.declared.counts.Cause.TheVariants as causes
+use Rattle.view_counts.specs.declared.counts.CpuCounts.{CpuCounts}
+use Rattle.view_counts.specs.Counts.{at_cpu, lived, ran_for, run_by, woke}
+use Rattle.view_stat.specs.declared.interrupt.Interrupt.{Interrupt}
+
+-- the machine's state, what was counted of each CPU, and the interrupt that is under way
+pub record Watched (S : Type 0) : Type 0 where
+  pub world : S
+  pub cpus : List CpuCounts
+  pub interrupt : Interrupt
+
+-- whether the first timer of a class on a CPU is due
+abbrev pub Dues : (S : Type 0) → Type 0
+Dues S = S → (c : ℕ) → Class → Bool
+
+-- an interrupt that ran timers of others is for them, unless it is for pinned or global ones of
+-- its own CPU
+abbrev pub also_for_others : Cause → Cause
+also_for_others causes.Pinned = causes.Pinned
+also_for_others causes.Global = causes.Global
+also_for_others cause = causes.Others
+
+-- CPU d is let go, of which CPU c ran so many timers
+abbrev pub ran_some : (c d count : ℕ) → List CpuCounts → List CpuCounts
+ran_some c d count ks = at_cpu d (run_by count) (at_cpu c (ran_for count) ks)
+
+-- what the interrupt is for, where so many timers of others were run
+abbrev pub for_more : (count : ℕ) → Interrupt → Interrupt
+for_more zero i = i
+for_more (suc n) i = record i { cause = also_for_others i.cause }
+
+-- an interrupt that found its CPU idle was a wakeup
+abbrev pub waking : (idle : Bool) → (c : ℕ) → Cause → List CpuCounts → List CpuCounts
+waking false c cause ks = ks
+waking true c cause ks = at_cpu c (woke cause) ks
+
+module _ {S : Type 0} where
+  -- the machine in another state, with the same counts
+  abbrev pub put : Watched S → S → Watched S
+  put s w = record { world = w; cpus = s.cpus; interrupt = s.interrupt }
+
+  -- what was drained, armed and moved, with the same counts
+  abbrev pub put_drained : Watched S → Drained S → Drained (Watched S)
+  put_drained s d = record { items = d.items; state = put s d.state }
+
+  -- what was armed, with the same counts
+  abbrev pub put_placed : Watched S → Placed S → Placed (Watched S)
+  put_placed s p = record { wheel = p.wheel; state = put s p.state }
+
+  -- what moved, with the same counts
+  abbrev pub put_moved : Watched S → Moved S → Moved (Watched S)
+  put_moved s m = record { mover = m.mover; state = put s m.state }
+
+  -- WHAT A WAKEUP IS FOR, by what is due on the CPU as its interrupt begins
+  abbrev pub own_cause : Dues S → S → (c : ℕ) → Cause
+  own_cause due w c =
+      if due w c Pinned then causes.Pinned
+      else (if due w c Global then causes.Global
+      else (if due w c Deferrable then causes.Deferrable
+      else causes.Nothing))
+
+  module _ (r : Rules S) where
+    -- MIGRATOR: of how many groups a CPU is, from this level on upwards, n levels at most
+    unfoldable pub led : (n c level : ℕ) → S → ℕ
+    led zero c level w = 0
+    led (suc n) c level w = if r.looks_after w c level then led n c (level + 1) w + 1 else 0
+
+    -- MIGRATOR: of how many groups an awake CPU is, from its leaf on upwards
+    abbrev pub groups_led : S → (c : ℕ) → ℕ
+    groups_led w c =
+        if r.is_online w c && not (r.is_idle w c) then led (r.levels w) c 0 w else 0
+
+    -- TIME goes by for n CPUs from CPU c on, by what each is in this state
+    unfoldable pub all_lived : (n c : ℕ) → S → (jiffies : ℕ) → List CpuCounts → List CpuCounts
+    all_lived zero c w jiffies ks = ks
+    all_lived (suc n) c w jiffies ks =
+        all_lived n (c + 1) w jiffies
+        (at_cpu c (lived (r.is_online w c) (r.is_idle w c) jiffies (groups_led w c)) ks)
+
+    -- TIME: the clock comes to a moment, and each CPU was until then what it was after the last
+    abbrev pub passed : (now : ℕ) → Watched S → Watched S
+    passed now s = record {
+      world = r.at_clock now s.world;
+      cpus = all_lived (r.cpus s.world) 0 s.world (now - r.clock s.world) s.cpus;
+      interrupt = s.interrupt;
+    }
+
+    -- AN INTERRUPT BEGINS: whether it finds its CPU idle, and what is due there
+    abbrev pub begun : Dues S → Watched S → (c : ℕ) → Watched S
+    begun due s c = record {
+      world = r.entered s.world c;
+      cpus = s.cpus;
+      interrupt = record {
+        idle = r.is_idle s.world c;
+        cause = own_cause due s.world c;
+        queued = 0;
+      };
+    }
+
+    -- A CPU IS TAKEN: so many timers are queued on it
+    abbrev pub took : Watched S → (c d : ℕ) → Watched S
+    took s c d = record {
+      world = r.taken s.world c d;
+      cpus = s.cpus;
+      interrupt = record s.interrupt { queued = r.count_queued s.world d };
+    }
+
+  module _ (r : Rules S) where
+    -- A CPU IS LET GO: what was queued on it and isn't any more was run for it, since jobs arm on
+    -- the CPU that runs them. A CPU that takes itself runs nothing for others
+    abbrev pub let_go_where : (itself : Bool) → Watched S → (c d count : ℕ) → Watched S
+    let_go_where true s c d count = put s (r.let_go s.world c d)
+    let_go_where false s c d count = record {
+      world = r.let_go s.world c d;
+      cpus = ran_some c d count s.cpus;
+      interrupt = for_more count s.interrupt;
+    }
+
+    -- A CPU IS LET GO
+    abbrev pub let_it_go : Watched S → (c d : ℕ) → Watched S
+    let_it_go s c d =
+        let_go_where (d == c) s c d (s.interrupt.queued - r.count_queued s.world d)
+
+    -- AN INTERRUPT ENDS: where it found its CPU idle it was a wakeup
+    abbrev pub over : Watched S → (c : ℕ) → Watched S
+    over s c = record {
+      world = r.ended s.world c;
+      cpus = waking s.interrupt.idle c s.interrupt.cause s.cpus;
+      interrupt = s.interrupt;
+    }
+
+-- THE RULES OF A MACHINE THAT IS WATCHED
+abbrev pub watched_rules : {S : Type 0} → Rules S → Dues S → Rules (Watched S)
+watched_rules r due = record {
+  clock = λ s. r.clock s.world;
+  timers = λ s. r.timers s.world;
+  cpus = λ s. r.cpus s.world;
+  levels = λ s. r.levels s.world;
+  is_online = λ s c. r.is_online s.world c;
+  is_idle = λ s c. r.is_idle s.world c;
+  is_placed = λ s c. r.is_placed s.world c;
+  wakeup = λ s c. r.wakeup s.world c;
+  queued = λ s timer. r.queued s.world timer;
+  at_clock = passed r;
+  has_interrupt = λ s c. r.has_interrupt s.world c;
+  next_interrupt = λ s. r.next_interrupt s.world;
+  drained = λ s home class runner. put_drained s (r.drained s.world home class runner);
+  armed = λ s c a. put_placed s (r.armed s.world c a);
+  cancelled = λ s home a. put s (r.cancelled s.world home a);
+  entered = begun r due;
+  looks_after = λ s c level. r.looks_after s.world c level;
+  named = λ s c level tried. r.named s.world c level tried;
+  takes = λ s c d. r.takes s.world c d;
+  taken = took r;
+  let_go = let_it_go r;
+  ended = over r;
+  first_event = λ s c. r.first_event s.world c;
+  idled = λ s c. put s (r.idled s.world c);
+  woken = λ s c. put s (r.woken s.world c);
+  successor = λ s c. r.successor s.world c;
+  gone_offline = λ s c. put s (r.gone_offline s.world c);
+  hands_on = λ s c. r.hands_on s.world c;
+  handed_on = λ s c d. put s (r.handed_on s.world c d);
+  come_online = λ s c. put s (r.come_online s.world c);
+  count_queued = λ s c. r.count_queued s.world c;
+  controller = λ s. r.controller s.world;
+  controlling = λ s d. put s (r.controlling s.world d);
+  moved = λ s from to. option_map (put_moved s) (r.moved s.world from to);
+  cover = λ s c. r.cover s.world c;
+}

@@ -1,0 +1,329 @@
+//! A core that plays while it is watched.
+
+ghost use Rattle.std.specs.Prelude.{◌≡◌, ◌<◌, ◌-◌, false, length, nat_le};
+ghost use Rattle.std.specs.Option.{option_map_or};
+ghost use Rattle.core_machine.specs.step_play.Rules.StepRules.{step_rules};
+ghost use Rattle.view_counts.specs.Counts.{at_cpu, lived};
+ghost use Rattle.view_stat.specs.Watched.{all_lived, also_for_others, for_more, groups_led, led};
+ghost use Rattle.view_stat.specs.Watched.{own_cause, ran_some};
+ghost use Rattle.view_stat.specs.Stats.{is_due};
+
+use crate::interrupt::Interrupt;
+use core_machine::Player;
+use core_machine::readings::looks_after;
+use play_rules::{Answerer, Arming, Cancelling, Mover, PlayMachine, Queued};
+use tm_base::{Class, CpuId, CpuSet, Jiffy, NoMemory, TimerId};
+use view_counts::{Cause, CpuCounts, lived_at, ran_for_at, run_by_at, woke_at};
+use wheel_base::WheelBase;
+use wheel_core::{Item, TimerBase};
+
+/// A core in play, with what was counted of its CPUs.
+#[derive(Drop)]
+pub struct Watching {
+    pub player: Player<WheelBase>,
+    pub cpus: Vec<CpuCounts>,
+    pub interrupt: Interrupt,
+}
+
+/// Whether the first timer of a class on a CPU is due.
+fn is_due(player: &Player<WheelBase>, cpu: CpuId, class: Class) -> bool
+    requires { cpu.0 < length player.now.cpus }
+    ensures { result ≡ is_due player.now cpu.0 class }
+{
+    let core = player.core();
+    match core.bases(cpu).base(class).first() {
+        Some(first) => first <= core.now(),
+        None => false,
+    }
+}
+
+/// What a wakeup of a CPU is for, by what is due on it.
+fn own_cause(player: &Player<WheelBase>, cpu: CpuId) -> Cause
+    requires { cpu.0 < length player.now.cpus }
+    ensures { result ≡ own_cause is_due player.now cpu.0 }
+{
+    if is_due(player, cpu, Class::Pinned) {
+        return Cause::Pinned;
+    }
+    if is_due(player, cpu, Class::Global) {
+        return Cause::Global;
+    }
+    if is_due(player, cpu, Class::Deferrable) {
+        return Cause::Deferrable;
+    }
+    Cause::Nothing
+}
+
+/// Of how many groups a CPU is migrator, from its leaf upwards.
+fn led(player: &Player<WheelBase>, cpu: CpuId) -> u8
+    requires { cpu.0 < length player.now.cpus }
+    ensures { result ≡ led step_rules (step_rules.levels player.now) cpu.0 0 player.now }
+{
+    let levels = player.levels();
+    for level in 0..levels {
+        if !looks_after(player.core(), cpu, level) {
+            return level;
+        }
+    }
+    levels
+}
+
+/// Of how many groups an awake CPU is migrator.
+fn groups_led(player: &Player<WheelBase>, cpu: CpuId) -> u8
+    requires { cpu.0 < length player.now.cpus }
+    ensures { result ≡ groups_led step_rules player.now cpu.0 }
+{
+    if player.is_online(cpu) && !player.is_idle(cpu) {
+        led(player, cpu)
+    } else {
+        0
+    }
+}
+
+/// So many jiffies go by for a CPU.
+fn live(player: &Player<WheelBase>, cpus: &mut Vec<CpuCounts>, cpu: CpuId, jiffies: u64)
+    requires { cpu.0 < length player.now.cpus }
+    ensures { cpus.new.items ≡
+        at_cpu cpu.0 (lived (step_rules.is_online player.now cpu.0)
+        (step_rules.is_idle player.now cpu.0) jiffies (groups_led step_rules player.now cpu.0))
+        cpus.old.items }
+{
+    let groups = groups_led(player, cpu);
+    let online = player.is_online(cpu);
+    let idle = player.is_idle(cpu);
+    lived_at(cpus, cpu, online, idle, jiffies, u64::from(groups));
+}
+
+/// So many jiffies go by for all CPUs.
+fn live_all(player: &Player<WheelBase>, cpus: &mut Vec<CpuCounts>, jiffies: u64)
+    ensures { cpus.new.items ≡
+        all_lived step_rules (step_rules.cpus player.now) 0 player.now jiffies cpus.old.items }
+{
+    for cpu in 0..player.cpus() {
+        live(player, cpus, CpuId(cpu), jiffies);
+    }
+}
+
+/// What an interrupt is for that ran timers of others.
+fn also_for_others(cause: Cause) -> Cause
+    ensures { result ≡ also_for_others cause }
+{
+    match cause {
+        Cause::Pinned => Cause::Pinned,
+        Cause::Global => Cause::Global,
+        _ => Cause::Others,
+    }
+}
+
+/// What an interrupt is for that ran so many timers of others.
+fn for_more(count: usize, interrupt: Interrupt) -> Interrupt
+    ensures { result ≡ for_more count interrupt }
+{
+    if count == 0 {
+        return interrupt;
+    }
+    Interrupt {
+        cause: also_for_others(interrupt.cause),
+        ..interrupt
+    }
+}
+
+/// A CPU ran so many timers of another.
+fn ran_some(cpus: &mut Vec<CpuCounts>, cpu: CpuId, other: CpuId, count: usize)
+    ensures { cpus.new.items ≡ ran_some cpu.0 other.0 count cpus.old.items }
+{
+    ran_for_at(cpus, cpu, count as u64);
+    run_by_at(cpus, other, count as u64);
+}
+
+impl PlayMachine for Watching {
+    ghost use Rattle.core_world.specs.World as core;
+    ghost use Rattle.core_machine.specs.step_play.Rules.StepRules.{step_rules};
+    ghost use Rattle.core_machine.specs.step_play.Rules.Seen.{InPlay};
+    ghost use Rattle.view_stat.specs.Watched.{Watched, watched_rules};
+    ghost use Rattle.view_stat.specs.Stats.{is_due};
+
+    ghost World = { Watched core.World };
+
+    ghost rules = { watched_rules step_rules is_due };
+
+    ghost world = { λ w. record { world = w.player; cpus = w.cpus.items; interrupt = w.interrupt } };
+
+    ghost Fit = { λ ph s. InPlay ph s.world };
+
+    fn clock(&self) -> Jiffy {
+        self.player.clock()
+    }
+
+    fn timers(&self) -> u16 {
+        self.player.timers()
+    }
+
+    fn cpus(&self) -> u16 {
+        self.player.cpus()
+    }
+
+    fn levels(&self) -> u8 {
+        self.player.levels()
+    }
+
+    fn is_online(&self, cpu: CpuId) -> bool {
+        self.player.is_online(cpu)
+    }
+
+    fn is_idle(&self, cpu: CpuId) -> bool {
+        self.player.is_idle(cpu)
+    }
+
+    fn is_placed(&self, cpu: CpuId) -> bool {
+        self.player.is_placed(cpu)
+    }
+
+    fn wakeup(&self, cpu: CpuId) -> Jiffy {
+        self.player.wakeup(cpu)
+    }
+
+    fn holder(&self, timer: TimerId) -> Option<CpuId> {
+        self.player.holder(timer)
+    }
+
+    fn queued(&self, timer: TimerId) -> Option<Queued> {
+        self.player.queued(timer)
+    }
+
+    fn set_clock(&mut self, now: Jiffy) {
+        live_all(&self.player, &mut self.cpus, now - self.player.clock());
+        self.player.set_clock(now);
+    }
+
+    fn has_interrupt(&self, cpu: CpuId) -> bool {
+        self.player.has_interrupt(cpu)
+    }
+
+    fn next_interrupt(&self) -> Jiffy {
+        self.player.next_interrupt()
+    }
+
+    fn drain(&mut self, home: CpuId, class: Class, runner: CpuId) -> Result<Vec<Item>, NoMemory> {
+        self.player.drain(home, class, runner)
+    }
+
+    fn arm(&mut self, cpu: CpuId, arming: Arming) -> Result<Jiffy, NoMemory> {
+        self.player.arm(cpu, arming)
+    }
+
+    fn cancel(&mut self, home: CpuId, cancelling: Cancelling) -> Result<(), NoMemory> {
+        self.player.cancel(home, cancelling)
+    }
+
+    fn enter(&mut self, cpu: CpuId) {
+        let idle = self.player.is_idle(cpu);
+        let cause = own_cause(&self.player, cpu);
+        self.player.enter(cpu);
+        self.interrupt = Interrupt {
+            idle,
+            cause,
+            queued: 0,
+        };
+    }
+
+    fn looks_after(&self, cpu: CpuId, level: u8) -> bool {
+        self.player.looks_after(cpu, level)
+    }
+
+    fn named(&self, cpu: CpuId, level: u8, tried: &CpuSet) -> Option<CpuId> {
+        self.player.named(cpu, level, tried)
+    }
+
+    fn takes(&self, cpu: CpuId, other: CpuId) -> bool {
+        self.player.takes(cpu, other)
+    }
+
+    fn take(&mut self, cpu: CpuId, other: CpuId) {
+        let queued = self.player.count_queued(other);
+        self.player.take(cpu, other);
+        self.interrupt = Interrupt {
+            queued,
+            ..self.interrupt
+        };
+    }
+
+    fn let_go(&mut self, cpu: CpuId, other: CpuId) {
+        let left = self.player.count_queued(other);
+        self.player.let_go(cpu, other);
+        if other.0 == cpu.0 {
+            return;
+        }
+        let count = self.interrupt.queued.saturating_sub(left);
+        ran_some(&mut self.cpus, cpu, other, count);
+        self.interrupt = for_more(count, self.interrupt);
+    }
+
+    fn end(&mut self, cpu: CpuId) {
+        self.player.end(cpu);
+        if self.interrupt.idle {
+            woke_at(&mut self.cpus, cpu, self.interrupt.cause);
+        }
+    }
+
+    fn first_event(&self, cpu: CpuId) -> Jiffy {
+        self.player.first_event(cpu)
+    }
+
+    fn idle(&mut self, cpu: CpuId) {
+        self.player.idle(cpu);
+    }
+
+    fn wake(&mut self, cpu: CpuId) {
+        self.player.wake(cpu);
+    }
+
+    fn successor(&self, cpu: CpuId) -> Option<CpuId> {
+        self.player.successor(cpu)
+    }
+
+    fn go_offline(&mut self, cpu: CpuId) {
+        self.player.go_offline(cpu);
+    }
+
+    fn hands_on(&self, cpu: CpuId) -> bool {
+        self.player.hands_on(cpu)
+    }
+
+    fn hand_on(&mut self, cpu: CpuId, to: CpuId) {
+        self.player.hand_on(cpu, to);
+    }
+
+    fn come_online(&mut self, cpu: CpuId) {
+        self.player.come_online(cpu);
+    }
+
+    fn count_queued(&self, cpu: CpuId) -> usize {
+        self.player.count_queued(cpu)
+    }
+
+    fn controller(&self) -> Option<CpuId> {
+        self.player.controller()
+    }
+
+    fn control(&mut self, cpu: CpuId) {
+        self.player.control(cpu);
+    }
+
+    fn move_first(&mut self, from: CpuId, to: CpuId) -> Result<Option<Mover>, NoMemory> {
+        self.player.move_first(from, to)
+    }
+
+    fn cover_of(&self, cpu: CpuId) -> Option<Answerer> {
+        self.player.cover_of(cpu)
+    }
+}
+
+impl Watching {
+    /// What was counted.
+    pub fn into_counts(self) -> Vec<CpuCounts>
+        ensures { result.items ≡ self.cpus.items }
+    {
+        self.cpus
+    }
+}
