@@ -32,7 +32,7 @@ const POINTER_DIGITS: u8 = 16;
 pub fn usage_text() -> &'static [u8]
     ensures { result.now ≡ usage_line }
 {
-    b"usage: tmigview linux [--all] < TRACE | explain < STEPS \
+    b"usage: tmigview linux [--all] < TRACE | explain < STEPS | stat [--rows] < SCRIPT \
       | chart [--text] [--covers] [--from J] [--to J] [--cpus A-B] < REPORT\n"
 }
 

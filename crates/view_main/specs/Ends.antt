@@ -9,7 +9,7 @@ use Rattle.linux_view.specs.Ends.{IsEnd, Reads}
 use Rattle.linux_view.specs.Texts.{read_fault_line, too_long_line}
 use Rattle.view_main.specs.declared.words.Command.{Command}
 use Rattle.view_main.specs.declared.words.Command.TheVariants as commands
-use Rattle.view_main.specs.Outputs.{IsAllTold, IsDrawing, IsTelling}
+use Rattle.view_main.specs.Outputs.{IsAllTold, IsCounting, IsDrawing, IsTelling}
 use Rattle.view_main.specs.Words.{command_of}
 
 -- what a command writes of its input
@@ -17,6 +17,7 @@ abbrev pub IsAnswer : Command → (bytes text : List ℕ) → (status : ℕ) →
 IsAnswer (commands.Chart look) bytes text status = IsDrawing look bytes text status
 IsAnswer commands.Explain bytes text status = IsTelling bytes text status
 IsAnswer commands.All bytes text status = IsAllTold bytes text status
+IsAnswer (commands.Stat rows) bytes text status = IsCounting rows bytes text status
 IsAnswer commands.Other bytes text status = ⊥
 
 -- WHAT A COMMAND WRITES of the source, which went from old to new
@@ -43,6 +44,8 @@ ViewsBy (commands.Chart look) words from to old new status =
     Runs (commands.Chart look) from to old new status
 ViewsBy commands.Explain words from to old new status = Runs commands.Explain from to old new status
 ViewsBy commands.All words from to old new status = Runs commands.All from to old new status
+ViewsBy (commands.Stat rows) words from to old new status =
+    Runs (commands.Stat rows) from to old new status
 ViewsBy commands.Other words from to old new status = Reads words from to old new status
 
 -- WHAT THE PROGRAM DOES

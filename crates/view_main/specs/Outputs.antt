@@ -1,5 +1,5 @@
 -- what a command writes of its input
-use Rattle.std.specs.Prelude.{◌≡◌, ℕ, List, [], Some, None, if◌then◌else◌}
+use Rattle.std.specs.Prelude.{◌≡◌, ℕ, Bool, List, [], Some, None, if◌then◌else◌}
 use Rattle.tm_report.specs.declared.lines.Line.{Line}
 use Rattle.report_reader.specs.declared.faults.ReportFault.{ReportFault}
 use Rattle.report_reader.specs.Reader.{IsFirstFault, IsReportOf}
@@ -18,7 +18,11 @@ use Rattle.linux_view.specs.Texts.{all_status, all_text}
 use Rattle.linux_view.specs.declared.statuses.TheConstants.{FITS, MISFIT, NO_TRACE}
 use Rattle.view_text.specs.Texts.{window_text}
 use Rattle.view_main.specs.declared.words.Look.{Look}
-use Rattle.view_main.specs.Refusals.{back_text, report_text, steps_text}
+use Rattle.tm_script.specs.declared.syntax.Script.{Script}
+use Rattle.tm_script.specs.Faults.{fault_of}
+use Rattle.tm_script.specs.Grammar.{Spells as SpellsScript}
+use Rattle.view_stat.specs.Telling.{IsTold as IsStatTold}
+use Rattle.view_main.specs.Refusals.{back_text, report_text, script_text, steps_text}
 
 -- the lines of a report as a picture, or as text
 abbrev pub drawing_of : Look → List Line → List ℕ
@@ -59,6 +63,14 @@ pub data IsTelling (bytes text : List ℕ) (status : ℕ) : Type 0 where
   spelled : (t : Trace) → SpellsTrace bytes t → IsTold t text status → IsTelling bytes text status
   unread : (fault : ScriptFault) → trace_fault bytes ≡ Some fault → text ≡ steps_text fault →
       status ≡ NO_TRACE → IsTelling bytes text status
+
+-- WHAT `stat` WRITES: what was counted in the play of the script that the bytes spell; or they
+-- spell none, and the first fault is told
+pub data IsCounting (rows : Bool) (bytes text : List ℕ) (status : ℕ) : Type 0 where
+  scripted : (script : Script) → SpellsScript bytes script →
+      IsStatTold rows script text status → IsCounting rows bytes text status
+  unscripted : (fault : ScriptFault) → fault_of bytes ≡ Some fault → text ≡ script_text fault →
+      status ≡ NO_TRACE → IsCounting rows bytes text status
 
 -- WHAT `linux --all` WRITES: all that is wrong with the trace that the bytes are
 pub record IsAllTold (bytes text : List ℕ) (status : ℕ) : Type 0 where

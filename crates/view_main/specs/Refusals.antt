@@ -33,6 +33,10 @@ kind_text kinds.OutOfOrder = codes " kind 4: the numbers don't ascend\n"
 kind_text kinds.NoEnd = codes " kind 5: the end is missing\n"
 kind_text kinds.TooManyLines = codes " kind 6: there are too many lines\n"
 
+-- the text where the input is no script
+unfoldable pub script_text : ScriptFault → List ℕ
+script_text fault = codes "script refused line " ++ (decimal fault.line ++ kind_text fault.kind)
+
 -- the text where the input is no trace of steps
 unfoldable pub steps_text : ScriptFault → List ℕ
 steps_text fault = codes "trace refused line " ++ (decimal fault.line ++ kind_text fault.kind)

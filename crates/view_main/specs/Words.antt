@@ -141,6 +141,28 @@ is_all (word ∷ option ∷ []) =
     bytes_eq (string_bytes word) (codes "linux") && bytes_eq (string_bytes option) (codes "--all")
 is_all (word ∷ option ∷ other ∷ more) = false
 
+-- the word `stat`
+abbrev pub is_stat : List (String Global) → Bool
+is_stat [] = false
+is_stat (word ∷ []) = bytes_eq (string_bytes word) (codes "stat")
+is_stat (word ∷ other ∷ more) = false
+
+-- the two words `stat --rows`
+abbrev pub is_stat_rows : List (String Global) → Bool
+is_stat_rows [] = false
+is_stat_rows (word ∷ []) = false
+is_stat_rows (word ∷ option ∷ []) =
+    bytes_eq (string_bytes word) (codes "stat") && bytes_eq (string_bytes option) (codes "--rows")
+is_stat_rows (word ∷ option ∷ other ∷ more) = false
+
+-- what words say that are none of a chart or of a trace of steps
+abbrev pub other_command : List (String Global) → Command
+other_command words =
+    if is_all words then commands.All
+    else (if is_stat words then commands.Stat false
+    else (if is_stat_rows words then commands.Stat true
+    else commands.Other))
+
 -- WHAT THE PROGRAM'S WORDS SAY
 abbrev pub command_of : List (String Global) → Command
 command_of [] = commands.Other
@@ -149,4 +171,4 @@ command_of (word ∷ rest) =
     chart_with (options_from first_options rest)
     else (if bytes_eq (string_bytes word) (codes "explain") && (length (word ∷ rest) == 1) then
     commands.Explain
-    else (if is_all (word ∷ rest) then commands.All else commands.Other))
+    else other_command (word ∷ rest))

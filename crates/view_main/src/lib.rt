@@ -1,4 +1,4 @@
-//! The program tmigview as a whole: its commands `linux`, `chart` and `explain`, with all
+//! The program tmigview as a whole: its commands `linux`, `chart`, `explain` and `stat`, with all
 //! texts and statuses.
 #![tactic(auto)]
 

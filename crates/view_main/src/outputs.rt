@@ -3,18 +3,23 @@
 ghost use Rattle.std.specs.Prelude.{◌≡◌, IfErr, IfOk, None};
 ghost use Rattle.view_chart.specs.Charts.{IsRefusal, back_from};
 ghost use Rattle.trace_text.specs.Texts.{IsTrace};
-ghost use Rattle.view_main.specs.Outputs.{IsAllTold, IsDrawing, IsDrawn, IsTelling, IsTold};
+ghost use Rattle.tm_script.specs.Grammar.{IsScript};
+ghost use Rattle.view_stat.specs.Telling.{IsTold as IsStatTold};
+ghost use Rattle.view_main.specs.Outputs.{IsAllTold, IsCounting, IsDrawing, IsDrawn, IsTelling};
+ghost use Rattle.view_main.specs.Outputs.{IsTold};
 ghost use Rattle.view_main.specs.Outputs.{drawing_of, status_told};
 
-use crate::refusals::{back_refused, report_refused, steps_refused};
+use crate::refusals::{back_refused, report_refused, script_refused, steps_refused};
 use crate::words::Look;
 use linux_view::{FITS, MISFIT, NO_TRACE, all_status, check_all, print_all};
 use report_reader::{ReadReport, read_report};
 use std::alloc::Global;
 use tm_base::NoMemory;
 use tm_report::Line;
+use tm_script::{ReadScript, Script, read_script};
 use trace_explain::{ReadTrace, Trace, Verdict, explain, read_trace};
 use view_chart::{NoChart, chart};
+use view_stat::tell_stat;
 use view_text::text_chart;
 
 /// A text, and the status where all of it is written.
@@ -98,6 +103,32 @@ pub(crate) fn tell(alloc: Global, bytes: &[u8]) -> Result<Output, NoMemory>
             status: NO_TRACE,
         }),
         Err(ReadTrace::NoMemory) => Err(NoMemory),
+    }
+}
+
+/// What `stat` writes of a script.
+fn count_script(alloc: Global, rows: bool, script: &Script) -> Result<Output, NoMemory>
+    requires { IsScript script.now }
+    ensures { IfOk result (λ o. IsStatTold rows script.now o.text.items o.status) }
+{
+    let told = tell_stat(alloc, rows, script)?;
+    Ok(Output {
+        text: told.text,
+        status: told.status,
+    })
+}
+
+/// What `stat` writes of these bytes.
+pub(crate) fn count(alloc: Global, rows: bool, bytes: &[u8]) -> Result<Output, NoMemory>
+    ensures { IfOk result (λ o. IsCounting rows bytes.now o.text.items o.status) }
+{
+    match read_script(alloc, bytes) {
+        Ok(script) => count_script(alloc, rows, &script),
+        Err(ReadScript::Refused(fault)) => Ok(Output {
+            text: script_refused(alloc, fault)?,
+            status: NO_TRACE,
+        }),
+        Err(ReadScript::NoMemory) => Err(NoMemory),
     }
 }
 

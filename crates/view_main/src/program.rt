@@ -6,7 +6,7 @@ ghost use Rattle.view_main.specs.Ends.{IsAnswer, IsOutput, Runs, Views};
 ghost use Rattle.view_main.specs.Words.{command_of};
 ghost use Rattle.view_main.specs.declared.words.Command.TheVariants as commands;
 
-use crate::outputs::{Output, draw, tell, tell_all};
+use crate::outputs::{Output, count, draw, tell, tell_all};
 use crate::words::{Command, command_of};
 use linux_view::{
     MOST_TRACE_BYTES, NO_MEMORY, READ_FAULT, TOO_LONG, WRITE_FAULT, read_fault_text, run_view,
@@ -35,6 +35,7 @@ fn answer(alloc: Global, command: Command, bytes: &[u8]) -> Result<Output, NoMem
         Command::Chart(look) => draw(alloc, look, bytes),
         Command::Explain => tell(alloc, bytes),
         Command::All => tell_all(alloc, bytes),
+        Command::Stat(rows) => count(alloc, rows, bytes),
         Command::Other => Err(NoMemory),
     }
 }
@@ -88,7 +89,8 @@ fn run_command<S: Source, K: Sink>(
 }
 
 /// Does all that the program does: `chart` draws a report, `explain` tells a trace of steps,
-/// `linux --all` tells all that is wrong with a kernel's trace, and what other words say is
+/// `linux --all` tells all that is wrong with a kernel's trace, `stat` counts what happens in a
+/// script's play, and what other words say is
 /// `linux_view::run_view`. It reads the source to its end, writes the answer at the end, and
 /// answers the exit status.
 pub fn run_views<S: Source, K: Sink>(
@@ -106,5 +108,6 @@ pub fn run_views<S: Source, K: Sink>(
         Command::Chart(_) => run_command(alloc, command, source, sink),
         Command::Explain => run_command(alloc, command, source, sink),
         Command::All => run_command(alloc, command, source, sink),
+        Command::Stat(_) => run_command(alloc, command, source, sink),
     }
 }

@@ -2,7 +2,7 @@
 
 ghost use Rattle.std.specs.Prelude.{◌≡◌, IfOk};
 ghost use Rattle.view_main.specs.Refusals.{back_text, cause_text, kind_text, report_text};
-ghost use Rattle.view_main.specs.Refusals.{steps_text};
+ghost use Rattle.view_main.specs.Refusals.{script_text, steps_text};
 
 use report_reader::{Kind, ReportFault};
 use std::alloc::Global;
@@ -57,6 +57,18 @@ fn kind_text(kind: tm_script::Kind) -> &'static [u8]
         tm_script::Kind::NoEnd => b" kind 5: the end is missing\n",
         tm_script::Kind::TooManyLines => b" kind 6: there are too many lines\n",
     }
+}
+
+/// A text that is no script.
+#[tactic(auto, using(crate::proofs::Joined::onto), unfolding(crate::specs::Refusals::script_text))]
+pub(crate) fn script_refused(alloc: Global, fault: ScriptFault) -> Result<Vec<u8>, NoMemory>
+    ensures { IfOk result (λ text. text.items ≡ script_text fault) }
+{
+    let mut text = Vec::new(alloc);
+    push_bytes(&mut text, b"script refused line ")?;
+    push_number(&mut text, u64::from(fault.line))?;
+    push_bytes(&mut text, kind_text(fault.kind))?;
+    Ok(text)
 }
 
 /// A text that is no trace of steps.

@@ -5,7 +5,8 @@ ghost use Rattle.std.specs.List.{position};
 ghost use Rattle.std.specs.Str.{bytes_eq};
 ghost use Rattle.text_words.specs.Numbers.{number_of};
 ghost use Rattle.view_main.specs.Words.{awaiting, both, chart_with, chosen, command_of, cpu_in};
-ghost use Rattle.view_main.specs.Words.{cpus_in, first_options, is_all, look_of, looking};
+ghost use Rattle.view_main.specs.Words.{cpus_in, first_options, is_all, is_stat, is_stat_rows};
+ghost use Rattle.view_main.specs.Words.{look_of, looking, other_command};
 ghost use Rattle.view_main.specs.Words.{option_in, options_from, take_word, with_cpus};
 ghost use Rattle.view_main.specs.Words.{with_from, with_option, with_to};
 
@@ -59,6 +60,8 @@ pub enum Command {
     Explain,
     /// All misfits of a kernel's trace are told.
     All,
+    /// What happens in a script's play is counted, in rows for scripts or in columns for people.
+    Stat(bool),
     /// The words are those of a kernel's trace, or no command.
     Other,
 }
@@ -292,6 +295,42 @@ fn is_all(words: &[String]) -> bool
     }
 }
 
+/// Whether the words ask for what is counted, in columns.
+fn is_stat(words: &[String]) -> bool
+    ensures { result ≡ is_stat words.now }
+{
+    match words {
+        [word] => is_word(word, b"stat"),
+        _ => false,
+    }
+}
+
+/// Whether the words ask for what is counted, in rows.
+fn is_stat_rows(words: &[String]) -> bool
+    ensures { result ≡ is_stat_rows words.now }
+{
+    match words {
+        [word, option] => is_word(word, b"stat") && is_word(option, b"--rows"),
+        _ => false,
+    }
+}
+
+/// What words say that are none of a chart or of a trace of steps.
+fn other_command(words: &[String]) -> Command
+    ensures { result ≡ other_command words.now }
+{
+    if is_all(words) {
+        return Command::All;
+    }
+    if is_stat(words) {
+        return Command::Stat(false);
+    }
+    if is_stat_rows(words) {
+        return Command::Stat(true);
+    }
+    Command::Other
+}
+
 /// What the program's words say.
 pub(crate) fn command_of(words: &[String]) -> Command
     ensures { result ≡ command_of words.now }
@@ -305,8 +344,5 @@ pub(crate) fn command_of(words: &[String]) -> Command
     if is_word(&words[0], b"explain") && words.len() == 1 {
         return Command::Explain;
     }
-    if is_all(words) {
-        return Command::All;
-    }
-    Command::Other
+    other_command(words)
 }

@@ -48,3 +48,16 @@ returns-in-All g c =
     (g.S.Source.seen c.run_command-in-All.new.source) (g.K.Sink.seen c.args.sink.now)
     (g.K.Sink.seen c.run_command-in-All.new.sink) c.run_command-in-All.result)
     c.in-All.is c.run_command-in-All.ensures)
+
+pub returns-in-Stat : goal.returns-in-Stat
+returns-in-Stat g c =
+    subst
+    (λ command. ViewsBy command c.args.words.now (g.S.Source.seen c.args.source.now)
+    (g.S.Source.seen c.run_command-in-Stat.new.source) (g.K.Sink.seen c.args.sink.now)
+    (g.K.Sink.seen c.run_command-in-Stat.new.sink) c.run_command-in-Stat.result)
+    c.in-Stat.ensures
+    (subst
+    (λ command. Runs command (g.S.Source.seen c.args.source.now)
+    (g.S.Source.seen c.run_command-in-Stat.new.source) (g.K.Sink.seen c.args.sink.now)
+    (g.K.Sink.seen c.run_command-in-Stat.new.sink) c.run_command-in-Stat.result)
+    c.in-Stat.is c.run_command-in-Stat.ensures)
