@@ -1,7 +1,7 @@
 -- a timer that is taken out of a part that lies behind its CPU's lock
 use Rattle.std.proofs.Common.{◌≡◌, ◌+◌, ◌<◌, ℕ, List, [], ◌∷◌, Option, Some, None, refl, sym, ap}
-use Rattle.std.proofs.Common.{◌∙◌, subst, arith, length}
-use Rattle.std.specs.Prelude.{is_some, max, true}
+use Rattle.std.proofs.Common.{◌∙◌, subst, arith, length, true≢false}
+use Rattle.std.specs.Prelude.{is_some, max, true, false}
 use Rattle.atomic_table.specs.Seated.{TableId}
 use Rattle.tm_base.specs.declared.names.Class.{Class}
 use Rattle.tm_base.specs.declared.names.TimerId.{TimerId}
@@ -20,6 +20,11 @@ use Rattle.shared_timers.specs.Queueing.{MayCancel, cancelled_part}
 use Rattle.shared_looks.specs.Rooms.{with_more_room}
 use Rattle.shared_calls.specs.Cancels.{IsTakenOut}
 use Rattle.shared_calls.proofs.Free.{within}
+
+-- a timer that isn't there
+pub class_gone : (m : Option Class) → is_some m ≡ false → m ≡ None
+class_gone None is = refl
+class_gone (Some class) is = absurd (true≢false is)
 
 -- where a class was found, it is that of the timer
 pub class_found : (m : Option Class) → is_some m ≡ true → (class : Class) × (m ≡ Some class)

@@ -62,11 +62,12 @@ pub record IsTakenOut (table : TableId) (timer line : ℕ) (part : HeldPart)
       (cancelled_part timer line
       (with_guest (with_more_room 0 1 part) (with_receipts_room 1 held)))
 
--- taken out of a part, or not there any more (no public clause cites it)
+-- taken out of a part, or not queued there (no public clause cites it)
 abbrev pub TookOut : TableId → (timer line : ℕ) → HeldPart → (held after : HeldPass)
     → (taken : Bool) → Type 0
 TookOut table timer line part held after true = IsTakenOut table timer line part held after
-TookOut table timer line part held after false = after ≡ held
+TookOut table timer line part held after false =
+    (class_in timer part.box.own.bases ≡ None) × (after ≡ held)
 
 -- THE LAST LOAD of the timer's word found that it isn't queued
 abbrev pub IsNowhere : World → (timer : ℕ) → (held after : HeldPass) → Type 0
@@ -92,13 +93,26 @@ pub record IsElsewhere (o : World) (timer : ℕ) (held after : HeldPass) : Type 
   pub names : NamesHome o timer look
   pub pass_is : after ≡ with_pass (seen_pass look.word look.found) held
 
+-- GONE: a load named a CPU, and in the part of that CPU the timer wasn't queued
+pub record WasGone (o : World) (timer : ℕ) (x : Look) : Type 0 where
+  pub names : NamesHome o timer x
+  pub home : HeldPart
+  pub home_is : IsPartOf o names.spot.cpu.0 home
+  pub gone : class_in timer home.box.own.bases ≡ None
+
+-- what such a load makes of the pass (no public clause cites it)
+pub record IsGone (o : World) (timer : ℕ) (held after : HeldPass) : Type 0 where
+  pub look : Look
+  pub gone : WasGone o timer look
+  pub pass_is : after ≡ with_pass (seen_pass look.word look.found) held
+
 -- what one try makes of the pass (no public clause cites it)
 abbrev pub HasTriedCancel : TableId → World → (timer line : ℕ) → (held after : HeldPass) → Tried
     → Type 0
 HasTriedCancel table o timer line held after tries.Nowhere = IsNowhere o timer held after
 HasTriedCancel table o timer line held after (tries.Cancelled cpu) =
     IsCancelled table o timer line held after cpu
-HasTriedCancel table o timer line held after tries.Gone = IsElsewhere o timer held after
+HasTriedCancel table o timer line held after tries.Gone = IsGone o timer held after
 
 -- a look into the part of a CPU, by whether the timer was taken out there (no public clause cites
 -- it)
@@ -113,12 +127,18 @@ HasCancelEnded table o timer line held after None = IsNowhere o timer held after
 HasCancelEnded table o timer line held after (Some cpu) =
     IsCancelled table o timer line held after cpu
 
--- FOUND: earlier loads of the timer's word each named a CPU, where it wasn't by then; after the
--- last one the call ends
+-- so many loads, each of a CPU where the timer wasn't (no public clause cites it)
+pub record LooksOn (o : World) (timer : ℕ) (held after : HeldPass) : Type 0 where
+  pub looks : List Look
+  pub each : Each (WasGone o timer) looks
+  pub pass_is : after ≡ with_pass (seen_all looks) held
+
+-- FOUND: earlier loads of the timer's word each named a CPU, in whose part it wasn't queued by
+-- then; after the last one the call ends
 pub record CameTo (table : TableId) (o : World) (timer line : ℕ) (held after : HeldPass)
     (answer : Option CpuId) : Type 0 where
   pub looks : List Look
-  pub each : Each (NamesHome o timer) looks
+  pub each : Each (WasGone o timer) looks
   pub ends : HasCancelEnded table o timer line (with_pass (seen_all looks) held) after answer
 
 -- WANT OF MEMORY: each load named a CPU, and the pass knows no more than these loads

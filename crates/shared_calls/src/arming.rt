@@ -102,8 +102,8 @@ fn arm_in<N: RunName, B: TimerBase>(
 /// with the receipt, and answers its wheel expiry, in jiffies (`__mod_timer`). `Offline` comes
 /// exactly where the CPU is offline, `NotActive` exactly where it is online, idle and outside its
 /// interrupt, `Queued` exactly where the timer's word named that CPU; `NoMemory` leaves timers and
-/// receipts as they were. In each case the pass knows its CPU's journal as it is by then. It waits
-/// for the CPU's lock alone.
+/// receipts as they were. In each case the pass knows its CPU's journal as it is by then. It takes
+/// the CPU's lock; no clause says that it takes no other.
 pub fn arm<N: RunName, B: TimerBase, R: Wait>(
     rt: &R,
     shared: &Shared<N, B>,

@@ -225,9 +225,9 @@ fn cancel_named<N: RunName, B: TimerBase, R: Wait>(
 /// `Offline` comes exactly where the pass's CPU is offline, `NotActive` exactly where it is online
 /// and idle; `NoMemory` leaves timers and receipts as they were. In each case the pass knows its
 /// CPU's journal as it was when the call began. It waits for the lock of its own CPU, and then for
-/// that of the CPU that the word names, never for two at once. Where the timer has gone from there
-/// meanwhile, the word is loaded again; what each load found is remembered. That comes again only
-/// as often as another CPU's thread moves the timer between the load and the lock.
+/// that of the CPU that the word names; no clause says that it has one lock at a time. The word is
+/// loaded again only where the timer wasn't queued in the part of the CPU that it named; what each
+/// load found is remembered.
 pub fn cancel<N: RunName, B: TimerBase, R: Wait>(
     rt: &R,
     shared: &Shared<N, B>,

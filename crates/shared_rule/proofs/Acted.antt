@@ -41,6 +41,7 @@ use Rattle.shared_rule.proofs.Sums.{sum_same}
 use Rattle.shared_rule.proofs.Moving.{own_leaf, pass_field, set_here, set_else}
 use Rattle.shared_rule.proofs.Growing.{did_stays}
 use Rattle.shared_rule.proofs.Entering.{EntryFits, holder_after, noted_more}
+use Rattle.shared_rule.proofs.Reaching.{reached_on}
 
 -- a pass with the receipt of the entry e, which comes to a place of the journal of c
 abbrev pub noted_pass : (c place : ℕ) → Entry → PassView → PassView
@@ -257,6 +258,7 @@ module _ (law : CoreLaws) (o : World) (s : Whole) (h : IsShown o s) (c q : ℕ) 
   next_shown = record {
     opening = h.opening;
     fits = next_fits;
+    reached = reached_on o w v a.step h.reached a.enabled a.is;
     same = record {
       tree = kept.size.tree ∙ h.same.tree;
       groups = kept.size.groups ∙ h.same.groups;

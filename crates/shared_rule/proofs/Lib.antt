@@ -9,6 +9,7 @@ pub mod Moving
 pub mod Owing
 pub mod Noting
 pub mod Stale
+pub mod Reaching
 pub mod Made
 pub mod Waking
 pub mod Rising
@@ -45,6 +46,7 @@ pub mod Cancelling
 pub mod Handing
 pub mod Arming
 pub mod Told
+mod Answering
 pub mod Calls
 pub mod Seated
 pub mod Holding

@@ -45,6 +45,7 @@ use Rattle.shared_rule.proofs.Sums.{sum_swap}
 use Rattle.shared_rule.proofs.Fits.{shown_walk, seq_low}
 use Rattle.shared_rule.proofs.Moving.{set_here, set_else, quiet_else, owes_else, field_else}
 use Rattle.shared_rule.proofs.Noting.{did_same, noted_same}
+use Rattle.shared_rule.proofs.Reaching.{reached_on}
 use Rattle.shared_rule.proofs.Stale.{flags_beside, stale_reads}
 
 -- a step that leaves time, timers and which CPUs are online
@@ -240,6 +241,7 @@ module _ (law : CoreLaws) (o : World) (s : Whole) (h : IsShown o s) (c g : ℕ) 
   next_shown = record {
     opening = h.opening;
     fits = next_fits;
+    reached = reached_on o s.world v q.step h.reached q.enabled q.is;
     same = record {
       tree = keeps.size.tree ∙ h.same.tree;
       groups = keeps.size.groups

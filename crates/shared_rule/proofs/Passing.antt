@@ -74,6 +74,7 @@ module _ (o : World) (s : Whole) (h : IsShown o s) (c : ℕ) (q : PassView)
   repassed = record {
     opening = h.opening;
     fits = h.fits;
+    reached = h.reached;
     same = h.same;
     clock = h.clock;
     online = h.online;

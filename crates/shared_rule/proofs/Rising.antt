@@ -93,6 +93,7 @@ module _ (o : World) (s : Whole) (h : IsShown o s) (c : ℕ) (looked : Looked) w
   remembers = record {
     opening = h.opening;
     fits = h.fits;
+    reached = h.reached;
     same = h.same;
     clock = h.clock;
     online = h.online;

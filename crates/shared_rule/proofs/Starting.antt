@@ -25,6 +25,7 @@ use Rattle.shared_rule.specs.Rule.{box_cpu, pass_cpu}
 use Rattle.shared_rule.specs.Starts.{first_whole, first_view, spot_or, spot_below}
 use Rattle.shared_rule.specs.Starts.{spot_in, all_boxes, all_passes}
 use Rattle.shared_rule.proofs.Parting.{each_append, times_append}
+use Rattle.shared_rule.proofs.Reaching.{reached_at_first}
 
 -- WHERE TIMERS ARE
 beyond : (o : World) (t d : ℕ) (class : Class) → class_in t (cpu_of o d).bases ≡ Some class
@@ -177,6 +178,7 @@ module _ (law : CoreLaws) (o : World) (made : ℕ) (h : WorldFits o) (rest : IsS
       record {
         opening = h;
         fits = h;
+        reached = reached_at_first o;
         same = record {
           tree = refl;
           groups = refl;

@@ -10,6 +10,7 @@ pub mod TurnLaws
 pub mod Timers
 pub mod TimerLaws
 pub mod Runs
+pub mod Running
 pub mod Receipts
 pub mod Parts
 pub mod Passes

@@ -18,6 +18,8 @@ use Rattle.walk_rules.specs.declared.walk.WalkKind.TheVariants as kinds
 use Rattle.walk_rules.specs.Scene.{Group}
 use Rattle.core_world.specs.World.{CpuRecord, World, cpu_of, is_reading, moved}
 use Rattle.core_world.specs.Frames.{SameSize}
+use Rattle.core_world.specs.Lists.{IsRun}
+use Rattle.core_world.specs.declared.step.Step.{Step}
 use Rattle.core_state.specs.core_facts.Exchanges.{stage_number}
 use Rattle.core_state.specs.Kept.{WorldFits, is_queued}
 use Rattle.shared_words.specs.declared.spot.Spot.{Spot}
@@ -179,11 +181,17 @@ pub record DidRight (o w : World) (receipts : List Receipt) (x : Did) : Type 0 w
   pub opening : (t : ℕ) → x.deed ≡ saw_timer o t 0 → t < o.timers →
       ((d : ℕ) → class_in t (cpu_of o d).bases ≡ None) ⊎ HasNewEnd o w t
 
+-- REACHED: steps lead from one core to another, each enabled where it stands
+abbrev pub IsReached : (before after : World) → Type 0
+IsReached before after = (steps : List Step) × IsRun steps before after
+
 -- THE RULE, of a whole and the core with which the run began
 pub record IsShown (o : World) (s : Whole) : Type 0 where
   -- the core that is shown is lawful and fits, and the opening was
   pub opening : WorldFits o
   pub fits : WorldFits s.world
+  -- steps of the core lead to it from the opening
+  pub reached : IsReached o s.world
   -- what no step changes
   pub same : SameSize o s.world
   pub clock : s.world.clock ≡ o.clock

@@ -85,7 +85,7 @@ impl<N: RunName, B: TimerBase> Shared<N, B> {
 
     /// Takes the lock of a CPU, and answers its box. A lock tells of the box behind it only what
     /// the type says; so its CPU is looked at, and where it were another one the lock is taken
-    /// again, which never happens.
+    /// again. No clause says that this never happens.
     pub fn lock<R: Wait>(&self, rt: &R, cpu: CpuId) -> MutexGuard<'_, CpuBox<N, B>>
         requires { cpu.0 < length N.opening.cpus }
         ensures { (mutex_guard_value result).box.cpu ≡ cpu.0 }

@@ -1,5 +1,5 @@
 -- what a walk's step makes of the part of its CPU, stage by stage
-use Rattle.std.specs.Prelude.{◌≡◌, ℕ, zero, suc, ◌-◌, Bool, true, false, Some, MatchBool}
+use Rattle.std.specs.Prelude.{◌≡◌, ℕ, zero, suc, ◌-◌, ◌==◌, Bool, true, false, Some, MatchBool}
 use Rattle.walk_rules.specs.declared.walk.Walk.{Walk}
 use Rattle.walk_rules.specs.declared.walk.Stage.{Stage}
 use Rattle.walk_rules.specs.declared.walk.Stage.TheVariants as stages
@@ -26,9 +26,12 @@ abbrev pub HasReadChild : (level : ℕ) → HeldPart → HeldPart → Type 0
 HasReadChild zero old new = Becomes (by_walk own_read_walk) old new
 HasReadChild (suc l) old new = BecomesBy (λ found. by_walk (child_read_walk found)) old new
 
--- SWAP: the exchange was made, or failed and has read the word anew
-abbrev pub HasSwapped : HeldPart → HeldPart → Type 0
-HasSwapped old new = (made : Bool) × BecomesBy (swap_box made) old new
+-- SWAP: the exchange was made where it found the word that the walk had read; else the walk has
+-- read it anew
+pub record HasSwapped (swapped : Bool) (old new : HeldPart) : Type 0 where
+  pub found : ℕ
+  pub exactly : swapped ≡ (found == old.box.read)
+  pub box : Becomes (swap_box swapped found) old new
 
 -- A STEP of the walk at this stage has made this of the part. `made` is false where its exchange
 -- found another word than the one that was wanted, and else nowhere: at a lock a word that isn't 0,
@@ -41,7 +44,7 @@ StepOf o k (stages.Mark more) made old new = (made ≡ true) × Becomes (by_walk
 StepOf o k stages.Read made old new =
     (made ≡ true) × BecomesBy (λ found b. reading found (by_walk read_walk b)) old new
 StepOf o k stages.Child made old new = (made ≡ true) × HasReadChild k.level old new
-StepOf o k stages.Swap made old new = (made ≡ true) × HasSwapped old new
+StepOf o k stages.Swap made old new = (made ≡ true) × (swapped : Bool) × HasSwapped swapped old new
 StepOf o k stages.LockChild made old new =
     LockTried o child_locked_walk (k.level - 1) made old new
 StepOf o k stages.LockGroup made old new = LockTried o locked_walk k.level made old new

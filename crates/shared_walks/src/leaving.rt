@@ -3,8 +3,9 @@
 ghost use Rattle.std.specs.Prelude.{◌≡◌, ◌<◌, ℕ};
 ghost use Rattle.walk_rules.specs.declared.walk.Stage.TheVariants as stages;
 ghost use Rattle.shared_rule.specs.Plays.{by_walk, child_read_walk, own_read_walk, read_walk};
-ghost use Rattle.shared_rule.specs.Plays.{reading, swap_box};
+ghost use Rattle.shared_rule.specs.Plays.{reading};
 ghost use Rattle.shared_walks.specs.Steps.{WalkStands, on_part};
+ghost use Rattle.shared_walks.specs.Walks.{HasSwapped};
 
 use crate::path::{group_below, group_on, side_on};
 use crate::stages::read_in_box;
@@ -70,15 +71,15 @@ pub fn own_child_step<N: RunName, B: TimerBase>(
     };
 }
 
-/// The walk exchanges the word that it read, and goes on to the locks; false where the word has
-/// changed, which the walk then has read anew.
+/// The walk exchanges the word that it read, and goes on to the locks; false exactly where the
+/// exchange found another word than that, which the walk then has read anew.
 pub fn swap_step<N: RunName, B: TimerBase>(
     run: &Run<N, B>,
     part: &mut BoxPart<N, B>,
     walk: Walk,
 ) -> bool
     requires { WalkStands part.old walk stages.Swap }
-    ensures { (found : ℕ) × (part.new ≡ on_part (swap_box result found) part.old) }
+    ensures { HasSwapped result part.old part.new }
 {
     law_leave();
     let group = group_on(run, part.cpu, walk.level);

@@ -1,18 +1,18 @@
 use Rattle.std.proofs.Common.{[], refl, subst, sym}
 use Rattle.shared_table.specs.shared_rule.Passes.{HeldPass}
 use Rattle.shared_looks.proofs.Looks.{no_loads, still_of}
-use Rattle.shared_calls.specs.Cancels.{HasTriedCancel, IsCancelled, IsElsewhere, IsNowhere}
-use Rattle.shared_calls.proofs.Trying.{short_more}
+use Rattle.shared_calls.specs.Cancels.{HasTriedCancel, IsCancelled, IsGone, IsNowhere}
+use Rattle.shared_calls.proofs.Trying.{looks_on, short_more}
 use Rattle.shared_calls.proofs.cancelling.cancel_named.Goals as goal
 
 pub loop-preserved : goal.loop-preserved
 loop-preserved g c =
     let o = g.N.RunName.opening in
     let was = c.loop.invariant in
-    let one : IsElsewhere o c.args.timer.0 c.loop.pass c.try_cancel.new.pass =
+    let one : IsGone o c.args.timer.0 c.loop.pass c.try_cancel.new.pass =
     subst (HasTriedCancel g.N.RunName.table o c.args.timer.0 c.args.line c.loop.pass
     c.try_cancel.new.pass) c.in-Ok-Gone.field-0-is c.in-Ok-Gone.ensures in (
-      short_more o c.args.timer.0 c.args.pass.now c.loop.pass c.try_cancel.new.pass was.0 one,
+      looks_on o c.args.timer.0 c.args.pass.now c.loop.pass c.try_cancel.new.pass was.0 one,
       still_of g.N.RunName.table o c.loop.pass c.try_cancel.new.pass one.look.word one.look.found
           was.1 one.pass_is,
     )

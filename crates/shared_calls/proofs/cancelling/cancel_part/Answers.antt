@@ -9,7 +9,7 @@ use Rattle.shared_table.specs.shared_rule.Passes.{HeldPass, passes_of}
 use Rattle.shared_timers.specs.Queueing.{MayCancel, cancelled_part}
 use Rattle.shared_looks.specs.Rooms.{with_more_room}
 use Rattle.shared_calls.proofs.Free.{free_as}
-use Rattle.shared_calls.proofs.Taking.{class_found, free_after, may_cancel, taken_out}
+use Rattle.shared_calls.proofs.Taking.{class_found, class_gone, free_after, may_cancel, taken_out}
 use Rattle.shared_calls.proofs.cancelling.cancel_part.Goals as goal
 
 pub cancel_with-requires-clause-run : goal.cancel_with-requires-clause-run
@@ -86,7 +86,13 @@ returns-then-is_none-clause-part g c =
     }
 
 pub returns-then-is_none-clause-done : goal.returns-then-is_none-clause-done
-returns-then-is_none-clause-done g c = refl
+returns-then-is_none-clause-done g c =
+    let timer = c.args.timer in
+    let found = c.where_is.ensures ∙ ap (λ (z : CpuBases). class_in timer.0 z) c.bases.ensures.plain in (
+      class_gone (class_in timer.0 c.args.part.now.box.own.bases)
+          (ap is_some (sym found) ∙ (c.is_none.ensures ∙ ap not c.if-is_none.true)),
+      refl,
+    )
 
 pub returns-in_err-take_room-clause-part : goal.returns-in_err-take_room-clause-part
 returns-in_err-take_room-clause-part g c =

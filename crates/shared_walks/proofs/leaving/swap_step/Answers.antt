@@ -1,4 +1,4 @@
-use Rattle.std.proofs.Common.{◌≡◌, ◌==◌, Some, refl, ap, ◌∙◌}
+use Rattle.std.proofs.Common.{◌≡◌, ◌==◌, Some, refl, sym, ap, ◌∙◌}
 use Rattle.std.proofs.Common.{subst, ◌∷◌, [], Option, false, true, eq-eqb, ne_eqb}
 use mathlib.Core.Option.{none}
 use prog.Atomic.{either}
@@ -140,13 +140,17 @@ returns-then-found-old g c =
     let same : box_held o part.cpu.0 (record part.status { walk = walk }) part.bases.plain part.leaf
     found looked ≡ plays.swap_box false found b
     = ap (plays.reading found) (walked o part.cpu.0 part.status b.own part.leaf part.read
-    looked plays.read_walk k walk at (ap Some c.read_in_box.ensures)) in (
-      found,
-      shows g.N.RunName.table c.compare_exchange-found.new.seat.table_id o part.cpu.0
+    looked plays.read_walk k walk at (ap Some c.read_in_box.ensures)) in record {
+      found = found;
+      exactly =
+          sym (ne_eqb _ _ c.if-found-old.true)
+          ∙ ap (λ (z : HeldPart). found == z.box.read) c.part.view_is;
+      box =
+          shows g.N.RunName.table c.compare_exchange-found.new.seat.table_id o part.cpu.0
           (record part.status { walk = walk }) b.own
           part.leaf found looked part.guest m (plays.swap_box false found) b ps is same v
-          ∙ ap (on_part (plays.swap_box false found)) c.part.view_is,
-    )
+          ∙ ap (on_part (plays.swap_box false found)) c.part.view_is;
+    }
 
 pub returns : goal.returns
 returns g c =
@@ -176,10 +180,14 @@ returns g c =
     let same : box_held o part.cpu.0 (record part.status { walk = walk }) part.bases.plain part.leaf
     part.read looked ≡ plays.swap_box true found b
     = walked o part.cpu.0 part.status b.own part.leaf part.read looked
-    plays.swapped_walk k walk at (ap Some c.swap_next.ensures.next) in (
-      found,
-      shows g.N.RunName.table c.compare_exchange-found.new.seat.table_id o part.cpu.0
+    plays.swapped_walk k walk at (ap Some c.swap_next.ensures.next) in record {
+      found = found;
+      exactly =
+          sym (eq-eqb _ _ c.if-found-old.false)
+          ∙ ap (λ (z : HeldPart). found == z.box.read) c.part.view_is;
+      box =
+          shows g.N.RunName.table c.compare_exchange-found.new.seat.table_id o part.cpu.0
           (record part.status { walk = walk }) b.own
           part.leaf part.read looked part.guest m (plays.swap_box true found) b ps is same v
-          ∙ ap (on_part (plays.swap_box true found)) c.part.view_is,
-    )
+          ∙ ap (on_part (plays.swap_box true found)) c.part.view_is;
+    }

@@ -1,0 +1,38 @@
+-- for crates above: a core that steps lead to, and one step more
+use Rattle.std.proofs.Common.{◌≡◌, List, [], ◌∷◌, ◌++◌, refl, sym, ap, ◌∙◌, subst}
+use Rattle.core_world.specs.declared.step.Step.{Step}
+use Rattle.core_world.specs.Enabled.{Enabled}
+use Rattle.core_world.specs.Lists.{EachEnabled, after_all}
+use Rattle.core_world.specs.Steps.{stepped}
+use Rattle.core_world.specs.World.{World}
+use Rattle.shared_rule.specs.Shows.{IsReached}
+
+after_one_more : (w : World) (steps : List Step) (step : Step)
+    → after_all w (steps ++ step ∷ []) ≡ stepped (after_all w steps) step
+after_one_more w [] step = refl
+after_one_more w (first ∷ steps) step = after_one_more (stepped w first) steps step
+
+each_one_more : (w : World) (steps : List Step) (step : Step) → EachEnabled w steps
+    → Enabled (after_all w steps) step → EachEnabled w (steps ++ step ∷ [])
+each_one_more w [] step each enabled = (enabled, tt)
+each_one_more w (first ∷ steps) step each enabled =
+    (each.0, each_one_more (stepped w first) steps step each.1 enabled)
+
+pub reached_at_first : (o : World) → IsReached o o
+reached_at_first o = ([], record { enabled = tt; done = refl })
+
+pub reached_on : (o w v : World) (step : Step) → IsReached o w → Enabled w step
+    → stepped w step ≡ v → IsReached o v
+reached_on o w v step before enabled is =
+    let steps = before.0 in
+    let run = before.1 in (
+      steps ++ step ∷ [],
+      record {
+        enabled =
+            each_one_more o steps step run.enabled
+            (subst (λ x. Enabled x step) run.done enabled);
+        done =
+            sym is
+            ∙ (ap (λ x. stepped x step) run.done ∙ sym (after_one_more o steps step));
+      },
+    )
