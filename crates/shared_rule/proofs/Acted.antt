@@ -323,7 +323,7 @@ module _ (law : CoreLaws) (o : World) (s : Whole) (h : IsShown o s) (c q : ℕ) 
   frame (Cpu d) low ne = own_field w c y hc own_word refl d.0
   frame (Timer t) low ne = ap spot_word (a.timers t.0 ne)
 
-  pub acts : Goes o s (box_of o s c) (p0 ∷ []) p f then
+  pub acts : Goes o s (box_of o s c) (p0 ∷ []) p f (λ n. Some a.step) then
   acts =
       let whose : p0 ≡ s.pass q = a.brought ∙ ap s.pass a.whose in
       record {
@@ -331,6 +331,7 @@ module _ (law : CoreLaws) (o : World) (s : Whole) (h : IsShown o s) (c q : ℕ) 
         box = box_as o c y (leaf_of w c) (s.read c) (s.looked c);
         passes = noted_pass c (length (journal_of w c)) e p0 ∷ [];
         shown = next_shown;
+        makes = (a.enabled, sym a.is);
         word = a.word;
         words = frame;
         own = λ i. box_as o c (sym own_cpu i) (sym (own_leaf w c c y) i) (s.read c) (s.looked c);

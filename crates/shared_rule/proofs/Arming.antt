@@ -22,6 +22,7 @@ use Rattle.shared_rule.specs.declared.parts.PassView.{PassView}
 use Rattle.shared_rule.specs.declared.parts.Said.TheVariants as saids
 use Rattle.shared_rule.specs.CoreLaws.{CoreLaws}
 use Rattle.shared_rule.specs.Whole.{Whole, box_of, layout_of, spot_at, timer_at}
+use Rattle.shared_rule.specs.Shows.{CoreStep}
 use Rattle.shared_rule.specs.Shows.{IsShown, set_at}
 use Rattle.shared_rule.specs.Rule.{Goes, Me, seat_of}
 use Rattle.shared_rule.specs.Plays.{on_pass, seen_pass}
@@ -35,6 +36,8 @@ use Rattle.shared_rule.proofs.Noticing.{notices}
 use Rattle.shared_rule.proofs.Queues.{armed_else, armed_here}
 use Rattle.shared_rule.proofs.Seeing.{names_cpu, no_spot, or_class}
 use Rattle.shared_rule.proofs.Waking.{none_shown}
+use Rattle.shared_rule.specs.Laws.{none_made, where_made}
+use Rattle.shared_rule.proofs.Reaching.{under}
 
 -- an arming of a timer by the CPU of a pass, as it is asked for
 module _ (law : CoreLaws) (o : World) (class : Class) (timer : TimerId)
@@ -45,6 +48,11 @@ module _ (law : CoreLaws) (o : World) (class : Class) (timer : TimerId)
   -- what the try makes of the timer's word
   abbrev tried : (c : ℕ) → ℕ → ℕ
   tried c n = either (eqb n 0) (queued_word c class) n
+
+  -- which step of the core it makes
+  abbrev made_by : (c : ℕ) → ℕ → Option CoreStep
+  made_by c n =
+      where_made (eqb n 0) (steps.Arm (record { 0 = c }) timer class expires job arg line)
 
   -- what the seat of a box is told
   abbrev Told : BoxView → ℕ → Me → Type 0
@@ -72,16 +80,21 @@ module _ (law : CoreLaws) (o : World) (class : Class) (timer : TimerId)
 
     -- the try finds that the timer is queued
     misses : spot_word (s.spot timer.0) ≢ 0
-        → Goes o s (box_of o s c) (p ∷ []) (timer_at timer.0) (tried c) (Told (box_of o s c))
+        → Goes o s (box_of o s c) (p ∷ []) (timer_at timer.0) (tried c) (made_by c)
+        (Told (box_of o s c))
     misses there =
-        notices law o s h c p (timer_at timer.0) may.known is (tried c)
+        under o s (box_of o s c) (p ∷ []) (timer_at timer.0) (tried c) none_made (made_by c)
+        (Told (box_of o s c))
+        (ap (λ z. where_made z (steps.Arm (record { 0 = c }) timer class expires job arg line))
+        (ne_eqb _ _ there))
+        (notices law o s h c p (timer_at timer.0) may.known is (tried c)
         (ap (λ z. either z (queued_word c class) (spot_word (s.spot timer.0))) (ne_eqb _ _ there))
         (Told (box_of o s c))
         (subst (λ z. ArmTells (some (saids.Arm timer class expires job arg line)) z word
         (spot_word (s.spot timer.0)) (seat_of (box_of o s c ∷ []) (p ∷ []))
         (on_pass (seen_pass word (spot_word (s.spot timer.0)))
         (seat_of (box_of o s c ∷ []) (p ∷ [])))) (sym (ne_eqb _ _ there))
-        (refl, names_cpu law o s h timer.0 p is))
+        (refl, names_cpu law o s h timer.0 p is)))
 
     -- the try finds that it is queued nowhere
     module _ (free_word : spot_word (s.spot timer.0) ≡ 0) where
@@ -163,10 +176,15 @@ module _ (law : CoreLaws) (o : World) (class : Class) (timer : TimerId)
             ]
       ]
 
-      hits : Goes o s (box_of o s c) (p ∷ []) (timer_at timer.0) (tried c) (Told (box_of o s c))
+      hits : Goes o s (box_of o s c) (p ∷ []) (timer_at timer.0) (tried c) (made_by c)
+          (Told (box_of o s c))
       hits =
           let hw : c < length w.cpus = omega (arith, may.cpu, h.same.cpus) in
-          acts law o s h c p.cpu bases entry spot p (timer_at timer.0) (tried c)
+          let armed_so : CoreStep
+          = steps.Arm (record { 0 = c }) timer class expires job arg line in
+          under o s (box_of o s c) (p ∷ []) (timer_at timer.0) (tried c) (λ n. Some armed_so)
+          (made_by c) (Told (box_of o s c)) (ap (λ z. where_made z armed_so) (eq-eqb _ _ free_word))
+          (acts law o s h c p.cpu bases entry spot p (timer_at timer.0) (tried c)
           (Told (box_of o s c))
           (record {
             step = steps.Arm (record { 0 = c }) timer class expires job arg line;
@@ -206,9 +224,10 @@ module _ (law : CoreLaws) (o : World) (class : Class) (timer : TimerId)
                 (on_pair (armed_box class timer.0 expires job arg line)
                 (armed_pass class timer.0 expires job arg line)
                 (seat_of (box_of o s c ∷ []) (p ∷ [])))) (sym (eq-eqb _ _ free_word)) refl;
-          })
+          }))
 
-    tries : Goes o s (box_of o s c) (p ∷ []) (timer_at timer.0) (tried c) (Told (box_of o s c))
+    tries : Goes o s (box_of o s c) (p ∷ []) (timer_at timer.0) (tried c) (made_by c)
+        (Told (box_of o s c))
     tries = elim (cases_eq (spot_word (s.spot timer.0)) 0) [
       | inl none ↦ hits none
       | inr there ↦ misses there
@@ -218,10 +237,12 @@ pub arms : (law : CoreLaws) (o : World) → ArmStays o
 arms law o slots id expires job arg line class timer b p may =
     allows law o slots id b (p ∷ []) (timer_at timer.0)
     (tried law o class timer expires job arg line p b.cpu)
+    (made_by law o class timer expires job arg line p b.cpu)
     (Told law o class timer expires job arg line p b) may.known
     (λ s h hc is known fits.
     subst (λ (z : BoxView). Goes o s z (p ∷ []) (timer_at timer.0)
     (tried law o class timer expires job arg line p b.cpu)
+    (made_by law o class timer expires job arg line p b.cpu)
     (Told law o class timer expires job arg line p z)) (sym is)
     (tries law o class timer expires job arg line p s h b.cpu
     (subst (λ (z : BoxView). MayExchangeArm o z class timer expires p) is may) known.0.0 known.0.1

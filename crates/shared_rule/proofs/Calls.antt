@@ -1,5 +1,5 @@
 -- for crates above: what a call of a run's table asks, where the rule's law says it of the opening
-use Rattle.std.proofs.Common.{◌≡◌, ℕ, List, [], ◌∷◌, ◌<◌, arith, sym, ap, ◌∙◌, subst}
+use Rattle.std.proofs.Common.{◌≡◌, ℕ, List, [], ◌∷◌, ◌<◌, Option, arith, sym, ap, ◌∙◌, subst}
 use Rattle.atomic_table.specs.Seated.{TableId}
 use Rattle.atomic_table.specs.Table.{Allows}
 use Rattle.tree_plan.specs.Shape.{Shape}
@@ -16,6 +16,7 @@ use Rattle.shared_rule.specs.Whole.{layout_of}
 use Rattle.shared_rule.specs.Rule.{Holds, Me, seat_of}
 use Rattle.shared_rule.specs.Laws.{Stays}
 use Rattle.shared_rule.specs.Runs.{RunFits}
+use Rattle.shared_rule.specs.Shows.{CoreStep}
 
 module _ (name : TableId) (o : World) (table : TableId) (key : World) (tree : Shape)
     (layout : Layout) (fits : RunFits name o table key tree layout) where
@@ -44,17 +45,17 @@ allowed o key slots id me m i j f then ek em ei h =
     (then z.1.1 z.1.0)) {x = (o, (m, j))} (λ t. (sym ek t, (sym em t, sym ei t))) h
 
 -- what a step of a part's seat asks of the table, where the rule has a law for it
-pub asks : (name : TableId) (o : World) (table : TableId) (key : World) (tree : Shape)
+pub asks : {by : ℕ → Option CoreStep} (name : TableId) (o : World) (table : TableId) (key : World) (tree : Shape)
     (layout : Layout) → RunFits name o table key tree layout → (mine : TableId) (id i : ℕ) (me : Me)
     (b : BoxView) (ps : List PassView) (p : SharedWord) (f : ℕ → ℕ)
     (then : ℕ → Me → ℕ → Me → Type 0) → mine ≡ name → me ≡ seat_of (b ∷ []) ps
     → i ≡ index_of layout p → IsWordOf (layout_of o) p
-    → Stays o table.slots id b ps p f (then (index_of (layout_of o) p) (seat_of (b ∷ []) ps))
+    → Stays o table.slots id b ps p f by (then (index_of (layout_of o) p) (seat_of (b ∷ []) ps))
     → (mine ≡ table) × (i < table.words)
     × Allows {S = Said} {V = View} (Holds key) table.slots id me i f (then i me)
 asks name o table key tree layout fits mine id i me b ps p f then named is at within law = (
   named ∙ sym fits.named,
   subst (λ n. n < table.words) (sym at) (below name o table key tree layout fits p within),
   allowed o key table.slots id me (seat_of (b ∷ []) ps) i (index_of (layout_of o) p) f then
-      fits.opened is (at ∙ place name o table key tree layout fits p) law,
+      fits.opened is (at ∙ place name o table key tree layout fits p) law.allowed,
 )

@@ -30,6 +30,7 @@ cancel_goes : (law : CoreLaws) (o : World) (s : Whole) (c timer line : ℕ) (cla
     (p : PassView) → IsShown o s → c < length o.cpus → p.cpu < length o.cpus → p ≡ s.pass p.cpu
     → (cpu_of s.world c).walk ≡ None → class_in timer (cpu_of s.world c).bases ≡ Some class
     → Goes o s (box_of o s c) (p ∷ []) (timer_at timer) (unqueued c class)
+    (λ n. Some (steps.Cancel (record { 0 = c }) (record { 0 = timer }) (record { 0 = p.cpu }) line))
     (λ n v. (v
     ≡ on_pair (cancelled_box timer line) (cancelled_pass timer line)
     (seat_of (box_of o s c ∷ []) (p ∷ [])))
@@ -86,12 +87,14 @@ cancel_goes law o s c timer line class p h hc runner is free was =
 pub cancels : (law : CoreLaws) (o : World) → CancelStays o
 cancels law o slots id line class timer b p may =
     allows law o slots id b (p ∷ []) (timer_at timer.0) (unqueued b.cpu class)
+    (λ n. Some (steps.Cancel (record { 0 = b.cpu }) timer (record { 0 = p.cpu }) line))
     (λ n v. (v
     ≡ on_pair (cancelled_box timer.0 line) (cancelled_pass timer.0 line)
     (seat_of (b ∷ []) (p ∷ [])))
     × (n ≡ queued_word b.cpu class)) may.known
     (λ s h hc is known fits.
     subst (λ (z : BoxView). Goes o s z (p ∷ []) (timer_at timer.0) (unqueued b.cpu class)
+    (λ n. Some (steps.Cancel (record { 0 = b.cpu }) timer (record { 0 = p.cpu }) line))
     (λ n v. (v
     ≡ on_pair (cancelled_box timer.0 line) (cancelled_pass timer.0 line)
     (seat_of (z ∷ []) (p ∷ [])))

@@ -3,7 +3,6 @@ use Rattle.std.proofs.Common.{◌≡◌, ℕ, ◌^◌, ◌<◌, [], ◌∷◌, S
 use Rattle.std.proofs.Common.{length, refl, sym, ap, ◌∙◌, subst, arith}
 use Rattle.std.specs.Prelude.{option_map}
 use Rattle.std.proofs.lemmas.Option.{none-some}
-use Rattle.atomic_table.specs.Table.{Allows}
 use Rattle.walk_rules.specs.declared.walk.Walk.{Walk}
 use Rattle.walk_rules.specs.declared.walk.WalkKind.{WalkKind}
 use Rattle.walk_rules.specs.declared.walk.WalkKind.TheVariants as kinds
@@ -13,15 +12,12 @@ use Rattle.core_world.specs.declared.step.Step.TheVariants as steps
 use Rattle.core_world.specs.Enabled.{MayGoOn}
 use Rattle.core_world.specs.Steps.{finished, walk_made, walked}
 use Rattle.core_world.specs.World.{World, CpuRecord, cpu_of, own}
-use Rattle.shared_words.specs.Layout.{index_of}
 use Rattle.shared_rule.specs.declared.parts.BoxView.{BoxView}
 use Rattle.shared_rule.specs.declared.parts.PassView.{PassView}
-use Rattle.shared_rule.specs.declared.parts.Said.{Said}
-use Rattle.shared_rule.specs.declared.parts.View.{View}
 use Rattle.shared_rule.specs.CoreLaws.{CoreLaws}
-use Rattle.shared_rule.specs.Whole.{Whole, box_of, cpu_at, layout_of, own_word, quiet}
+use Rattle.shared_rule.specs.Whole.{Whole, box_of, cpu_at, own_word, quiet}
 use Rattle.shared_rule.specs.Shows.{FlagsOf, IsShown, is_reeval, reevaluates}
-use Rattle.shared_rule.specs.Rule.{Goes, Holds, Me, seat_of}
+use Rattle.shared_rule.specs.Rule.{Goes, Me, seat_of}
 use Rattle.shared_rule.specs.Plays.{Sound, on_both}
 use Rattle.shared_rule.specs.Turns.{finish_of, finished_box, found_wakeup, reevaluated_pass}
 use Rattle.shared_rule.specs.Turns.{rested_pass}
@@ -29,6 +25,7 @@ use Rattle.shared_rule.specs.TurnLaws.{MayFinish, ReevaluateStays, RestStays}
 use Rattle.shared_rule.proofs.Fits.{shown_walk}
 use Rattle.shared_rule.proofs.Going.{allows}
 use Rattle.shared_rule.proofs.Turning.{turns}
+use Rattle.shared_rule.specs.Laws.{Stays, walks}
 
 -- what is known of a whole where a CPU's walk of a kind ends, with its own pass brought
 pub record Ends (o : World) (s : Whole) (b : BoxView) (p : PassView) (sort : WalkKind) (j : Walk)
@@ -47,13 +44,15 @@ pub record Ends (o : World) (s : Whole) (b : BoxView) (p : PassView) (sort : Wal
 at_end : (law : CoreLaws) (o : World) (slots id : ℕ) (b : BoxView) (p : PassView) (k : Walk)
     (kind : WalkKind) (new : ℕ) (then : BoxView → ℕ → Me → Type 0) → MayFinish o b p k kind new
     → ((s : Whole) (j : Walk) → Ends o s b p kind j new
-    → Goes o s (box_of o s b.cpu) (p ∷ []) (cpu_at b.cpu) (λ n. new) (then (box_of o s b.cpu)))
-    → Allows {S = Said} {V = View} (Holds o) slots id (seat_of (b ∷ []) (p ∷ []))
-    (index_of (layout_of o) (cpu_at b.cpu)) (λ n. new) (λ n w. then b n w × Sound w)
+    → Goes o s (box_of o s b.cpu) (p ∷ []) (cpu_at b.cpu) (λ n. new) (walks b.cpu)
+    (then (box_of o s b.cpu)))
+    → Stays o slots id b (p ∷ []) (cpu_at b.cpu) (λ n. new) (walks b.cpu)
+    (λ n w. then b n w × Sound w)
 at_end law o slots id b p k kind new then may goes =
-    allows law o slots id b (p ∷ []) (cpu_at b.cpu) (λ n. new) (then b) may.cpu
+    allows law o slots id b (p ∷ []) (cpu_at b.cpu) (λ n. new) (walks b.cpu) (then b) may.cpu
     (λ s h hc is known fits.
-    subst (λ (z : BoxView). Goes o s z (p ∷ []) (cpu_at b.cpu) (λ n. new) (then z)) (sym is)
+    subst (λ (z : BoxView). Goes o s z (p ∷ []) (cpu_at b.cpu) (λ n. new) (walks b.cpu) (then z))
+    (sym is)
     (let j = shown_walk _ k (ap (λ (z : BoxView). z.own.walk) (sym is) ∙ may.walk) in
     goes s j.0
     (record {

@@ -1,6 +1,6 @@
 -- for crates above: a step of a seat that has one box, told as a step of the whole
 use Rattle.std.proofs.Common.{◌≡◌, ◌≢◌, ℕ, zero, suc, ◌+◌, ◌^◌, ◌<◌, List, [], ◌∷◌, length, map}
-use Rattle.std.proofs.Common.{set}
+use Rattle.std.proofs.Common.{set, Option}
 use Rattle.std.proofs.Common.{refl, sym, ap, ◌∙◌, subst, ⊎_elim, inl, inr, arith, eqb, cond}
 use Rattle.std.specs.Prelude.{slice_index}
 use Rattle.std.proofs.lemmas.Bool.{cases_eq}
@@ -20,10 +20,11 @@ use Rattle.shared_rule.specs.declared.parts.Said.{Said}
 use Rattle.shared_rule.specs.declared.parts.View.{View}
 use Rattle.shared_rule.specs.CoreLaws.{CoreLaws}
 use Rattle.shared_rule.specs.Whole.{Whole, layout_of, word_at, Spell, box_of}
-use Rattle.shared_rule.specs.Shows.{IsShown}
+use Rattle.shared_rule.specs.Shows.{CoreStep}
 use Rattle.shared_rule.specs.Rule.{Each, IsBoxOf, IsPassOf, IsViewOf, Holds, Me, seen}
 use Rattle.shared_rule.specs.Rule.{box_cpu, pass_cpu, boxes_in, passes_in, times, Stands, Goes}
 use Rattle.shared_rule.specs.Plays.{Sound}
+use Rattle.shared_rule.specs.Laws.{EachGoes, Stays}
 use Rattle.shared_rule.proofs.Fits.{sound_of}
 
 pub spells : (l : Layout) (words : List ℕ) (s next : Whole) (p : SharedWord) (n : ℕ)
@@ -136,14 +137,12 @@ other_passes o s next passer j (p ∷ ps) same h = (
 )
 
 -- the seat of box b may step, where each whole that it may stand for goes on
-pub allows : (law : CoreLaws) (o : World) (slots id : ℕ) (b : BoxView) (ps : List PassView)
-    (p : SharedWord) (f : ℕ → ℕ) (then : ℕ → Me → Type 0) → IsWordOf (layout_of o) p
-    → ((s : Whole) → IsShown o s → b.cpu < length o.cpus → b ≡ box_of o s b.cpu
-    → Each (λ x. (x.cpu < length o.cpus) × (x ≡ s.pass x.cpu)) ps → word_at s p < 2 ^ 64
-    → Goes o s b ps p f then)
+allows_by : (law : CoreLaws) (o : World) (slots id : ℕ) (b : BoxView) (ps : List PassView)
+    (p : SharedWord) (f : ℕ → ℕ) (by : ℕ → Option CoreStep) (then : ℕ → Me → Type 0)
+    → IsWordOf (layout_of o) p → EachGoes o b ps p f by then
     → Allows {S = Said} {V = View} (Holds o) slots id (seen (b ∷ []) ps, [])
     (index_of (layout_of o) p) f (λ n w. then n w × Sound w)
-allows law o slots id b ps p f then within goes t h homes at fits =
+allows_by law o slots id b ps p f by then within goes t h homes at fits =
     let s = h.0 in
     let boxer = h.1 in
     let passer = h.2 in
@@ -208,3 +207,42 @@ allows law o slots id b ps p f then within goes t h homes at fits =
         → Each (λ x. (x.cpu < length o.cpus) × (x ≡ s.pass x.cpu)) qs
     known s passer [] h = tt
     known s passer (x ∷ xs) h = ((h.0.low, h.0.is), known s passer xs h.1)
+
+-- what the seat is told, and that its parts fit and agree
+sounds : (law : CoreLaws) (o : World) (s : Whole) (b : BoxView) (ps : List PassView)
+    (p : SharedWord) (f : ℕ → ℕ) (by : ℕ → Option CoreStep) (then : ℕ → Me → Type 0)
+    → b.cpu < length o.cpus → Goes o s b ps p f by then
+    → Goes o s b ps p f by (λ n w. then n w × Sound w)
+sounds law o s b ps p f by then low g =
+    let c : g.box.cpu ≡ b.cpu = ap (λ (x : BoxView). x.cpu) g.own in
+    record {
+      next = g.next;
+      box = g.box;
+      passes = g.passes;
+      shown = g.shown;
+      makes = g.makes;
+      word = g.word;
+      words = g.words;
+      own = g.own;
+      boxes = g.boxes;
+      same = g.same;
+      brought = g.brought;
+      others = g.others;
+      told = (
+        g.told,
+        sound_of law o g.next g.shown g.box g.passes
+            (subst (λ n. n < length o.cpus) (sym c) low) (g.own ∙ ap (box_of o g.next) (sym c))
+            g.brought,
+      );
+    }
+
+-- which step of the core the seat's step makes, and that the table allows it
+pub allows : (law : CoreLaws) (o : World) (slots id : ℕ) (b : BoxView) (ps : List PassView)
+    (p : SharedWord) (f : ℕ → ℕ) (by : ℕ → Option CoreStep) (then : ℕ → Me → Type 0)
+    → IsWordOf (layout_of o) p → EachGoes o b ps p f by then
+    → Stays o slots id b ps p f by (λ n w. then n w × Sound w)
+allows law o slots id b ps p f by then within goes = record {
+  goes = λ s h low is known fits.
+      sounds law o s b ps p f by then low (goes s h low is known fits);
+  allowed = allows_by law o slots id b ps p f by then within goes;
+}

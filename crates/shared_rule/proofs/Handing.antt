@@ -39,6 +39,7 @@ hand_goes : (law : CoreLaws) (o : World) (s : Whole) (c : ℕ) (class : Class) (
     → next_out o.clock (base_of class (cpu_of s.world c).bases) ≡ Some item
     → MayRun s.world c class p.cpu
     → Goes o s (box_of o s c) (p ∷ []) (timer_at item.id) (unqueued c class)
+    (λ n. Some (steps.Hand (record { 0 = c }) (record { 0 = item.id }) (record { 0 = p.cpu })))
     (Told class (box_of o s c) p)
 hand_goes law o s c class item p h hc runner is free due may =
     let w = s.world in
@@ -90,10 +91,12 @@ hand_goes law o s c class item p h hc runner is free due may =
 
 pub hands : (law : CoreLaws) (o : World) → HandStays o
 hands law o slots id class item b p may =
-    allows law o slots id b (p ∷ []) (timer_at item.id) (unqueued b.cpu class) (Told class b p)
+    allows law o slots id b (p ∷ []) (timer_at item.id) (unqueued b.cpu class)
+    (λ n. Some (steps.Hand (record { 0 = b.cpu }) (record { 0 = item.id }) (record { 0 = p.cpu }))) (Told class b p)
     may.known
     (λ s h hc is known fits.
     subst (λ (z : BoxView). Goes o s z (p ∷ []) (timer_at item.id) (unqueued b.cpu class)
+    (λ n. Some (steps.Hand (record { 0 = b.cpu }) (record { 0 = item.id }) (record { 0 = p.cpu })))
     (Told class z p)) (sym is)
     (hand_goes law o s b.cpu class item p h hc known.0.0 known.0.1
     (none_shown _ (ap (λ (z : BoxView). z.own.walk) (sym is) ∙ may.free))

@@ -24,15 +24,18 @@ use Rattle.shared_rule.specs.CoreLaws.{CoreLaws}
 use Rattle.shared_words.specs.Layout.{index_of}
 use Rattle.shared_rule.specs.declared.parts.Looked.{Looked}
 use Rattle.shared_rule.specs.Whole.{Whole, box_as, box_of, layout_of, leaf_of, lock_at, quiet}
+use Rattle.shared_rule.specs.Shows.{CoreStep}
 use Rattle.shared_rule.specs.Shows.{IsShown, is_reeval, owes, reevaluates}
 use Rattle.shared_rule.specs.Rule.{Each, Goes, Me, seat_of}
 use Rattle.shared_rule.specs.Plays.{child_locked_walk, lock_box, locked_walk, on_box}
-use Rattle.shared_rule.specs.Laws.{LockChildStays, LockStays}
+use Rattle.shared_rule.specs.Laws.{LockChildStays, LockStays, none_made, walk_of, walks}
+use Rattle.shared_rule.specs.Laws.{where_made}
 use Rattle.shared_rule.proofs.Made.{made}
 use Rattle.shared_rule.proofs.Moving.{cpu_field, leaf_stays}
 use Rattle.shared_rule.proofs.Owing.{owes_kept}
 use Rattle.shared_rule.proofs.Rising.{as_they_were, notes}
 use Rattle.shared_rule.proofs.Walking.{WalksAt, at_walk, walk_is}
+use Rattle.shared_rule.proofs.Reaching.{under}
 
 module _ (law : CoreLaws) (o : World) (s : Whole) (h : IsShown o s) (c g : ℕ) (j k : Walk)
     (l : Option ℕ) (looked : Looked) (ps : List PassView) (f : ℕ → ℕ)
@@ -58,7 +61,7 @@ module _ (law : CoreLaws) (o : World) (s : Whole) (h : IsShown o s) (c g : ℕ) 
       → lock_word l ≡ f (lock_word (group_of s.world g).lock)
       → then (lock_word (group_of s.world g).lock)
       (seat_of (box_as o c y (leaf_of s.world c) (s.read c) looked ∷ []) ps)
-      → Goes o s (box_of o s c) ps (lock_at g) f then
+      → Goes o s (box_of o s c) ps (lock_at g) f (walks c) then
   relocked hc hg known at may is kind reads_not owed word told =
       let hc' : c < length w.cpus = omega (arith, hc, h.same.cpus) in
       let hg' : g < length w.groups = omega (arith, hg, h.same.groups) in
@@ -151,17 +154,25 @@ module _ (law : CoreLaws) (o : World) (s : Whole) (c g : ℕ) (k j : Walk) (ps :
       → nat_le 5 (stage_number j.stage) ≡ nat_le 5 (stage_number k.stage)
       → next (box_of o s c) (forget k) ≡ Some (forget j)
       → Goes o s (box_of o s c) ps (lock_at g) (λ n. either (eqb n 0) (1 + c) n)
+      (λ n. where_made (eqb n 0) (walk_of c))
       (λ n v. v
       ≡ on_box (lock_box next (eqb n 0) (place_of_lock o g) n) (seat_of (box_of o s c ∷ []) ps))
   tries q may is kind same_level reads place walk =
       let lock = lock_word (group_of s.world g).lock in
+      let f : ℕ → ℕ = λ n. either (eqb n 0) (1 + c) n in
+      let by : ℕ → Option CoreStep = λ n. where_made (eqb n 0) (walk_of c) in
+      let then : ℕ → Me → Type 0
+      = λ n v. v
+      ≡ on_box (lock_box next (eqb n 0) (place_of_lock o g) n) (seat_of (box_of o s c ∷ []) ps) in
       let untried : Looked = record (s.looked c) { tried = [] } in
       let more : Looked = record (s.looked c) {
         tried = (s.looked c).tried ++ record { word = place_of_lock o g; found = lock } ∷ [];
       } in
       elim (cases_eq (lock_word (group_of s.world g).lock) 0) [
         | inl e ↦
-            relocked law o s q.shown c g j k (Some c) untried ps _ _ q.cpu q.group q.known q.walk
+            under o s (box_of o s c) ps (lock_at g) f (walks c) by then
+            (ap (λ z. where_made z (walk_of c)) (eq-eqb _ _ e))
+            (relocked law o s q.shown c g j k (Some c) untried ps f then q.cpu q.group q.known q.walk
             (may (no_lock _ e)) is kind reads
             (λ m. owes_kept o.tree m c j k kind same_level place)
             (sym (ap (λ b. either b (1 + c) (lock_word (group_of s.world g).lock))
@@ -176,19 +187,22 @@ module _ (law : CoreLaws) (o : World) (s : Whole) (c g : ℕ) (k j : Walk) (ps :
             (λ i. seat_of (record (box_of o s c) {
               own = walk_is o s c k j next q.walk walk i;
               looked = untried;
-            } ∷ []) ps))
+            } ∷ []) ps)))
         | inr ne ↦
-            notes o s q.shown c more ps (lock_at g) _ _ q.known
+            under o s (box_of o s c) ps (lock_at g) f none_made by then
+            (ap (λ z. where_made z (walk_of c)) (ne_eqb _ _ ne))
+            (notes o s q.shown c more ps (lock_at g) f then q.known
             (ap (λ z. either z (1 + c) lock) (ne_eqb _ _ ne))
             (subst (λ z. ◌≡◌ {A = Me}
             (seat_of (record (box_of o s c) { looked = more } ∷ []) ps)
             (on_box (lock_box next z (place_of_lock o g) lock) (seat_of (box_of o s c ∷ []) ps)))
-            (sym (ne_eqb _ _ ne)) refl)
+            (sym (ne_eqb _ _ ne)) refl))
       ]
 
 pub locks : (law : CoreLaws) (o : World) → LockStays o
 locks law o slots id g b k ps may =
     at_walk law o slots id b k ps (lock_at g) (λ n. either (eqb n 0) (1 + b.cpu) n)
+    (λ n. where_made (eqb n 0) (walk_of b.cpu))
     (λ z n v. v ≡ on_box (lock_box locked_walk (eqb n 0) (place_of_lock o g) n) (seat_of (z ∷ []) ps))
     stages.LockGroup (λ l. l) g may.group may
     (λ s j is same q.
@@ -206,6 +220,7 @@ locks law o slots id g b k ps may =
 pub locks_child : (law : CoreLaws) (o : World) → LockChildStays o
 locks_child law o slots id g b k ps may =
     at_walk law o slots id b k ps (lock_at g) (λ n. either (eqb n 0) (1 + b.cpu) n)
+    (λ n. where_made (eqb n 0) (walk_of b.cpu))
     (λ z n v. v
     ≡ on_box (lock_box child_locked_walk (eqb n 0) (place_of_lock o g) n) (seat_of (z ∷ []) ps))
     stages.LockChild (λ l. l - 1) g may.group may

@@ -351,12 +351,13 @@ module _ (law : CoreLaws) (o : World) (s : Whole) (h : IsShown o s) (c g : ℕ) 
         looked = set_else c looked s.looked d ne i;
       }
 
-  pub made : Goes o s (box_of o s c) ps p f then
+  pub made : Goes o s (box_of o s c) ps p f (λ n. Some q.step) then
   made = record {
     next = next;
     box = box_as o c y q.leaf n looked;
     passes = qs;
     shown = next_shown;
+    makes = (q.enabled, sym q.is);
     word = q.word;
     words = frame;
     own = λ i. box_as o c (sym own_cpu i) (q.leaf_is i) (sym (set_here c n s.read) i)

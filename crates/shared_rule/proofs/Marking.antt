@@ -24,18 +24,20 @@ use Rattle.shared_words.specs.Words.{word_of_slot}
 use Rattle.shared_words.proofs.Back.{mark_slot}
 use Rattle.shared_rule.specs.CoreLaws.{CoreLaws}
 use Rattle.shared_rule.specs.Whole.{Whole, box_of, leaf_in, leaf_of, slot_at, word_at}
-use Rattle.shared_rule.specs.Shows.{IsShown, is_reeval, owes, reevaluates}
+use Rattle.shared_rule.specs.Shows.{CoreStep, IsMade, IsShown, is_reeval, owes, reevaluates}
 use Rattle.shared_rule.specs.declared.parts.BoxView.{BoxView}
 use Rattle.shared_rule.specs.declared.parts.PassView.{PassView}
 use Rattle.shared_rule.specs.Rule.{Goes, Me, seat_of}
 use Rattle.shared_rule.specs.Plays.{by_walk, is_marked, marked_walk, marked_where, marks_more}
 use Rattle.shared_rule.specs.Plays.{on_box, own_marked_box, own_marked_walk}
-use Rattle.shared_rule.specs.Laws.{FindMarkStays, MarkOwnStays, MarkStays}
+use Rattle.shared_rule.specs.Laws.{FindMarkStays, MarkOwnStays, MarkStays, none_made, walk_of, walks}
+use Rattle.shared_rule.specs.Laws.{where_made}
 use Rattle.shared_rule.proofs.Fits.{event_fits}
 use Rattle.shared_rule.proofs.Owing.{owes_higher, owes_kept}
 use Rattle.shared_rule.proofs.Rising.{still}
 use Rattle.shared_rule.proofs.Slotting.{leaf_else, leaf_now, no_leaf, sides_apart, slotted}
 use Rattle.shared_rule.proofs.Walking.{WalksAt, at_walk, walk_ends, walk_is}
+use Rattle.shared_rule.proofs.Reaching.{under}
 
 -- a walk that has marked its group goes on or ends
 mark_kind : (more : Bool) (k z : Walk) → mark_next more k ≡ Some z → z.kind ≡ k.kind
@@ -107,6 +109,7 @@ module _ (law : CoreLaws) (o : World) (s : Whole) (h : IsShown o s) (c g level :
 pub marks_own : (law : CoreLaws) (o : World) → MarkOwnStays o
 marks_own law o slots id g b k ps low may =
     at_walk law o slots id b k ps (slot_at g (side o.tree b.cpu 0)) (λ n. bit_or n (2 ^ 58))
+    (walks b.cpu)
     (λ z n v. v ≡ on_box own_marked_box (seat_of (z ∷ []) ps))
     stages.Own (λ l. 0) g (may.group, low) may
     (λ s j is same q.
@@ -120,7 +123,7 @@ marks_own law o slots id g b k ps low may =
     let low' : n < 8 = subst (λ z. side z c 0 < 8) (sym h.same.tree) low in
     let at_g = ap (λ m. unwrap_or m 0) q.path in
     subst
-    (λ z. Goes o s (box_of o s c) ps (slot_at g (side z c 0)) (λ n. bit_or n (2 ^ 58))
+    (λ z. Goes o s (box_of o s c) ps (slot_at g (side z c 0)) (λ n. bit_or n (2 ^ 58)) (walks c)
     (λ n v. v ≡ on_box own_marked_box (seat_of (box_of o s c ∷ []) ps))) h.same.tree
     (slotted law o s c g n e true j (Some to) (option_map as_ignored (leaf_of w c)) ps
     (λ n. bit_or n (2 ^ 58))
@@ -155,7 +158,7 @@ parent_slot o b k g = slot_at g (side o.tree b.cpu (suc k.level))
 mark_goes : (law : CoreLaws) (o : World) (g : ℕ) (more : Bool) (b : BoxView) (k : Walk)
     (ps : List PassView) → side o.tree b.cpu (suc k.level) < 8 → (s : Whole) (j : Walk)
     → forget j ≡ k → WalksAt o s b.cpu ps j (stages.Mark more) (suc j.level) g
-    → Goes o s (box_of o s b.cpu) ps (parent_slot o b k g) (λ n. bit_or n (2 ^ 58))
+    → Goes o s (box_of o s b.cpu) ps (parent_slot o b k g) (λ n. bit_or n (2 ^ 58)) (walks b.cpu)
     (λ n v. v ≡ on_box (by_walk marked_walk) (seat_of (box_of o s b.cpu ∷ []) ps))
 mark_goes law o g more b k ps low s j same q =
     let w = s.world in
@@ -179,9 +182,11 @@ mark_goes law o g more b k ps low s j same q =
     = (subst (FitsStage w.tree c j.kind j.level) q.stage stand.fits).0 in
     subst
     (λ z. Goes o s (box_of o s c) ps (slot_at g (side o.tree c (suc z))) (λ n. bit_or n (2 ^ 58))
+    (walks c)
     (λ n v. v ≡ on_box (by_walk marked_walk) (seat_of (box_of o s c ∷ []) ps))) lv
     (subst
     (λ z. Goes o s (box_of o s c) ps (slot_at g (side z c (suc j.level))) (λ n. bit_or n (2 ^ 58))
+    (walks c)
     (λ n v. v ≡ on_box (by_walk marked_walk) (seat_of (box_of o s c ∷ []) ps))) h.same.tree
     (slotted law o s c g n e true j to (leaf_of w c) ps (λ n. bit_or n (2 ^ 58))
     (λ n v. v ≡ on_box (by_walk marked_walk) (seat_of (box_of o s c ∷ []) ps)) (stages.Mark more)
@@ -217,7 +222,7 @@ mark_goes law o g more b k ps low s j same q =
 
 pub marks : (law : CoreLaws) (o : World) → MarkStays o
 marks law o slots id g more b k ps low may =
-    at_walk law o slots id b k ps (parent_slot o b k g) (λ n. bit_or n (2 ^ 58))
+    at_walk law o slots id b k ps (parent_slot o b k g) (λ n. bit_or n (2 ^ 58)) (walks b.cpu)
     (λ z n v. v ≡ on_box (by_walk marked_walk) (seat_of (z ∷ []) ps))
     (stages.Mark more) suc g (may.group, low) may
     (λ s j is same q. mark_goes law o g more b k ps low s j same q)
@@ -226,11 +231,15 @@ marks law o slots id g more b k ps low may =
 pub finds_mark : (law : CoreLaws) (o : World) → FindMarkStays o
 finds_mark law o slots id g more b k ps low may =
     at_walk law o slots id b k ps (parent_slot o b k g) (λ n. n)
+    (λ n. where_made (is_marked n) (walk_of b.cpu))
     (λ z n v. v ≡ on_box (marked_where (is_marked n)) (seat_of (z ∷ []) ps))
     (stages.Mark more) suc g (may.group, low) may
     (λ s j is same q.
     let word = word_at s (parent_slot o b k g) in
     let box = box_of o s b.cpu in
+    let by : ℕ → Option CoreStep = λ n. where_made (is_marked n) (walk_of b.cpu) in
+    let then : ℕ → Me → Type 0
+    = λ n v. v ≡ on_box (marked_where (is_marked n)) (seat_of (box ∷ []) ps) in
     elim (cases_eq (bit_or word (2 ^ 58)) word) [
       | inl there ↦
           let made = mark_goes law o g more b k ps low s j same q in
@@ -239,6 +248,9 @@ finds_mark law o slots id g more b k ps low may =
             box = made.box;
             passes = made.passes;
             shown = made.shown;
+            makes =
+                subst (λ m. IsMade (where_made m (walk_of b.cpu)) s.world made.next.world)
+                (sym (eq-eqb _ _ there)) made.makes;
             word = made.word ∙ there;
             words = made.words;
             own = made.own;
@@ -252,7 +264,9 @@ finds_mark law o slots id g more b k ps low may =
                 made.told;
           }
       | inr ne ↦
-          still o s b.cpu ps (parent_slot o b k g) _ _ q.shown q.known refl
+          under o s box ps (parent_slot o b k g) (λ n. n) none_made by then
+          (ap (λ z. where_made z (walk_of b.cpu)) (ne_eqb _ _ ne))
+          (still o s b.cpu ps (parent_slot o b k g) (λ n. n) then q.shown q.known refl
           (subst (λ m. ◌≡◌ {A = Me} (seat_of (box ∷ []) ps)
-          (on_box (marked_where m) (seat_of (box ∷ []) ps))) (sym (ne_eqb _ _ ne)) refl)
+          (on_box (marked_where m) (seat_of (box ∷ []) ps))) (sym (ne_eqb _ _ ne)) refl))
     ])

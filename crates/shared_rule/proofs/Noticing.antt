@@ -24,6 +24,7 @@ use Rattle.shared_rule.proofs.Looking.{learned, learns, looked}
 use Rattle.shared_rule.proofs.Moving.{set_else, set_here}
 use Rattle.shared_rule.proofs.Passing.{with_pass, word_stays}
 use Rattle.shared_rule.proofs.Sights.{slot_shown}
+use Rattle.shared_rule.specs.Laws.{none_made}
 
 -- a step that leaves the word m as it was, which the pass p remembers
 module _ (law : CoreLaws) (o : World) (s : Whole) (h : IsShown o s) (c : ℕ) (p : PassView)
@@ -41,12 +42,13 @@ module _ (law : CoreLaws) (o : World) (s : Whole) (h : IsShown o s) (c : ℕ) (p
   pub notices : then (word_at s m)
       (on_pass (seen_pass (index_of (layout_of o) m) (word_at s m))
       (seat_of (box_of o s c ∷ []) (p ∷ [])))
-      → Goes o s (box_of o s c) (p ∷ []) m f then
+      → Goes o s (box_of o s c) (p ∷ []) m f none_made then
   notices told = record {
     next = with_pass s p.cpu mine;
     box = box_of o s c;
     passes = learned did p ∷ [];
     shown = learns o s h p.cpu did (looked law o s h p m within is);
+    makes = refl;
     word = word_stays s p.cpu mine m ∙ sym stays;
     words = λ z low ne. word_stays s p.cpu mine z;
     own = refl;
@@ -59,12 +61,12 @@ module _ (law : CoreLaws) (o : World) (s : Whole) (h : IsShown o s) (c : ℕ) (p
 
 pub sees_cpu : (law : CoreLaws) (o : World) → SeeCpuStays o
 sees_cpu law o slots id b p low =
-    allows law o slots id b (p ∷ []) (cpu_at b.cpu) (λ n. n)
+    allows law o slots id b (p ∷ []) (cpu_at b.cpu) (λ n. n) none_made
     (λ n v. (v
     ≡ on_pass (seen_pass (index_of (layout_of o) (cpu_at b.cpu)) n) (seat_of (b ∷ []) (p ∷ [])))
     × IsOwnWord (b ∷ []) n) low
     (λ s h hc is known fits.
-    subst (λ (z : BoxView). Goes o s z (p ∷ []) (cpu_at b.cpu) (λ n. n)
+    subst (λ (z : BoxView). Goes o s z (p ∷ []) (cpu_at b.cpu) (λ n. n) none_made
     (λ n v. (v
     ≡ on_pass (seen_pass (index_of (layout_of o) (cpu_at b.cpu)) n) (seat_of (z ∷ []) (p ∷ [])))
     × IsOwnWord (z ∷ []) n)) (sym is)
@@ -76,13 +78,13 @@ sees_cpu law o slots id b p low =
 
 pub sees_leaf : (law : CoreLaws) (o : World) → SeeLeafStays o
 sees_leaf law o slots id g b p in_range low path =
-    allows law o slots id b (p ∷ []) (slot_at g (side o.tree b.cpu 0)) (λ n. n)
+    allows law o slots id b (p ∷ []) (slot_at g (side o.tree b.cpu 0)) (λ n. n) none_made
     (λ n v. (v
     ≡ on_pass (seen_pass (index_of (layout_of o) (slot_at g (side o.tree b.cpu 0))) n)
     (seat_of (b ∷ []) (p ∷ [])))
     × IsOwnLeaf (b ∷ []) n) (in_range, low)
     (λ s h hc is known fits.
-    subst (λ (z : BoxView). Goes o s z (p ∷ []) (slot_at g (side o.tree b.cpu 0)) (λ n. n)
+    subst (λ (z : BoxView). Goes o s z (p ∷ []) (slot_at g (side o.tree b.cpu 0)) (λ n. n) none_made
     (λ n v. (v
     ≡ on_pass (seen_pass (index_of (layout_of o) (slot_at g (side o.tree b.cpu 0))) n)
     (seat_of (z ∷ []) (p ∷ [])))

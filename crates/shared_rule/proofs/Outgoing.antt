@@ -97,7 +97,8 @@ module _ (law : CoreLaws) (o : World) (s : Whole) (h : IsShown o s) (c u : ℕ) 
     | inr ne ↦ q.rest t ne ∙ none
   ]
 
-  pub outgoes : Goes o s (box_of o s c) (p ∷ []) (timer_at u) (unqueued c class) then
+  pub outgoes : Goes o s (box_of o s c) (p ∷ []) (timer_at u) (unqueued c class) (λ n. Some q.step)
+      then
   outgoes =
       acts law o s h c p.cpu bases e spot p (timer_at u) (unqueued c class) then
       (record {

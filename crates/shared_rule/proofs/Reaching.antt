@@ -1,11 +1,16 @@
 -- for crates above: a core that steps lead to, and one step more
-use Rattle.std.proofs.Common.{◌≡◌, List, [], ◌∷◌, ◌++◌, refl, sym, ap, ◌∙◌, subst}
+use Rattle.std.proofs.Common.{◌≡◌, ℕ, List, [], ◌∷◌, ◌++◌, Option, refl, sym, ap, ◌∙◌, subst}
 use Rattle.core_world.specs.declared.step.Step.{Step}
 use Rattle.core_world.specs.Enabled.{Enabled}
 use Rattle.core_world.specs.Lists.{EachEnabled, after_all}
 use Rattle.core_world.specs.Steps.{stepped}
 use Rattle.core_world.specs.World.{World}
-use Rattle.shared_rule.specs.Shows.{IsReached}
+use Rattle.shared_words.specs.declared.layout.SharedWord.{SharedWord}
+use Rattle.shared_rule.specs.declared.parts.BoxView.{BoxView}
+use Rattle.shared_rule.specs.declared.parts.PassView.{PassView}
+use Rattle.shared_rule.specs.Whole.{Whole, word_at}
+use Rattle.shared_rule.specs.Shows.{CoreStep, IsMade, IsReached}
+use Rattle.shared_rule.specs.Rule.{Goes, Me}
 
 after_one_more : (w : World) (steps : List Step) (step : Step)
     → after_all w (steps ++ step ∷ []) ≡ stepped (after_all w steps) step
@@ -36,3 +41,23 @@ reached_on o w v step before enabled is =
             ∙ (ap (λ x. stepped x step) run.done ∙ sym (after_one_more o steps step));
       },
     )
+
+-- a step of the whole, named otherwise for words that aren't found
+pub under : (o : World) (s : Whole) (b : BoxView) (ps : List PassView) (p : SharedWord) (f : ℕ → ℕ)
+    (was by : ℕ → Option CoreStep) (then : ℕ → Me → Type 0) → by (word_at s p) ≡ was (word_at s p)
+    → Goes o s b ps p f was then → Goes o s b ps p f by then
+under o s b ps p f was by then is g = record {
+  next = g.next;
+  box = g.box;
+  passes = g.passes;
+  shown = g.shown;
+  makes = subst (λ m. IsMade m s.world g.next.world) (sym is) g.makes;
+  word = g.word;
+  words = g.words;
+  own = g.own;
+  boxes = g.boxes;
+  same = g.same;
+  brought = g.brought;
+  others = g.others;
+  told = g.told;
+}

@@ -146,7 +146,7 @@ module _ (law : CoreLaws) (o : World) (s : Whole) (h : IsShown o s) (c : ℕ) (y
         (ap (λ (x : PassView). slice_get x.did i) (sym (set_else b q s.pass d ne)) ∙ at)
   ]
 
-  pub remarks : Goes o s (box_of o s c) (p ∷ []) (cpu_at c) f then
+  pub remarks : Goes o s (box_of o s c) (p ∷ []) (cpu_at c) f (λ n. Some t.step) then
   remarks =
       made law o s h c 0 (group_of w 0) y false (s.read c) s.stray looked pass (p ∷ [])
       (q ∷ []) (cpu_at c) f then

@@ -82,6 +82,7 @@ retold_reeval pin next false = refl
 pub idles : (law : CoreLaws) (o : World) → IdleStays o
 idles law o slots id b p new may rest =
     at_turn law o slots id b p (idled o b.cpu b.own) new (λ n. new)
+    (steps.Idle (record { 0 = b.cpu }))
     (λ z n v. v ≡ on_both idled_box idled_pass (seat_of (z ∷ []) (p ∷ []))) may
     (λ s q.
     let c = b.cpu in
@@ -146,7 +147,7 @@ idles law o slots id b p new may rest =
 
 pub retells : (law : CoreLaws) (o : World) → RetellStays o
 retells law o slots id b p may again =
-    at_turn law o slots id b p b.own (own_word b.own) (λ n. n)
+    at_turn law o slots id b p b.own (own_word b.own) (λ n. n) (steps.Reeval (record { 0 = b.cpu }))
     (λ z n v. v ≡ on_both retold_box retold_pass (seat_of (z ∷ []) (p ∷ []))) may
     (λ s q.
     let c = b.cpu in

@@ -35,15 +35,17 @@ use Rattle.shared_words.specs.Exchanges.{HasRoom, IsJoinOf, shows_migrator}
 use Rattle.shared_words.proofs.Back.{migrator_shown}
 use Rattle.shared_rule.specs.Whole.{state_at, Whole, word_at, box_of, quiet, group_word}
 use Rattle.shared_rule.specs.Whole.{group_state, layout_of, leaf_of, leaf_in}
+use Rattle.shared_rule.specs.Shows.{CoreStep}
 use Rattle.shared_rule.specs.Shows.{IsShown, reevaluates, is_reeval, owes, raised, set_at}
 use Rattle.shared_rule.specs.Rule.{Each, Me, seat_of, Goes}
 use Rattle.shared_rule.specs.Plays.{on_box, up_box, up_walk, bound_walk, trying}
-use Rattle.shared_rule.specs.Laws.{LookStays, RiseStays}
+use Rattle.shared_rule.specs.Laws.{LookStays, RiseStays, none_made, walk_of, walks, where_made}
 use Rattle.shared_rule.proofs.Owing.{up_owes}
 use Rattle.shared_rule.proofs.Moving.{field_else, set_else, set_here}
 use Rattle.shared_rule.proofs.Fits.{good_word, good_state, seq_low, shown_walk}
 use Rattle.shared_rule.proofs.Made.{made}
 use Rattle.shared_rule.proofs.Going.{allows}
+use Rattle.shared_rule.proofs.Reaching.{under}
 
 pub as_they_were : (o : World) (s : Whole) (ps : List PassView)
     → Each (λ x. (x.cpu < length o.cpus) × (x ≡ s.pass x.cpu)) ps → Each (λ x. x ≡ s.pass x.cpu) ps
@@ -55,12 +57,13 @@ pub still : (o : World) (s : Whole) (c : ℕ) (ps : List PassView) (p : SharedWo
     (then : ℕ → Me → Type 0) → IsShown o s → Each (λ x. (x.cpu < length o.cpus)
     × (x ≡ s.pass x.cpu)) ps
     → f (word_at s p) ≡ word_at s p → then (word_at s p) (seat_of (box_of o s c ∷ []) ps)
-    → Goes o s (box_of o s c) ps p f then
+    → Goes o s (box_of o s c) ps p f none_made then
 still o s c ps p f then h known same told = record {
   next = s;
   box = box_of o s c;
   passes = ps;
   shown = h;
+  makes = refl;
   word = sym same;
   words = λ q low ne. refl;
   own = refl;
@@ -119,12 +122,13 @@ module _ (o : World) (s : Whole) (h : IsShown o s) (c : ℕ) (looked : Looked) w
       → Each (λ x. (x.cpu < length o.cpus) × (x ≡ s.pass x.cpu)) ps
       → f (word_at s p) ≡ word_at s p
       → then (word_at s p) (seat_of (record (box_of o s c) { looked = looked } ∷ []) ps)
-      → Goes o s (box_of o s c) ps p f then
+      → Goes o s (box_of o s c) ps p f none_made then
   notes ps p f then known same told = record {
     next = next;
     box = record (box_of o s c) { looked = looked };
     passes = ps;
     shown = remembers;
+    makes = refl;
     word = words_remain s c looked p ∙ sym same;
     words = λ q low ne. words_remain s c looked q;
     own = λ i. record (box_of o s c) { looked = sym (set_here c looked s.looked) i };
@@ -148,11 +152,11 @@ trying_too o s c g found = record (s.looked c) {
 -- a look at the word of a group
 pub look : (law : CoreLaws) (o : World) → LookStays o
 look law o slots id g b ps low =
-    allows law o slots id b ps (state_at g) (λ n. n)
+    allows law o slots id b ps (state_at g) (λ n. n) none_made
     (λ n v. (v ≡ on_box (trying (place_of_state o g) n) (seat_of (b ∷ []) ps)) × HasRoom n)
     low
     (λ s h hc is known fits.
-    subst (λ (z : BoxView). Goes o s z ps (state_at g) (λ n. n)
+    subst (λ (z : BoxView). Goes o s z ps (state_at g) (λ n. n) none_made
     (λ n v. (v ≡ on_box (trying (place_of_state o g) n) (seat_of (z ∷ []) ps))
     × HasRoom n)) (sym is)
     (notes o s h b.cpu (trying_too o s b.cpu g (group_word s g)) ps (state_at g) _ _ known refl
@@ -189,7 +193,7 @@ rise_hit : (law : CoreLaws) (o : World) (s : Whole) (c gg : ℕ) (j : Walk) (ps 
     → (cpu_of s.world c).walk ≡ Some j → j.stage ≡ stages.Up
     → group_at_of o.tree c j.level ≡ Some gg → IsJoinOf old (side o.tree c j.level) new
     → group_word s gg ≡ old
-    → Goes o s (box_of o s c) ps (state_at gg) (λ n. either (eqb n old) new n)
+    → Goes o s (box_of o s c) ps (state_at gg) (λ n. either (eqb n old) new n) (walks c)
     (λ n w. w
     ≡ on_box (up_box (eqb n old) old (place_of_state o gg) n) (seat_of (box_of o s c ∷ []) ps))
 rise_hit law o s c gg j ps old new h hc known at is_up path_o join e =
@@ -340,27 +344,35 @@ rise_hit law o s c gg j ps old new h hc known at is_up path_o join e =
 pub rise : (law : CoreLaws) (o : World) → RiseStays o
 rise law o slots id g b k ps old new may =
     let f : ℕ → ℕ = λ n. either (eqb n old) new n in
-    allows law o slots id b ps (state_at g) f
+    let by : ℕ → Option CoreStep = λ n. where_made (eqb n old) (walk_of b.cpu) in
+    allows law o slots id b ps (state_at g) f by
     (λ n v. v ≡ on_box (up_box (eqb n old) old (place_of_state o g) n) (seat_of (b ∷ []) ps))
     may.group
     (λ s h hc is known fits.
-    subst (λ (z : BoxView). Goes o s z ps (state_at g) f
+    let then : ℕ → Me → Type 0
+    = λ n v. v
+    ≡ on_box (up_box (eqb n old) old (place_of_state o g) n) (seat_of (box_of o s b.cpu ∷ []) ps) in
+    subst (λ (z : BoxView). Goes o s z ps (state_at g) f by
     (λ n v. v ≡ on_box (up_box (eqb n old) old (place_of_state o g) n) (seat_of (z ∷ []) ps)))
     (sym is)
     (elim (cases_eq (group_word s g) old) [
       | inl e ↦
           let j = shown_walk _ k (ap (λ (z : BoxView). z.own.walk) (sym is) ∙ may.walk) in
           let lv : k.level ≡ j.0.level = ap (λ (z : Walk). z.level) (sym j.2) in
-          rise_hit law o s b.cpu g j.0 ps old new h hc known j.1
+          under o s (box_of o s b.cpu) ps (state_at g) f (walks b.cpu) by then
+          (ap (λ z. where_made z (walk_of b.cpu)) (eq-eqb _ _ e))
+          (rise_hit law o s b.cpu g j.0 ps old new h hc known j.1
           (ap (λ (z : Walk). z.stage) j.2 ∙ may.stage)
           (ap (λ n. group_at_of o.tree b.cpu n) (sym lv) ∙ may.path)
-          (subst (λ n. IsJoinOf old (side o.tree b.cpu n) new) lv may.word) e
+          (subst (λ n. IsJoinOf old (side o.tree b.cpu n) new) lv may.word) e)
       | inr ne ↦
-          notes o s h b.cpu (trying_too o s b.cpu g (group_word s g)) ps (state_at g) _ _ known
+          under o s (box_of o s b.cpu) ps (state_at g) f none_made by then
+          (ap (λ z. where_made z (walk_of b.cpu)) (ne_eqb _ _ ne))
+          (notes o s h b.cpu (trying_too o s b.cpu g (group_word s g)) ps (state_at g) f then known
           (ap (λ z. either z new (group_word s g)) (ne_eqb _ _ ne))
           (subst (λ z. ◌≡◌ {A = Me}
           (seat_of (trying (place_of_state o g) (group_word s g) (box_of o s b.cpu) ∷ []) ps)
           (on_box (up_box z old (place_of_state o g) (group_word s g))
           (seat_of (box_of o s b.cpu ∷ []) ps)))
-          (sym (ne_eqb _ _ ne)) refl)
+          (sym (ne_eqb _ _ ne)) refl))
     ]))

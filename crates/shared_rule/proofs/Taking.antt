@@ -95,9 +95,11 @@ module _ (c : ℕ) (ms : List ℕ) where
 pub takes : (law : CoreLaws) (o : World) → TakeStays o
 takes law o slots id leaf e b p new may =
     allows law o slots id b (p ∷ []) (cpu_at b.cpu) (λ n. new)
+    (λ n. Some (steps.Take (record { 0 = b.cpu }) (record { 0 = p.cpu })))
     (λ n v. v ≡ on_pair taken_box taken_pass (seat_of (b ∷ []) (p ∷ []))) may.cpu
     (λ s h hc is known fits.
     subst (λ (z : BoxView). Goes o s z (p ∷ []) (cpu_at b.cpu) (λ n. new)
+    (λ n. Some (steps.Take (record { 0 = b.cpu }) (record { 0 = p.cpu })))
     (λ n v. v ≡ on_pair taken_box taken_pass (seat_of (z ∷ []) (p ∷ [])))) (sym is)
     (let c = b.cpu in
     let w = s.world in
@@ -178,9 +180,11 @@ takes law o slots id leaf e b p new may =
 pub releases : (law : CoreLaws) (o : World) → ReleaseStays o
 releases law o slots id b p new may =
     allows law o slots id b (p ∷ []) (cpu_at b.cpu) (λ n. new)
+    (λ n. Some (steps.Release (record { 0 = b.cpu })))
     (λ n v. v ≡ on_pair released_box released_pass (seat_of (b ∷ []) (p ∷ []))) may.cpu
     (λ s h hc is known fits.
     subst (λ (z : BoxView). Goes o s z (p ∷ []) (cpu_at b.cpu) (λ n. new)
+    (λ n. Some (steps.Release (record { 0 = b.cpu })))
     (λ n v. v ≡ on_pair released_box released_pass (seat_of (z ∷ []) (p ∷ [])))) (sym is)
     (let c = b.cpu in
     let w = s.world in

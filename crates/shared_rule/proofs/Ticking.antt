@@ -1,6 +1,6 @@
 -- for crates above: a base of a CPU counts as drained
 use Rattle.std.proofs.Common.{◌≡◌, ℕ, ◌<◌, [], ◌∷◌, length}
-use Rattle.std.proofs.Common.{None, refl, sym, ap, ◌∙◌, subst, inl, inr, arith}
+use Rattle.std.proofs.Common.{None, Some, refl, sym, ap, ◌∙◌, subst, inl, inr, arith}
 use Rattle.std.proofs.lemmas.Bool.{cases_eq}
 use Rattle.tm_base.specs.declared.names.CpuId.{CpuId}
 use Rattle.tm_base.specs.declared.names.Class.{Class}
@@ -32,6 +32,7 @@ tick_goes : (law : CoreLaws) (o : World) (s : Whole) (c : ℕ) (class : Class) (
     → next_out o.clock (base_of class (cpu_of s.world c).bases) ≡ None
     → MayRun s.world c class p.cpu
     → Goes o s (box_of o s c) (p ∷ []) (cpu_at c) (λ n. n)
+    (λ n. Some (steps.Ticked (record { 0 = c }) class (record { 0 = p.cpu })))
     (λ n v. v
     ≡ on_pair (ticked_box class) (ticked_pass class) (seat_of (box_of o s c ∷ []) (p ∷ [])))
 tick_goes law o s c class p h hc runner is free none may =
@@ -87,9 +88,11 @@ tick_goes law o s c class p h hc runner is free none may =
 pub ticks : (law : CoreLaws) (o : World) → TickStays o
 ticks law o slots id class b p may =
     allows law o slots id b (p ∷ []) (cpu_at b.cpu) (λ n. n)
+    (λ n. Some (steps.Ticked (record { 0 = b.cpu }) class (record { 0 = p.cpu })))
     (λ n v. v ≡ on_pair (ticked_box class) (ticked_pass class) (seat_of (b ∷ []) (p ∷ []))) may.cpu
     (λ s h hc is known fits.
     subst (λ (z : BoxView). Goes o s z (p ∷ []) (cpu_at b.cpu) (λ n. n)
+    (λ n. Some (steps.Ticked (record { 0 = b.cpu }) class (record { 0 = p.cpu })))
     (λ n v. v
     ≡ on_pair (ticked_box class) (ticked_pass class) (seat_of (z ∷ []) (p ∷ [])))) (sym is)
     (tick_goes law o s b.cpu class p h hc known.0.0 known.0.1

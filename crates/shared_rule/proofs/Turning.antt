@@ -5,7 +5,6 @@ use Rattle.std.proofs.Common.{inl, inr, arith}
 use Rattle.std.specs.Prelude.{Contains, slice_get}
 use Rattle.std.proofs.lemmas.Bool.{cases_eq}
 use Rattle.std.proofs.lemmas.Option.{none-some}
-use Rattle.atomic_table.specs.Table.{Allows}
 use Rattle.walk_rules.specs.declared.walk.Walk.{Walk}
 use Rattle.walk_rules.specs.declared.walk.WalkKind.TheVariants as kinds
 use Rattle.core_world.specs.declared.step.Step.{Step}
@@ -16,16 +15,14 @@ use Rattle.core_world.specs.World.{World, CpuRecord, cpu_of, group_of, is_readin
 use Rattle.core_world.proofs.Moves.{cpu_same}
 use Rattle.core_world.proofs.Quiet.{own_field}
 use Rattle.core_state.specs.core_facts.Reach.{reach_of}
-use Rattle.shared_words.specs.Layout.{index_of}
 use Rattle.shared_rule.specs.declared.parts.BoxView.{BoxView}
 use Rattle.shared_rule.specs.declared.parts.Looked.{Looked}
 use Rattle.shared_rule.specs.declared.parts.PassView.{PassView}
-use Rattle.shared_rule.specs.declared.parts.Said.{Said}
-use Rattle.shared_rule.specs.declared.parts.View.{View}
 use Rattle.shared_rule.specs.CoreLaws.{CoreLaws}
-use Rattle.shared_rule.specs.Whole.{Whole, box_as, box_of, cpu_at, layout_of, leaf_of, own_word}
+use Rattle.shared_rule.specs.Whole.{Whole, box_as, box_of, cpu_at, leaf_of, own_word}
+use Rattle.shared_rule.specs.Shows.{CoreStep}
 use Rattle.shared_rule.specs.Shows.{FlagsOf, IsShown, owes, set_at}
-use Rattle.shared_rule.specs.Rule.{Goes, Holds, Me, seat_of}
+use Rattle.shared_rule.specs.Rule.{Goes, Me, seat_of}
 use Rattle.shared_rule.specs.Plays.{Sound, on_both}
 use Rattle.shared_rule.specs.Turns.{entered, entered_box, entered_pass, outside, outside_box}
 use Rattle.shared_rule.specs.Turns.{outside_pass}
@@ -36,6 +33,7 @@ use Rattle.shared_rule.proofs.Made.{IsPlain, made}
 use Rattle.shared_rule.proofs.Going.{allows}
 use Rattle.shared_rule.proofs.Slotting.{none_read}
 use Rattle.shared_rule.proofs.Waking.{none_shown}
+use Rattle.shared_rule.specs.Laws.{Stays}
 
 -- what such a step has to show, by which CPU c becomes y, and its pass p becomes q
 pub record Turned (o : World) (s : Whole) (c : ℕ) (y : CpuRecord) (p q : PassView)
@@ -75,7 +73,7 @@ module _ (law : CoreLaws) (o : World) (s : Whole) (h : IsShown o s) (c : ℕ) (y
       → g (set_at c q s.pass d) ≡ g (s.pass d)
   but g is d = pass_field g s.pass c q (is ∙ ap g here) d
 
-  pub turns : Goes o s (box_of o s c) (p ∷ []) (cpu_at c) f then
+  pub turns : Goes o s (box_of o s c) (p ∷ []) (cpu_at c) f (λ n. Some t.step) then
   turns =
       let w = s.world in
       let hw : c < length w.cpus = omega (arith, t.in_range, h.same.cpus) in
@@ -149,15 +147,16 @@ pub record OwnTurn (o : World) (s : Whole) (b : BoxView) (p : PassView) : Type 0
 
 -- the seat of such a CPU may step, where each such whole goes on
 pub at_turn : (law : CoreLaws) (o : World) (slots id : ℕ) (b : BoxView) (p : PassView)
-    (y : CpuRecord) (new : ℕ) (f : ℕ → ℕ) (then : BoxView → ℕ → Me → Type 0) → IsOwnTurn o b p y new
+    (y : CpuRecord) (new : ℕ) (f : ℕ → ℕ) (by : CoreStep) (then : BoxView → ℕ → Me → Type 0)
+    → IsOwnTurn o b p y new
     → ((s : Whole) → OwnTurn o s b p
-    → Goes o s (box_of o s b.cpu) (p ∷ []) (cpu_at b.cpu) f (then (box_of o s b.cpu)))
-    → Allows {S = Said} {V = View} (Holds o) slots id (seat_of (b ∷ []) (p ∷ []))
-    (index_of (layout_of o) (cpu_at b.cpu)) f (λ n w. then b n w × Sound w)
-at_turn law o slots id b p y new f then may goes =
-    allows law o slots id b (p ∷ []) (cpu_at b.cpu) f (then b) may.cpu
+    → Goes o s (box_of o s b.cpu) (p ∷ []) (cpu_at b.cpu) f (λ n. Some by)
+    (then (box_of o s b.cpu)))
+    → Stays o slots id b (p ∷ []) (cpu_at b.cpu) f (λ n. Some by) (λ n w. then b n w × Sound w)
+at_turn law o slots id b p y new f by then may goes =
+    allows law o slots id b (p ∷ []) (cpu_at b.cpu) f (λ n. Some by) (then b) may.cpu
     (λ s h hc is known fits.
-    subst (λ (z : BoxView). Goes o s z (p ∷ []) (cpu_at b.cpu) f (then z)) (sym is)
+    subst (λ (z : BoxView). Goes o s z (p ∷ []) (cpu_at b.cpu) f (λ n. Some by) (then z)) (sym is)
     (goes s
     (record {
       shown = h;
@@ -189,7 +188,7 @@ marks_nobody o s b p q none d mark =
 
 pub enters : (law : CoreLaws) (o : World) → EnterStays o
 enters law o slots id b p new may out =
-    at_turn law o slots id b p (entered b.own) new (λ n. new)
+    at_turn law o slots id b p (entered b.own) new (λ n. new) (steps.Enter (record { 0 = b.cpu }))
     (λ z n v. v ≡ on_both entered_box entered_pass (seat_of (z ∷ []) (p ∷ []))) may
     (λ s q.
     let c = b.cpu in
@@ -233,7 +232,7 @@ enters law o slots id b p new may out =
 
 pub leaves : (law : CoreLaws) (o : World) → LeaveStays o
 leaves law o slots id b p new may at_end =
-    at_turn law o slots id b p (outside b.own) new (λ n. new)
+    at_turn law o slots id b p (outside b.own) new (λ n. new) (steps.Leave (record { 0 = b.cpu }))
     (λ z n v. v ≡ on_both outside_box outside_pass (seat_of (z ∷ []) (p ∷ []))) may
     (λ s q.
     let c = b.cpu in

@@ -70,6 +70,7 @@ wake_goes : (law : CoreLaws) (o : World) (s : Whole) (c : ℕ) (p : PassView) (n
     → (cpu_of s.world c).idle ≡ true → suc p.walks < 2 ^ 32
     → new ≡ own_word (woken o c (quiet (cpu_of s.world c)))
     → Goes o s (box_of o s c) (p ∷ []) (cpu_at c) (λ n. new)
+    (λ n. Some (steps.Wake (record { 0 = c })))
     (λ n w. w ≡ on_both woken_box woken_pass (seat_of (box_of o s c ∷ []) (p ∷ [])))
 wake_goes law o s c p new h hc is mine free online idle few new_is =
     let w = s.world in
@@ -183,9 +184,11 @@ wake_goes law o s c p new h hc is mine free online idle few new_is =
 pub wakes : (law : CoreLaws) (o : World) → WakeStays o
 wakes law o slots id b p new may =
     allows law o slots id b (p ∷ []) (cpu_at b.cpu) (λ n. new)
+    (λ n. Some (steps.Wake (record { 0 = b.cpu })))
     (λ n v. v ≡ on_both woken_box woken_pass (seat_of (b ∷ []) (p ∷ []))) may.cpu
     (λ s h low is known fits.
     subst (λ (z : BoxView). Goes o s z (p ∷ []) (cpu_at b.cpu) (λ n. new)
+    (λ n. Some (steps.Wake (record { 0 = b.cpu })))
     (λ n v. v ≡ on_both woken_box woken_pass (seat_of (z ∷ []) (p ∷ [])))) (sym is)
     (wake_goes law o s b.cpu p new h low known.0.1 may.own
     (none_shown _ (ap (λ (z : BoxView). z.own.walk) (sym is) ∙ may.free))

@@ -3,7 +3,6 @@ use Rattle.std.proofs.Common.{◌≡◌, ◌↔◌, ℕ, ◌<◌, ◌≤◌, tru
 use Rattle.std.proofs.Common.{length, Option, Some, refl, sym, ap, ◌∙◌, subst, inr, arith}
 use Rattle.std.specs.Prelude.{Contains, option_map}
 use Rattle.std.proofs.lemmas.Option.{same_Some}
-use Rattle.atomic_table.specs.Table.{Allows}
 use Rattle.event_queue.specs.EventMap.{event_at}
 use Rattle.group_word.specs.State.{state_word}
 use Rattle.tree_plan.specs.Shape.{Shape}
@@ -19,20 +18,18 @@ use Rattle.core_world.specs.World.{CpuRecord, World, cpu_of, group_of, is_readin
 use Rattle.core_world.proofs.Quiet.{own_field, own_group}
 use Rattle.shared_words.specs.declared.layout.SharedWord.{SharedWord}
 use Rattle.shared_words.specs.declared.layout.SharedWord.TheVariants.{State, Lock, Slot, Cpu, Timer}
-use Rattle.shared_words.specs.Layout.{IsWordOf, index_of}
+use Rattle.shared_words.specs.Layout.{IsWordOf}
 use Rattle.shared_words.specs.Words.{lock_word, word_of_slot}
 use Rattle.shared_rule.specs.declared.parts.BoxView.{BoxView}
 use Rattle.shared_rule.specs.declared.parts.Looked.{Looked}
 use Rattle.shared_rule.specs.declared.parts.PassView.{PassView}
-use Rattle.shared_rule.specs.declared.parts.Said.{Said}
-use Rattle.shared_rule.specs.declared.parts.View.{View}
 use Rattle.shared_rule.specs.CoreLaws.{CoreLaws}
 use Rattle.shared_rule.specs.Whole.{Whole, box_as, box_of, group_state, group_word, layout_of}
 use Rattle.shared_rule.specs.Whole.{leaf_of, own_word, quiet, state_at, word_at}
-use Rattle.shared_rule.specs.Shows.{IsShown, ReadsOf, after, is_reeval, owes, reevaluates}
-use Rattle.shared_rule.specs.Rule.{Each, Goes, Holds, Me, seat_of}
+use Rattle.shared_rule.specs.Shows.{CoreStep, IsShown, ReadsOf, after, is_reeval, owes, reevaluates}
+use Rattle.shared_rule.specs.Rule.{Each, Goes, Me, seat_of}
 use Rattle.shared_rule.specs.Plays.{Sound, bound_walk, by_walk}
-use Rattle.shared_rule.specs.Laws.{IsWalkAt}
+use Rattle.shared_rule.specs.Laws.{IsWalkAt, Stays, walks}
 use Rattle.shared_rule.proofs.Fits.{shown_walk}
 use Rattle.shared_rule.proofs.Made.{made}
 use Rattle.shared_rule.proofs.Moving.{own_leaf}
@@ -52,18 +49,17 @@ pub record WalksAt (o : World) (s : Whole) (c : ℕ) (ps : List PassView) (k : W
 
 -- the seat of a box whose walk stands there may step, where each such whole goes on
 pub at_walk : (law : CoreLaws) (o : World) (slots id : ℕ) (b : BoxView) (k : Walk)
-    (ps : List PassView) (p : SharedWord) (f : ℕ → ℕ) (then : BoxView → ℕ → Me → Type 0)
-    (at : Stage) (below : ℕ → ℕ) (g : ℕ) → IsWordOf (layout_of o) p
+    (ps : List PassView) (p : SharedWord) (f : ℕ → ℕ) (by : ℕ → Option CoreStep)
+    (then : BoxView → ℕ → Me → Type 0) (at : Stage) (below : ℕ → ℕ) (g : ℕ) → IsWordOf (layout_of o) p
     → IsWalkAt o b k at (below k.level) g
     → ((s : Whole) (j : Walk) → b ≡ box_of o s b.cpu → forget j ≡ k
     → WalksAt o s b.cpu ps j at (below j.level) g
-    → Goes o s (box_of o s b.cpu) ps p f (then (box_of o s b.cpu)))
-    → Allows {S = Said} {V = View} (Holds o) slots id (seat_of (b ∷ []) ps)
-    (index_of (layout_of o) p) f (λ n w. then b n w × Sound w)
-at_walk law o slots id b k ps p f then at below g within may goes =
-    allows law o slots id b ps p f (then b) within
+    → Goes o s (box_of o s b.cpu) ps p f by (then (box_of o s b.cpu)))
+    → Stays o slots id b ps p f by (λ n w. then b n w × Sound w)
+at_walk law o slots id b k ps p f by then at below g within may goes =
+    allows law o slots id b ps p f by (then b) within
     (λ s h hc is known fits.
-    subst (λ (z : BoxView). Goes o s z ps p f (then z)) (sym is)
+    subst (λ (z : BoxView). Goes o s z ps p f by (then z)) (sym is)
     (let j = shown_walk _ k (ap (λ (z : BoxView). z.own.walk) (sym is) ∙ may.walk) in
     goes s j.0 is j.2
     (record {
@@ -139,7 +135,7 @@ module _ (law : CoreLaws) (o : World) (s : Whole) (h : IsShown o s) (c : ℕ) (j
       → ((m : ℕ) → owes o.tree m c (Some j) ≤ owes o.tree m c (Some k))
       → f (word_at s p) ≡ word_at s p
       → then (word_at s p) (seat_of (box_as o c y (leaf_of s.world c) n looked ∷ []) ps)
-      → Goes o s (box_of o s c) ps p f then
+      → Goes o s (box_of o s c) ps p f (walks c) then
   walks_alone hc known at may is kind reads owed same told =
       let hc' : c < length w.cpus = omega (arith, hc, h.same.cpus) in
       let same_kind : (z : Walk) → ◌≡◌ {A = Option Walk} (Some j) (Some z) → z.kind ≡ k.kind

@@ -1,6 +1,6 @@
 -- what the rule says, as laws for crates above
 use Rattle.std.specs.Prelude.{◌≡◌, ◌+◌, ◌-◌, ℕ, suc, ◌^◌, ◌<◌, ◌==◌, true, List, [], ◌∷◌, length}
-use Rattle.std.specs.Prelude.{Bool, None, Some, bit_or}
+use Rattle.std.specs.Prelude.{Bool, None, Option, Some, bit_or, false}
 use mathlib.Core.Option.{none}
 use prog.Atomic.{either}
 use Rattle.atomic_table.specs.Table.{Allows, Final, Joins, Seen, Splits, step}
@@ -12,6 +12,7 @@ use Rattle.walk_rules.specs.declared.walk.Stage.{Stage}
 use Rattle.walk_rules.specs.declared.walk.Stage.TheVariants as stages
 use Rattle.walk_rules.specs.Hierarchy.{side}
 use Rattle.walk_rules.specs.Stages.{stored_event}
+use Rattle.core_world.specs.declared.step.Step.TheVariants as steps
 use Rattle.core_world.specs.Covered.{IsSettled}
 use Rattle.core_world.specs.World.{World}
 use Rattle.core_state.specs.Kept.{WorldFits}
@@ -22,15 +23,16 @@ use Rattle.shared_rule.specs.declared.parts.BoxView.{BoxView}
 use Rattle.shared_rule.specs.declared.parts.PassView.{PassView}
 use Rattle.shared_rule.specs.declared.parts.Said.{Said}
 use Rattle.shared_rule.specs.declared.parts.View.{View}
-use Rattle.shared_rule.specs.Whole.{Spell, cpu_at, layout_of, lock_at, own_word, slot_at, state_at}
-use Rattle.shared_rule.specs.Whole.{timer_at}
-use Rattle.shared_rule.specs.Rule.{seen}
+use Rattle.shared_rule.specs.Whole.{Spell, Whole, box_of, cpu_at, layout_of, lock_at, own_word}
+use Rattle.shared_rule.specs.Whole.{slot_at, state_at, timer_at, word_at}
+use Rattle.shared_rule.specs.Shows.{CoreStep, IsShown}
+use Rattle.shared_rule.specs.Rule.{Each, Goes, seen}
 use Rattle.shared_rule.specs.Rule.{HasFirstBox, HasFirstPass, Holds, Me, Shows, first_box}
 use Rattle.shared_rule.specs.Rule.{first_pass, nothing, renewed_pass, seat_of, together}
 use Rattle.shared_rule.specs.Rule.{without_box, without_pass}
 use Rattle.shared_rule.specs.Starts.{EndsAs, HasAll, first_view, first_whole}
 use Rattle.shared_rule.specs.Plays.{FindsMark, FreesChild, FreesGroup, Locks, LocksChild}
-use Rattle.shared_rule.specs.Plays.{Looks, Marks}
+use Rattle.shared_rule.specs.Plays.{Looks, Marks, is_marked}
 use Rattle.shared_rule.specs.Plays.{MarksOwn, ReadsChild, ReadsGroup, ReadsOwn, Rises, Scans}
 use Rattle.shared_rule.specs.Plays.{ScansTop, Sees, SeesChild, SeesGroup, SeesState}
 use Rattle.shared_rule.specs.Plays.{SeesTimer, Stores, Swaps}
@@ -62,12 +64,39 @@ pub record SeatsStay (o : World) : Type 0 where
   pub joined : (id other : ℕ) (v w : View) →
       Joins {S = Said} {V = View} (Holds o) id v other w (together v w) nothing
 
--- a step of the seat that has box b and the passes ps, on one word
-abbrev pub Stays : World → (slots id : ℕ) → BoxView → List PassView → SharedWord → (ℕ → ℕ)
-    → (ℕ → Me → Type 0) → Type 0
-Stays o slots id b ps p f then =
-    Allows {S = Said} {V = View} (Holds o) slots id (seat_of (b ∷ []) ps)
-    (index_of (layout_of o) p) f then
+-- STEPS OF THE CORE, as laws name them: the next step of the walk of a CPU
+abbrev pub walk_of : (c : ℕ) → CoreStep
+walk_of c = steps.Walk (record { 0 = c })
+
+-- that step, whatever word is found
+abbrev pub walks : (c : ℕ) → ℕ → Option CoreStep
+walks c n = Some (walk_of c)
+
+-- no step, whatever word is found
+abbrev pub none_made : ℕ → Option CoreStep
+none_made n = None
+
+-- a step where the test says so, and none where it doesn't
+abbrev pub where_made : Bool → CoreStep → Option CoreStep
+where_made true step = Some step
+where_made false step = None
+
+-- in every whole that is shown and has these parts, the step of the core is made that `by` names
+-- for the word that is found, or none
+abbrev pub EachGoes : World → BoxView → List PassView → SharedWord → (ℕ → ℕ)
+    → (ℕ → Option CoreStep) → (ℕ → Me → Type 0) → Type 0
+EachGoes o b ps p f by then =
+    (s : Whole) → IsShown o s → b.cpu < length o.cpus → b ≡ box_of o s b.cpu →
+    Each (λ x. (x.cpu < length o.cpus) × (x ≡ s.pass x.cpu)) ps → word_at s p < 2 ^ 64 →
+    Goes o s b ps p f by then
+
+-- A STEP of the seat that has box b and the passes ps, on one word: which step of the core it
+-- makes; and so the table allows it, whatever the others have done
+pub record Stays (o : World) (slots id : ℕ) (b : BoxView) (ps : List PassView) (p : SharedWord)
+    (f : ℕ → ℕ) (by : ℕ → Option CoreStep) (then : ℕ → Me → Type 0) : Type 0 where
+  pub goes : EachGoes o b ps p f by then
+  pub allowed : Allows {S = Said} {V = View} (Holds o) slots id (seat_of (b ∷ []) ps)
+      (index_of (layout_of o) p) f then
 
 -- WAKE: what has to be known where an idle CPU stores its word, as it wakes with its own pass
 pub record MayStoreWake (o : World) (b : BoxView) (p : PassView) (new : ℕ) : Type 0 where
@@ -83,6 +112,7 @@ pub record MayStoreWake (o : World) (b : BoxView) (p : PassView) (new : ℕ) : T
 abbrev pub WakeStays : World → Type 0
 WakeStays o = (slots id : ℕ) (b : BoxView) (p : PassView) (new : ℕ) → MayStoreWake o b p new →
     Stays o slots id b (p ∷ []) (cpu_at b.cpu) (λ n. new)
+    (λ n. Some (steps.Wake (record { 0 = b.cpu })))
     (λ n. Wakes (step slots (index_of (layout_of o) (cpu_at b.cpu)) new 0 none)
     (seat_of (b ∷ []) (p ∷ [])) new)
 
@@ -90,6 +120,7 @@ WakeStays o = (slots id : ℕ) (b : BoxView) (p : PassView) (new : ℕ) → MayS
 abbrev pub LookStays : World → Type 0
 LookStays o = (slots id g : ℕ) (b : BoxView) (ps : List PassView) → g < length o.groups →
     Stays o slots id b ps (state_at g) (λ n. n)
+    none_made
     (Looks (step slots (index_of (layout_of o) (state_at g)) 0 0 none) (seat_of (b ∷ []) ps))
 
 -- what has to be known where an activation exchanges the word of a group that it has looked at
@@ -107,6 +138,7 @@ abbrev pub RiseStays : World → Type 0
 RiseStays o = (slots id g : ℕ) (b : BoxView) (k : Walk) (ps : List PassView) (old new : ℕ) →
     MayRise o b k g old new →
     Stays o slots id b ps (state_at g) (λ n. either (n == old) new n)
+    (λ n. where_made (n == old) (walk_of b.cpu))
     (Rises (step slots (index_of (layout_of o) (state_at g)) old new none) (seat_of (b ∷ []) ps))
 
 -- WALKS: what has to be known where the walk of a box makes its next step, at this stage, on the
@@ -123,6 +155,7 @@ abbrev pub LockChildStays : World → Type 0
 LockChildStays o = (slots id g : ℕ) (b : BoxView) (k : Walk) (ps : List PassView) →
     IsWalkAt o b k stages.LockChild (k.level - 1) g →
     Stays o slots id b ps (lock_at g) (λ n. either (n == 0) (1 + b.cpu) n)
+    (λ n. where_made (n == 0) (walk_of b.cpu))
     (LocksChild (step slots (index_of (layout_of o) (lock_at g)) 0 (1 + b.cpu) none)
     (seat_of (b ∷ []) ps))
 
@@ -131,6 +164,7 @@ abbrev pub LockStays : World → Type 0
 LockStays o = (slots id g : ℕ) (b : BoxView) (k : Walk) (ps : List PassView) →
     IsWalkAt o b k stages.LockGroup k.level g →
     Stays o slots id b ps (lock_at g) (λ n. either (n == 0) (1 + b.cpu) n)
+    (λ n. where_made (n == 0) (walk_of b.cpu))
     (Locks (step slots (index_of (layout_of o) (lock_at g)) 0 (1 + b.cpu) none)
     (seat_of (b ∷ []) ps))
 
@@ -140,6 +174,7 @@ abbrev pub FreeGroupStays : World → Type 0
 FreeGroupStays o = (slots id g : ℕ) (b : BoxView) (k : Walk) (ps : List PassView) →
     IsWalkAt o b k stages.FreeGroup k.level g →
     Stays o slots id b ps (lock_at g) (λ n. 0)
+    (walks b.cpu)
     (λ n. FreesGroup (step slots (index_of (layout_of o) (lock_at g)) 0 0 none)
     (seat_of (b ∷ []) ps) 0)
 
@@ -148,6 +183,7 @@ abbrev pub FreeChildStays : World → Type 0
 FreeChildStays o = (slots id g : ℕ) (b : BoxView) (k : Walk) (ps : List PassView) →
     IsWalkAt o b k stages.FreeChild (k.level - 1) g →
     Stays o slots id b ps (lock_at g) (λ n. 0)
+    (walks b.cpu)
     (λ n. FreesChild (step slots (index_of (layout_of o) (lock_at g)) 0 0 none)
     (seat_of (b ∷ []) ps) 0)
 
@@ -156,6 +192,7 @@ abbrev pub SeeChildStays : World → Type 0
 SeeChildStays o = (slots id g : ℕ) (b : BoxView) (k : Walk) (ps : List PassView) →
     IsWalkAt o b k stages.SeeChild (k.level - 1) g →
     Stays o slots id b ps (state_at g) (λ n. n)
+    (walks b.cpu)
     (SeesChild (step slots (index_of (layout_of o) (state_at g)) 0 0 none) (seat_of (b ∷ []) ps))
 
 -- and so does its load of the word of its group
@@ -163,6 +200,7 @@ abbrev pub SeeGroupStays : World → Type 0
 SeeGroupStays o = (slots id g : ℕ) (b : BoxView) (k : Walk) (ps : List PassView) →
     IsWalkAt o b k stages.SeeGroup k.level g →
     Stays o slots id b ps (state_at g) (λ n. n)
+    (walks b.cpu)
     (SeesGroup (step slots (index_of (layout_of o) (state_at g)) 0 0 none) (seat_of (b ∷ []) ps))
 
 -- and its load of a slot of its child
@@ -170,6 +208,7 @@ abbrev pub ScanStays : World → Type 0
 ScanStays o = (slots id g number : ℕ) (b : BoxView) (k : Walk) (ps : List PassView) → number < 8 →
     IsWalkAt o b k (stages.Scan number) (k.level - 1) g →
     Stays o slots id b ps (slot_at g number) (λ n. n)
+    (walks b.cpu)
     (Scans (step slots (index_of (layout_of o) (slot_at g number)) 0 0 none)
     (seat_of (b ∷ []) ps))
 
@@ -178,6 +217,7 @@ abbrev pub ScanTopStays : World → Type 0
 ScanTopStays o = (slots id g number : ℕ) (b : BoxView) (k : Walk) (ps : List PassView) →
     number < 8 → IsWalkAt o b k (stages.First number) k.level g →
     Stays o slots id b ps (slot_at g number) (λ n. n)
+    (walks b.cpu)
     (ScansTop (step slots (index_of (layout_of o) (slot_at g number)) 0 0 none)
     (seat_of (b ∷ []) ps))
 
@@ -187,6 +227,7 @@ abbrev pub ReadGroupStays : World → Type 0
 ReadGroupStays o = (slots id g : ℕ) (b : BoxView) (k : Walk) (ps : List PassView) →
     IsWalkAt o b k stages.Read k.level g →
     Stays o slots id b ps (state_at g) (λ n. n)
+    (walks b.cpu)
     (ReadsGroup (step slots (index_of (layout_of o) (state_at g)) 0 0 none) (seat_of (b ∷ []) ps))
 
 -- and so does its load of the word of its child, above a leaf
@@ -194,6 +235,7 @@ abbrev pub ReadChildStays : World → Type 0
 ReadChildStays o = (slots id g : ℕ) (b : BoxView) (k : Walk) (ps : List PassView) → 0 < k.level →
     IsWalkAt o b k stages.Child (k.level - 1) g →
     Stays o slots id b ps (state_at g) (λ n. n)
+    (walks b.cpu)
     (ReadsChild (step slots (index_of (layout_of o) (state_at g)) 0 0 none) (seat_of (b ∷ []) ps))
 
 -- and of the word of its CPU, at a leaf
@@ -201,6 +243,7 @@ abbrev pub ReadOwnStays : World → Type 0
 ReadOwnStays o = (slots id g : ℕ) (b : BoxView) (k : Walk) (ps : List PassView) →
     b.cpu < length o.cpus → k.level ≡ 0 → IsWalkAt o b k stages.Child k.level g →
     Stays o slots id b ps (cpu_at b.cpu) (λ n. n)
+    (walks b.cpu)
     (ReadsOwn (step slots (index_of (layout_of o) (cpu_at b.cpu)) 0 0 none) (seat_of (b ∷ []) ps))
 
 -- the exchange of the word that it read keeps the rule, whatever word it finds, and the seat is
@@ -210,6 +253,7 @@ SwapStays o = (slots id g new : ℕ) (b : BoxView) (k : Walk) (ps : List PassVie
     IsWalkAt o b k stages.Swap k.level g →
     IsSwapOf b.read (side o.tree b.cpu k.level) k.child_on new →
     Stays o slots id b ps (state_at g) (λ n. either (n == b.read) new n)
+    (walks b.cpu)
     (Swaps (step slots (index_of (layout_of o) (state_at g)) b.read new none)
     (seat_of (b ∷ []) ps))
 
@@ -219,6 +263,7 @@ abbrev pub MarkOwnStays : World → Type 0
 MarkOwnStays o = (slots id g : ℕ) (b : BoxView) (k : Walk) (ps : List PassView) →
     side o.tree b.cpu 0 < 8 → IsWalkAt o b k stages.Own 0 g →
     Stays o slots id b ps (slot_at g (side o.tree b.cpu 0)) (λ n. bit_or n (2 ^ 58))
+    (walks b.cpu)
     (MarksOwn (step slots (index_of (layout_of o) (slot_at g (side o.tree b.cpu 0))) (2 ^ 58) 0
     none) (seat_of (b ∷ []) ps))
 
@@ -227,6 +272,7 @@ abbrev pub MarkStays : World → Type 0
 MarkStays o = (slots id g : ℕ) (more : Bool) (b : BoxView) (k : Walk) (ps : List PassView) →
     side o.tree b.cpu (suc k.level) < 8 → IsWalkAt o b k (stages.Mark more) (suc k.level) g →
     Stays o slots id b ps (slot_at g (side o.tree b.cpu (suc k.level))) (λ n. bit_or n (2 ^ 58))
+    (walks b.cpu)
     (Marks (step slots (index_of (layout_of o) (slot_at g (side o.tree b.cpu (suc k.level))))
     (2 ^ 58) 0 none) (seat_of (b ∷ []) ps))
 
@@ -236,6 +282,7 @@ abbrev pub FindMarkStays : World → Type 0
 FindMarkStays o = (slots id g : ℕ) (more : Bool) (b : BoxView) (k : Walk) (ps : List PassView) →
     side o.tree b.cpu (suc k.level) < 8 → IsWalkAt o b k (stages.Mark more) (suc k.level) g →
     Stays o slots id b ps (slot_at g (side o.tree b.cpu (suc k.level))) (λ n. n)
+    (λ n. where_made (is_marked n) (walk_of b.cpu))
     (FindsMark (step slots (index_of (layout_of o) (slot_at g (side o.tree b.cpu (suc k.level)))) 0
     0 none) (seat_of (b ∷ []) ps))
 
@@ -246,6 +293,7 @@ StoreStays o = (slots id g new : ℕ) (b : BoxView) (k : Walk) (ps : List PassVi
     side o.tree b.cpu k.level < 8 → IsWalkAt o b k stages.Store k.level g →
     new ≡ slot_word (stored_event k.level b.cpu k) →
     Stays o slots id b ps (slot_at g (side o.tree b.cpu k.level)) (λ n. new)
+    (walks b.cpu)
     (λ n. Stores (step slots (index_of (layout_of o) (slot_at g (side o.tree b.cpu k.level))) new 0
     none) (seat_of (b ∷ []) ps) new)
 

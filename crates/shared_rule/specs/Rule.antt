@@ -1,5 +1,5 @@
 -- the rule of the table: words and views show a core that fits
-use Rattle.std.specs.Prelude.{◌≡◌, ◌≢◌, ℕ, ◌+◌, ◌<◌, List, [], ◌∷◌, ◌++◌, map, length}
+use Rattle.std.specs.Prelude.{◌≡◌, ◌≢◌, ℕ, ◌+◌, ◌<◌, List, [], ◌∷◌, ◌++◌, map, length, Option}
 use Rattle.std.proofs.Common.{cond, eqb}
 use mathlib.Core.Option.{some}
 use lib.ListN.{get_elem?}
@@ -12,7 +12,7 @@ use Rattle.shared_rule.specs.declared.parts.PassView.{PassView}
 use Rattle.shared_rule.specs.declared.parts.Said.{Said}
 use Rattle.shared_rule.specs.declared.parts.View.{View}
 use Rattle.shared_rule.specs.Whole.{Whole, word_at, Spell, box_of, layout_of}
-use Rattle.shared_rule.specs.Shows.{IsShown}
+use Rattle.shared_rule.specs.Shows.{CoreStep, IsMade, IsShown}
 
 -- what the seat that makes a step has: its view, and no slots
 abbrev pub Me : Type 0
@@ -97,14 +97,16 @@ abbrev pub seat_of : List BoxView → List PassView → Me
 seat_of boxes passes = (seen boxes passes, [])
 
 -- A STEP by the seat of box b, with the passes ps brought, as a step of the whole: there is a next
--- whole that is shown, in which the word is the new one and all others are as they were, the parts
--- of other seats too, and of which the seat is told
+-- whole that is shown, whose core is made of this one by the step that `by` names for the word that
+-- is found, or is this one where it names none. In it the word is the new one and all others are as
+-- they were, the parts of other seats too, and of it the seat is told
 pub record Goes (o : World) (s : Whole) (b : BoxView) (ps : List PassView) (p : SharedWord)
-    (f : ℕ → ℕ) (then : ℕ → Me → Type 0) : Type 0 where
+    (f : ℕ → ℕ) (by : ℕ → Option CoreStep) (then : ℕ → Me → Type 0) : Type 0 where
   pub next : Whole
   pub box : BoxView
   pub passes : List PassView
   pub shown : IsShown o next
+  pub makes : IsMade (by (word_at s p)) s.world next.world
   pub word : word_at next p ≡ f (word_at s p)
   pub words : (q : SharedWord) → IsWordOf (layout_of o) q →
       index_of (layout_of o) q ≢ index_of (layout_of o) p → word_at next q ≡ word_at s q

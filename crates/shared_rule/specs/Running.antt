@@ -1,4 +1,4 @@
--- THE HEADLINE OF A RUN: what whoever has the table of a run and a seat may know of it at any moment
+-- THE HEADLINE OF A RUN: what whoever has a seat of its table may know of it at any moment
 use Rattle.std.specs.Prelude.{◌≡◌, ℕ, ◌<◌, List, [], ◌∷◌, length}
 use Rattle.core_world.specs.World.{World}
 use Rattle.core_state.specs.core_facts.Cover.Runs.{EachIsAnswered}

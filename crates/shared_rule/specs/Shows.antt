@@ -20,6 +20,8 @@ use Rattle.core_world.specs.World.{CpuRecord, World, cpu_of, is_reading, moved}
 use Rattle.core_world.specs.Frames.{SameSize}
 use Rattle.core_world.specs.Lists.{IsRun}
 use Rattle.core_world.specs.declared.step.Step.{Step}
+use Rattle.core_world.specs.Enabled.{Enabled}
+use Rattle.core_world.specs.Steps.{stepped}
 use Rattle.core_state.specs.core_facts.Exchanges.{stage_number}
 use Rattle.core_state.specs.Kept.{WorldFits, is_queued}
 use Rattle.shared_words.specs.declared.spot.Spot.{Spot}
@@ -184,6 +186,15 @@ pub record DidRight (o w : World) (receipts : List Receipt) (x : Did) : Type 0 w
 -- REACHED: steps lead from one core to another, each enabled where it stands
 abbrev pub IsReached : (before after : World) → Type 0
 IsReached before after = (steps : List Step) × IsRun steps before after
+
+-- a step of the core
+abbrev pub CoreStep : Type 0
+CoreStep = Step
+
+-- MADE: between two cores no step was made, or this one, enabled where it stands
+abbrev pub IsMade : Option CoreStep → (before after : World) → Type 0
+IsMade None before after = after ≡ before
+IsMade (Some step) before after = Enabled before step × (after ≡ stepped before step)
 
 -- THE RULE, of a whole and the core with which the run began
 pub record IsShown (o : World) (s : Whole) : Type 0 where

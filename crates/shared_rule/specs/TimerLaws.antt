@@ -9,6 +9,7 @@ use Rattle.tm_base.specs.declared.names.TimerId.{TimerId}
 use Rattle.wheel_core.specs.declared.item.Item.{Item}
 use Rattle.wheel_core.specs.PlainBase.{NoneBehind, next_out}
 use Rattle.cpu_bases.specs.CpuBases.{base_of, class_in}
+use Rattle.core_world.specs.declared.step.Step.TheVariants as steps
 use Rattle.core_world.specs.World.{World, is_active}
 use Rattle.shared_words.specs.Layout.{index_of}
 use Rattle.shared_words.specs.Words.{spot_word}
@@ -19,7 +20,7 @@ use Rattle.shared_rule.specs.Whole.{layout_of, spot_at, timer_at}
 use Rattle.shared_rule.specs.Rule.{seat_of}
 use Rattle.shared_rule.specs.Timers.{Arms, Cancels, Hands}
 use Rattle.shared_rule.specs.Turns.{MayRunOf}
-use Rattle.shared_rule.specs.Laws.{Stays}
+use Rattle.shared_rule.specs.Laws.{Stays, where_made}
 
 -- the word of a timer that is queued in the base of a class on a CPU
 abbrev pub queued_word : (c : ℕ) → Class → ℕ
@@ -44,6 +45,7 @@ abbrev pub CancelStays : World → Type 0
 CancelStays o = (slots id line : ℕ) (class : Class) (timer : TimerId) (b : BoxView)
     (p : PassView) → MayExchangeCancel o b class timer →
     Stays o slots id b (p ∷ []) (timer_at timer.0) (unqueued b.cpu class)
+    (λ n. Some (steps.Cancel (record { 0 = b.cpu }) timer (record { 0 = p.cpu }) line))
     (Cancels (step slots (index_of (layout_of o) (timer_at timer.0)) (queued_word b.cpu class) 0
     (some (saids.Cancel timer line))) (seat_of (b ∷ []) (p ∷ [])))
 
@@ -63,6 +65,7 @@ abbrev pub HandStays : World → Type 0
 HandStays o = (slots id : ℕ) (class : Class) (item : Item) (b : BoxView) (p : PassView) →
     MayExchangeHand o b class item p →
     Stays o slots id b (p ∷ []) (timer_at item.id) (unqueued b.cpu class)
+    (λ n. Some (steps.Hand (record { 0 = b.cpu }) (record { 0 = item.id }) (record { 0 = p.cpu })))
     (Hands (step slots (index_of (layout_of o) (timer_at item.id)) (queued_word b.cpu class) 0
     (some (saids.Hand class))) (seat_of (b ∷ []) (p ∷ [])))
 
@@ -88,5 +91,6 @@ ArmStays o = (slots id expires job arg line : ℕ) (class : Class) (timer : Time
     (p : PassView) → MayExchangeArm o b class timer expires p →
     Stays o slots id b (p ∷ []) (timer_at timer.0)
     (λ n. either (n == 0) (queued_word b.cpu class) n)
+    (λ n. where_made (n == 0) (steps.Arm (record { 0 = b.cpu }) timer class expires job arg line))
     (Arms (step slots (index_of (layout_of o) (timer_at timer.0)) 0 (queued_word b.cpu class)
     (some (saids.Arm timer class expires job arg line))) (seat_of (b ∷ []) (p ∷ [])))

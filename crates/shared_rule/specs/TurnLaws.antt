@@ -15,6 +15,7 @@ use Rattle.walk_rules.specs.declared.walk.WalkKind.{WalkKind}
 use Rattle.walk_rules.specs.declared.walk.WalkKind.TheVariants as kinds
 use Rattle.walk_rules.specs.declared.walk.Stage.TheVariants as stages
 use Rattle.walk_rules.specs.Hierarchy.{side}
+use Rattle.core_world.specs.declared.step.Step.TheVariants as steps
 use Rattle.core_world.specs.Enabled.{first_event}
 use Rattle.core_world.specs.Steps.{finished}
 use Rattle.core_world.specs.World.{World, CpuRecord, is_active}
@@ -27,7 +28,7 @@ use Rattle.shared_rule.specs.Turns.{Carries, CarryEnds, MayRunOf}
 use Rattle.shared_rule.specs.Turns.{Enters, Exits, Idles, Reevaluates, Releases, Rests, Retells}
 use Rattle.shared_rule.specs.Turns.{Takes, Ticks, entered, idled, outside, released, taken}
 use Rattle.shared_rule.specs.Turns.{SeesCpu, SeesLeaf}
-use Rattle.shared_rule.specs.Laws.{Stays}
+use Rattle.shared_rule.specs.Laws.{Stays, none_made, walks}
 
 -- DRAINING: what has to be known where a base of a CPU counts as drained by the CPU of a pass:
 -- nothing more of it is due, and the pass's CPU runs its own timers inside its interrupt, or the
@@ -44,6 +45,7 @@ abbrev pub TickStays : World → Type 0
 TickStays o = (slots id : ℕ) (class : Class) (b : BoxView) (p : PassView) →
     MayStoreTick o b class p →
     Stays o slots id b (p ∷ []) (cpu_at b.cpu) (λ n. n)
+    (λ n. Some (steps.Ticked (record { 0 = b.cpu }) class (record { 0 = p.cpu })))
     (Ticks class (step slots (index_of (layout_of o) (cpu_at b.cpu)) 0 0 none)
     (seat_of (b ∷ []) (p ∷ [])))
 
@@ -62,6 +64,7 @@ abbrev pub EnterStays : World → Type 0
 EnterStays o = (slots id : ℕ) (b : BoxView) (p : PassView) (new : ℕ) →
     IsOwnTurn o b p (entered b.own) new → b.own.inside ≡ false →
     Stays o slots id b (p ∷ []) (cpu_at b.cpu) (λ n. new)
+    (λ n. Some (steps.Enter (record { 0 = b.cpu })))
     (λ n. Enters (step slots (index_of (layout_of o) (cpu_at b.cpu)) new 0 none)
     (seat_of (b ∷ []) (p ∷ [])) new)
 
@@ -76,6 +79,7 @@ abbrev pub LeaveStays : World → Type 0
 LeaveStays o = (slots id : ℕ) (b : BoxView) (p : PassView) (new : ℕ) →
     IsOwnTurn o b p (outside b.own) new → MayStoreLeave b p →
     Stays o slots id b (p ∷ []) (cpu_at b.cpu) (λ n. new)
+    (λ n. Some (steps.Leave (record { 0 = b.cpu })))
     (λ n. Exits (step slots (index_of (layout_of o) (cpu_at b.cpu)) new 0 none)
     (seat_of (b ∷ []) (p ∷ [])) new)
 
@@ -92,6 +96,7 @@ abbrev pub IdleStays : World → Type 0
 IdleStays o = (slots id : ℕ) (b : BoxView) (p : PassView) (new : ℕ) →
     IsOwnTurn o b p (idled o b.cpu b.own) new → MayStoreIdle o b p →
     Stays o slots id b (p ∷ []) (cpu_at b.cpu) (λ n. new)
+    (λ n. Some (steps.Idle (record { 0 = b.cpu })))
     (λ n. Idles (step slots (index_of (layout_of o) (cpu_at b.cpu)) new 0 none)
     (seat_of (b ∷ []) (p ∷ [])) new)
 
@@ -108,6 +113,7 @@ abbrev pub RetellStays : World → Type 0
 RetellStays o = (slots id : ℕ) (b : BoxView) (p : PassView) →
     IsOwnTurn o b p b.own (own_word b.own) → MayRetell b p →
     Stays o slots id b (p ∷ []) (cpu_at b.cpu) (λ n. n)
+    (λ n. Some (steps.Reeval (record { 0 = b.cpu })))
     (Retells (step slots (index_of (layout_of o) (cpu_at b.cpu)) 0 0 none)
     (seat_of (b ∷ []) (p ∷ [])))
 
@@ -135,6 +141,7 @@ abbrev pub TakeStays : World → Type 0
 TakeStays o = (slots id leaf : ℕ) (e : Event) (b : BoxView) (p : PassView) (new : ℕ) →
     MayStoreTake o b p leaf e new →
     Stays o slots id b (p ∷ []) (cpu_at b.cpu) (λ n. new)
+    (λ n. Some (steps.Take (record { 0 = b.cpu }) (record { 0 = p.cpu })))
     (λ n. Takes (step slots (index_of (layout_of o) (cpu_at b.cpu)) new 0 none)
     (seat_of (b ∷ []) (p ∷ [])) new)
 
@@ -152,6 +159,7 @@ abbrev pub ReleaseStays : World → Type 0
 ReleaseStays o = (slots id : ℕ) (b : BoxView) (p : PassView) (new : ℕ) →
     MayStoreRelease o b p new →
     Stays o slots id b (p ∷ []) (cpu_at b.cpu) (λ n. new)
+    (λ n. Some (steps.Release (record { 0 = b.cpu })))
     (λ n. Releases (step slots (index_of (layout_of o) (cpu_at b.cpu)) new 0 none)
     (seat_of (b ∷ []) (p ∷ [])) new)
 
@@ -172,6 +180,7 @@ abbrev pub RestStays : World → Type 0
 RestStays o = (slots id : ℕ) (b : BoxView) (k : Walk) (p : PassView) (new : ℕ) →
     MayFinish o b p k kinds.Deactivate new →
     Stays o slots id b (p ∷ []) (cpu_at b.cpu) (λ n. new)
+    (walks b.cpu)
     (λ n. Rests (step slots (index_of (layout_of o) (cpu_at b.cpu)) new 0 none)
     (seat_of (b ∷ []) (p ∷ [])) new)
 
@@ -180,6 +189,7 @@ abbrev pub ReevaluateStays : World → Type 0
 ReevaluateStays o = (slots id : ℕ) (b : BoxView) (k : Walk) (p : PassView) (new : ℕ) →
     MayFinish o b p k kinds.Reeval new →
     Stays o slots id b (p ∷ []) (cpu_at b.cpu) (λ n. new)
+    (walks b.cpu)
     (λ n. Reevaluates (step slots (index_of (layout_of o) (cpu_at b.cpu)) new 0 none)
     (seat_of (b ∷ []) (p ∷ [])) new)
 
@@ -197,6 +207,7 @@ pub record MayCarryOn (o : World) (b : BoxView) (p : PassView) : Type 0 where
 abbrev pub CarryStays : World → Type 0
 CarryStays o = (slots id : ℕ) (b : BoxView) (p : PassView) → MayCarryOn o b p →
     Stays o slots id b (p ∷ []) (cpu_at b.cpu) (λ n. n)
+    (λ n. Some (steps.Carry (record { 0 = b.cpu })))
     (Carries (step slots (index_of (layout_of o) (cpu_at b.cpu)) 0 0 none)
     (seat_of (b ∷ []) (p ∷ [])))
 
@@ -213,6 +224,7 @@ abbrev pub CarryEndStays : World → Type 0
 CarryEndStays o = (slots id : ℕ) (b : BoxView) (k : Walk) (p : PassView) (new : ℕ) →
     MayEndCarry o b p k new →
     Stays o slots id b (p ∷ []) (cpu_at b.cpu) (λ n. new)
+    (walks b.cpu)
     (λ n. CarryEnds (step slots (index_of (layout_of o) (cpu_at b.cpu)) new 0 none)
     (seat_of (b ∷ []) (p ∷ [])) new)
 
@@ -221,6 +233,7 @@ CarryEndStays o = (slots id : ℕ) (b : BoxView) (k : Walk) (p : PassView) (new 
 abbrev pub SeeCpuStays : World → Type 0
 SeeCpuStays o = (slots id : ℕ) (b : BoxView) (p : PassView) → b.cpu < length o.cpus →
     Stays o slots id b (p ∷ []) (cpu_at b.cpu) (λ n. n)
+    none_made
     (SeesCpu (step slots (index_of (layout_of o) (cpu_at b.cpu)) 0 0 none)
     (seat_of (b ∷ []) (p ∷ [])))
 
@@ -229,5 +242,6 @@ abbrev pub SeeLeafStays : World → Type 0
 SeeLeafStays o = (slots id g : ℕ) (b : BoxView) (p : PassView) → g < length o.groups →
     side o.tree b.cpu 0 < 8 → group_at_of o.tree b.cpu 0 ≡ Some g →
     Stays o slots id b (p ∷ []) (slot_at g (side o.tree b.cpu 0)) (λ n. n)
+    none_made
     (SeesLeaf (step slots (index_of (layout_of o) (slot_at g (side o.tree b.cpu 0))) 0 0 none)
     (seat_of (b ∷ []) (p ∷ [])))

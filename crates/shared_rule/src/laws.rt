@@ -1,4 +1,5 @@
-//! The laws of the core that the table stands on, and what the rule says.
+//! The laws of the core that the table stands on, and what the rule says. The law of an access by a
+//! seat with a box names the step of the core that the access makes, or none.
 
 ghost use Rattle.shared_rule.specs.CoreLaws.{CoreLaws};
 ghost use Rattle.core_world.specs.World.{World};

@@ -23,8 +23,8 @@ impl Play<Said, View> for FindsRunning {
 /// THE HEADLINE OF A RUN, at any moment, whatever the threads do: there is a core that steps lead
 /// to from the opening, which the words and all seats show, and in which each global timer that is
 /// queued on an online idle CPU is held, woken for, or carried by a walk or an interrupt under way;
-/// and where none is under way, held or woken for. It is told to a seat that has a part, of which
-/// it is one, by a load of any word, which changes nothing.
+/// and where none is under way, held or woken for. A seat that has a part is told so by a load of
+/// any word, which changes nothing, and that its parts and that word are those of this core.
 pub fn law_running<N: RunName, B: TimerBase>(
     run: &Run<N, B>,
     seat: &mut Seat,

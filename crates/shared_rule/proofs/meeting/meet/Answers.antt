@@ -29,5 +29,5 @@ load-requires g c =
       allowed o key table.slots c.args.seat.now.id me (seat_of (b ∷ []) me.0.passes)
           c.index-place.result (index_of (layout_of o) (cpu_at b.cpu)) (λ n. n)
           (λ i v n w. Meets (step table.slots i 0 0 none) v n w) run.fits.opened part.2 at
-          (meets c.core_laws.ensures o table.slots c.args.seat.now.id b me.0.passes low),
+          (meets c.core_laws.ensures o table.slots c.args.seat.now.id b me.0.passes low).allowed,
     )

@@ -1,11 +1,7 @@
 use Rattle.std.proofs.Common.{◌<◌, ◌∙◌, subst, sym}
-use mathlib.Core.Option.{none}
-use Rattle.atomic_table.specs.Table.{step}
 use Rattle.core_world.specs.World.{World}
-use Rattle.shared_words.specs.Layout.{index_of}
 use Rattle.shared_rule.specs.Rule.{Me}
-use Rattle.shared_rule.specs.Running.{FindsRunning, IsRunning}
-use Rattle.shared_rule.specs.Whole.{layout_of}
+use Rattle.shared_rule.specs.Running.{IsRunning}
 use Rattle.shared_rule.proofs.Calls.{below, place}
 use Rattle.shared_rule.proofs.Answering.{finds_running, opened_with}
 use Rattle.shared_rule.proofs.running.law_running.Goals as goal

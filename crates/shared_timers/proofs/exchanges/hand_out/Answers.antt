@@ -1,9 +1,10 @@
-use Rattle.std.proofs.Common.{◌≡◌, ◌<◌, ◌==◌, ◌∷◌, [], sym, ap, ◌∙◌, subst}
+use Rattle.std.proofs.Common.{◌≡◌, ◌<◌, ◌==◌, ◌∷◌, [], Some, sym, ap, ◌∙◌, subst}
 use mathlib.Core.Option.{some}
 use prog.Atomic.{either}
 use Rattle.atomic_table.specs.Table.{step}
 use Rattle.core_world.specs.World.{World}
 use Rattle.shared_words.specs.Layout.{index_of}
+use Rattle.core_world.specs.declared.step.Step.TheVariants as steps
 use Rattle.shared_rule.specs.declared.parts.Said.TheVariants as saids
 use Rattle.shared_rule.specs.Laws.{Stays}
 use Rattle.shared_rule.specs.Rule.{seat_of}
@@ -33,9 +34,11 @@ compare_exchange_with-requires g c =
     (λ n. either (n == here) 0 n) (λ i v n w. timers.Hands (step table.slots i here 0 said) v n w)
     c.requires.table may.seat c.index-place.ensures (subst (λ n. n < o.timers) may.fits.1 may.fits.2.known)
     (subst (λ x. Stays o table.slots seat.id b ps (timer_at timer.0) (λ n. either (n == x) 0 n)
+    (λ n. Some (steps.Hand (record { 0 = b.cpu }) (record { 0 = timer.0 }) (record { 0 = may.pass.cpu })))
     (timers.Hands (step table.slots (index_of (layout_of o) (timer_at timer.0)) x 0 said)
     (seat_of (b ∷ []) ps))) (sym is)
     (subst (λ t. Stays o table.slots seat.id b ps (timer_at t) (λ n. either (n == queued_word b.cpu class) 0 n)
+    (λ n. Some (steps.Hand (record { 0 = b.cpu }) (record { 0 = t }) (record { 0 = may.pass.cpu })))
     (timers.Hands (step table.slots (index_of (layout_of o) (timer_at t)) (queued_word b.cpu class) 0 said)
     (seat_of (b ∷ []) ps))) may.fits.1
     (c.law_hand.ensures o table.slots seat.id class may.fits.0 b may.pass may.fits.2)))

@@ -4,8 +4,9 @@ use prog.Atomic.{either}
 use Rattle.atomic_table.specs.Table.{step}
 use Rattle.core_world.specs.World.{World}
 use Rattle.shared_words.specs.Layout.{index_of}
+use Rattle.core_world.specs.declared.step.Step.TheVariants as steps
 use Rattle.shared_rule.specs.declared.parts.Said.TheVariants as saids
-use Rattle.shared_rule.specs.Laws.{Stays}
+use Rattle.shared_rule.specs.Laws.{Stays, where_made}
 use Rattle.shared_rule.specs.Rule.{seat_of}
 use Rattle.shared_rule.specs.TimerLaws.{queued_word}
 use Rattle.shared_rule.specs.Timers as timers
@@ -32,6 +33,8 @@ compare_exchange_with-requires g c =
     (λ n. either (n == 0) mine n) (λ i v n w. timers.Arms (step table.slots i 0 mine said) v n w)
     c.requires.table may.seat c.index-place.ensures may.fits.known
     (subst (λ x. Stays o table.slots seat.id b ps (timer_at a.timer.0) (λ n. either (n == 0) x n)
+    (λ n. where_made (n == 0)
+    (steps.Arm (record { 0 = b.cpu }) a.timer a.class a.expires a.job a.arg a.line))
     (timers.Arms (step table.slots (index_of (layout_of o) (timer_at a.timer.0)) 0 x said)
     (seat_of (b ∷ []) ps))) (sym is)
     (c.law_arm.ensures o table.slots seat.id a.expires a.job a.arg a.line a.class a.timer b may.pass

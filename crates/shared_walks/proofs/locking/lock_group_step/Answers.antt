@@ -9,7 +9,7 @@ use Rattle.walk_rules.specs.Hierarchy.{group_on}
 use Rattle.core_world.specs.World.{World}
 use Rattle.shared_words.specs.Layout.{index_of}
 use Rattle.shared_rule.specs.Plays as plays
-use Rattle.shared_rule.specs.Laws.{Stays}
+use Rattle.shared_rule.specs.Laws.{Stays, walk_of, where_made}
 use Rattle.shared_rule.specs.Rule.{Me, seat_of}
 use Rattle.shared_rule.specs.Whole.{layout_of, lock_at}
 use Rattle.shared_rule.specs.Parts.{HeldPart, box_held, guest_room, looked_of}
@@ -53,6 +53,7 @@ compare_exchange-found-requires g c =
     (λ i v n w. plays.Locks (step table.slots i 0 new none) v n w)
     c.part.invariant.named c.part.invariant.seat there low
     (subst (λ x. Stays o table.slots part.seat.id b ps (lock_at group) (λ n. either (n == 0) x n)
+    (λ n. where_made (n == 0) (walk_of b.cpu))
     (plays.Locks (step table.slots (index_of (layout_of o) (lock_at group)) 0 x none)
     (seat_of (b ∷ []) ps))) (sym c.pack_lock-mine.ensures)
     (c.law_lock_group.ensures o table.slots part.seat.id group b k ps
