@@ -16,10 +16,10 @@ IsOfOpening o (b ∷ bs) ps = b.opening ≡ o
 IsOfOpening o [] (p ∷ ps) = p.opening ≡ o
 IsOfOpening o [] [] = ⊥
 
--- RUNNING: there is a whole that the words and all seats show, of the core with which the run
--- began. This seat's parts are its parts, what was found at a place is its word there, and in its
--- core each global timer that is queued on an online idle CPU is held, woken for or carried; and
--- held or woken for where no walk and no interrupt is under way
+-- RUNNING: there is a whole that is shown, of the core with which the run began. This seat's parts
+-- are its parts, what was found at a place is its word there, and in its core each global timer
+-- that is queued on an online idle CPU is held, woken for or carried; and held or woken for where
+-- no walk and no interrupt is under way
 pub record IsRunning (o : World) (me : Me) (place found : ℕ) : Type 0 where
   pub whole : Whole
   pub shown : IsShown o whole

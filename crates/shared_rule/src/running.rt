@@ -20,11 +20,11 @@ impl Play<Said, View> for FindsRunning {
     ghost then = { running.FindsRunning };
 }
 
-/// THE HEADLINE OF A RUN, at any moment, whatever the threads do: there is a core that steps lead
-/// to from the opening, which the words and all seats show, and in which each global timer that is
-/// queued on an online idle CPU is held, woken for, or carried by a walk or an interrupt under way;
-/// and where none is under way, held or woken for. A seat that has a part is told so by a load of
-/// any word, which changes nothing, and that its parts and that word are those of this core.
+/// THE HEADLINE OF A RUN, at any moment, whatever the threads do: the word that a seat loads and the
+/// seat's parts are those of a core to which steps lead from the opening, each enabled where it
+/// stands. In that core each global timer that is queued on an online idle CPU is held, woken for,
+/// or carried by a walk or an interrupt under way; and where none is under way, held or woken for.
+/// The load changes nothing.
 pub fn law_running<N: RunName, B: TimerBase>(
     run: &Run<N, B>,
     seat: &mut Seat,
