@@ -21,7 +21,7 @@ use Rattle.shared_rule.specs.Shows.{DidRight, IsShown}
 use Rattle.shared_rule.specs.Rule.{Holds, IsViewOf, Me, boxes_in, box_cpu, pass_cpu, passes_in}
 use Rattle.shared_rule.specs.Rule.{seat_of, seen}
 use Rattle.shared_rule.specs.Plays.{NamesCpu, on_pass, seen_pass}
-use Rattle.shared_rule.specs.Laws.{SeeStateStays, SeeStays, SeeTimerStays}
+use Rattle.shared_rule.specs.Laws.{LoadStays, SeeStateStays, SeeStays, SeeTimerStays}
 use Rattle.shared_rule.proofs.Moving.{set_else, set_here}
 use Rattle.shared_rule.proofs.Fits.{good_word}
 use Rattle.shared_rule.proofs.Fronts.{get_snoc}
@@ -73,7 +73,7 @@ pub record Learns (o : World) (s : Whole) (q : PassView) (m : SharedWord)
   pub told : then (word_at s m) (seat_of [] (learned did q ∷ []))
 
 -- the seat of pass q may load a word, where it learns right of each whole that it may stand for
-pub allows_load : (o : World) (slots id : ℕ) (q : PassView) (m : SharedWord)
+allows_load : (o : World) (slots id : ℕ) (q : PassView) (m : SharedWord)
     (then : ℕ → Me → Type 0) → IsWordOf (layout_of o) m
     → ((s : Whole) → IsShown o s → q ≡ s.pass q.cpu → Learns o s q m then)
     → Allows {S = Said} {V = View} (Holds o) slots id (seat_of [] (q ∷ []))
@@ -132,6 +132,30 @@ allows_load o slots id q m then within may t h homes at fits =
       subst (λ n. then n (v, [])) (sym is) l.told,
     )
 
+-- it makes no step of the core, and the table allows it
+pub loads : (o : World) (slots id : ℕ) (q : PassView) (m : SharedWord)
+    (then : ℕ → Me → Type 0) → IsWordOf (layout_of o) m
+    → ((s : Whole) → IsShown o s → q ≡ s.pass q.cpu → Learns o s q m then)
+    → LoadStays o slots id q m then
+loads o slots id q m then within may = record {
+  goes = λ s h known.
+      let c = q.cpu in
+      let l = may s h known in
+      let mine = learned l.did (s.pass c) in
+      record {
+        next = with_pass s c mine;
+        pass = learned l.did q;
+        shown = learns o s h c l.did l.right;
+        makes = refl;
+        words = word_stays s c mine;
+        boxes = λ d. refl;
+        own = ap (learned l.did) known ∙ sym (set_here c mine s.pass);
+        others = λ d ne. set_else c mine s.pass d ne;
+        told = l.told;
+      };
+  allowed = allows_load o slots id q m then within may;
+}
+
 -- the deed of a load by pass q is right, and what a load finds is told
 pub looked : (law : CoreLaws) (o : World) (s : Whole) (h : IsShown o s) (q : PassView)
     (m : SharedWord)
@@ -149,7 +173,7 @@ looked law o s h q m within known =
 
 pub sees : (law : CoreLaws) (o : World) → SeeStays o
 sees law o slots id q m within =
-    allows_load o slots id q m
+    loads o slots id q m
     (λ n v. v ≡ on_pass (seen_pass (index_of (layout_of o) m) n) (seat_of [] (q ∷ []))) within
     (λ s h known. record {
       did = record {
@@ -163,7 +187,7 @@ sees law o slots id q m within =
 pub sees_state : (law : CoreLaws) (o : World) → SeeStateStays o
 sees_state law o slots id g q low =
     let m = state_at g in
-    allows_load o slots id q m
+    loads o slots id q m
     (λ n v. (v ≡ on_pass (seen_pass (index_of (layout_of o) m) n) (seat_of [] (q ∷ [])))
     × HasRoom n) low
     (λ s h known. record {
@@ -178,7 +202,7 @@ sees_state law o slots id g q low =
 pub sees_timer : (law : CoreLaws) (o : World) → SeeTimerStays o
 sees_timer law o slots id timer q low =
     let m = timer_at timer.0 in
-    allows_load o slots id q m
+    loads o slots id q m
     (λ n v. (v ≡ on_pass (seen_pass (index_of (layout_of o) m) n) (seat_of [] (q ∷ [])))
     × NamesCpu (q ∷ []) n) low
     (λ s h known. record {

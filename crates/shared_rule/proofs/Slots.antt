@@ -3,8 +3,6 @@ use Rattle.std.proofs.Common.{◌≡◌, inl, inr, ℕ, ◌<◌, [], ◌∷◌, 
 use Rattle.std.proofs.Common.{subst, arith}
 use Rattle.std.proofs.lemmas.Bool.{cases_eq}
 use Rattle.std.proofs.lemmas.Option.{none-some}
-use mathlib.Core.Option.{none}
-use Rattle.atomic_table.specs.Table.{Allows, step}
 use Rattle.tree_plan.specs.Laws.{PathLaws}
 use Rattle.tree_plan.specs.Paths.{group_at_of, level_count_of}
 use Rattle.tree_plan.specs.Shape.{Shape}
@@ -13,16 +11,14 @@ use Rattle.core_world.specs.World.{World}
 use Rattle.shared_words.specs.Layout.{index_of}
 use Rattle.shared_rule.specs.declared.parts.Deed.TheVariants as deeds
 use Rattle.shared_rule.specs.declared.parts.PassView.{PassView}
-use Rattle.shared_rule.specs.declared.parts.Said.{Said}
-use Rattle.shared_rule.specs.declared.parts.View.{View}
 use Rattle.shared_rule.specs.CoreLaws.{CoreLaws}
 use Rattle.shared_rule.specs.Whole.{Whole, layout_of, slot_at, word_at}
 use Rattle.shared_rule.specs.Shows.{IsShown}
-use Rattle.shared_rule.specs.Rule.{Holds, seat_of}
+use Rattle.shared_rule.specs.Rule.{seat_of}
 use Rattle.shared_rule.specs.Plays.{on_pass, seen_pass}
-use Rattle.shared_rule.proofs.Looking.{allows_load, looked}
+use Rattle.shared_rule.proofs.Looking.{loads, looked}
 use Rattle.shared_rule.proofs.Sights.{slot_shown}
-use Rattle.shared_rule.specs.Slots.{HasEventOf, IsGrouped, SeesSlot}
+use Rattle.shared_rule.specs.Slots.{HasEventOf, IsGrouped, SeeSlotStays}
 
 -- a CPU that has a group at a level has a leaf
 has_leaf : (t : Shape) (c l g : ℕ) → PathLaws t → group_at_of t c l ≡ Some g → HasGroup t c
@@ -49,15 +45,10 @@ names_cpu law o s h g child q known e at =
       subst (λ (t : Shape). HasGroup t e.cpu.0) h.same.tree leaf,
     )
 
-pub sees_slot : (law : CoreLaws) (o : World) (slots id g child : ℕ) (q : PassView)
-    → g < length o.groups → child < 8
-    → Allows {S = Said} {V = View} (Holds o) slots id (seat_of [] (q ∷ []))
-    (index_of (layout_of o) (slot_at g child)) (λ n. n)
-    (SeesSlot (step slots (index_of (layout_of o) (slot_at g child)) 0 0 none)
-    (seat_of [] (q ∷ [])))
+pub sees_slot : (law : CoreLaws) (o : World) → SeeSlotStays o
 sees_slot law o slots id g child q low in_range =
     let m = slot_at g child in
-    allows_load o slots id q m
+    loads o slots id q m
     (λ n v. (v ≡ on_pass (seen_pass (index_of (layout_of o) m) n) (seat_of [] (q ∷ [])))
     × HasEventOf (q ∷ []) n) (low, in_range)
     (λ s h known. record {

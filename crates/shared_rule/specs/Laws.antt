@@ -26,7 +26,7 @@ use Rattle.shared_rule.specs.declared.parts.View.{View}
 use Rattle.shared_rule.specs.Whole.{Spell, Whole, box_of, cpu_at, layout_of, lock_at, own_word}
 use Rattle.shared_rule.specs.Whole.{slot_at, state_at, timer_at, word_at}
 use Rattle.shared_rule.specs.Shows.{CoreStep, IsShown}
-use Rattle.shared_rule.specs.Rule.{Each, Goes, seen}
+use Rattle.shared_rule.specs.Rule.{Each, Goes, Loads, seen}
 use Rattle.shared_rule.specs.Rule.{HasFirstBox, HasFirstPass, Holds, Me, Shows, first_box}
 use Rattle.shared_rule.specs.Rule.{first_pass, nothing, renewed_pass, seat_of, together}
 use Rattle.shared_rule.specs.Rule.{without_box, without_pass}
@@ -297,24 +297,29 @@ StoreStays o = (slots id g new : ℕ) (b : BoxView) (k : Walk) (ps : List PassVi
     (λ n. Stores (step slots (index_of (layout_of o) (slot_at g (side o.tree b.cpu k.level))) new 0
     none) (seat_of (b ∷ []) ps) new)
 
--- LOADS BY A PASS: a load of any word keeps the rule, and the pass remembers what it found
+-- LOADS BY A PASS: a load by the seat of pass q makes no step of the core, in whatever whole has
+-- that pass; and so the table allows it
+pub record LoadStays (o : World) (slots id : ℕ) (q : PassView) (m : SharedWord)
+    (then : ℕ → Me → Type 0) : Type 0 where
+  pub goes : (s : Whole) → IsShown o s → q ≡ s.pass q.cpu → Loads o s q m then
+  pub allowed : Allows {S = Said} {V = View} (Holds o) slots id (seat_of [] (q ∷ []))
+      (index_of (layout_of o) m) (λ n. n) then
+
+-- a load of any word keeps the rule, and the pass remembers what it found
 abbrev pub SeeStays : World → Type 0
 SeeStays o = (slots id : ℕ) (q : PassView) (m : SharedWord) → IsWordOf (layout_of o) m →
-    Allows {S = Said} {V = View} (Holds o) slots id (seat_of [] (q ∷ []))
-    (index_of (layout_of o) m) (λ n. n)
+    LoadStays o slots id q m
     (Sees (step slots (index_of (layout_of o) m) 0 0 none) (seat_of [] (q ∷ [])))
 
 -- a load of a group's word besides finds the word of a state
 abbrev pub SeeStateStays : World → Type 0
 SeeStateStays o = (slots id g : ℕ) (q : PassView) → g < length o.groups →
-    Allows {S = Said} {V = View} (Holds o) slots id (seat_of [] (q ∷ []))
-    (index_of (layout_of o) (state_at g)) (λ n. n)
+    LoadStays o slots id q (state_at g)
     (SeesState (step slots (index_of (layout_of o) (state_at g)) 0 0 none) (seat_of [] (q ∷ [])))
 
 -- and a load of a timer's word a CPU of the run, or none
 abbrev pub SeeTimerStays : World → Type 0
 SeeTimerStays o = (slots id : ℕ) (timer : TimerId) (q : PassView) → timer.0 < o.timers →
-    Allows {S = Said} {V = View} (Holds o) slots id (seat_of [] (q ∷ []))
-    (index_of (layout_of o) (timer_at timer.0)) (λ n. n)
+    LoadStays o slots id q (timer_at timer.0)
     (SeesTimer (step slots (index_of (layout_of o) (timer_at timer.0)) 0 0 none)
     (seat_of [] (q ∷ [])))

@@ -1,5 +1,5 @@
 -- the rule of the table: words and views show a core that fits
-use Rattle.std.specs.Prelude.{◌≡◌, ◌≢◌, ℕ, ◌+◌, ◌<◌, List, [], ◌∷◌, ◌++◌, map, length, Option}
+use Rattle.std.specs.Prelude.{◌≡◌, ◌≢◌, ℕ, ◌+◌, ◌<◌, List, [], ◌∷◌, ◌++◌, map, length, Option, None}
 use Rattle.std.proofs.Common.{cond, eqb}
 use mathlib.Core.Option.{some}
 use lib.ListN.{get_elem?}
@@ -116,6 +116,20 @@ pub record Goes (o : World) (s : Whole) (b : BoxView) (ps : List PassView) (p : 
   pub brought : Each (λ x. x ≡ next.pass x.cpu) passes
   pub others : (d : ℕ) → Each (λ x. x.cpu ≢ d) ps → next.pass d ≡ s.pass d
   pub told : then (word_at s p) (seat_of (box ∷ []) passes)
+
+-- A LOAD by the seat of pass q, as a step of the whole: there is a next whole that is shown, with
+-- the same core, the same words and the same parts of other seats, and of it the seat is told
+pub record Loads (o : World) (s : Whole) (q : PassView) (p : SharedWord)
+    (then : ℕ → Me → Type 0) : Type 0 where
+  pub next : Whole
+  pub pass : PassView
+  pub shown : IsShown o next
+  pub makes : IsMade None s.world next.world
+  pub words : (m : SharedWord) → word_at next m ≡ word_at s m
+  pub boxes : (d : ℕ) → box_of o next d ≡ box_of o s d
+  pub own : pass ≡ next.pass q.cpu
+  pub others : (d : ℕ) → d ≢ q.cpu → next.pass d ≡ s.pass d
+  pub told : then (word_at s p) (seat_of [] (pass ∷ []))
 
 -- SEATS: the first of a list
 abbrev pub head_of : {X : Type 0} → List X → List X

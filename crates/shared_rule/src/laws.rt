@@ -1,5 +1,5 @@
-//! The laws of the core that the table stands on, and what the rule says. The law of an access by a
-//! seat with a box names the step of the core that the access makes, or none.
+//! The laws of the core that the table stands on, and what the rule says. The law of an access
+//! names the step of the core that the access makes, or says that it makes none.
 
 ghost use Rattle.shared_rule.specs.CoreLaws.{CoreLaws};
 ghost use Rattle.core_world.specs.World.{World};
@@ -11,6 +11,7 @@ ghost use Rattle.shared_rule.specs.Laws.{RiseStays, StoreStays, SwapStays};
 ghost use Rattle.shared_rule.specs.Laws.{ScanStays, ScanTopStays, SeatsStay, SeeChildStays};
 ghost use Rattle.shared_rule.specs.Laws.{SeeGroupStays, SeeStateStays, SeeStays, SeeTimerStays};
 ghost use Rattle.shared_rule.specs.Laws.{WakeStays};
+ghost use Rattle.shared_rule.specs.Slots.{SeeSlotStays};
 ghost use Rattle.shared_rule.specs.TurnLaws.{EnterStays, IdleStays, LeaveStays, RetellStays};
 ghost use Rattle.shared_rule.specs.TurnLaws.{ReevaluateStays, ReleaseStays, RestStays, TakeStays};
 ghost use Rattle.shared_rule.specs.TurnLaws.{CarryEndStays, CarryStays, SeeCpuStays, SeeLeafStays};
@@ -84,12 +85,14 @@ pub fn law_rise()
     core_laws();
 }
 
-/// Does nothing: its contract says that the rule stays as a pass loads a word, and that what it
-/// found is remembered and right: a timer's word that names a CPU, and one that names none.
+/// Does nothing: its contract says that the rule stays as a pass loads a word, that no step of the
+/// core is made by it, and that what it found is remembered and right: a timer's word that names a
+/// CPU, and one that names none, and the event in a slot.
 pub fn law_see()
     ensures word { (o : World) → SeeStays o }
     ensures state { (o : World) → SeeStateStays o }
     ensures timer { (o : World) → SeeTimerStays o }
+    ensures slot { (o : World) → SeeSlotStays o }
 {
     core_laws();
 }

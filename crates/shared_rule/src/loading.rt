@@ -12,7 +12,7 @@ ghost use Rattle.shared_rule.specs.Passes.{IsOfRun, IsPassIn, with_pass};
 
 use crate::pass::Pass;
 use crate::run::{Run, RunName};
-use crate::{Said, Sees, SeesState, SeesTimer, View, core_laws, law_see};
+use crate::{Said, Sees, SeesState, SeesTimer, View, law_see};
 use atomic_table::Play;
 use shared_words::SharedWord;
 use tm_base::{GroupId, TimerId};
@@ -95,7 +95,7 @@ impl Pass {
         ensures event { (p : PassView) → IsPassIn N.table self.old p
             → HasEventOf (p ∷ []) result }
     {
-        core_laws();
+        law_see();
         let place = run.layout.index(SharedWord::Slot(group, child));
         match self.seat.as_mut() {
             Some(seat) => run.words.shared.load::<SeesSlot>(seat, place),

@@ -20,8 +20,8 @@ impl Play<Said, View> for FindsRunning {
     ghost then = { running.FindsRunning };
 }
 
-/// THE HEADLINE OF A RUN, at any moment, whatever the threads do: the word that a seat loads and the
-/// seat's parts are those of a core to which steps lead from the opening, each enabled where it
+/// THE HEADLINE OF A RUN, at any moment, whatever the threads do: the word that a seat loads and
+/// the seat's parts are those of a core to which steps lead from the opening, each enabled where it
 /// stands. In that core each global timer that is queued on an online idle CPU is held, woken for,
 /// or carried by a walk or an interrupt under way; and where none is under way, held or woken for.
 /// The load changes nothing.

@@ -34,7 +34,7 @@ load-requires g c =
           (λ i v n w. plays.Sees (step table.slots i 0 0 none) v n w) run.fits.opened there.2.alone
           (c.index-place.ensures
           ∙ place name o table key run.tree run.layout run.fits c.args.word)
-          (c.law_see.ensures.word o table.slots seat.id there.0 c.args.word c.requires.word),
+          (c.law_see.ensures.word o table.slots seat.id there.0 c.args.word c.requires.word).allowed,
     )
 
 pub invariant_of-self : goal.invariant_of-self

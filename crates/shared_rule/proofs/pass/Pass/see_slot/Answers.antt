@@ -12,7 +12,6 @@ use Rattle.shared_rule.specs.Whole.{layout_of, slot_at}
 use Rattle.shared_rule.specs.Passes.{Seated}
 use Rattle.shared_rule.proofs.Calls.{allowed, below, place}
 use Rattle.shared_rule.proofs.Seated.{loaded, remembered, seat_there}
-use Rattle.shared_rule.proofs.Slots.{sees_slot}
 use Rattle.shared_rule.proofs.pass.Pass.see_slot.Goals as goal
 
 pub load-requires : goal.load-requires
@@ -40,7 +39,7 @@ load-requires g c =
           (λ i v n w. slots.SeesSlot (step table.slots i 0 0 none) v n w) run.fits.opened there.2.alone
           (c.index-place.ensures
           ∙ place name o table key run.tree run.layout run.fits p)
-          (sees_slot c.core_laws.ensures o table.slots seat.id c.args.group.0 c.args.child there.0 c.requires.group c.requires.child),
+          (c.law_see.ensures.slot o table.slots seat.id c.args.group.0 c.args.child there.0 c.requires.group c.requires.child).allowed,
     )
 
 pub invariant_of-self : goal.invariant_of-self

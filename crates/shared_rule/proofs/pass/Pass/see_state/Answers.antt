@@ -35,7 +35,7 @@ load-requires g c =
           (λ i v n w. plays.SeesState (step table.slots i 0 0 none) v n w) run.fits.opened there.2.alone
           (c.index-place.ensures
           ∙ place name o table key run.tree run.layout run.fits p)
-          (c.law_see.ensures.state o table.slots seat.id c.args.group.0 there.0 c.requires.group),
+          (c.law_see.ensures.state o table.slots seat.id c.args.group.0 there.0 c.requires.group).allowed,
     )
 
 pub invariant_of-self : goal.invariant_of-self

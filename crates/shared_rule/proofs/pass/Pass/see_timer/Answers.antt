@@ -37,7 +37,7 @@ load-requires g c =
           (λ i v n w. plays.SeesTimer (step table.slots i 0 0 none) v n w) run.fits.opened there.2.alone
           (c.index-place.ensures
           ∙ place name o table key run.tree run.layout run.fits p)
-          (c.law_see.ensures.timer o table.slots seat.id c.args.timer there.0 c.requires.timer),
+          (c.law_see.ensures.timer o table.slots seat.id c.args.timer there.0 c.requires.timer).allowed,
     )
 
 pub invariant_of-self : goal.invariant_of-self
