@@ -33,7 +33,7 @@ use Rattle.shared_rule.proofs.Remarking.{remarks}
 use Rattle.shared_rule.proofs.Resting.{begun_kind, begun_reads, forget_begun}
 use Rattle.shared_rule.proofs.Taking.{gone, more_did, old_did, stay, unseen}
 use Rattle.shared_rule.proofs.Waking.{is_offline, none_shown}
-use Rattle.shared_rule.specs.Laws.{walks}
+use Rattle.shared_rule.specs.Laws.{walk_always}
 
 remote_reeval : (by : CpuId) (pin next : ℕ) (b : Bool)
     → reevaluates (begun_where b (kinds.Remote by) stages.LockGroup pin next) ≡ false
@@ -116,10 +116,10 @@ carries law o slots id b p may =
 
 pub carry_ends : (law : CoreLaws) (o : World) → CarryEndStays o
 carry_ends law o slots id b k p new may =
-    allows law o slots id b (p ∷ []) (cpu_at b.cpu) (λ n. new) (walks b.cpu)
+    allows law o slots id b (p ∷ []) (cpu_at b.cpu) (λ n. new) (walk_always b.cpu)
     (λ n v. v ≡ on_pair carry_ended_box carry_ended_pass (seat_of (b ∷ []) (p ∷ []))) may.cpu
     (λ s h hc is known fits.
-    subst (λ (z : BoxView). Goes o s z (p ∷ []) (cpu_at b.cpu) (λ n. new) (walks b.cpu)
+    subst (λ (z : BoxView). Goes o s z (p ∷ []) (cpu_at b.cpu) (λ n. new) (walk_always b.cpu)
     (λ n v. v ≡ on_pair carry_ended_box carry_ended_pass (seat_of (z ∷ []) (p ∷ [])))) (sym is)
     (let c = b.cpu in
     let w = s.world in

@@ -25,7 +25,7 @@ use Rattle.shared_rule.specs.TurnLaws.{MayFinish, ReevaluateStays, RestStays}
 use Rattle.shared_rule.proofs.Fits.{shown_walk}
 use Rattle.shared_rule.proofs.Going.{allows}
 use Rattle.shared_rule.proofs.Turning.{turns}
-use Rattle.shared_rule.specs.Laws.{Stays, walks}
+use Rattle.shared_rule.specs.Laws.{Stays, walk_always}
 
 -- what is known of a whole where a CPU's walk of a kind ends, with its own pass brought
 pub record Ends (o : World) (s : Whole) (b : BoxView) (p : PassView) (sort : WalkKind) (j : Walk)
@@ -44,14 +44,14 @@ pub record Ends (o : World) (s : Whole) (b : BoxView) (p : PassView) (sort : Wal
 at_end : (law : CoreLaws) (o : World) (slots id : ℕ) (b : BoxView) (p : PassView) (k : Walk)
     (kind : WalkKind) (new : ℕ) (then : BoxView → ℕ → Me → Type 0) → MayFinish o b p k kind new
     → ((s : Whole) (j : Walk) → Ends o s b p kind j new
-    → Goes o s (box_of o s b.cpu) (p ∷ []) (cpu_at b.cpu) (λ n. new) (walks b.cpu)
+    → Goes o s (box_of o s b.cpu) (p ∷ []) (cpu_at b.cpu) (λ n. new) (walk_always b.cpu)
     (then (box_of o s b.cpu)))
-    → Stays o slots id b (p ∷ []) (cpu_at b.cpu) (λ n. new) (walks b.cpu)
+    → Stays o slots id b (p ∷ []) (cpu_at b.cpu) (λ n. new) (walk_always b.cpu)
     (λ n w. then b n w × Sound w)
 at_end law o slots id b p k kind new then may goes =
-    allows law o slots id b (p ∷ []) (cpu_at b.cpu) (λ n. new) (walks b.cpu) (then b) may.cpu
+    allows law o slots id b (p ∷ []) (cpu_at b.cpu) (λ n. new) (walk_always b.cpu) (then b) may.cpu
     (λ s h hc is known fits.
-    subst (λ (z : BoxView). Goes o s z (p ∷ []) (cpu_at b.cpu) (λ n. new) (walks b.cpu) (then z))
+    subst (λ (z : BoxView). Goes o s z (p ∷ []) (cpu_at b.cpu) (λ n. new) (walk_always b.cpu) (then z))
     (sym is)
     (let j = shown_walk _ k (ap (λ (z : BoxView). z.own.walk) (sym is) ∙ may.walk) in
     goes s j.0

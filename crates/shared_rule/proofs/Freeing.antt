@@ -19,7 +19,7 @@ use Rattle.shared_rule.specs.Whole.{Whole, box_of, lock_at}
 use Rattle.shared_rule.specs.Shows.{owes}
 use Rattle.shared_rule.specs.Rule.{Goes, seat_of}
 use Rattle.shared_rule.specs.Plays.{by_walk, child_freed_walk, group_freed_walk, on_box}
-use Rattle.shared_rule.specs.Laws.{FreeChildStays, FreeGroupStays, walks}
+use Rattle.shared_rule.specs.Laws.{FreeChildStays, FreeGroupStays, walk_always}
 use Rattle.shared_rule.proofs.Locking.{relocked}
 use Rattle.shared_rule.proofs.Owing.{owes_freed, owes_group_freed}
 use Rattle.shared_rule.proofs.Walking.{WalksAt, at_walk, walk_is}
@@ -67,7 +67,7 @@ module _ (law : CoreLaws) (o : World) (s : Whole) (c g : ℕ) (k j : Walk) (ps :
       → j.kind ≡ k.kind → is_reading j.stage ≡ false
       → ((m : ℕ) → owes o.tree m c (Some j) ≤ owes o.tree m c (Some k))
       → next (box_of o s c) (forget k) ≡ Some (forget j)
-      → Goes o s (box_of o s c) ps (lock_at g) (λ n. 0) (walks c)
+      → Goes o s (box_of o s c) ps (lock_at g) (λ n. 0) (walk_always c)
       (λ n v. v ≡ on_box (by_walk next) (seat_of (box_of o s c ∷ []) ps))
   frees q may is kind reads owed walk =
       relocked law o s q.shown c g j k None (s.looked c) ps _ _ q.cpu q.group q.known q.walk may is kind reads
@@ -78,7 +78,7 @@ module _ (law : CoreLaws) (o : World) (s : Whole) (c g : ℕ) (k j : Walk) (ps :
 
 pub frees_group : (law : CoreLaws) (o : World) → FreeGroupStays o
 frees_group law o slots id g b k ps may =
-    at_walk law o slots id b k ps (lock_at g) (λ n. 0) (walks b.cpu)
+    at_walk law o slots id b k ps (lock_at g) (λ n. 0) (walk_always b.cpu)
     (λ z n v. v ≡ on_box (by_walk group_freed_walk) (seat_of (z ∷ []) ps))
     stages.FreeGroup (λ l. l) g may.group may
     (λ s j is same q.
@@ -95,7 +95,7 @@ frees_group law o slots id g b k ps may =
 
 pub frees_child : (law : CoreLaws) (o : World) → FreeChildStays o
 frees_child law o slots id g b k ps may =
-    at_walk law o slots id b k ps (lock_at g) (λ n. 0) (walks b.cpu)
+    at_walk law o slots id b k ps (lock_at g) (λ n. 0) (walk_always b.cpu)
     (λ z n v. v ≡ on_box (by_walk child_freed_walk) (seat_of (z ∷ []) ps))
     stages.FreeChild (λ l. l - 1) g may.group may
     (λ s j is same q.

@@ -28,7 +28,7 @@ use Rattle.shared_rule.specs.Shows.{CoreStep}
 use Rattle.shared_rule.specs.Shows.{IsShown, is_reeval, owes, reevaluates}
 use Rattle.shared_rule.specs.Rule.{Each, Goes, Me, seat_of}
 use Rattle.shared_rule.specs.Plays.{child_locked_walk, lock_box, locked_walk, on_box}
-use Rattle.shared_rule.specs.Laws.{LockChildStays, LockStays, none_made, walk_of, walks}
+use Rattle.shared_rule.specs.Laws.{LockChildStays, LockStays, none_made, walk_of, walk_always}
 use Rattle.shared_rule.specs.Laws.{where_made}
 use Rattle.shared_rule.proofs.Made.{made}
 use Rattle.shared_rule.proofs.Moving.{cpu_field, leaf_stays}
@@ -61,7 +61,7 @@ module _ (law : CoreLaws) (o : World) (s : Whole) (h : IsShown o s) (c g : ℕ) 
       → lock_word l ≡ f (lock_word (group_of s.world g).lock)
       → then (lock_word (group_of s.world g).lock)
       (seat_of (box_as o c y (leaf_of s.world c) (s.read c) looked ∷ []) ps)
-      → Goes o s (box_of o s c) ps (lock_at g) f (walks c) then
+      → Goes o s (box_of o s c) ps (lock_at g) f (walk_always c) then
   relocked hc hg known at may is kind reads_not owed word told =
       let hc' : c < length w.cpus = omega (arith, hc, h.same.cpus) in
       let hg' : g < length w.groups = omega (arith, hg, h.same.groups) in
@@ -170,7 +170,7 @@ module _ (law : CoreLaws) (o : World) (s : Whole) (c g : ℕ) (k j : Walk) (ps :
       } in
       elim (cases_eq (lock_word (group_of s.world g).lock) 0) [
         | inl e ↦
-            under o s (box_of o s c) ps (lock_at g) f (walks c) by then
+            under o s (box_of o s c) ps (lock_at g) f (walk_always c) by then
             (ap (λ z. where_made z (walk_of c)) (eq-eqb _ _ e))
             (relocked law o s q.shown c g j k (Some c) untried ps f then q.cpu q.group q.known q.walk
             (may (no_lock _ e)) is kind reads

@@ -24,13 +24,13 @@ use Rattle.shared_words.specs.Words.{word_of_slot}
 use Rattle.shared_words.proofs.Back.{mark_slot}
 use Rattle.shared_rule.specs.CoreLaws.{CoreLaws}
 use Rattle.shared_rule.specs.Whole.{Whole, box_of, leaf_in, leaf_of, slot_at, word_at}
-use Rattle.shared_rule.specs.Shows.{CoreStep, IsMade, IsShown, is_reeval, owes, reevaluates}
+use Rattle.shared_rule.specs.Shows.{CoreStep, StepMade, IsShown, is_reeval, owes, reevaluates}
 use Rattle.shared_rule.specs.declared.parts.BoxView.{BoxView}
 use Rattle.shared_rule.specs.declared.parts.PassView.{PassView}
 use Rattle.shared_rule.specs.Rule.{Goes, Me, seat_of}
 use Rattle.shared_rule.specs.Plays.{by_walk, is_marked, marked_walk, marked_where, marks_more}
 use Rattle.shared_rule.specs.Plays.{on_box, own_marked_box, own_marked_walk}
-use Rattle.shared_rule.specs.Laws.{FindMarkStays, MarkOwnStays, MarkStays, none_made, walk_of, walks}
+use Rattle.shared_rule.specs.Laws.{FindMarkStays, MarkOwnStays, MarkStays, none_made, walk_of, walk_always}
 use Rattle.shared_rule.specs.Laws.{where_made}
 use Rattle.shared_rule.proofs.Fits.{event_fits}
 use Rattle.shared_rule.proofs.Owing.{owes_higher, owes_kept}
@@ -109,7 +109,7 @@ module _ (law : CoreLaws) (o : World) (s : Whole) (h : IsShown o s) (c g level :
 pub marks_own : (law : CoreLaws) (o : World) → MarkOwnStays o
 marks_own law o slots id g b k ps low may =
     at_walk law o slots id b k ps (slot_at g (side o.tree b.cpu 0)) (λ n. bit_or n (2 ^ 58))
-    (walks b.cpu)
+    (walk_always b.cpu)
     (λ z n v. v ≡ on_box own_marked_box (seat_of (z ∷ []) ps))
     stages.Own (λ l. 0) g (may.group, low) may
     (λ s j is same q.
@@ -123,7 +123,7 @@ marks_own law o slots id g b k ps low may =
     let low' : n < 8 = subst (λ z. side z c 0 < 8) (sym h.same.tree) low in
     let at_g = ap (λ m. unwrap_or m 0) q.path in
     subst
-    (λ z. Goes o s (box_of o s c) ps (slot_at g (side z c 0)) (λ n. bit_or n (2 ^ 58)) (walks c)
+    (λ z. Goes o s (box_of o s c) ps (slot_at g (side z c 0)) (λ n. bit_or n (2 ^ 58)) (walk_always c)
     (λ n v. v ≡ on_box own_marked_box (seat_of (box_of o s c ∷ []) ps))) h.same.tree
     (slotted law o s c g n e true j (Some to) (option_map as_ignored (leaf_of w c)) ps
     (λ n. bit_or n (2 ^ 58))
@@ -158,7 +158,7 @@ parent_slot o b k g = slot_at g (side o.tree b.cpu (suc k.level))
 mark_goes : (law : CoreLaws) (o : World) (g : ℕ) (more : Bool) (b : BoxView) (k : Walk)
     (ps : List PassView) → side o.tree b.cpu (suc k.level) < 8 → (s : Whole) (j : Walk)
     → forget j ≡ k → WalksAt o s b.cpu ps j (stages.Mark more) (suc j.level) g
-    → Goes o s (box_of o s b.cpu) ps (parent_slot o b k g) (λ n. bit_or n (2 ^ 58)) (walks b.cpu)
+    → Goes o s (box_of o s b.cpu) ps (parent_slot o b k g) (λ n. bit_or n (2 ^ 58)) (walk_always b.cpu)
     (λ n v. v ≡ on_box (by_walk marked_walk) (seat_of (box_of o s b.cpu ∷ []) ps))
 mark_goes law o g more b k ps low s j same q =
     let w = s.world in
@@ -182,11 +182,11 @@ mark_goes law o g more b k ps low s j same q =
     = (subst (FitsStage w.tree c j.kind j.level) q.stage stand.fits).0 in
     subst
     (λ z. Goes o s (box_of o s c) ps (slot_at g (side o.tree c (suc z))) (λ n. bit_or n (2 ^ 58))
-    (walks c)
+    (walk_always c)
     (λ n v. v ≡ on_box (by_walk marked_walk) (seat_of (box_of o s c ∷ []) ps))) lv
     (subst
     (λ z. Goes o s (box_of o s c) ps (slot_at g (side z c (suc j.level))) (λ n. bit_or n (2 ^ 58))
-    (walks c)
+    (walk_always c)
     (λ n v. v ≡ on_box (by_walk marked_walk) (seat_of (box_of o s c ∷ []) ps))) h.same.tree
     (slotted law o s c g n e true j to (leaf_of w c) ps (λ n. bit_or n (2 ^ 58))
     (λ n v. v ≡ on_box (by_walk marked_walk) (seat_of (box_of o s c ∷ []) ps)) (stages.Mark more)
@@ -222,7 +222,7 @@ mark_goes law o g more b k ps low s j same q =
 
 pub marks : (law : CoreLaws) (o : World) → MarkStays o
 marks law o slots id g more b k ps low may =
-    at_walk law o slots id b k ps (parent_slot o b k g) (λ n. bit_or n (2 ^ 58)) (walks b.cpu)
+    at_walk law o slots id b k ps (parent_slot o b k g) (λ n. bit_or n (2 ^ 58)) (walk_always b.cpu)
     (λ z n v. v ≡ on_box (by_walk marked_walk) (seat_of (z ∷ []) ps))
     (stages.Mark more) suc g (may.group, low) may
     (λ s j is same q. mark_goes law o g more b k ps low s j same q)
@@ -249,7 +249,7 @@ finds_mark law o slots id g more b k ps low may =
             passes = made.passes;
             shown = made.shown;
             makes =
-                subst (λ m. IsMade (where_made m (walk_of b.cpu)) s.world made.next.world)
+                subst (λ m. StepMade (where_made m (walk_of b.cpu)) s.world made.next.world)
                 (sym (eq-eqb _ _ there)) made.makes;
             word = made.word ∙ there;
             words = made.words;

@@ -9,7 +9,7 @@ use Rattle.shared_words.specs.declared.layout.SharedWord.{SharedWord}
 use Rattle.shared_rule.specs.declared.parts.BoxView.{BoxView}
 use Rattle.shared_rule.specs.declared.parts.PassView.{PassView}
 use Rattle.shared_rule.specs.Whole.{Whole, word_at}
-use Rattle.shared_rule.specs.Shows.{CoreStep, IsMade, IsReached}
+use Rattle.shared_rule.specs.Shows.{CoreStep, StepMade, StepsLead}
 use Rattle.shared_rule.specs.Rule.{Goes, Me}
 
 after_one_more : (w : World) (steps : List Step) (step : Step)
@@ -23,11 +23,11 @@ each_one_more w [] step each enabled = (enabled, tt)
 each_one_more w (first ∷ steps) step each enabled =
     (each.0, each_one_more (stepped w first) steps step each.1 enabled)
 
-pub reached_at_first : (o : World) → IsReached o o
+pub reached_at_first : (o : World) → StepsLead o o
 reached_at_first o = ([], record { enabled = tt; done = refl })
 
-pub reached_on : (o w v : World) (step : Step) → IsReached o w → Enabled w step
-    → stepped w step ≡ v → IsReached o v
+pub reached_on : (o w v : World) (step : Step) → StepsLead o w → Enabled w step
+    → stepped w step ≡ v → StepsLead o v
 reached_on o w v step before enabled is =
     let steps = before.0 in
     let run = before.1 in (
@@ -51,7 +51,7 @@ under o s b ps p f was by then is g = record {
   box = g.box;
   passes = g.passes;
   shown = g.shown;
-  makes = subst (λ m. IsMade m s.world g.next.world) (sym is) g.makes;
+  makes = subst (λ m. StepMade m s.world g.next.world) (sym is) g.makes;
   word = g.word;
   words = g.words;
   own = g.own;

@@ -23,7 +23,7 @@ use Rattle.shared_rule.specs.Shows.{IsShown, ReadsOf}
 use Rattle.shared_rule.specs.Rule.{Each, Goes, Me, seat_of}
 use Rattle.shared_rule.specs.Plays.{by_walk, child_read_walk, on_box, own_read_walk, read_walk}
 use Rattle.shared_rule.specs.Plays.{reading}
-use Rattle.shared_rule.specs.Laws.{ReadChildStays, ReadGroupStays, ReadOwnStays, walks}
+use Rattle.shared_rule.specs.Laws.{ReadChildStays, ReadGroupStays, ReadOwnStays, walk_always}
 use Rattle.shared_rule.proofs.Fits.{good_state, good_word}
 use Rattle.shared_rule.proofs.Owing.{owes_kept}
 use Rattle.shared_rule.proofs.Sights.{active_shown, child_on_at}
@@ -86,7 +86,7 @@ module _ (law : CoreLaws) (o : World) (s : Whole) (c g : ℕ) (k : Walk) (ps : L
       → ((w : Me) → w
       ≡ on_box (λ y. reading (group_word s g) (by_walk read_walk y))
       (seat_of (box_of o s c ∷ []) ps) → then (group_word s g) w)
-      → Goes o s (box_of o s c) ps (state_at g) f (walks c) then
+      → Goes o s (box_of o s c) ps (state_at g) f (walk_always c) then
   reads_anew h hc known at path may is before same told =
       walks_alone law o s h c (read_next k) k (group_word s g) (s.looked c) ps (state_at g) f then
       hc known at may is refl (just_read law o s h c g k path)
@@ -99,7 +99,7 @@ module _ (law : CoreLaws) (o : World) (s : Whole) (c g : ℕ) (k : Walk) (ps : L
 
 pub reads_group : (law : CoreLaws) (o : World) → ReadGroupStays o
 reads_group law o slots id g b k ps may =
-    at_walk law o slots id b k ps (state_at g) (λ n. n) (walks b.cpu)
+    at_walk law o slots id b k ps (state_at g) (λ n. n) (walk_always b.cpu)
     (λ z n v. v ≡ on_box (λ y. reading n (by_walk read_walk y)) (seat_of (z ∷ []) ps))
     stages.Read (λ l. l) g may.group may
     (λ s j is same q.
@@ -112,7 +112,7 @@ module _ (law : CoreLaws) (o : World) (s : Whole) (c g : ℕ) (k : Walk) (ps : L
     (level : ℕ) (p : SharedWord) (on : Bool) (next : ℕ → BoxView → Walk → Option Walk) where
   asks : WalksAt o s c ps k stages.Child level g → child_on s.world c k.level ≡ on
       → next (word_at s p) (box_of o s c) (forget k) ≡ Some (forget (child_next on k))
-      → Goes o s (box_of o s c) ps p (λ n. n) (walks c)
+      → Goes o s (box_of o s c) ps p (λ n. n) (walk_always c)
       (λ n v. v ≡ on_box (by_walk (next n)) (seat_of (box_of o s c ∷ []) ps))
   asks q is_on walk =
       walks_alone law o s q.shown c (child_next on k) k (s.read c) (s.looked c) ps p (λ n. n)
@@ -129,7 +129,7 @@ module _ (law : CoreLaws) (o : World) (s : Whole) (c g : ℕ) (k : Walk) (ps : L
 
 pub reads_child : (law : CoreLaws) (o : World) → ReadChildStays o
 reads_child law o slots id g b k ps high may =
-    at_walk law o slots id b k ps (state_at g) (λ n. n) (walks b.cpu)
+    at_walk law o slots id b k ps (state_at g) (λ n. n) (walk_always b.cpu)
     (λ z n v. v ≡ on_box (by_walk (child_read_walk n)) (seat_of (z ∷ []) ps))
     stages.Child (λ l. l - 1) g may.group may
     (λ s j is same q.
@@ -145,7 +145,7 @@ leaf_off w c level e = ap (child_on w c) e
 
 pub reads_own : (law : CoreLaws) (o : World) → ReadOwnStays o
 reads_own law o slots id g b k ps low leaf may =
-    at_walk law o slots id b k ps (cpu_at b.cpu) (λ n. n) (walks b.cpu)
+    at_walk law o slots id b k ps (cpu_at b.cpu) (λ n. n) (walk_always b.cpu)
     (λ z n v. v ≡ on_box (by_walk own_read_walk) (seat_of (z ∷ []) ps))
     stages.Child (λ l. l) g low may
     (λ s j is same q.

@@ -39,7 +39,7 @@ use Rattle.shared_rule.specs.Shows.{CoreStep}
 use Rattle.shared_rule.specs.Shows.{IsShown, reevaluates, is_reeval, owes, raised, set_at}
 use Rattle.shared_rule.specs.Rule.{Each, Me, seat_of, Goes}
 use Rattle.shared_rule.specs.Plays.{on_box, up_box, up_walk, bound_walk, trying}
-use Rattle.shared_rule.specs.Laws.{LookStays, RiseStays, none_made, walk_of, walks, where_made}
+use Rattle.shared_rule.specs.Laws.{LookStays, RiseStays, none_made, walk_of, walk_always, where_made}
 use Rattle.shared_rule.proofs.Owing.{up_owes}
 use Rattle.shared_rule.proofs.Moving.{field_else, set_else, set_here}
 use Rattle.shared_rule.proofs.Fits.{good_word, good_state, seq_low, shown_walk}
@@ -193,7 +193,7 @@ rise_hit : (law : CoreLaws) (o : World) (s : Whole) (c gg : ℕ) (j : Walk) (ps 
     → (cpu_of s.world c).walk ≡ Some j → j.stage ≡ stages.Up
     → group_at_of o.tree c j.level ≡ Some gg → IsJoinOf old (side o.tree c j.level) new
     → group_word s gg ≡ old
-    → Goes o s (box_of o s c) ps (state_at gg) (λ n. either (eqb n old) new n) (walks c)
+    → Goes o s (box_of o s c) ps (state_at gg) (λ n. either (eqb n old) new n) (walk_always c)
     (λ n w. w
     ≡ on_box (up_box (eqb n old) old (place_of_state o gg) n) (seat_of (box_of o s c ∷ []) ps))
 rise_hit law o s c gg j ps old new h hc known at is_up path_o join e =
@@ -359,7 +359,7 @@ rise law o slots id g b k ps old new may =
       | inl e ↦
           let j = shown_walk _ k (ap (λ (z : BoxView). z.own.walk) (sym is) ∙ may.walk) in
           let lv : k.level ≡ j.0.level = ap (λ (z : Walk). z.level) (sym j.2) in
-          under o s (box_of o s b.cpu) ps (state_at g) f (walks b.cpu) by then
+          under o s (box_of o s b.cpu) ps (state_at g) f (walk_always b.cpu) by then
           (ap (λ z. where_made z (walk_of b.cpu)) (eq-eqb _ _ e))
           (rise_hit law o s b.cpu g j.0 ps old new h hc known j.1
           (ap (λ (z : Walk). z.stage) j.2 ∙ may.stage)

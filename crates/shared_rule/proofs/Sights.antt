@@ -31,7 +31,7 @@ use Rattle.shared_rule.specs.Shows.{IsShown}
 use Rattle.shared_rule.specs.Rule.{Goes, Me, seat_of}
 use Rattle.shared_rule.specs.Plays.{by_walk, child_sight, group_sight, looking, on_box, scan_sight}
 use Rattle.shared_rule.specs.Plays.{slot_number, top_sight}
-use Rattle.shared_rule.specs.Laws.{ScanStays, ScanTopStays, SeeChildStays, SeeGroupStays, walks}
+use Rattle.shared_rule.specs.Laws.{ScanStays, ScanTopStays, SeeChildStays, SeeGroupStays, walk_always}
 use Rattle.shared_rule.proofs.Fits.{event_fits, good_state}
 use Rattle.shared_rule.proofs.Owing.{owes_kept}
 use Rattle.shared_rule.proofs.Walking.{WalksAt, at_walk, no_reads, walk_is, walks_alone}
@@ -59,7 +59,7 @@ module _ (law : CoreLaws) (o : World) (s : Whole) (c g : ℕ) (k j : Walk) (ps :
       → j.kind ≡ k.kind → j.level ≡ k.level → is_reading j.stage ≡ false
       → nat_le 5 (stage_number j.stage) ≡ true → nat_le 5 (stage_number k.stage) ≡ true
       → next found (box_of o s c) (forget k) ≡ Some (forget j)
-      → Goes o s (box_of o s c) ps p (λ n. n) (walks c)
+      → Goes o s (box_of o s c) ps p (λ n. n) (walk_always c)
       (λ n v. v ≡ on_box (then_box keeps n) (seat_of (box_of o s c ∷ []) ps))
   sees keeps q may is kind same_level reads past was_past walk =
       walks_alone law o s q.shown c j k (s.read c) (looks keeps) ps p (λ n. n)
@@ -173,7 +173,7 @@ module _ (law : CoreLaws) (o : World) (s : Whole) (h : IsShown o s) where
 
 pub sees_child : (law : CoreLaws) (o : World) → SeeChildStays o
 sees_child law o slots id g b k ps may =
-    at_walk law o slots id b k ps (state_at g) (λ n. n) (walks b.cpu)
+    at_walk law o slots id b k ps (state_at g) (λ n. n) (walk_always b.cpu)
     (λ z n v. v ≡ on_box (by_walk (child_sight n)) (seat_of (z ∷ []) ps))
     stages.SeeChild (λ l. l - 1) g may.group may
     (λ s j is same q.
@@ -190,7 +190,7 @@ sees_child law o slots id g b k ps may =
 
 pub sees_group : (law : CoreLaws) (o : World) → SeeGroupStays o
 sees_group law o slots id g b k ps may =
-    at_walk law o slots id b k ps (state_at g) (λ n. n) (walks b.cpu)
+    at_walk law o slots id b k ps (state_at g) (λ n. n) (walk_always b.cpu)
     (λ z n v. v
     ≡ on_box (λ y. looking (index_of (layout_of o) (state_at g)) n (by_walk (group_sight n) y))
     (seat_of (z ∷ []) ps))
@@ -211,7 +211,7 @@ sees_group law o slots id g b k ps may =
 
 pub scans : (law : CoreLaws) (o : World) → ScanStays o
 scans law o slots id g number b k ps low may =
-    at_walk law o slots id b k ps (slot_at g number) (λ n. n) (walks b.cpu)
+    at_walk law o slots id b k ps (slot_at g number) (λ n. n) (walk_always b.cpu)
     (λ z n v. v ≡ on_box (by_walk (scan_sight n)) (seat_of (z ∷ []) ps))
     (stages.Scan number) (λ l. l - 1) g (may.group, low) may
     (λ s j is same q.
@@ -231,7 +231,7 @@ scans law o slots id g number b k ps low may =
 
 pub scans_top : (law : CoreLaws) (o : World) → ScanTopStays o
 scans_top law o slots id g number b k ps low may =
-    at_walk law o slots id b k ps (slot_at g number) (λ n. n) (walks b.cpu)
+    at_walk law o slots id b k ps (slot_at g number) (λ n. n) (walk_always b.cpu)
     (λ z n v. v
     ≡ on_box (λ y. looking (index_of (layout_of o) (slot_at g number)) n
     (by_walk (top_sight n) y)) (seat_of (z ∷ []) ps))

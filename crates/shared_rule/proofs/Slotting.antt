@@ -35,7 +35,7 @@ use Rattle.shared_rule.proofs.Made.{made}
 use Rattle.shared_rule.proofs.Moving.{cpu_field, set_else, set_here}
 use Rattle.shared_rule.proofs.Rising.{as_they_were}
 use Rattle.shared_rule.proofs.Walking.{WalksAt}
-use Rattle.shared_rule.specs.Laws.{walks}
+use Rattle.shared_rule.specs.Laws.{walk_always}
 
 -- a walk that doesn't read is right in what it reads
 pub none_read : (t : Shape) (c : ℕ) (m : Option Walk) (n : ℕ) (word seq : ℕ → ℕ)
@@ -166,7 +166,7 @@ module _ (law : CoreLaws) (o : World) (s : Whole) (c g n : ℕ) (e : Option Even
   stray_here : (j : ℕ) → stray g j ≡ set_at n bit (s.stray g) j
   stray_here j = ap (λ (z : ℕ → Bool). z j) (set_here g (set_at n bit (s.stray g)) s.stray)
 
-  pub slotted : Goes o s (box_of o s c) ps (slot_at g n) f (walks c) then
+  pub slotted : Goes o s (box_of o s c) ps (slot_at g n) f (walk_always c) then
   slotted =
       let h = q.shown in
       let hc : c < length w.cpus = omega (arith, q.cpu, h.same.cpus) in

@@ -21,7 +21,7 @@ use Rattle.shared_rule.specs.Whole.{Whole, box_of, leaf_of, slot_at}
 use Rattle.shared_rule.specs.Shows.{IsShown}
 use Rattle.shared_rule.specs.Rule.{Goes, seat_of}
 use Rattle.shared_rule.specs.Plays.{leaf_after, on_box, stored_box, stored_leaf, stored_walk}
-use Rattle.shared_rule.specs.Laws.{StoreStays, walks}
+use Rattle.shared_rule.specs.Laws.{StoreStays, walk_always}
 use Rattle.shared_rule.proofs.Marking.{leaves_above, leaves_at, own_at}
 use Rattle.shared_rule.proofs.Owing.{owes_kept}
 use Rattle.shared_rule.proofs.Slotting.{slotted}
@@ -73,7 +73,7 @@ module _ (law : CoreLaws) (o : World) (s : Whole) (h : IsShown o s) (c g : ℕ)
 
 pub stores : (law : CoreLaws) (o : World) → StoreStays o
 stores law o slots id g new b k ps low may new_is =
-    at_walk law o slots id b k ps (slot_at g (side o.tree b.cpu k.level)) (λ n. new) (walks b.cpu)
+    at_walk law o slots id b k ps (slot_at g (side o.tree b.cpu k.level)) (λ n. new) (walk_always b.cpu)
     (λ z n v. v ≡ on_box stored_box (seat_of (z ∷ []) ps))
     stages.Store (λ l. l) g (may.group, low) may
     (λ s j is same q.
@@ -96,10 +96,10 @@ stores law o slots id g new b k ps low may new_is =
     ∙ (ap (λ (z : Walk). slot_word (stored_event z.level c z)) (sym same)
     ∙ ap slot_word (stored_forget j.level c j)) in
     subst
-    (λ z. Goes o s (box_of o s c) ps (slot_at g (side o.tree c z)) (λ n. new) (walks c)
+    (λ z. Goes o s (box_of o s c) ps (slot_at g (side o.tree c z)) (λ n. new) (walk_always c)
     (λ n v. v ≡ on_box stored_box (seat_of (box_of o s c ∷ []) ps))) lv
     (subst
-    (λ z. Goes o s (box_of o s c) ps (slot_at g (side z c j.level)) (λ n. new) (walks c)
+    (λ z. Goes o s (box_of o s c) ps (slot_at g (side z c j.level)) (λ n. new) (walk_always c)
     (λ n v. v ≡ on_box stored_box (seat_of (box_of o s c ∷ []) ps))) h.same.tree
     (slotted law o s c g n e false j (Some to)
     (leaf_after j.level (leaf_event c j.next) (leaf_of w c)) ps (λ n. new)

@@ -32,7 +32,7 @@ use Rattle.shared_rule.specs.Whole.{state_at}
 use Rattle.shared_rule.specs.Shows.{after, exchanges, owes, raised, reevaluates}
 use Rattle.shared_rule.specs.Rule.{Goes, Me, seat_of}
 use Rattle.shared_rule.specs.Plays.{on_box, swap_box, swapped_walk}
-use Rattle.shared_rule.specs.Laws.{SwapStays, walks}
+use Rattle.shared_rule.specs.Laws.{SwapStays, walk_always}
 use Rattle.shared_rule.proofs.Fits.{good_state}
 use Rattle.shared_rule.proofs.Made.{made}
 use Rattle.shared_rule.proofs.Moving.{cpu_field, leaf_stays}
@@ -115,7 +115,7 @@ module _ (law : CoreLaws) (o : World) (s : Whole) (c g : ℕ) (k : Walk) (ps : L
       ∙ sym (swap st spelled))
 
   swap_hit : IsSwapOf old (side o.tree c k.level) k.child_on new → group_word s g ≡ old
-      → Goes o s (box_of o s c) ps (state_at g) (λ n. either (eqb n old) new n) (walks c)
+      → Goes o s (box_of o s c) ps (state_at g) (λ n. either (eqb n old) new n) (walk_always c)
       (λ n z. z ≡ on_box (swap_box (eqb n old) n) (seat_of (box_of o s c ∷ []) ps))
   swap_hit swap e =
       let h = q.shown in
@@ -207,7 +207,7 @@ module _ (law : CoreLaws) (o : World) (s : Whole) (c g : ℕ) (k : Walk) (ps : L
       })
 
   swap_miss : group_word s g ≢ old
-      → Goes o s (box_of o s c) ps (state_at g) (λ n. either (eqb n old) new n) (walks c)
+      → Goes o s (box_of o s c) ps (state_at g) (λ n. either (eqb n old) new n) (walk_always c)
       (λ n z. z ≡ on_box (swap_box (eqb n old) n) (seat_of (box_of o s c ∷ []) ps))
   swap_miss ne =
       let stale : k.fresh ≡ false = fresh_is ∙ ne_eqb _ _ (λ z. ne (z ∙ mine)) in
@@ -223,7 +223,7 @@ module _ (law : CoreLaws) (o : World) (s : Whole) (c g : ℕ) (k : Walk) (ps : L
 
 pub swaps : (law : CoreLaws) (o : World) → SwapStays o
 swaps law o slots id g new b k ps may swap =
-    at_walk law o slots id b k ps (state_at g) (λ n. either (eqb n b.read) new n) (walks b.cpu)
+    at_walk law o slots id b k ps (state_at g) (λ n. either (eqb n b.read) new n) (walk_always b.cpu)
     (λ z n v. v ≡ on_box (swap_box (eqb n b.read) n) (seat_of (z ∷ []) ps))
     stages.Swap (λ l. l) g may.group may
     (λ s j is same q.

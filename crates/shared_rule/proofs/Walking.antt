@@ -29,7 +29,7 @@ use Rattle.shared_rule.specs.Whole.{leaf_of, own_word, quiet, state_at, word_at}
 use Rattle.shared_rule.specs.Shows.{CoreStep, IsShown, ReadsOf, after, is_reeval, owes, reevaluates}
 use Rattle.shared_rule.specs.Rule.{Each, Goes, Me, seat_of}
 use Rattle.shared_rule.specs.Plays.{Sound, bound_walk, by_walk}
-use Rattle.shared_rule.specs.Laws.{IsWalkAt, Stays, walks}
+use Rattle.shared_rule.specs.Laws.{IsWalkAt, Stays, walk_always}
 use Rattle.shared_rule.proofs.Fits.{shown_walk}
 use Rattle.shared_rule.proofs.Made.{made}
 use Rattle.shared_rule.proofs.Moving.{own_leaf}
@@ -135,7 +135,7 @@ module _ (law : CoreLaws) (o : World) (s : Whole) (h : IsShown o s) (c : ℕ) (j
       → ((m : ℕ) → owes o.tree m c (Some j) ≤ owes o.tree m c (Some k))
       → f (word_at s p) ≡ word_at s p
       → then (word_at s p) (seat_of (box_as o c y (leaf_of s.world c) n looked ∷ []) ps)
-      → Goes o s (box_of o s c) ps p f (walks c) then
+      → Goes o s (box_of o s c) ps p f (walk_always c) then
   walks_alone hc known at may is kind reads owed same told =
       let hc' : c < length w.cpus = omega (arith, hc, h.same.cpus) in
       let same_kind : (z : Walk) → ◌≡◌ {A = Option Walk} (Some j) (Some z) → z.kind ≡ k.kind

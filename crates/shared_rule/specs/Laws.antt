@@ -69,8 +69,8 @@ abbrev pub walk_of : (c : ℕ) → CoreStep
 walk_of c = steps.Walk (record { 0 = c })
 
 -- that step, whatever word is found
-abbrev pub walks : (c : ℕ) → ℕ → Option CoreStep
-walks c n = Some (walk_of c)
+abbrev pub walk_always : (c : ℕ) → ℕ → Option CoreStep
+walk_always c n = Some (walk_of c)
 
 -- no step, whatever word is found
 abbrev pub none_made : ℕ → Option CoreStep
@@ -174,7 +174,7 @@ abbrev pub FreeGroupStays : World → Type 0
 FreeGroupStays o = (slots id g : ℕ) (b : BoxView) (k : Walk) (ps : List PassView) →
     IsWalkAt o b k stages.FreeGroup k.level g →
     Stays o slots id b ps (lock_at g) (λ n. 0)
-    (walks b.cpu)
+    (walk_always b.cpu)
     (λ n. FreesGroup (step slots (index_of (layout_of o) (lock_at g)) 0 0 none)
     (seat_of (b ∷ []) ps) 0)
 
@@ -183,7 +183,7 @@ abbrev pub FreeChildStays : World → Type 0
 FreeChildStays o = (slots id g : ℕ) (b : BoxView) (k : Walk) (ps : List PassView) →
     IsWalkAt o b k stages.FreeChild (k.level - 1) g →
     Stays o slots id b ps (lock_at g) (λ n. 0)
-    (walks b.cpu)
+    (walk_always b.cpu)
     (λ n. FreesChild (step slots (index_of (layout_of o) (lock_at g)) 0 0 none)
     (seat_of (b ∷ []) ps) 0)
 
@@ -192,7 +192,7 @@ abbrev pub SeeChildStays : World → Type 0
 SeeChildStays o = (slots id g : ℕ) (b : BoxView) (k : Walk) (ps : List PassView) →
     IsWalkAt o b k stages.SeeChild (k.level - 1) g →
     Stays o slots id b ps (state_at g) (λ n. n)
-    (walks b.cpu)
+    (walk_always b.cpu)
     (SeesChild (step slots (index_of (layout_of o) (state_at g)) 0 0 none) (seat_of (b ∷ []) ps))
 
 -- and so does its load of the word of its group
@@ -200,7 +200,7 @@ abbrev pub SeeGroupStays : World → Type 0
 SeeGroupStays o = (slots id g : ℕ) (b : BoxView) (k : Walk) (ps : List PassView) →
     IsWalkAt o b k stages.SeeGroup k.level g →
     Stays o slots id b ps (state_at g) (λ n. n)
-    (walks b.cpu)
+    (walk_always b.cpu)
     (SeesGroup (step slots (index_of (layout_of o) (state_at g)) 0 0 none) (seat_of (b ∷ []) ps))
 
 -- and its load of a slot of its child
@@ -208,7 +208,7 @@ abbrev pub ScanStays : World → Type 0
 ScanStays o = (slots id g number : ℕ) (b : BoxView) (k : Walk) (ps : List PassView) → number < 8 →
     IsWalkAt o b k (stages.Scan number) (k.level - 1) g →
     Stays o slots id b ps (slot_at g number) (λ n. n)
-    (walks b.cpu)
+    (walk_always b.cpu)
     (Scans (step slots (index_of (layout_of o) (slot_at g number)) 0 0 none)
     (seat_of (b ∷ []) ps))
 
@@ -217,7 +217,7 @@ abbrev pub ScanTopStays : World → Type 0
 ScanTopStays o = (slots id g number : ℕ) (b : BoxView) (k : Walk) (ps : List PassView) →
     number < 8 → IsWalkAt o b k (stages.First number) k.level g →
     Stays o slots id b ps (slot_at g number) (λ n. n)
-    (walks b.cpu)
+    (walk_always b.cpu)
     (ScansTop (step slots (index_of (layout_of o) (slot_at g number)) 0 0 none)
     (seat_of (b ∷ []) ps))
 
@@ -227,7 +227,7 @@ abbrev pub ReadGroupStays : World → Type 0
 ReadGroupStays o = (slots id g : ℕ) (b : BoxView) (k : Walk) (ps : List PassView) →
     IsWalkAt o b k stages.Read k.level g →
     Stays o slots id b ps (state_at g) (λ n. n)
-    (walks b.cpu)
+    (walk_always b.cpu)
     (ReadsGroup (step slots (index_of (layout_of o) (state_at g)) 0 0 none) (seat_of (b ∷ []) ps))
 
 -- and so does its load of the word of its child, above a leaf
@@ -235,7 +235,7 @@ abbrev pub ReadChildStays : World → Type 0
 ReadChildStays o = (slots id g : ℕ) (b : BoxView) (k : Walk) (ps : List PassView) → 0 < k.level →
     IsWalkAt o b k stages.Child (k.level - 1) g →
     Stays o slots id b ps (state_at g) (λ n. n)
-    (walks b.cpu)
+    (walk_always b.cpu)
     (ReadsChild (step slots (index_of (layout_of o) (state_at g)) 0 0 none) (seat_of (b ∷ []) ps))
 
 -- and of the word of its CPU, at a leaf
@@ -243,7 +243,7 @@ abbrev pub ReadOwnStays : World → Type 0
 ReadOwnStays o = (slots id g : ℕ) (b : BoxView) (k : Walk) (ps : List PassView) →
     b.cpu < length o.cpus → k.level ≡ 0 → IsWalkAt o b k stages.Child k.level g →
     Stays o slots id b ps (cpu_at b.cpu) (λ n. n)
-    (walks b.cpu)
+    (walk_always b.cpu)
     (ReadsOwn (step slots (index_of (layout_of o) (cpu_at b.cpu)) 0 0 none) (seat_of (b ∷ []) ps))
 
 -- the exchange of the word that it read keeps the rule, whatever word it finds, and the seat is
@@ -253,7 +253,7 @@ SwapStays o = (slots id g new : ℕ) (b : BoxView) (k : Walk) (ps : List PassVie
     IsWalkAt o b k stages.Swap k.level g →
     IsSwapOf b.read (side o.tree b.cpu k.level) k.child_on new →
     Stays o slots id b ps (state_at g) (λ n. either (n == b.read) new n)
-    (walks b.cpu)
+    (walk_always b.cpu)
     (Swaps (step slots (index_of (layout_of o) (state_at g)) b.read new none)
     (seat_of (b ∷ []) ps))
 
@@ -263,7 +263,7 @@ abbrev pub MarkOwnStays : World → Type 0
 MarkOwnStays o = (slots id g : ℕ) (b : BoxView) (k : Walk) (ps : List PassView) →
     side o.tree b.cpu 0 < 8 → IsWalkAt o b k stages.Own 0 g →
     Stays o slots id b ps (slot_at g (side o.tree b.cpu 0)) (λ n. bit_or n (2 ^ 58))
-    (walks b.cpu)
+    (walk_always b.cpu)
     (MarksOwn (step slots (index_of (layout_of o) (slot_at g (side o.tree b.cpu 0))) (2 ^ 58) 0
     none) (seat_of (b ∷ []) ps))
 
@@ -272,7 +272,7 @@ abbrev pub MarkStays : World → Type 0
 MarkStays o = (slots id g : ℕ) (more : Bool) (b : BoxView) (k : Walk) (ps : List PassView) →
     side o.tree b.cpu (suc k.level) < 8 → IsWalkAt o b k (stages.Mark more) (suc k.level) g →
     Stays o slots id b ps (slot_at g (side o.tree b.cpu (suc k.level))) (λ n. bit_or n (2 ^ 58))
-    (walks b.cpu)
+    (walk_always b.cpu)
     (Marks (step slots (index_of (layout_of o) (slot_at g (side o.tree b.cpu (suc k.level))))
     (2 ^ 58) 0 none) (seat_of (b ∷ []) ps))
 
@@ -293,7 +293,7 @@ StoreStays o = (slots id g new : ℕ) (b : BoxView) (k : Walk) (ps : List PassVi
     side o.tree b.cpu k.level < 8 → IsWalkAt o b k stages.Store k.level g →
     new ≡ slot_word (stored_event k.level b.cpu k) →
     Stays o slots id b ps (slot_at g (side o.tree b.cpu k.level)) (λ n. new)
-    (walks b.cpu)
+    (walk_always b.cpu)
     (λ n. Stores (step slots (index_of (layout_of o) (slot_at g (side o.tree b.cpu k.level))) new 0
     none) (seat_of (b ∷ []) ps) new)
 

@@ -12,7 +12,7 @@ use Rattle.shared_rule.specs.declared.parts.PassView.{PassView}
 use Rattle.shared_rule.specs.declared.parts.Said.{Said}
 use Rattle.shared_rule.specs.declared.parts.View.{View}
 use Rattle.shared_rule.specs.Whole.{Whole, word_at, Spell, box_of, layout_of}
-use Rattle.shared_rule.specs.Shows.{CoreStep, IsMade, IsShown}
+use Rattle.shared_rule.specs.Shows.{CoreStep, StepMade, IsShown}
 
 -- what the seat that makes a step has: its view, and no slots
 abbrev pub Me : Type 0
@@ -106,7 +106,7 @@ pub record Goes (o : World) (s : Whole) (b : BoxView) (ps : List PassView) (p : 
   pub box : BoxView
   pub passes : List PassView
   pub shown : IsShown o next
-  pub makes : IsMade (by (word_at s p)) s.world next.world
+  pub makes : StepMade (by (word_at s p)) s.world next.world
   pub word : word_at next p ≡ f (word_at s p)
   pub words : (q : SharedWord) → IsWordOf (layout_of o) q →
       index_of (layout_of o) q ≢ index_of (layout_of o) p → word_at next q ≡ word_at s q
@@ -124,7 +124,7 @@ pub record Loads (o : World) (s : Whole) (q : PassView) (p : SharedWord)
   pub next : Whole
   pub pass : PassView
   pub shown : IsShown o next
-  pub makes : IsMade None s.world next.world
+  pub makes : StepMade None s.world next.world
   pub words : (m : SharedWord) → word_at next m ≡ word_at s m
   pub boxes : (d : ℕ) → box_of o next d ≡ box_of o s d
   pub own : pass ≡ next.pass q.cpu

@@ -184,17 +184,17 @@ pub record DidRight (o w : World) (receipts : List Receipt) (x : Did) : Type 0 w
       ((d : ℕ) → class_in t (cpu_of o d).bases ≡ None) ⊎ HasNewEnd o w t
 
 -- REACHED: steps lead from one core to another, each enabled where it stands
-abbrev pub IsReached : (before after : World) → Type 0
-IsReached before after = (steps : List Step) × IsRun steps before after
+abbrev pub StepsLead : (before after : World) → Type 0
+StepsLead before after = (steps : List Step) × IsRun steps before after
 
 -- a step of the core
 abbrev pub CoreStep : Type 0
 CoreStep = Step
 
 -- MADE: between two cores no step was made, or this one, enabled where it stands
-abbrev pub IsMade : Option CoreStep → (before after : World) → Type 0
-IsMade None before after = after ≡ before
-IsMade (Some step) before after = Enabled before step × (after ≡ stepped before step)
+abbrev pub StepMade : Option CoreStep → (before after : World) → Type 0
+StepMade None before after = after ≡ before
+StepMade (Some step) before after = Enabled before step × (after ≡ stepped before step)
 
 -- THE RULE, of a whole and the core with which the run began
 pub record IsShown (o : World) (s : Whole) : Type 0 where
@@ -202,7 +202,7 @@ pub record IsShown (o : World) (s : Whole) : Type 0 where
   pub opening : WorldFits o
   pub fits : WorldFits s.world
   -- steps of the core lead to it from the opening
-  pub reached : IsReached o s.world
+  pub reached : StepsLead o s.world
   -- what no step changes
   pub same : SameSize o s.world
   pub clock : s.world.clock ≡ o.clock

@@ -28,7 +28,7 @@ use Rattle.shared_rule.specs.Turns.{Carries, CarryEnds, MayRunOf}
 use Rattle.shared_rule.specs.Turns.{Enters, Exits, Idles, Reevaluates, Releases, Rests, Retells}
 use Rattle.shared_rule.specs.Turns.{Takes, Ticks, entered, idled, outside, released, taken}
 use Rattle.shared_rule.specs.Turns.{SeesCpu, SeesLeaf}
-use Rattle.shared_rule.specs.Laws.{Stays, none_made, walks}
+use Rattle.shared_rule.specs.Laws.{Stays, none_made, walk_always}
 
 -- DRAINING: what has to be known where a base of a CPU counts as drained by the CPU of a pass:
 -- nothing more of it is due, and the pass's CPU runs its own timers inside its interrupt, or the
@@ -180,7 +180,7 @@ abbrev pub RestStays : World → Type 0
 RestStays o = (slots id : ℕ) (b : BoxView) (k : Walk) (p : PassView) (new : ℕ) →
     MayFinish o b p k kinds.Deactivate new →
     Stays o slots id b (p ∷ []) (cpu_at b.cpu) (λ n. new)
-    (walks b.cpu)
+    (walk_always b.cpu)
     (λ n. Rests (step slots (index_of (layout_of o) (cpu_at b.cpu)) new 0 none)
     (seat_of (b ∷ []) (p ∷ [])) new)
 
@@ -189,7 +189,7 @@ abbrev pub ReevaluateStays : World → Type 0
 ReevaluateStays o = (slots id : ℕ) (b : BoxView) (k : Walk) (p : PassView) (new : ℕ) →
     MayFinish o b p k kinds.Reeval new →
     Stays o slots id b (p ∷ []) (cpu_at b.cpu) (λ n. new)
-    (walks b.cpu)
+    (walk_always b.cpu)
     (λ n. Reevaluates (step slots (index_of (layout_of o) (cpu_at b.cpu)) new 0 none)
     (seat_of (b ∷ []) (p ∷ [])) new)
 
@@ -224,7 +224,7 @@ abbrev pub CarryEndStays : World → Type 0
 CarryEndStays o = (slots id : ℕ) (b : BoxView) (k : Walk) (p : PassView) (new : ℕ) →
     MayEndCarry o b p k new →
     Stays o slots id b (p ∷ []) (cpu_at b.cpu) (λ n. new)
-    (walks b.cpu)
+    (walk_always b.cpu)
     (λ n. CarryEnds (step slots (index_of (layout_of o) (cpu_at b.cpu)) new 0 none)
     (seat_of (b ∷ []) (p ∷ [])) new)
 
