@@ -138,7 +138,7 @@ step_framed o k stages.Read made old new e =
     framed (λ b. reading e.1.0 (by_walk read_walk b)) old new (λ b. refl)
     (walked read_walk (λ b k j e. sure k _ j e (record { kind = refl; pin = refl; next = refl }))) e.1.1
 step_framed o k stages.Child made old new e = read_child k.level old new e.1
-step_framed o k stages.Swap made old new e = swapped e.1.0 e.1.1.found old new e.1.1.box
+step_framed o k stages.Swap made old new e = swapped e.1 e.2.found old new e.2.box
 step_framed o k stages.LockChild made old new e = child_locked o (k.level - 1) made old new e
 step_framed o k stages.LockGroup made old new e = locked o k.level made old new e
 step_framed o k stages.SeeChild made old new e =

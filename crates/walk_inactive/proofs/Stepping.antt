@@ -105,7 +105,7 @@ module _ (k : Walk) (old new : HeldPart) (has : old.box.own.walk ≡ Some k) whe
       })
   step_looks stages.Child is fits group tells under looks e = read_child k.level looks e.1
   step_looks stages.Swap is fits group tells under looks e =
-      swapped e.1.0 e.1.1.found looks e.1.1.box
+      swapped e.1 e.2.found looks e.2.box
   step_looks stages.LockChild is fits group tells under looks e =
       let next = at_stage k stages.LockGroup in
       onto (taken_lock child_locked_walk) old new e (record {

@@ -109,7 +109,7 @@ step_driven o k stages.Read made old new s =
     (record { cpus = λ b. refl; insides = λ b. refl; bases = λ b. refl }) old new s.1.1
 step_driven o k stages.Child made old new s = child_driven k.level old new s.1
 step_driven o k stages.Swap made old new s =
-    changed (swap_box s.1.0 s.1.1.found) (swaps s.1.0 s.1.1.found) old new s.1.1.box
+    changed (swap_box s.1 s.2.found) (swaps s.1 s.2.found) old new s.2.box
 step_driven o k stages.LockChild made old new s =
     locks o child_locked_walk (k.level - 1) made old new s
 step_driven o k stages.LockGroup made old new s = locks o locked_walk k.level made old new s
