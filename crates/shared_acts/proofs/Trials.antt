@@ -280,7 +280,7 @@ module _ (o : World) (b : BoxView) (p : PassView) (opening : b.opening ≡ o) (f
     (seen : did ≡ deeds.Saw (cpu_place b.opening b.cpu) (own_word b.own) ∷ rest) where
   by_state : is_let_be p.cpu (shown_cpu b.own) ≡ true → IsLeftAlone o p.cpu b.cpu did
   by_state shows =
-      IsLeft.by_word (own_word b.own) (shown_cpu b.own)
+      IsLeftAlone.by_word (own_word b.own) (shown_cpu b.own)
       (subst (λ (w : World). Contains did (deeds.Saw (cpu_place w b.cpu) (own_word b.own))) opening
       (subst (λ l. Contains l (deeds.Saw (cpu_place b.opening b.cpu) (own_word b.own))) (sym seen)
       (Contains-append_left (deeds.Saw (cpu_place b.opening b.cpu) (own_word b.own) ∷ []) rest _
@@ -291,7 +291,7 @@ module _ (o : World) (b : BoxView) (p : PassView) (opening : b.opening ≡ o) (f
       → Contains rest (deeds.Saw (leaf_place b.opening b.cpu) slot) → b.own.online ≡ true
       → b.own.idle ≡ true → b.own.mark ≡ None → IsLeftAlone o p.cpu b.cpu did
   by_leaf slot slot_is has online idle unmarked =
-      IsLeft.by_slot slot
+      IsLeftAlone.by_slot slot
       (subst (λ (w : World). Contains did (deeds.Saw (leaf_place w b.cpu) slot)) opening
       (subst (λ l. Contains l (deeds.Saw (leaf_place b.opening b.cpu) slot)) (sym seen)
       (Contains-append_right (deeds.Saw (cpu_place b.opening b.cpu) (own_word b.own) ∷ []) rest _
