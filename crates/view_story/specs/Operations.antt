@@ -36,7 +36,7 @@ comes_next p cpu op = (op.cpu.0 == cpu.0) && is_op_after p op
 
 -- an operation is to be answered before another
 abbrev pub is_owed_above : Point → Op → Op → Bool
-is_owed_above p point_answered op =
+is_owed_above p answered op =
     is_op_after p op
     && (if p.play then nat_lt op.line answered.line else nat_lt op.cpu.0 answered.cpu.0)
 
