@@ -77,10 +77,10 @@ among did front behind x has =
 
 left_among : (o : World) (looker d : ℕ) (did front behind : List Deed) → IsLeftAlone o looker d did
     → IsLeftAlone o looker d (front ++ (did ++ behind))
-left_among o looker d did front behind (IsLeft.by_word found s has state be) =
-    IsLeft.by_word found s (among did front behind _ has) state be
-left_among o looker d did front behind (IsLeft.by_slot found has none) =
-    IsLeft.by_slot found (among did front behind _ has) none
+left_among o looker d did front behind (IsLeftAlone.by_word found s has state be) =
+    IsLeftAlone.by_word found s (among did front behind _ has) state be
+left_among o looker d did front behind (IsLeftAlone.by_slot found has none) =
+    IsLeftAlone.by_slot found (among did front behind _ has) none
 
 served_among : (o : World) (looker d : ℕ) (did front behind : List Deed)
     (receipts more : List Receipt) → Within receipts more → IsServed o looker d did receipts
