@@ -3,8 +3,8 @@
 ghost use Rattle.std.specs.Prelude.{◌≢◌, ◌≡◌, ◌⊎◌, IfOk, None, Some};
 ghost use Rattle.std.specs.Thread.{IsSync};
 ghost use Rattle.tm_io.specs.Seen.{SourceFailed, SourceUnbroken};
-ghost use Rattle.run_moments.specs.run_story.Asked.{AsksRound};
-ghost use Rattle.run_moments.specs.run_story.Rounds.{IsRound};
+ghost use Rattle.run_moments.specs.story.Asked.{AsksRound};
+ghost use Rattle.run_moments.specs.story.Rounds.{IsRound};
 ghost use Rattle.program_texts.specs.Words.{Reads, program_command_of};
 ghost use Rattle.program_texts.specs.Ends.{SinkBreaks};
 ghost use Rattle.program_texts.specs.Statuses.{IsEither, IsStatus};

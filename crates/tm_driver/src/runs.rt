@@ -4,8 +4,8 @@ ghost use Rattle.std.specs.Prelude.{IfErr, IfOk};
 ghost use Rattle.std.specs.Thread.{IsSync};
 ghost use Rattle.tm_script.specs.Grammar.{IsScript};
 ghost use Rattle.run_moments.specs.Runs.{BreaksRun, RunsToEnd};
-ghost use Rattle.run_moments.specs.run_story.Asked.{AsksRound};
-ghost use Rattle.run_moments.specs.run_story.Rounds.{IsRound};
+ghost use Rattle.run_moments.specs.story.Asked.{AsksRound};
+ghost use Rattle.run_moments.specs.story.Rounds.{IsRound};
 
 use job_table::Jobs;
 use play_driver::DriveFault;
