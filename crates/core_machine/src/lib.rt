@@ -7,7 +7,6 @@ mod player;
 pub mod readings;
 mod settled;
 pub mod timers;
-pub mod turns;
 pub mod walks;
 
 pub use core_steps::{Core, law_step};

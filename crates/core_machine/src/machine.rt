@@ -1,7 +1,12 @@
 //! The machine's calls on a core.
 
 use crate::player::{CoreFit, CorePlayer};
+use crate::readings::{is_idle, sleeps};
+use crate::walks::{carry, make, make_active, reevaluate};
+use core_steps::law_step;
+use core_world::Step;
 use play_rules::{Answerer, Arming, Cancelling, Mover, PlayMachine, Queued};
+use step_play::{law_comes, law_ends, law_idles, law_lets_go, law_offlines, law_wakes};
 use tm_base::{Class, CpuId, CpuSet, Jiffy, NoMemory, TimerId};
 use wheel_core::{Item, TimerBase};
 
@@ -39,7 +44,7 @@ impl<B: TimerBase, F: CoreFit> PlayMachine for CorePlayer<B, F> {
     }
 
     fn is_idle(&self, cpu: CpuId) -> bool {
-        crate::readings::is_idle(&self.core, cpu)
+        is_idle(&self.core, cpu)
     }
 
     fn is_placed(&self, cpu: CpuId) -> bool {
@@ -59,7 +64,8 @@ impl<B: TimerBase, F: CoreFit> PlayMachine for CorePlayer<B, F> {
     }
 
     fn set_clock(&mut self, now: Jiffy) {
-        crate::turns::set_clock(&mut self.core, now);
+        law_step();
+        make(&mut self.core, Step::Clock { now });
     }
 
     fn has_interrupt(&self, cpu: CpuId) -> bool {
@@ -76,15 +82,28 @@ impl<B: TimerBase, F: CoreFit> PlayMachine for CorePlayer<B, F> {
     }
 
     fn arm(&mut self, cpu: CpuId, arming: Arming) -> Result<Jiffy, NoMemory> {
-        crate::timers::arm(&mut self.core, cpu, arming)
+        law_step();
+        let Arming {
+            timer,
+            class,
+            delay,
+            job,
+            arg,
+            line,
+        } = arming;
+        let expires = self.core.now() + u64::from(delay);
+        self.core.arm(cpu, timer, class, expires, job, arg, line)
     }
 
     fn cancel(&mut self, home: CpuId, cancelling: Cancelling) -> Result<(), NoMemory> {
-        crate::timers::cancel(&mut self.core, home, cancelling)
+        law_step();
+        let Cancelling { timer, by, line } = cancelling;
+        self.core.cancel(home, timer, by, line)
     }
 
     fn enter(&mut self, cpu: CpuId) {
-        crate::turns::enter(&mut self.core, cpu);
+        law_step();
+        make(&mut self.core, Step::Enter { cpu });
     }
 
     fn looks_after(&self, cpu: CpuId, level: u8) -> bool {
@@ -100,15 +119,34 @@ impl<B: TimerBase, F: CoreFit> PlayMachine for CorePlayer<B, F> {
     }
 
     fn take(&mut self, cpu: CpuId, other: CpuId) {
-        crate::turns::take(&mut self.core, cpu, other);
+        law_step();
+        make(
+            &mut self.core,
+            Step::Take {
+                cpu: other,
+                by: cpu,
+            },
+        );
     }
 
-    fn let_go(&mut self, cpu: CpuId, other: CpuId) {
-        crate::turns::let_go(&mut self.core, cpu, other);
+    fn let_go(&mut self, _cpu: CpuId, other: CpuId) {
+        law_step();
+        law_lets_go();
+        if sleeps(&self.core, other) {
+            carry(&mut self.core, other);
+        } else {
+            make(&mut self.core, Step::Release { cpu: other });
+        }
     }
 
     fn end(&mut self, cpu: CpuId) {
-        crate::turns::end(&mut self.core, cpu);
+        law_step();
+        law_ends();
+        if is_idle(&self.core, cpu) {
+            reevaluate(&mut self.core, cpu);
+        } else {
+            make(&mut self.core, Step::Leave { cpu });
+        }
     }
 
     fn first_event(&self, cpu: CpuId) -> Jiffy {
@@ -116,11 +154,15 @@ impl<B: TimerBase, F: CoreFit> PlayMachine for CorePlayer<B, F> {
     }
 
     fn idle(&mut self, cpu: CpuId) {
-        crate::turns::idle(&mut self.core, cpu);
+        law_step();
+        law_idles();
+        crate::walks::idle(&mut self.core, cpu);
     }
 
     fn wake(&mut self, cpu: CpuId) {
-        crate::turns::wake(&mut self.core, cpu);
+        law_step();
+        law_wakes();
+        crate::walks::wake(&mut self.core, cpu);
     }
 
     fn successor(&self, cpu: CpuId) -> Option<CpuId> {
@@ -128,7 +170,9 @@ impl<B: TimerBase, F: CoreFit> PlayMachine for CorePlayer<B, F> {
     }
 
     fn go_offline(&mut self, cpu: CpuId) {
-        crate::turns::go_offline(&mut self.core, cpu);
+        law_step();
+        law_offlines();
+        crate::walks::go_offline(&mut self.core, cpu);
     }
 
     fn hands_on(&self, cpu: CpuId) -> bool {
@@ -136,11 +180,16 @@ impl<B: TimerBase, F: CoreFit> PlayMachine for CorePlayer<B, F> {
     }
 
     fn hand_on(&mut self, cpu: CpuId, to: CpuId) {
-        crate::turns::hand_on(&mut self.core, cpu, to);
+        law_step();
+        law_wakes();
+        make_active(&mut self.core, to);
+        make(&mut self.core, Step::HandOn { cpu, to });
     }
 
     fn come_online(&mut self, cpu: CpuId) {
-        crate::turns::come_online(&mut self.core, cpu);
+        law_step();
+        law_comes();
+        crate::walks::come_online(&mut self.core, cpu);
     }
 
     fn count_queued(&self, cpu: CpuId) -> usize {
@@ -152,7 +201,9 @@ impl<B: TimerBase, F: CoreFit> PlayMachine for CorePlayer<B, F> {
     }
 
     fn control(&mut self, cpu: CpuId) {
-        crate::turns::control(&mut self.core, cpu);
+        law_step();
+        law_wakes();
+        make_active(&mut self.core, cpu);
     }
 
     fn move_first(&mut self, from: CpuId, to: CpuId) -> Result<Option<Mover>, NoMemory> {

@@ -6,4 +6,5 @@ mod walking;
 
 pub use alone::{goes_on, is_alone};
 pub use finishing::finish_walk;
+pub(crate) use walking::make_active;
 pub use walking::{carry, come_online, go_offline, idle, make, reevaluate, wake};

@@ -1,11 +1,17 @@
 -- a core that fits a machine is in a run, and what keeps a run, and play too, keeps what fits
-use Rattle.std.specs.Prelude.{Bool, true, false, Result}
+use Rattle.std.specs.Prelude.{ℕ, ◌<◌, ◌≤◌, Bool, true, false, Result}
 use Rattle.std.specs.Result.{OnOk}
 use Rattle.std.proofs.lemmas.Result.{on_ok_weaker}
+use Rattle.tm_base.specs.declared.limits.TheConstants.{SCRIPT_TIME_LIMIT}
 use Rattle.play_rules.specs.Phases.{FitsSome, Phase, StaysFit}
+use Rattle.core_steps.specs.core_laws.Laws.{StepsStayLawful}
+use Rattle.core_world.specs.declared.step.Step.TheVariants as steps
+use Rattle.core_world.specs.Steps.{stepped}
 use Rattle.core_world.specs.World.{World}
-use Rattle.step_play.specs.Rules.Seen.{InPlay, InRun}
+use Rattle.step_play.specs.Rules.Seen.{InPlay, InRun, resting}
+use Rattle.step_play.proofs.Interrupted.{time_goes, time_runs}
 use Rattle.core_machine.specs.Fitting.{CoreFits}
+use Rattle.core_machine.proofs.Calls.Leaves.{Leaves}
 
 pub in_run : (exact : Bool) (ph : Phase) (w : World) → CoreFits exact ph w → InRun ph w
 in_run true ph w fit = fit.in_run
@@ -20,10 +26,17 @@ some_in_run true Allows w some = record {
 }
 some_in_run false Allows w some = some
 
-pub goes : (exact : Bool) (p q : Phase) (w v : World) → InRun q v →
-    (InPlay p w → InPlay q v) → CoreFits exact p w → CoreFits exact q v
-goes true p q w v run play fit = play fit
-goes false p q w v run play fit = run
+pub fits : {ph now : Phase} {w v : World} (exact : Bool) → Leaves ph now w v →
+    CoreFits exact ph w → CoreFits exact now v
+fits true left fit = left.play fit
+fits false left fit = left.fit
+
+-- the clock comes to a later moment
+pub time_fits : (exact : Bool) → StepsStayLawful → (now : ℕ) (w : World) → w.clock ≤ now →
+    now < SCRIPT_TIME_LIMIT → CoreFits exact resting w →
+    CoreFits exact resting (stepped w (steps.Clock now))
+time_fits true law now w later early fit = time_goes law now w later early fit
+time_fits false law now w later early fit = time_runs law now w later early fit
 
 pub goes_ok : {A E : Type 0} (exact : Bool) (r : Result A E) (p q : Phase) (w v : World) →
     OnOk r (InRun q v) → OnOk r (InPlay p w → InPlay q v) → CoreFits exact p w →

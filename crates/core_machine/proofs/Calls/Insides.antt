@@ -66,10 +66,12 @@ module _ (w : World) where
 
     pub releases : StepsStayLawful → LeavesOnline (serving r d) (inside r) w released
     releases law = record {
-      fit = release_runs law;
-      play = λ p. put_plays (serving r d) (inside r) w d unmarked released low refl refl
-          (own_is w d unmarked) p (release_runs law);
-      same = own_same w d unmarked low;
+      left = record {
+        fit = release_runs law;
+        play = λ p. put_plays (serving r d) (inside r) w d unmarked released low refl refl
+            (own_is w d unmarked) p (release_runs law);
+        same = own_same w d unmarked low;
+      };
       online = own_online w d unmarked low refl;
     }
 
@@ -81,9 +83,11 @@ module _ (w : World) where
         let low = there w c online in
         let y = record (cpu_of w c) { inside = true } in
         record {
-          fit = turns.enters law w c i online;
-          play = λ p. (enter_plays law w c p online).in_play;
-          same = own_same w c y low;
+          left = record {
+            fit = turns.enters law w c i online;
+            play = λ p. (enter_plays law w c p online).in_play;
+            same = own_same w c y low;
+          };
           online = own_online w c y low refl;
         }
 
@@ -94,9 +98,11 @@ module _ (w : World) where
         let here = there w d (takeable w d can).online in
         let y = record (cpu_of w d) { mark = Some c } in
         record {
-          fit = turns.takes law w c d i placed low can;
-          play = λ p. (take_plays law w c d p placed low can).in_play;
-          same = own_same w d y here;
+          left = record {
+            fit = turns.takes law w c d i placed low can;
+            play = λ p. (take_plays law w c d p placed low can).in_play;
+            same = own_same w d y here;
+          };
           online = own_online w d y here refl;
         }
 
@@ -121,16 +127,18 @@ module _ (w : World) where
           let is = cond-true ((cpu_of w d).online && (cpu_of w d).idle) carried
           (stepped w (steps.Release (cpu_id d))) (λ j. online j && idle j) in
           record {
-            fit = walked_runs e (serving r d) (inside r) i (record {
-              bases = refl;
-              inside = i.inside d;
-              mark = refl;
-              insides = λ n ne. refl;
-              marks = λ n ne. sym (cond-false (n == d) (Some r) None (ne_eqb n d ne));
-              hands = λ n ne. refl;
-            }) (walk_gone (inside r) d kind (λ off. cc) refl (cpu_of carried d).walk e.walk);
-            play = λ p. subst (InPlay (inside r)) is (alike w r d p online idle).in_play;
-            same = walked_same e;
+            left = record {
+              fit = walked_runs e (serving r d) (inside r) i (record {
+                bases = refl;
+                inside = i.inside d;
+                mark = refl;
+                insides = λ n ne. refl;
+                marks = λ n ne. sym (cond-false (n == d) (Some r) None (ne_eqb n d ne));
+                hands = λ n ne. refl;
+              }) (walk_gone (inside r) d kind (λ off. cc) refl (cpu_of carried d).walk e.walk);
+              play = λ p. subst (InPlay (inside r)) is (alike w r d p online idle).in_play;
+              same = walked_same e;
+            };
             online = walked_online e refl;
           }
 
@@ -142,8 +150,8 @@ module _ (w : World) where
       abbrev pub told_again : World
       told_again = walked_out c (stepped w (steps.Reeval (cpu_id c)))
 
-      abbrev pub left : World
-      left = stepped w (steps.Leave (cpu_id c))
+      abbrev after_leave : World
+      after_leave = stepped w (steps.Leave (cpu_id c))
 
       pub reevaluates : EndsAlike → (cpu_of w c).idle ≡ true →
           goes_on (cpu_of told_again c).walk ≡ false →
@@ -154,28 +162,33 @@ module _ (w : World) where
           is_walked law w c low (run_lone (inside c) w c i) kinds.Reeval again began
           (begins_so _ kinds.Reeval stages.LockGroup _ _ again refl) stop in
           record {
-            fit = walked_runs e (inside c) resting i (record {
-              bases = refl;
-              inside = refl;
-              mark = i.marks c;
-              insides = λ n ne. sym (ne_eqb n c ne);
-              marks = λ n ne. refl;
-              hands = λ n ne. refl;
-            }) (walk_gone resting c kinds.Reeval (λ off. cc) refl (cpu_of told_again c).walk
-                e.walk);
-            play = λ p. subst (InPlay resting) (cond-true (cpu_of w c).idle told_again left idle)
-                (alike w c p).in_play;
-            same = walked_same e;
+            left = record {
+              fit = walked_runs e (inside c) resting i (record {
+                bases = refl;
+                inside = refl;
+                mark = i.marks c;
+                insides = λ n ne. sym (ne_eqb n c ne);
+                marks = λ n ne. refl;
+                hands = λ n ne. refl;
+              }) (walk_gone resting c kinds.Reeval (λ off. cc) refl (cpu_of told_again c).walk
+                  e.walk);
+              play = λ p. subst (InPlay resting)
+                  (cond-true (cpu_of w c).idle told_again after_leave idle) (alike w c p).in_play;
+              same = walked_same e;
+            };
             online = walked_online e refl;
           }
 
-      pub leaves : EndsAlike → (cpu_of w c).idle ≡ false → LeavesOnline (inside c) resting w left
+      pub leaves : EndsAlike → (cpu_of w c).idle ≡ false →
+          LeavesOnline (inside c) resting w after_leave
       leaves alike busy =
           let y = record (cpu_of w c) { inside = false } in
           record {
-            fit = leaves_run law w c i busy;
-            play = λ p. subst (InPlay resting) (cond-false (cpu_of w c).idle told_again left busy)
-                (alike w c p).in_play;
-            same = own_same w c y low;
+            left = record {
+              fit = leaves_run law w c i busy;
+              play = λ p. subst (InPlay resting)
+                  (cond-false (cpu_of w c).idle told_again after_leave busy) (alike w c p).in_play;
+              same = own_same w c y low;
+            };
             online = own_online w c y low refl;
           }

@@ -1,4 +1,4 @@
--- for crates above: what a call leaves: a core in a run, in play where it was, of the same machine
+-- what a call leaves: a core in a run, in play where it was, of the same machine
 -- at the same time
 use Rattle.std.proofs.Common.{◌≡◌, ◌≢◌, ℕ, ◌<◌, true, false, Option, Some, None, length, refl}
 use Rattle.std.proofs.Common.{sym, ap, ◌∙◌, subst, inl, inr}
@@ -30,10 +30,14 @@ pub record Leaves (ph now : Phase) (w v : World) : Type 0 where
 
 -- and no CPU has gone offline or come online
 pub record LeavesOnline (ph now : Phase) (w v : World) : Type 0 where
-  pub fit : InRun now v
-  pub play : InPlay ph w → InPlay now v
-  pub same : Same step_rules w v
+  pub left : Leaves ph now w v
   pub online : SameOnline step_rules w v
+
+-- a call that made a walk left it made to its end
+pub at_end : (P : World → Type 0) (c : ℕ) (made v : World) → v ≡ made →
+    goes_on (cpu_of v c).walk ≡ false → (goes_on (cpu_of made c).walk ≡ false → P made) → P v
+at_end P c made v is ends from =
+    subst P (sym is) (from (subst (λ (x : World). goes_on (cpu_of x c).walk ≡ false) is ends))
 
 -- A CPU IS WRITTEN
 module _ (w : World) (c : ℕ) (y : CpuRecord) (low : c < length w.cpus) where

@@ -87,17 +87,19 @@ module _ (law : StepsStayLawful) (w : World) (c : ℕ) where
         let e = woken_is in
         let off = subst (WalkFits ph c) may.is_free.free (i.walks c) in
         record {
-          fit = walked_runs e ph ph i (record {
-            bases = refl;
-            inside = i.inside c;
-            mark = i.marks c;
-            insides = λ d ne. refl;
-            marks = λ d ne. refl;
-            hands = λ d ne. refl;
-          }) (walk_gone ph c kinds.Activate (λ away. cc) off (cpu_of (woken_by_steps w c) c).walk
-              e.walk);
-          play = λ p. (alike ph w c p may).in_play;
-          same = walked_same e;
+          left = record {
+            fit = walked_runs e ph ph i (record {
+              bases = refl;
+              inside = i.inside c;
+              mark = i.marks c;
+              insides = λ d ne. refl;
+              marks = λ d ne. refl;
+              hands = λ d ne. refl;
+            }) (walk_gone ph c kinds.Activate (λ away. cc) off
+                (cpu_of (woken_by_steps w c) c).walk e.walk);
+            play = λ p. (alike ph w c p may).in_play;
+            same = walked_same e;
+          };
           online = walked_online e refl;
         }
 
@@ -232,7 +234,14 @@ module _ (law : StepsStayLawful) (w : World) (c : ℕ) where
     pub succeeds : successor (state_of v) c ≡ successor s c
     succeeds = λ j. find (λ d. succeeds_alike d j) (range_with_len 0 (many j))
 
--- A CPU IS MADE ACTIVE
+-- A CPU IS MADE ACTIVE, in a core that the call is seen to begin with as w and to end with as v
+pub stops_at : (core w v : World) (d : ℕ) → core ≡ w → v ≡ made_active w d →
+    ((cpu_of core d).idle ≡ true → goes_on (cpu_of v d).walk ≡ false) → (cpu_of w d).idle ≡ true →
+    goes_on (cpu_of (made_active w d) d).walk ≡ false
+stops_at core w v d came is ends idle =
+    subst (λ (x : World). goes_on (cpu_of x d).walk ≡ false) is
+    (ends (subst (λ (x : World). (cpu_of x d).idle ≡ true) (sym came) idle))
+
 module _ (law : StepsStayLawful) (ph : Phase) (w : World) (i : InRun ph w) (d : ℕ)
     (low : d < length w.cpus) (other : hands_in ph d ≡ false) (online : (cpu_of w d).online ≡ true)
     (stops : (cpu_of w d).idle ≡ true → goes_on (cpu_of (made_active w d) d).walk ≡ false) where
@@ -256,14 +265,16 @@ module _ (law : StepsStayLawful) (ph : Phase) (w : World) (i : InRun ph w) (d : 
   made_as alike true idle =
       wakes law w d ph i (may_wake ph w i d low other online idle) (stop_by true idle idle) alike
   made_as alike false busy = record {
-    fit = i;
-    play = λ p. p;
-    same = record {
-      clock = refl;
-      timers = refl;
-      cpus = refl;
-      levels = refl;
-      placed = λ e. refl;
+    left = record {
+      fit = i;
+      play = λ p. p;
+      same = record {
+        clock = refl;
+        timers = refl;
+        cpus = refl;
+        levels = refl;
+        placed = λ e. refl;
+      };
     };
     online = record { online = λ e. refl };
   }
@@ -283,21 +294,38 @@ module _ (w : World) (i : InRun resting w) (d : ℕ) (is : controller (state_of 
 
   module _ (law : StepsStayLawful)
       (stops : (cpu_of w d).idle ≡ true → goes_on (cpu_of (made_active w d) d).walk ≡ false) where
-    pub controls : WakesAlike → LeavesOnline resting resting w (made_active w d)
+    controls : WakesAlike → LeavesOnline resting resting w (made_active w d)
     controls alike =
         let to = head_is w d is in made law resting w i d to.low refl to.online stops alike
 
-    pub control_placed : WakesAlike → is_placed_in (made_active w d).tree d ≡ true
+    control_placed : WakesAlike → is_placed_in (made_active w d).tree d ≡ true
     control_placed alike =
-        let to = head_is w d is in (controls alike).same.placed d ∙ to.placed
+        let to = head_is w d is in (controls alike).left.same.placed d ∙ to.placed
 
-    pub control_up : IsUp step_rules (made_active w d) d false
+    control_up : IsUp step_rules (made_active w d) d false
     control_up =
         let to = head_is w d is in
         let y = cpu_of (made_active w d) d in
         let parts = and_parts y.online (not y.idle)
         (active law resting w i d to.low refl to.online stops) in
         record { online = parts.0; idles = not_true y.idle parts.1 }
+
+-- what making it active leaves
+pub record LeavesControlled (w : World) (d : ℕ) (v : World) : Type 0 where
+  pub left : LeavesOnline resting resting w v
+  pub placed : is_placed_in v.tree d ≡ true
+  pub up : IsUp step_rules v d false
+
+pub controlled : (law : StepsStayLawful) (core w v : World) (d : ℕ) → InRun resting w →
+    controller (state_of w) ≡ Some d → WakesAlike → core ≡ w → v ≡ made_active w d →
+    ((cpu_of core d).idle ≡ true → goes_on (cpu_of v d).walk ≡ false) → LeavesControlled w d v
+controlled law core w v d i is alike came made ends =
+    let stops = stops_at core w v d came made ends in
+    subst (LeavesControlled w d) (sym made) (record {
+      left = controls w i d is law stops alike;
+      placed = control_placed w i d is law stops alike;
+      up = control_up w i d is law stops;
+    })
 
 -- HANDING ON
 module _ (w : World) (c d : ℕ) (i : InRun (handing c) w) (is : successor (state_of w) c ≡ Some d)
@@ -316,9 +344,10 @@ module _ (w : World) (c d : ℕ) (i : InRun (handing c) w) (is : successor (stat
       up =
           let to = next_is w c d is in active law (handing c) w i d to.low other to.online stops
 
-      ready : LeavesOnline (handing c) (handing c) w (made_active w d)
+      ready : Leaves (handing c) (handing c) w (made_active w d)
       ready =
-          let to = next_is w c d is in made law (handing c) w i d to.low other to.online stops alike
+          let to = next_is w c d is in
+          (made law (handing c) w i d to.low other to.online stops alike).left
 
       placed : is_placed_in (made_active w d).tree d ≡ true
       placed = let to = next_is w c d is in ready.same.placed d ∙ to.placed

@@ -32,6 +32,15 @@ pub fn is_idle<B: TimerBase>(core: &Core<B>, cpu: CpuId) -> bool
     core.status(cpu).idle
 }
 
+/// Whether a CPU is online and idle.
+pub(crate) fn sleeps<B: TimerBase>(core: &Core<B>, cpu: CpuId) -> bool
+    requires { cpu.0 < length core.now.cpus }
+    ensures { result ≡ ((cpu_of core.now cpu.0).online && (cpu_of core.now cpu.0).idle) }
+{
+    let status = core.status(cpu);
+    status.online && status.idle
+}
+
 /// The programmed wakeup of a CPU, in jiffies; `NEVER` where there is none.
 #[tactic(auto, using(crate::proofs::Views::Seen::wakeup_seen))]
 pub fn wakeup<B: TimerBase>(core: &Core<B>, cpu: CpuId) -> Jiffy

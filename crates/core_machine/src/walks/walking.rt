@@ -1,6 +1,6 @@
 //! A step, and the walk that it begins made to its end.
 
-ghost use Rattle.std.specs.Prelude.{◌≡◌, ◌<◌, ◌∷◌, [], false, length};
+ghost use Rattle.std.specs.Prelude.{◌≡◌, ◌<◌, ◌∷◌, [], false, length, true};
 ghost use Rattle.core_world.specs.declared.step.Step.TheVariants as steps;
 ghost use Rattle.core_world.specs.Enabled.{Enabled};
 ghost use Rattle.core_world.specs.Lists.{IsRun};
@@ -9,7 +9,7 @@ ghost use Rattle.core_world.specs.World.{cpu_of};
 ghost use Rattle.core_steps.specs.Wants.{WantsMemory};
 ghost use Rattle.step_play.specs.Rules.Alone.{goes_on, walked_out};
 ghost use Rattle.step_play.specs.Rules.StepRules.{come_by_steps, gone_by_steps, idled_by_steps};
-ghost use Rattle.step_play.specs.Rules.StepRules.{woken_by_steps};
+ghost use Rattle.step_play.specs.Rules.StepRules.{made_active, woken_by_steps};
 ghost use Rattle.step_play.specs.Rules.Lone.{IsLone, IsRunOf};
 
 use crate::walks::finishing::finish_walk;
@@ -69,6 +69,20 @@ pub fn wake<B: TimerBase>(core: &mut Core<B>, cpu: CpuId)
     ensures run { IsRunOf (steps.Wake cpu) cpu.0 core.old core.new }
 {
     make_out(core, Step::Wake { cpu }, cpu);
+}
+
+/// A CPU is made active, where it is idle.
+pub(crate) fn make_active<B: TimerBase>(core: &mut Core<B>, cpu: CpuId)
+    requires cpu { cpu.0 < length core.old.cpus }
+    requires wakes { (cpu_of core.old cpu.0).idle ≡ true → Enabled core.old (steps.Wake cpu) }
+    requires lone { IsLone core.old cpu.0 }
+    ensures made { core.new ≡ made_active core.old cpu.0 }
+    ensures ends { (cpu_of core.old cpu.0).idle ≡ true →
+        goes_on (cpu_of core.new cpu.0).walk ≡ false }
+{
+    if core.status(cpu).idle {
+        wake(core, cpu);
+    }
 }
 
 /// An active CPU goes offline (the kernel's `tmigr_cpu_offline`); then it has no walk, or its walk

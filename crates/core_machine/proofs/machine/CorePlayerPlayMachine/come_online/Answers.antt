@@ -1,43 +1,52 @@
-use Rattle.std.proofs.Common.{ap, false, length, subst, sym, ◌<◌, ◌∙◌, ◌≡◌}
-use Rattle.tm_base.specs.declared.limits.TheConstants.{SCRIPT_TIME_LIMIT}
-use Rattle.play_rules.specs.Machines.{Same}
+use Rattle.std.proofs.Common.{ap, subst, sym, ◌∙◌, ◌≡◌}
+use Rattle.core_world.specs.Enabled.{MayComeOnline}
 use Rattle.core_world.specs.World.{World}
+use Rattle.step_play.specs.Rules.Lone.{IsLone}
 use Rattle.step_play.specs.Rules.Seen.{resting}
 use Rattle.step_play.specs.Rules.StepRules.{step_rules}
-use Rattle.core_machine.specs.Fitting.{CoreFits}
-use Rattle.core_machine.proofs.Calls.Fitting.{goes, in_run}
+use Rattle.step_play.proofs.Lone.{run_lone}
+use Rattle.core_machine.proofs.Calls.Fitting.{fits, in_run}
+use Rattle.core_machine.proofs.Calls.InTime.{in_time}
+use Rattle.core_machine.proofs.Calls.Leaves.{Leaves, at_end}
+use Rattle.core_machine.proofs.Calls.Rests.{comes, may_come}
 use Rattle.core_machine.proofs.machine.CorePlayerPlayMachine.come_online.Goals as goal
 
-pub come_online-requires-clause-cpu : goal.come_online-requires-clause-cpu
-come_online-requires-clause-cpu g c =
-    subst (λ (w : World). c.args.cpu.0 < length w.cpus) (sym c.self.view_is) c.requires.cpu
+pub come_online-requires-clause-enabled : goal.come_online-requires-clause-enabled
+come_online-requires-clause-enabled g c =
+    subst (λ (w : World). MayComeOnline w c.args.cpu.0) (sym c.self.view_is)
+    (may_come c.law_step.ensures c.args.self.now c.args.cpu.0
+    (in_run g.F.CoreFit.exact resting c.args.self.now c.requires.fit) c.requires.cpu
+    c.requires.offline)
 
-pub come_online-requires-clause-offline : goal.come_online-requires-clause-offline
-come_online-requires-clause-offline g c =
-    subst (λ (w : World). step_rules.is_online w c.args.cpu.0 ≡ false) (sym c.self.view_is)
-    c.requires.offline
+pub come_online-requires-clause-lone : goal.come_online-requires-clause-lone
+come_online-requires-clause-lone g c =
+    subst (λ (w : World). IsLone w c.args.cpu.0) (sym c.self.view_is)
+    (run_lone resting c.args.self.now c.args.cpu.0
+    (in_run g.F.CoreFit.exact resting c.args.self.now c.requires.fit))
 
-pub come_online-requires-clause-fit : goal.come_online-requires-clause-fit
-come_online-requires-clause-fit g c =
-    in_run g.F.CoreFit.exact resting c.self.inside.core
-    (subst (CoreFits g.F.CoreFit.exact resting) (sym c.self.view_is) c.requires.fit)
+is : (g : _) (c : goal.After-come_online g) →
+    c.come_online.new.core ≡ step_rules.come_online c.args.self.now c.args.cpu.0
+is g c =
+    c.come_online.ensures.walked
+    ∙ ap (λ (w : World). step_rules.come_online w c.args.cpu.0) c.self.view_is
+
+left : (g : _) (c : goal.After-come_online g) →
+    Leaves resting resting c.args.self.now c.come_online.new.core
+left g c =
+    let w = c.args.self.now in
+    let law = c.law_step.ensures in
+    let run = in_run g.F.CoreFit.exact resting w c.requires.fit in
+    at_end (Leaves resting resting w) c.args.cpu.0 _ c.come_online.new.core (is g c)
+    c.come_online.ensures.ends
+    (comes law w c.args.cpu.0 run c.law_comes.ensures
+    (may_come law w c.args.cpu.0 run c.requires.cpu c.requires.offline))
 
 pub invariant_of-self : goal.invariant_of-self
-invariant_of-self g c =
-    subst (λ t. t < SCRIPT_TIME_LIMIT) (sym c.come_online.ensures.same.clock) c.self.invariant
+invariant_of-self g c = in_time c.self.view_is c.self.invariant (left g c)
 
-pub returns-clause-fit : goal.returns-clause-fit
-returns-clause-fit g c =
-    goes g.F.CoreFit.exact resting resting c.self.inside.core c.come_online.new.core
-    c.come_online.ensures.fit c.come_online.ensures.play
-    (subst (CoreFits g.F.CoreFit.exact resting) (sym c.self.view_is) c.requires.fit)
-
-pub returns-clause-state : goal.returns-clause-state
-returns-clause-state g c =
-    c.come_online.ensures.state ∙ ap (λ (w : World). step_rules.come_online w c.args.cpu.0)
-    c.self.view_is
-
-pub returns-clause-same : goal.returns-clause-same
-returns-clause-same g c =
-    subst (λ (w : World). Same step_rules w c.come_online.new.core) c.self.view_is
-    c.come_online.ensures.same
+pub returns : goal.returns
+returns g c = record {
+  fit = fits g.F.CoreFit.exact (left g c) c.requires.fit;
+  state = is g c;
+  same = (left g c).same;
+}

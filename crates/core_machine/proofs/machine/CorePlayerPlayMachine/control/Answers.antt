@@ -1,54 +1,51 @@
-use Rattle.std.proofs.Common.{Some, length, subst, sym, ◌<◌, ◌≡◌}
-use Rattle.tm_base.specs.declared.limits.TheConstants.{SCRIPT_TIME_LIMIT}
-use Rattle.play_rules.specs.Machines.{Same, SameOnline}
-use Rattle.core_world.specs.World.{World}
+use Rattle.std.proofs.Common.{ap, subst, sym, true, ◌∙◌, ◌≡◌}
+use Rattle.core_world.specs.Enabled.{MayWake}
+use Rattle.core_world.specs.World.{World, cpu_of}
+use Rattle.step_play.specs.Rules.Lone.{IsLone}
 use Rattle.step_play.specs.Rules.Seen.{resting}
 use Rattle.step_play.specs.Rules.StepRules.{step_rules}
-use Rattle.core_machine.specs.Fitting.{CoreFits}
-use Rattle.core_machine.proofs.Calls.Fitting.{goes, in_run}
+use Rattle.step_play.proofs.Lone.{run_lone}
+use Rattle.core_machine.proofs.Calls.Fitting.{fits, in_run}
+use Rattle.core_machine.proofs.Calls.InTime.{in_time}
+use Rattle.core_machine.proofs.Calls.Rests.{LeavesControlled, controlled, may_control}
 use Rattle.core_machine.proofs.machine.CorePlayerPlayMachine.control.Goals as goal
 
-pub control-requires-clause-controller : goal.control-requires-clause-controller
-control-requires-clause-controller g c =
-    subst (λ (w : World). step_rules.controller w ≡ Some c.args.cpu.0) (sym c.self.view_is)
-    c.requires.controller
+pub make_active-requires-clause-wakes : goal.make_active-requires-clause-wakes
+make_active-requires-clause-wakes g c =
+    subst (λ (w : World). (cpu_of w c.args.cpu.0).idle ≡ true → MayWake w c.args.cpu.0)
+    (sym c.self.view_is)
+    (may_control c.args.self.now
+    (in_run g.F.CoreFit.exact resting c.args.self.now c.requires.fit) c.args.cpu.0
+    c.requires.controller)
+
+pub make_active-requires-clause-lone : goal.make_active-requires-clause-lone
+make_active-requires-clause-lone g c =
+    subst (λ (w : World). IsLone w c.args.cpu.0) (sym c.self.view_is)
+    (run_lone resting c.args.self.now c.args.cpu.0
+    (in_run g.F.CoreFit.exact resting c.args.self.now c.requires.fit))
+
+is : (g : _) (c : goal.After-make_active g) →
+    c.make_active.new.core ≡ step_rules.controlling c.args.self.now c.args.cpu.0
+is g c =
+    c.make_active.ensures.made
+    ∙ ap (λ (w : World). step_rules.controlling w c.args.cpu.0) c.self.view_is
+
+left : (g : _) (c : goal.After-make_active g) →
+    LeavesControlled c.args.self.now c.args.cpu.0 c.make_active.new.core
+left g c =
+    controlled c.law_step.ensures c.self.inside.core c.args.self.now c.make_active.new.core
+    c.args.cpu.0 (in_run g.F.CoreFit.exact resting c.args.self.now c.requires.fit)
+    c.requires.controller c.law_wakes.ensures c.self.view_is (is g c) c.make_active.ensures.ends
 
 pub invariant_of-self : goal.invariant_of-self
-invariant_of-self g c =
-    subst (λ t. t < SCRIPT_TIME_LIMIT) (sym c.control.ensures.same.clock) c.self.invariant
+invariant_of-self g c = in_time c.self.view_is c.self.invariant (left g c).left.left
 
-pub returns-clause-state : goal.returns-clause-state
-returns-clause-state g c =
-    subst (λ (w : World). c.control.new.core ≡ step_rules.controlling w c.args.cpu.0)
-    c.self.view_is c.control.ensures.state
-
-pub returns-clause-same : goal.returns-clause-same
-returns-clause-same g c =
-    subst (λ (w : World). Same step_rules w c.control.new.core) c.self.view_is
-    c.control.ensures.same
-
-pub returns-clause-online : goal.returns-clause-online
-returns-clause-online g c =
-    subst (λ (w : World). SameOnline step_rules w c.control.new.core) c.self.view_is
-    c.control.ensures.online
-
-pub control-requires-clause-fit : goal.control-requires-clause-fit
-control-requires-clause-fit g c =
-    in_run g.F.CoreFit.exact resting c.self.inside.core
-    (subst (CoreFits g.F.CoreFit.exact resting) (sym c.self.view_is) c.requires.fit)
-
-pub returns-clause-fit : goal.returns-clause-fit
-returns-clause-fit g c =
-    goes g.F.CoreFit.exact resting resting c.self.inside.core c.control.new.core
-    c.control.ensures.fit c.control.ensures.play
-    (subst (CoreFits g.F.CoreFit.exact resting) (sym c.self.view_is) c.requires.fit)
-
-pub control-requires-clause-cpu : goal.control-requires-clause-cpu
-control-requires-clause-cpu g c =
-    subst (λ (w : World). c.args.cpu.0 < length w.cpus) (sym c.self.view_is) c.requires.cpu
-
-pub returns-clause-placed : goal.returns-clause-placed
-returns-clause-placed g c = c.control.ensures.placed
-
-pub returns-clause-active : goal.returns-clause-active
-returns-clause-active g c = c.control.ensures.active
+pub returns : goal.returns
+returns g c = record {
+  fit = fits g.F.CoreFit.exact (left g c).left.left c.requires.fit;
+  placed = (left g c).placed;
+  active = (left g c).up;
+  state = is g c;
+  same = (left g c).left.left.same;
+  online = (left g c).left.online;
+}

@@ -1,46 +1,41 @@
-use Rattle.std.proofs.Common.{ap, length, subst, sym, true, ◌<◌, ◌∙◌, ◌≡◌}
-use Rattle.tm_base.specs.declared.limits.TheConstants.{SCRIPT_TIME_LIMIT}
-use Rattle.play_rules.specs.Machines.{Same, SameOnline}
+use Rattle.std.proofs.Common.{ap, subst, sym, ◌∙◌, ◌≡◌}
+use Rattle.core_world.specs.Enabled.{MayEnter}
 use Rattle.core_world.specs.World.{World}
 use Rattle.step_play.specs.Rules.Seen.{inside, resting}
 use Rattle.step_play.specs.Rules.StepRules.{step_rules}
-use Rattle.core_machine.specs.Fitting.{CoreFits}
-use Rattle.core_machine.proofs.Calls.Fitting.{goes, in_run}
+use Rattle.step_play.proofs.Takes.{may_enter}
+use Rattle.core_machine.proofs.Calls.Fitting.{fits, in_run}
+use Rattle.core_machine.proofs.Calls.Insides.{enters}
+use Rattle.core_machine.proofs.Calls.InTime.{in_time}
+use Rattle.core_machine.proofs.Calls.Leaves.{LeavesOnline}
 use Rattle.core_machine.proofs.machine.CorePlayerPlayMachine.enter.Goals as goal
 
-pub enter-requires-clause-cpu : goal.enter-requires-clause-cpu
-enter-requires-clause-cpu g c =
-    subst (λ (w : World). c.args.cpu.0 < length w.cpus) (sym c.self.view_is) c.requires.cpu
+pub make-requires-clause-enabled : goal.make-requires-clause-enabled
+make-requires-clause-enabled g c =
+    subst (λ (w : World). MayEnter w c.args.cpu.0) (sym c.self.view_is)
+    (may_enter c.args.self.now c.args.cpu.0
+    (in_run g.F.CoreFit.exact resting c.args.self.now c.requires.fit) c.requires.online)
 
-pub enter-requires-clause-online : goal.enter-requires-clause-online
-enter-requires-clause-online g c =
-    subst (λ (w : World). step_rules.is_online w c.args.cpu.0 ≡ true) (sym c.self.view_is)
-    c.requires.online
+is : (g : _) (c : goal.After-make g) →
+    c.make.new.core ≡ step_rules.entered c.args.self.now c.args.cpu.0
+is g c =
+    c.make.ensures.made ∙ ap (λ (w : World). step_rules.entered w c.args.cpu.0) c.self.view_is
 
-pub enter-requires-clause-fit : goal.enter-requires-clause-fit
-enter-requires-clause-fit g c =
-    in_run g.F.CoreFit.exact resting c.self.inside.core
-    (subst (CoreFits g.F.CoreFit.exact resting) (sym c.self.view_is) c.requires.fit)
+left : (g : _) (c : goal.After-make g) →
+    LeavesOnline resting (inside c.args.cpu.0) c.args.self.now c.make.new.core
+left g c =
+    let w = c.args.self.now in
+    subst (LeavesOnline resting (inside c.args.cpu.0) w) (sym (is g c))
+    (enters w c.law_step.ensures c.args.cpu.0
+    (in_run g.F.CoreFit.exact resting w c.requires.fit) c.requires.online)
 
 pub invariant_of-self : goal.invariant_of-self
-invariant_of-self g c =
-    subst (λ t. t < SCRIPT_TIME_LIMIT) (sym c.enter.ensures.same.clock) c.self.invariant
+invariant_of-self g c = in_time c.self.view_is c.self.invariant (left g c).left
 
-pub returns-clause-fit : goal.returns-clause-fit
-returns-clause-fit g c =
-    goes g.F.CoreFit.exact resting (inside c.args.cpu.0) c.self.inside.core c.enter.new.core
-    c.enter.ensures.fit c.enter.ensures.play
-    (subst (CoreFits g.F.CoreFit.exact resting) (sym c.self.view_is) c.requires.fit)
-
-pub returns-clause-state : goal.returns-clause-state
-returns-clause-state g c =
-    c.enter.ensures.state ∙ ap (λ (w : World). step_rules.entered w c.args.cpu.0) c.self.view_is
-
-pub returns-clause-same : goal.returns-clause-same
-returns-clause-same g c =
-    subst (λ (w : World). Same step_rules w c.enter.new.core) c.self.view_is c.enter.ensures.same
-
-pub returns-clause-online : goal.returns-clause-online
-returns-clause-online g c =
-    subst (λ (w : World). SameOnline step_rules w c.enter.new.core) c.self.view_is
-    c.enter.ensures.online
+pub returns : goal.returns
+returns g c = record {
+  fit = fits g.F.CoreFit.exact (left g c).left c.requires.fit;
+  state = is g c;
+  same = (left g c).left.same;
+  online = (left g c).online;
+}

@@ -1,47 +1,72 @@
-use Rattle.std.proofs.Common.{Some, ap, length, subst, sym, ◌<◌, ◌∙◌, ◌≡◌}
-use Rattle.tm_base.specs.declared.limits.TheConstants.{SCRIPT_TIME_LIMIT}
-use Rattle.play_rules.specs.Machines.{Same}
-use Rattle.core_world.specs.World.{World}
+use Rattle.std.proofs.Common.{ap, subst, sym, true, ◌∙◌, ◌≡◌}
+use Rattle.core_world.specs.declared.step.Step.TheVariants as steps
+use Rattle.core_world.specs.Enabled.{MayHandOn, MayWake}
+use Rattle.core_world.specs.Steps.{stepped}
+use Rattle.core_world.specs.World.{World, cpu_of}
+use Rattle.step_play.specs.Rules.Lone.{IsLone}
 use Rattle.step_play.specs.Rules.Seen.{handing, resting}
-use Rattle.step_play.specs.Rules.StepRules.{step_rules}
-use Rattle.core_machine.specs.Fitting.{CoreFits}
-use Rattle.core_machine.proofs.Calls.Fitting.{goes, in_run}
+use Rattle.step_play.specs.Rules.StepRules.{made_active, step_rules}
+use Rattle.step_play.proofs.Lone.{run_lone}
+use Rattle.core_machine.proofs.Calls.Fitting.{fits, in_run}
+use Rattle.core_machine.proofs.Calls.InTime.{in_time}
+use Rattle.core_machine.proofs.Calls.Leaves.{Leaves}
+use Rattle.core_machine.proofs.Calls.Rests.{hands, may_hand, may_hand_over, stops_at}
 use Rattle.core_machine.proofs.machine.CorePlayerPlayMachine.hand_on.Goals as goal
 
-pub hand_on-requires-clause-cpu : goal.hand_on-requires-clause-cpu
-hand_on-requires-clause-cpu g c =
-    subst (λ (w : World). c.args.cpu.0 < length w.cpus) (sym c.self.view_is) c.requires.cpu
+pub make_active-requires-clause-wakes : goal.make_active-requires-clause-wakes
+make_active-requires-clause-wakes g c =
+    subst (λ (w : World). (cpu_of w c.args.to.0).idle ≡ true → MayWake w c.args.to.0)
+    (sym c.self.view_is)
+    (may_hand_over c.args.self.now c.args.cpu.0 c.args.to.0
+    (in_run g.F.CoreFit.exact (handing c.args.cpu.0) c.args.self.now c.requires.fit)
+    c.requires.successor)
 
-pub hand_on-requires-clause-to : goal.hand_on-requires-clause-to
-hand_on-requires-clause-to g c =
-    subst (λ (w : World). c.args.to.0 < length w.cpus) (sym c.self.view_is) c.requires.to
+pub make_active-requires-clause-lone : goal.make_active-requires-clause-lone
+make_active-requires-clause-lone g c =
+    subst (λ (w : World). IsLone w c.args.to.0) (sym c.self.view_is)
+    (run_lone (handing c.args.cpu.0) c.args.self.now c.args.to.0
+    (in_run g.F.CoreFit.exact (handing c.args.cpu.0) c.args.self.now c.requires.fit))
 
-pub hand_on-requires-clause-successor : goal.hand_on-requires-clause-successor
-hand_on-requires-clause-successor g c =
-    subst (λ (w : World). step_rules.successor w c.args.cpu.0 ≡ Some c.args.to.0) (sym
-    c.self.view_is) c.requires.successor
+pub make-requires-clause-enabled : goal.make-requires-clause-enabled
+make-requires-clause-enabled g c =
+    let w = c.args.self.now in
+    let made = c.make_active.ensures.made
+    ∙ ap (λ (w : World). made_active w c.args.to.0) c.self.view_is in
+    subst (λ (w : World). MayHandOn w c.args.cpu.0 c.args.to.0) (sym made)
+    (may_hand w c.args.cpu.0 c.args.to.0
+    (in_run g.F.CoreFit.exact (handing c.args.cpu.0) w c.requires.fit) c.requires.successor
+    c.law_step.ensures c.law_wakes.ensures
+    (stops_at c.self.inside.core w c.make_active.new.core c.args.to.0 c.self.view_is made
+    c.make_active.ensures.ends)
+    c.requires.cpu)
 
-pub hand_on-requires-clause-fit : goal.hand_on-requires-clause-fit
-hand_on-requires-clause-fit g c =
-    in_run g.F.CoreFit.exact (handing c.args.cpu.0) c.self.inside.core
-    (subst (CoreFits g.F.CoreFit.exact (handing c.args.cpu.0)) (sym c.self.view_is) c.requires.fit)
+is : (g : _) (c : goal.After-make g) →
+    c.make.new.core ≡ step_rules.handed_on c.args.self.now c.args.cpu.0 c.args.to.0
+is g c =
+    c.make.ensures.made
+    ∙ ap (λ (w : World). stepped w (steps.HandOn c.args.cpu c.args.to))
+    (c.make_active.ensures.made ∙ ap (λ (w : World). made_active w c.args.to.0) c.self.view_is)
+
+left : (g : _) (c : goal.After-make g) →
+    Leaves (handing c.args.cpu.0) resting c.args.self.now c.make.new.core
+left g c =
+    let w = c.args.self.now in
+    let made = c.make_active.ensures.made
+    ∙ ap (λ (w : World). made_active w c.args.to.0) c.self.view_is in
+    subst (Leaves (handing c.args.cpu.0) resting w) (sym (is g c))
+    (hands w c.args.cpu.0 c.args.to.0
+    (in_run g.F.CoreFit.exact (handing c.args.cpu.0) w c.requires.fit) c.requires.successor
+    c.law_step.ensures c.law_wakes.ensures
+    (stops_at c.self.inside.core w c.make_active.new.core c.args.to.0 c.self.view_is made
+    c.make_active.ensures.ends)
+    c.requires.cpu)
 
 pub invariant_of-self : goal.invariant_of-self
-invariant_of-self g c =
-    subst (λ t. t < SCRIPT_TIME_LIMIT) (sym c.hand_on.ensures.same.clock) c.self.invariant
+invariant_of-self g c = in_time c.self.view_is c.self.invariant (left g c)
 
-pub returns-clause-fit : goal.returns-clause-fit
-returns-clause-fit g c =
-    goes g.F.CoreFit.exact (handing c.args.cpu.0) resting c.self.inside.core c.hand_on.new.core
-    c.hand_on.ensures.fit c.hand_on.ensures.play
-    (subst (CoreFits g.F.CoreFit.exact (handing c.args.cpu.0)) (sym c.self.view_is) c.requires.fit)
-
-pub returns-clause-state : goal.returns-clause-state
-returns-clause-state g c =
-    c.hand_on.ensures.state ∙ ap (λ (w : World). step_rules.handed_on w c.args.cpu.0 c.args.to.0)
-    c.self.view_is
-
-pub returns-clause-same : goal.returns-clause-same
-returns-clause-same g c =
-    subst (λ (w : World). Same step_rules w c.hand_on.new.core) c.self.view_is
-    c.hand_on.ensures.same
+pub returns : goal.returns
+returns g c = record {
+  fit = fits g.F.CoreFit.exact (left g c) c.requires.fit;
+  state = is g c;
+  same = (left g c).same;
+}

@@ -1,51 +1,53 @@
-use Rattle.std.proofs.Common.{ap, false, length, subst, sym, true, ◌+◌, ◌<◌, ◌∙◌, ◌≡◌}
-use Rattle.tm_base.specs.declared.limits.TheConstants.{SCRIPT_TIME_LIMIT}
-use Rattle.play_rules.specs.Machines.{Same}
+use Rattle.std.proofs.Common.{ap, subst, sym, ◌+◌, ◌∙◌, ◌≡◌}
+use Rattle.std.proofs.lemmas.Bool.{lt-leb}
+use Rattle.play_rules.specs.Hierarchy.{first_event}
+use Rattle.core_world.specs.Enabled.{MayIdle}
 use Rattle.core_world.specs.World.{World}
-use Rattle.step_play.specs.Rules.Seen.{resting}
+use Rattle.step_play.specs.Rules.Lone.{IsLone}
+use Rattle.step_play.specs.Rules.Seen.{resting, state_of}
 use Rattle.step_play.specs.Rules.StepRules.{step_rules}
-use Rattle.core_machine.specs.Fitting.{CoreFits}
-use Rattle.core_machine.proofs.Calls.Fitting.{goes, in_run}
+use Rattle.step_play.proofs.Hotplug.{may_idle}
+use Rattle.step_play.proofs.Lone.{run_lone}
+use Rattle.core_machine.proofs.Calls.Fitting.{fits, in_run}
+use Rattle.core_machine.proofs.Calls.InTime.{in_time}
+use Rattle.core_machine.proofs.Calls.Leaves.{Leaves, at_end}
+use Rattle.core_machine.proofs.Calls.Rests.{idles}
 use Rattle.core_machine.proofs.machine.CorePlayerPlayMachine.idle.Goals as goal
 
-pub idle-requires-clause-cpu : goal.idle-requires-clause-cpu
-idle-requires-clause-cpu g c =
-    subst (λ (w : World). c.args.cpu.0 < length w.cpus) (sym c.self.view_is) c.requires.cpu
+pub idle-requires-clause-enabled : goal.idle-requires-clause-enabled
+idle-requires-clause-enabled g c =
+    let w = c.args.self.now in
+    subst (λ (w : World). MayIdle w c.args.cpu.0) (sym c.self.view_is)
+    (may_idle w (in_run g.F.CoreFit.exact resting w c.requires.fit) c.args.cpu.0 c.requires.cpu
+    c.requires.online c.requires.active
+    (lt-leb (first_event (state_of w) c.args.cpu.0) (w.clock + 1) c.requires.later))
 
-pub idle-requires-clause-online : goal.idle-requires-clause-online
-idle-requires-clause-online g c =
-    subst (λ (w : World). step_rules.is_online w c.args.cpu.0 ≡ true) (sym c.self.view_is)
-    c.requires.online
+pub idle-requires-clause-lone : goal.idle-requires-clause-lone
+idle-requires-clause-lone g c =
+    subst (λ (w : World). IsLone w c.args.cpu.0) (sym c.self.view_is)
+    (run_lone resting c.args.self.now c.args.cpu.0
+    (in_run g.F.CoreFit.exact resting c.args.self.now c.requires.fit))
 
-pub idle-requires-clause-active : goal.idle-requires-clause-active
-idle-requires-clause-active g c =
-    subst (λ (w : World). step_rules.is_idle w c.args.cpu.0 ≡ false) (sym c.self.view_is)
-    c.requires.active
+is : (g : _) (c : goal.After-idle g) →
+    c.idle.new.core ≡ step_rules.idled c.args.self.now c.args.cpu.0
+is g c =
+    c.idle.ensures.walked ∙ ap (λ (w : World). step_rules.idled w c.args.cpu.0) c.self.view_is
 
-pub idle-requires-clause-later : goal.idle-requires-clause-later
-idle-requires-clause-later g c =
-    subst (λ (w : World). step_rules.clock w + 1 < step_rules.first_event w c.args.cpu.0) (sym
-    c.self.view_is) c.requires.later
-
-pub idle-requires-clause-fit : goal.idle-requires-clause-fit
-idle-requires-clause-fit g c =
-    in_run g.F.CoreFit.exact resting c.self.inside.core
-    (subst (CoreFits g.F.CoreFit.exact resting) (sym c.self.view_is) c.requires.fit)
+left : (g : _) (c : goal.After-idle g) → Leaves resting resting c.args.self.now c.idle.new.core
+left g c =
+    let w = c.args.self.now in
+    let run = in_run g.F.CoreFit.exact resting w c.requires.fit in
+    at_end (Leaves resting resting w) c.args.cpu.0 _ c.idle.new.core (is g c) c.idle.ensures.ends
+    (idles c.law_step.ensures w c.args.cpu.0 run c.law_idles.ensures
+    (may_idle w run c.args.cpu.0 c.requires.cpu c.requires.online c.requires.active
+    (lt-leb (first_event (state_of w) c.args.cpu.0) (w.clock + 1) c.requires.later)))
 
 pub invariant_of-self : goal.invariant_of-self
-invariant_of-self g c =
-    subst (λ t. t < SCRIPT_TIME_LIMIT) (sym c.idle.ensures.same.clock) c.self.invariant
+invariant_of-self g c = in_time c.self.view_is c.self.invariant (left g c)
 
-pub returns-clause-fit : goal.returns-clause-fit
-returns-clause-fit g c =
-    goes g.F.CoreFit.exact resting resting c.self.inside.core c.idle.new.core
-    c.idle.ensures.fit c.idle.ensures.play
-    (subst (CoreFits g.F.CoreFit.exact resting) (sym c.self.view_is) c.requires.fit)
-
-pub returns-clause-state : goal.returns-clause-state
-returns-clause-state g c =
-    c.idle.ensures.state ∙ ap (λ (w : World). step_rules.idled w c.args.cpu.0) c.self.view_is
-
-pub returns-clause-same : goal.returns-clause-same
-returns-clause-same g c =
-    subst (λ (w : World). Same step_rules w c.idle.new.core) c.self.view_is c.idle.ensures.same
+pub returns : goal.returns
+returns g c = record {
+  fit = fits g.F.CoreFit.exact (left g c) c.requires.fit;
+  state = is g c;
+  same = (left g c).same;
+}

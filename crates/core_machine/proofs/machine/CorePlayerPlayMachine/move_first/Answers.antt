@@ -1,4 +1,4 @@
-use Rattle.std.proofs.Common.{false, length, subst, sym, true, ◌<◌, ◌≡◌}
+use Rattle.std.proofs.Common.{false, length, refl, subst, sym, true, ◌<◌, ◌≡◌}
 use Rattle.std.specs.Prelude.{option_map}
 use Rattle.std.specs.Result.{IfOk, OnErr, OnOk}
 use Rattle.play_rules.specs.Machines.{Same, SameFlags, after_move}
@@ -77,5 +77,5 @@ move_first-requires-clause-other g c = c.requires.other
 
 pub invariant_of-self : goal.invariant_of-self
 invariant_of-self g c =
-    stays_in_time c.move_first.result c.self.inside.core c.move_first.new.core c.self.invariant
+    stays_in_time c.move_first.result c.move_first.new.core refl c.self.invariant
     c.move_first.ensures.same c.move_first.ensures.err

@@ -1,56 +1,46 @@
-use Rattle.std.proofs.Common.{ap, length, subst, sym, true, ◌<◌, ◌∙◌, ◌≡◌}
-use Rattle.tm_base.specs.declared.limits.TheConstants.{SCRIPT_TIME_LIMIT}
-use Rattle.play_rules.specs.Machines.{Same, SameOnline}
+use Rattle.std.proofs.Common.{ap, subst, sym, ◌∙◌, ◌≡◌}
+use Rattle.core_world.specs.Enabled.{MayTake}
 use Rattle.core_world.specs.World.{World}
 use Rattle.step_play.specs.Rules.Seen.{inside, serving}
 use Rattle.step_play.specs.Rules.StepRules.{step_rules}
-use Rattle.core_machine.specs.Fitting.{CoreFits}
-use Rattle.core_machine.proofs.Calls.Fitting.{goes, in_run}
+use Rattle.step_play.proofs.Takes.{may_take}
+use Rattle.core_machine.proofs.Calls.Fitting.{fits, in_run}
+use Rattle.core_machine.proofs.Calls.Insides.{takes}
+use Rattle.core_machine.proofs.Calls.InTime.{in_time}
+use Rattle.core_machine.proofs.Calls.Leaves.{LeavesOnline}
 use Rattle.core_machine.proofs.machine.CorePlayerPlayMachine.take.Goals as goal
 
-pub take-requires-clause-cpu : goal.take-requires-clause-cpu
-take-requires-clause-cpu g c =
-    subst (λ (w : World). c.args.cpu.0 < length w.cpus) (sym c.self.view_is) c.requires.cpu
+pub make-requires-clause-enabled : goal.make-requires-clause-enabled
+make-requires-clause-enabled g c =
+    subst (λ (w : World). MayTake w c.args.other.0 c.args.cpu.0) (sym c.self.view_is)
+    (may_take c.args.self.now c.args.cpu.0 c.args.other.0
+    (in_run g.F.CoreFit.exact (inside c.args.cpu.0) c.args.self.now c.requires.fit)
+    c.requires.placed c.requires.cpu c.requires.takes)
 
-pub take-requires-clause-other : goal.take-requires-clause-other
-take-requires-clause-other g c =
-    subst (λ (w : World). c.args.other.0 < length w.cpus) (sym c.self.view_is) c.requires.other
+is : (g : _) (c : goal.After-make g) →
+    c.make.new.core ≡ step_rules.taken c.args.self.now c.args.cpu.0 c.args.other.0
+is g c =
+    c.make.ensures.made
+    ∙ ap (λ (w : World). step_rules.taken w c.args.cpu.0 c.args.other.0) c.self.view_is
 
-pub take-requires-clause-placed : goal.take-requires-clause-placed
-take-requires-clause-placed g c =
-    subst (λ (w : World). step_rules.is_placed w c.args.cpu.0 ≡ true) (sym c.self.view_is)
-    c.requires.placed
-
-pub take-requires-clause-takes : goal.take-requires-clause-takes
-take-requires-clause-takes g c =
-    subst (λ (w : World). step_rules.takes w c.args.cpu.0 c.args.other.0 ≡ true) (sym
-    c.self.view_is) c.requires.takes
-
-pub take-requires-clause-fit : goal.take-requires-clause-fit
-take-requires-clause-fit g c =
-    in_run g.F.CoreFit.exact (inside c.args.cpu.0) c.self.inside.core
-    (subst (CoreFits g.F.CoreFit.exact (inside c.args.cpu.0)) (sym c.self.view_is) c.requires.fit)
+left : (g : _) (c : goal.After-make g) →
+    LeavesOnline (inside c.args.cpu.0) (serving c.args.cpu.0 c.args.other.0) c.args.self.now
+    c.make.new.core
+left g c =
+    let w = c.args.self.now in
+    subst (LeavesOnline (inside c.args.cpu.0) (serving c.args.cpu.0 c.args.other.0) w)
+    (sym (is g c))
+    (takes w c.law_step.ensures c.args.cpu.0 c.args.other.0
+    (in_run g.F.CoreFit.exact (inside c.args.cpu.0) w c.requires.fit) c.requires.placed
+    c.requires.cpu c.requires.takes)
 
 pub invariant_of-self : goal.invariant_of-self
-invariant_of-self g c =
-    subst (λ t. t < SCRIPT_TIME_LIMIT) (sym c.take.ensures.same.clock) c.self.invariant
+invariant_of-self g c = in_time c.self.view_is c.self.invariant (left g c).left
 
-pub returns-clause-fit : goal.returns-clause-fit
-returns-clause-fit g c =
-    goes g.F.CoreFit.exact (inside c.args.cpu.0) (serving c.args.cpu.0 c.args.other.0) c.self.inside.core c.take.new.core
-    c.take.ensures.fit c.take.ensures.play
-    (subst (CoreFits g.F.CoreFit.exact (inside c.args.cpu.0)) (sym c.self.view_is) c.requires.fit)
-
-pub returns-clause-state : goal.returns-clause-state
-returns-clause-state g c =
-    c.take.ensures.state ∙ ap (λ (w : World). step_rules.taken w c.args.cpu.0 c.args.other.0)
-    c.self.view_is
-
-pub returns-clause-same : goal.returns-clause-same
-returns-clause-same g c =
-    subst (λ (w : World). Same step_rules w c.take.new.core) c.self.view_is c.take.ensures.same
-
-pub returns-clause-online : goal.returns-clause-online
-returns-clause-online g c =
-    subst (λ (w : World). SameOnline step_rules w c.take.new.core) c.self.view_is
-    c.take.ensures.online
+pub returns : goal.returns
+returns g c = record {
+  fit = fits g.F.CoreFit.exact (left g c).left c.requires.fit;
+  state = is g c;
+  same = (left g c).left.same;
+  online = (left g c).online;
+}
