@@ -1,0 +1,5 @@
+mod Bases
+mod Paths
+mod Results
+mod Starts
+mod Worlds

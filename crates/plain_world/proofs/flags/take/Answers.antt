@@ -1,0 +1,9 @@
+use Rattle.plain_world.proofs.Worlds.{status_made}
+use Rattle.std.proofs.Common.{Some}
+use Rattle.plain_world.proofs.flags.take.Goals as goal
+
+pub returns : goal.returns
+returns c =
+    status_made c.args.world.now c.set.new.self c.args.cpu.0 _ _
+    (λ i. record (c.status-status.ensures i) { mark = Some c.args.by.0 })
+    c.set.ensures
