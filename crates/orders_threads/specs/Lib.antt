@@ -1,0 +1,5 @@
+pub mod Enabling
+pub mod Names
+pub mod Threads
+pub mod Leading
+pub mod Orders
