@@ -54,6 +54,10 @@ lived false idle jiffies groups k = was_offline jiffies k
 lived true true jiffies groups k = was_asleep jiffies k
 lived true false jiffies groups k = was_awake jiffies groups k
 
+-- TIME: a sleep is over
+abbrev pub slept : CpuCounts → CpuCounts
+slept k = record k { sleep = 0 }
+
 -- WAKEUPS: one more with this cause
 abbrev pub woken_for : Cause → CpuCounts → CpuCounts
 woken_for causes.Pinned k = record k { pinned = more k.pinned 1 }

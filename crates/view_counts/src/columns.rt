@@ -21,14 +21,14 @@ pub const LABEL: u8 = 3;
 pub const SPACE: u8 = b' ';
 
 /// What stands above the columns.
-fn heading() -> &'static [u8]
+pub(crate) fn heading() -> &'static [u8]
     ensures { result.now ≡ heading }
 {
     b"CPU    awake   asleep  offline   asleep  longest  wakeups   pinned   global   others   defer.  nothing  ran for   ran by migrator\n     jiffies  jiffies  jiffies  percent  jiffies\n"
 }
 
 /// A text at the right end of so many columns.
-fn push_right(text: &mut Vec<u8>, width: u8, piece: &[u8]) -> Result<(), NoMemory>
+pub(crate) fn push_right(text: &mut Vec<u8>, width: u8, piece: &[u8]) -> Result<(), NoMemory>
     ensures { OnOk result (text.new.items ≡ text.old.items ++ right width piece.now) }
 {
     let gap = usize::from(width).saturating_sub(piece.len());
@@ -60,7 +60,7 @@ fn whole(counts: CpuCounts) -> u64
 }
 
 /// Of a hundred parts of that time so many asleep.
-fn share(counts: CpuCounts) -> u64
+pub(crate) fn share(counts: CpuCounts) -> u64
     ensures { result ≡ share counts }
 {
     let whole = whole(counts);

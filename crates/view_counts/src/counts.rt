@@ -2,7 +2,7 @@
 
 ghost use Rattle.std.specs.Prelude.{◌≡◌, IfOk, length, replicate};
 ghost use Rattle.view_counts.specs.Counts.{at_cpu, lived, ran_for, run_by, was_awake};
-ghost use Rattle.view_counts.specs.Counts.{no_counts, was_asleep, was_offline, woke, woken_for};
+ghost use Rattle.view_counts.specs.Counts.{no_counts, slept, was_asleep, was_offline, woke, woken_for};
 
 use std::alloc::Global;
 use tm_base::{CpuId, NoMemory};
@@ -161,6 +161,19 @@ pub fn lived_at(
     let at = usize::from(cpu.0);
     if at < cpus.len() {
         cpus[at] = lived(cpus[at], online, idle, jiffies, groups);
+    }
+}
+
+/// The sleep of a CPU of a list is over.
+pub fn slept_at(cpus: &mut Vec<CpuCounts>, cpu: CpuId)
+    ensures { cpus.new.items ≡ at_cpu cpu.0 slept cpus.old.items }
+{
+    let at = usize::from(cpu.0);
+    if at < cpus.len() {
+        cpus[at] = CpuCounts {
+            sleep: 0,
+            ..cpus[at]
+        };
     }
 }
 

@@ -10,7 +10,7 @@ use text_words::{push_bytes, push_number};
 use tm_base::{Jiffy, NoMemory};
 
 /// A word with its number.
-fn push_field(text: &mut Vec<u8>, word: &[u8], n: u64) -> Result<(), NoMemory>
+pub(crate) fn push_field(text: &mut Vec<u8>, word: &[u8], n: u64) -> Result<(), NoMemory>
     ensures { OnOk result (text.new.items ≡ text.old.items ++ field_text word.now n) }
 {
     push_bytes(text, word)?;
