@@ -1,6 +1,6 @@
 -- bars, arrows and labels of a chart, as SVG: one unit is a column of the chart; a row has three
-use Rattle.std.specs.Prelude.{ℕ, zero, suc, ◌+◌, ◌-◌, ◌*◌, ◌==◌, nat_lt, List, [], ◌++◌, codes}
-use Rattle.std.specs.Prelude.{if◌then◌else◌}
+use Rattle.std.specs.Prelude.{ℕ, zero, suc, ◌+◌, ◌-◌, ◌*◌, ◌==◌, nat_lt, Bool, true, false, List, []}
+use Rattle.std.specs.Prelude.{◌++◌, codes, if◌then◌else◌}
 use Rattle.tm_report.specs.Words.{time_word}
 use Rattle.view_chart.specs.declared.drawing.TheConstants.{ROW}
 use Rattle.view_chart.specs.declared.marks.Fold.{Fold}
@@ -41,13 +41,22 @@ bar_line w s =
 unfoldable pub span_text : Window → Span → List ℕ
 span_text w s = if nat_lt s.from.column s.to.column then bar_line w s else []
 
--- the way of an arrow: from the row of its home to that of its runner, and into the row from above
--- where they are one
-unfoldable pub arrow_way : Window → Arrow → List ℕ
-arrow_way w a =
+-- the way of an arrow of class w, whose home and runner are one: into their row from above
+abbrev pub way_in : Window → Arrow → List ℕ
+way_in w a =
+    two (codes "<path class=\"w\" d=\"M") a.point.column (codes " ") (row_of w a.home.0)
+    ++ codes "m0-1.3v.8"
+
+-- the way of one of class r, which has a dot at its tail: from the row of its home to that of its
+-- runner
+abbrev pub way_across : Window → Arrow → List ℕ
+way_across w a =
     two (codes "<path class=\"r\" d=\"M") a.point.column (codes " ") (row_of w a.home.0)
-    ++ (if a.home.0 == a.runner.0 then codes "m0-1.3v.8"
-    else piece_with_number (codes "V") (row_of w a.runner.0))
+    ++ piece_with_number (codes "V") (row_of w a.runner.0)
+
+-- the way of an arrow
+unfoldable pub arrow_way : Window → Arrow → List ℕ
+arrow_way w a = if a.home.0 == a.runner.0 then way_in w a else way_across w a
 
 -- the title of an arrow
 unfoldable pub arrow_title : Arrow → List ℕ
@@ -81,3 +90,20 @@ row_label top cpu =
 abbrev pub labels_below : Window → (rows : ℕ) → List ℕ
 labels_below w zero = []
 labels_below w (suc n) = labels_below w n ++ row_label (ROW * n) (w.first.0 + n)
+
+-- what notes are, if there are some
+abbrev pub legend_of_notes : (covers : Bool) → List ℕ
+legend_of_notes true =
+    codes "<text y=\"2.5\">a number below a line: the CPU that answers for the sleeper</text>"
+legend_of_notes false = []
+
+-- WHAT THE MARKS MEAN, so many units from the top
+unfoldable pub legend_text : (top : ℕ) → (covers : Bool) → List ℕ
+legend_text top covers =
+    piece_with_number (codes "<g transform=\"translate(0 ") top
+    ++ ((codes ")\"><path class=\"a\" d=\"M0 0h3\"/><text x=\"4\" y=\".5\">awake</text>"
+    ++ codes "<path class=\"s\" d=\"M10 0h3\"/><text x=\"14\" y=\".5\">asleep</text>"
+    ++ codes "<path class=\"o\" d=\"M20 0h3\"/><text x=\"24\" y=\".5\">offline</text>"
+    ++ codes "<path class=\"r\" d=\"M31-.8V.8\"/><text x=\"32\" y=\".5\">from a timer's home"
+    ++ codes " (dot) to the CPU that ran it</text>")
+    ++ (legend_of_notes covers ++ codes "</g>\n"))

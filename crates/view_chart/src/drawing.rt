@@ -1,11 +1,12 @@
 //! The picture of a chart, as SVG: bars for spans, arrows for expiries, and notes of who answers.
 //! One unit is a column of the chart; a row has three.
 
-ghost use Rattle.std.specs.Prelude.{◌≡◌, ◌++◌, ◌+◌, ◌*◌, ◌≤◌, ◌^◌, IfOk, OnOk};
+ghost use Rattle.std.specs.Prelude.{◌≡◌, ◌++◌, ◌+◌, ◌*◌, ◌≤◌, ◌^◌, IfOk, OnOk, max};
 ghost use Rattle.std.specs.List.{flat_map};
 ghost use Rattle.view_chart.specs.Drawing.{arrow_text, arrow_way, bar_text, fold_text};
 ghost use Rattle.view_chart.specs.Drawing.{arrow_title, bar_line, labels_below, row_label, row_of};
-ghost use Rattle.view_chart.specs.Drawing.{span_text, state_text, tick_text};
+ghost use Rattle.view_chart.specs.Drawing.{legend_of_notes, legend_text, span_text, state_text};
+ghost use Rattle.view_chart.specs.Drawing.{tick_text, way_across, way_in};
 ghost use Rattle.view_chart.specs.Pictures.{body_text, picture_text};
 
 use crate::heading::{push_size, push_title};
@@ -91,24 +92,45 @@ fn push_span(text: &mut Vec<u8>, window: &Window, span: Span) -> Result<(), NoMe
     Ok(())
 }
 
-/// The way of an arrow: from the row of its home to that of its runner, and into the row from above
-/// where they are one.
-#[tactic(auto, using(crate::proofs::Joined::onto), unfolding(crate::specs::Drawing::arrow_way))]
-fn push_way(text: &mut Vec<u8>, window: &Window, arrow: Arrow) -> Result<(), NoMemory>
-    ensures { OnOk result (text.new.items ≡ text.old.items ++ arrow_way window.now arrow) }
+/// The way of an arrow whose home and runner are one: into their row from above.
+#[tactic(auto, using(crate::proofs::Joined::onto))]
+fn push_way_in(text: &mut Vec<u8>, window: &Window, arrow: Arrow) -> Result<(), NoMemory>
+    ensures { OnOk result (text.new.items ≡ text.old.items ++ way_in window.now arrow) }
 {
-    let home = row_of(window, arrow.home);
+    push_two(
+        text,
+        b"<path class=\"w\" d=\"M",
+        arrow.point.column,
+        b" ",
+        row_of(window, arrow.home),
+    )?;
+    push_words(text, b"m0-1.3v.8")
+}
+
+/// The way of one that has a dot at its tail: from the row of its home to that of its runner.
+#[tactic(auto, using(crate::proofs::Joined::onto))]
+fn push_way_across(text: &mut Vec<u8>, window: &Window, arrow: Arrow) -> Result<(), NoMemory>
+    ensures { OnOk result (text.new.items ≡ text.old.items ++ way_across window.now arrow) }
+{
     push_two(
         text,
         b"<path class=\"r\" d=\"M",
         arrow.point.column,
         b" ",
-        home,
+        row_of(window, arrow.home),
     )?;
-    if arrow.home.0 == arrow.runner.0 {
-        return push_words(text, b"m0-1.3v.8");
-    }
     push_after(text, b"V", row_of(window, arrow.runner))
+}
+
+/// The way of an arrow.
+#[tactic(auto, unfolding(crate::specs::Drawing::arrow_way))]
+fn push_way(text: &mut Vec<u8>, window: &Window, arrow: Arrow) -> Result<(), NoMemory>
+    ensures { OnOk result (text.new.items ≡ text.old.items ++ arrow_way window.now arrow) }
+{
+    if arrow.home.0 == arrow.runner.0 {
+        return push_way_in(text, window, arrow);
+    }
+    push_way_across(text, window, arrow)
 }
 
 /// The title of an arrow.
@@ -251,19 +273,51 @@ fn push_folds(text: &mut Vec<u8>, folds: &[Fold]) -> Result<(), NoMemory>
     Ok(())
 }
 
-/// The width of a picture of so many columns, with its margins.
+/// How many units the legend is wide.
+pub const LEGEND: u64 = 65;
+
+/// The width of a picture of so many columns, with its margins; it has room for the legend.
 fn width_of(columns: u64) -> u64
     requires { columns ≤ 2 ^ 48 }
-    ensures { result ≡ columns + 14 }
+    ensures { result ≡ max columns LEGEND + 14 }
 {
-    columns + 14
+    columns.max(LEGEND) + 14
 }
 
 /// The height of a picture of so many rows, with its margins.
 fn full_height(rows: u32) -> u64
-    ensures { result ≡ ROW * rows + 6 }
+    ensures { result ≡ ROW * rows + 9 }
 {
-    height_of(rows) + 6
+    height_of(rows) + 9
+}
+
+/// What notes are, if there are some.
+fn legend_of_notes(covers: bool) -> &'static [u8]
+    ensures { result.now ≡ legend_of_notes covers }
+{
+    if covers {
+        return b"<text y=\"2.5\">a number below a line: the CPU that answers for the sleeper</text>";
+    }
+    b""
+}
+
+/// What the marks mean, so many units from the top.
+#[tactic(auto, using(crate::proofs::Joined::onto), unfolding(crate::specs::Drawing::legend_text))]
+fn push_legend(text: &mut Vec<u8>, top: u64, covers: bool) -> Result<(), NoMemory>
+    ensures { OnOk result (text.new.items ≡ text.old.items ++ legend_text top covers) }
+{
+    push_after(text, b"<g transform=\"translate(0 ", top)?;
+    push_words(
+        text,
+        b")\"><path class=\"a\" d=\"M0 0h3\"/><text x=\"4\" y=\".5\">awake</text>\
+          <path class=\"s\" d=\"M10 0h3\"/><text x=\"14\" y=\".5\">asleep</text>\
+          <path class=\"o\" d=\"M20 0h3\"/><text x=\"24\" y=\".5\">offline</text>\
+          <path class=\"r\" d=\"M31-.8V.8\"/><text x=\"32\" y=\".5\">from a timer's home \
+          (dot) to the CPU that ran it</text>",
+    )?;
+    push_words(text, legend_of_notes(covers))?;
+    push_words(text, b"</g>\n")?;
+    Ok(())
 }
 
 /// Bars, arrows, and notes, if these are chosen.
@@ -316,6 +370,7 @@ pub(crate) fn draw(alloc: Global, window: &Window, chart: &Chart) -> Result<Vec<
     push_labels(&mut text, window, chart.rows)?;
     push_ticks(&mut text, &chart.ticks)?;
     push_folds(&mut text, &chart.folds)?;
+    push_legend(&mut text, height_of(chart.rows), chart.covers)?;
     push_body(
         &mut text,
         window,

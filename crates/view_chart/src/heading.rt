@@ -61,50 +61,54 @@ fn push_summary(text: &mut Vec<u8>, covers: bool) -> Result<(), NoMemory>
     )?;
     push_words(
         text,
-        b"An arrow goes from a timer's home to the CPU that ran it.",
+        b"An arrow goes from a timer's home, with a dot, to the CPU that ran it.",
     )?;
     push_numbers(text, covers)?;
     push_words(text, b"</desc>\n")?;
     Ok(())
 }
 
-/// How bars and arrows look.
+/// How bars and arrows look, on a light page and on a dark one.
 #[tactic(auto, using(crate::proofs::Joined::onto), unfolding(crate::specs::Heading::style_text))]
 fn push_style(text: &mut Vec<u8>) -> Result<(), NoMemory>
     ensures { OnOk result (text.new.items ≡ text.old.items ++ style_text) }
 {
     push_words(
         text,
-        b"<style>text{font:1.4px sans-serif}.c{text-anchor:end}",
+        b"<style>text{font:1.4px sans-serif;fill:#222}.c{text-anchor:end}",
     )?;
     push_words(
         text,
-        b"path{fill:none;stroke:#333}.a{stroke-width:.8;stroke:#999}.s{stroke-width:.15}",
+        b"path{fill:none;stroke:#444}.a{stroke-width:.8;stroke:#999}.s{stroke-width:.15}",
     )?;
     push_words(
         text,
-        b".o{stroke-width:.15;stroke-dasharray:.2 .6}.n text{font-size:1.2px}",
+        b".o{stroke-width:.15;stroke-dasharray:.2 .6}.n text{font-size:1.2px}\
+          .r,.w{stroke-width:.2;stroke:#000;marker-end:url(#h)}.r{marker-start:url(#d)}",
     )?;
     push_words(
         text,
-        b".r{stroke-width:.2;stroke:#000;marker-end:url(#h)}</style>\n",
+        b".h{fill:#000;stroke:none}@media(prefers-color-scheme:dark){text{fill:#ddd}\
+          path{stroke:#aaa}.a{stroke:#777}.r,.w{stroke:#fff}.h{fill:#fff}}</style>\n",
     )?;
     Ok(())
 }
 
-/// The head of an arrow.
+/// The head of an arrow, and the dot at its tail.
 #[tactic(auto, using(crate::proofs::Joined::onto), unfolding(crate::specs::Heading::head_of_arrow))]
 fn push_head(text: &mut Vec<u8>) -> Result<(), NoMemory>
     ensures { OnOk result (text.new.items ≡ text.old.items ++ head_of_arrow) }
 {
     push_words(
         text,
-        b"<marker id=\"h\" orient=\"auto\" refX=\"3\" refY=\"2\" ",
+        b"<marker id=\"h\" orient=\"auto\" refX=\"3\" refY=\"2\" \
+          markerWidth=\"4\" markerHeight=\"4\">",
     )?;
-    push_words(text, b"markerWidth=\"4\" markerHeight=\"4\">")?;
+    push_words(text, b"<path class=\"h\" d=\"M0 0L4 2L0 4z\"/></marker>\n")?;
     push_words(
         text,
-        b"<path style=\"fill:#000;stroke:none\" d=\"M0 0L4 2L0 4z\"/></marker>\n",
+        b"<marker id=\"d\" refX=\"2\" refY=\"2\" markerWidth=\"4\" markerHeight=\"4\">\
+          <circle class=\"h\" cx=\"2\" cy=\"2\" r=\"1.6\"/></marker>\n",
     )?;
     Ok(())
 }
