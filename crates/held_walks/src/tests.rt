@@ -2,6 +2,7 @@ use core_world::Step;
 use held_gates::{Core, HeldCall, Place, is_settled, run_steps};
 use std::alloc::Global;
 use std::sync::Wait;
+use std::sync::atomic::{AtomicU64, Ordering};
 use std::test::Fail;
 use std::thread::Threads;
 use tm_base::{Class, CpuId, CpuSet, FreeGate, Gate, NoMemory, Point, TimerId};
@@ -14,10 +15,15 @@ struct ByTurns {
     held: Turn,
     through: Turn,
     call: HeldCall,
+    // how often CPU 9 came to join the top
+    rose: AtomicU64,
 }
 
 impl Gate for ByTurns {
     fn at(&self, cpu: CpuId, level: u8, point: Point) {
+        if (cpu, level, point) == (CpuId(9), 1, Point::BeforeUp) {
+            self.rose.fetch_add(1, Ordering::SeqCst);
+        }
         self.call.come_to(Place { cpu, level, point });
     }
 }
@@ -88,22 +94,22 @@ fn ran<G: Watch + Sync, R: Threads + Wait + Sync>(
 }
 
 // CPU 9 goes idle, and CPU 8 too where it is to wake. Then CPU 8 makes its turn and is held there,
-// until CPU 9 has woken. Whether the two met so, both calls were answered Ok, each CPU is as its
-// turn leaves it, and the groups and answers are right.
-fn wakes_past<R: Threads + Wait + Sync>(
+// until CPU 9 has woken. How often CPU 9 came to join the top, where the two met so, both calls were
+// answered Ok, each CPU is as its turn leaves it, and the groups and answers are right.
+fn rises_past<R: Threads + Wait + Sync>(
     rt: &R,
     alloc: Global,
     held: Turn,
     level: u8,
     point: Point,
-) -> Result<bool, NoMemory> {
+) -> Result<Option<u64>, NoMemory> {
     let wakes = held == Turn::Wake(CpuId(8));
     let mut before = turns_of(alloc, &[Turn::Rest(CpuId(9))])?;
     if wakes {
         before.turns.push(Turn::Rest(CpuId(8)))?;
     }
     let Some(start) = ran(rt, alloc, machine(alloc)?, &before, &FreeGate)? else {
-        return Ok(false);
+        return Ok(None);
     };
     let through = Turn::Wake(CpuId(9));
     let gate = ByTurns {
@@ -114,20 +120,47 @@ fn wakes_past<R: Threads + Wait + Sync>(
             level,
             point,
         }),
+        rose: AtomicU64::new(0),
     };
     let plan = turns_of(alloc, &[held, through])?;
     let Some(Ran { core, tally }) = ran(rt, alloc, start.core, &plan, &gate)? else {
-        return Ok(false);
+        return Ok(None);
     };
     let answered = (tally.rested, tally.woken) == if wakes { (0, 2) } else { (1, 1) };
     let stand = is_active(&core, CpuId(8)) == wakes && is_active(&core, CpuId(9));
-    Ok(gate.call.met() && answered && stand && agrees(&core))
+    let right = gate.call.met() && answered && stand && agrees(&core);
+    Ok(if right { Some(gate.rose.load(Ordering::SeqCst)) } else { None })
+}
+
+// Whether the two met so, and all of that was right.
+fn wakes_past<R: Threads + Wait + Sync>(
+    rt: &R,
+    alloc: Global,
+    held: Turn,
+    level: u8,
+    point: Point,
+) -> Result<bool, NoMemory> {
+    Ok(rises_past(rt, alloc, held, level, point)?.is_some())
 }
 
 // CPU 8 has joined its leaf, and not yet the top.
 #[test]
 fn a_cpu_wakes_while_another_one_is_held_between_leaf_and_top(rt: HostRuntime) -> Result<(), Fail> {
     assert!(rt; wakes_past(&rt, rt.alloc(), Turn::Wake(CpuId(8)), 1, Point::BeforeUp)?);
+    Ok(())
+}
+
+// A gate stands before its exchange. CPU 8 is held before it joins its leaf: so CPU 9 is the first
+// one of the leaf that is awake, and goes on to the top. And CPU 8 is held before it joins the top:
+// so the leaf has one that is awake, and CPU 9 goes no further. (`tmigr_active_up`: a walk goes on
+// where the group was without a migrator.)
+#[test]
+fn a_cpu_that_is_held_before_it_joins_a_group_has_not_joined_it(rt: HostRuntime) -> Result<(), Fail> {
+    let wake = Turn::Wake(CpuId(8));
+    for (level, rose) in [(0, 1), (1, 0)] {
+        let found = rises_past(&rt, rt.alloc(), wake, level, Point::BeforeUp)?;
+        assert_eq!(&rt; found, Some(rose), "level {level}");
+    }
     Ok(())
 }
 
