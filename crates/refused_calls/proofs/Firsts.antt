@@ -21,7 +21,7 @@ use Rattle.remote_expiry.specs.shared_calls.Arms.{NotArmed}
 pub stays_its : {A : Type 0} (o : World) (jobs : ℕ → JobCall → JobReply) (p q : PassView)
     (before after : List Ran) (r : Result A OpFault)
     → MatchResult r (λ done. (interrupt_fault p ≡ None) × HasInterrupted o jobs p q before after)
-    (NotInterrupted p q before after) → q.cpu ≡ p.cpu
+    (NotInterrupted o jobs p q before after) → q.cpu ≡ p.cpu
 stays_its o jobs p q before after (Ok done) m = m.1.gained.cpu
 stays_its o jobs p q before after (Err faults.NoMemory) m = m.1.gained.cpu
 stays_its o jobs p q before after (Err faults.Offline) m = ap (λ (x : PassView). x.cpu) m.pass_is

@@ -1,13 +1,14 @@
 -- a timer is armed again, on the CPU that ran its job
 use Rattle.std.proofs.Common.{◌≡◌, ℕ, zero, suc, ◌+◌, ◌<◌, List, [], ◌∷◌, ◌++◌, Some, None, Bool}
-use Rattle.std.proofs.Common.{true, false}
+use Rattle.std.proofs.Common.{true, false, Result, Ok, Err}
 use Rattle.std.proofs.Common.{refl, sym, ap, ◌∙◌, subst, arith, append-nil, length, cond, eqb}
 use Rattle.std.proofs.Common.{eq-eqb}
-use Rattle.std.specs.Prelude.{slice_get}
+use Rattle.std.specs.Prelude.{MatchResult, slice_get}
 use Rattle.std.proofs.lemmas.List.{length_push}
 use Rattle.std.proofs.lemmas.List.Elements.{Contains-push}
 use Rattle.std.proofs.lemmas.Option.{none-some, same_Some}
 use Rattle.atomic_table.specs.Seated.{TableId}
+use Rattle.tm_base.specs.declared.faults.NoMemory.{NoMemory}
 use Rattle.tm_base.specs.declared.faults.OpFault.{OpFault}
 use Rattle.tm_base.specs.declared.faults.OpFault.TheVariants as faults
 use Rattle.tm_base.specs.declared.names.Class.{Class}
@@ -17,6 +18,7 @@ use Rattle.cpu_bases.specs.declared.entry.Act.TheVariants as acts
 use Rattle.cpu_bases.specs.declared.entry.Entry.{Entry}
 use Rattle.cpu_bases.specs.CpuBases.{entry_of, item_queued}
 use Rattle.core_world.specs.World.{World}
+use Rattle.job_table.specs.declared.jobs.JobReply.{JobReply}
 use Rattle.job_table.specs.declared.jobs.JobReply.TheVariants as replies
 use Rattle.walk_inactive.specs.shared_rule.declared.parts.Did.{Did}
 use Rattle.walk_inactive.specs.shared_rule.declared.parts.Deed.TheVariants as deeds
@@ -33,10 +35,12 @@ use Rattle.shared_acts.specs.shared_timers.Entries.{pair_changed}
 use Rattle.shared_acts.specs.shared_timers.Exchanging.{timer_word}
 use Rattle.shared_calls.specs.Arms.{HasArmed, IsQueued, MetBy, NotArmed, timer_arming_of, met}
 use Rattle.shared_calls.specs.Arms.{roomy}
+use Rattle.shared_acts.specs.declared.runs.RanReply.{RanReply}
 use Rattle.shared_acts.specs.declared.runs.RanReply.TheVariants as ran
 use Rattle.shared_acts.specs.Pieces.{PassGains, HeldInside, Piece}
 use Rattle.shared_acts.proofs.Gaining.{begins_then, known_more, no_piece, none_gained, piece_of}
 use Rattle.remote_expiry.specs.Running.{HasAnsweredJob, holder_told}
+use Rattle.remote_expiry.specs.Stopping.{AsksAgain}
 
 -- a pass inside its interrupt, and the part of its CPU as it met it
 module _ (table : TableId) (o : World) (now : ℕ) (now_is : now ≡ o.clock) (held : HeldPass)
@@ -274,3 +278,16 @@ module _ (table : TableId) (o : World) (i : Item) (held : HeldPass)
     told = λ place low. refl;
     arms = refl;
   }
+
+-- a job that asks for its timer to be armed again, whatever came of it
+pub asked_again : (table : TableId) (o : World) (i : Item) (held after : HeldPass)
+    (reply : JobReply) (class : Class) (delay : ℕ) (result : Result RanReply NoMemory)
+    → reply ≡ replies.Again class delay
+    → MatchResult result (HasAnsweredJob table o i (replies.Again class delay) held after)
+    (λ e. Piece table held after [] [] 0)
+    → MatchResult result (HasAnsweredJob table o i reply held after)
+    (λ e. Piece table held after [] [] 0 × AsksAgain reply)
+asked_again table o i held after reply class delay (Ok told) is answered =
+    subst (λ (r : JobReply). HasAnsweredJob table o i r held after told) (sym is) answered
+asked_again table o i held after reply class delay (Err e) is piece =
+    (piece, subst AsksAgain (sym is) tt)

@@ -23,10 +23,13 @@ use Rattle.shared_acts.specs.Following.{Follows}
 use Rattle.shared_acts.specs.Interrupts.{HasTicked, own_walk}
 use Rattle.shared_acts.specs.Looks.{LooksFrom}
 use Rattle.shared_acts.specs.Pieces.{PassGains, Piece, deeds_of}
-use Rattle.shared_acts.specs.Tries.{AtWork, BreaksOffPass, HasClosed}
+use Rattle.shared_acts.specs.Tries.{AtWork, HasClosed}
 use Rattle.remote_expiry.specs.Interrupts.{HasGained, IsPassAtRest, NotInterrupted, Tells}
 use Rattle.remote_expiry.specs.Interrupts.{interrupt_fault, interrupt_fault_of}
+use Rattle.remote_expiry.specs.Order.{RunsOwnFirst}
+use Rattle.remote_expiry.specs.Stopping.{IsStopped}
 use Rattle.remote_expiry.specs.Trying.{HasEntered, HasWorked, IsExpiryDone, IsEnterable, IsRefusedIn}
+use Rattle.remote_expiry.specs.Trying.{StopsPass}
 use Rattle.shared_acts.proofs.Gaining as gaining
 use Rattle.shared_acts.proofs.Served.{still_at_work}
 
@@ -56,17 +59,18 @@ refused_by true walks f e = by_test (nat_le MOST_MADE walks) refl
     by_test false is =
         absurd (none-some f (sym (ap (λ t. if t then Some (faults.Spent walks) else None) is) ∙ e))
 
-pub refused : (p : PassView) (runs : List Ran) (f : OpFault) → interrupt_fault p ≡ Some f
-    → NotInterrupted p p runs runs f
-refused p runs f e = ⊎_elim
-    (λ is. subst (NotInterrupted p p runs runs) (sym is) (record {
+pub refused : (o : World) (jobs : ℕ → JobCall → JobReply) (p : PassView) (runs : List Ran)
+    (f : OpFault) → interrupt_fault p ≡ Some f
+    → NotInterrupted o jobs p p runs runs f
+refused o jobs p runs f e = ⊎_elim
+    (λ is. subst (NotInterrupted o jobs p p runs runs) (sym is) (record {
       fault_is = e ∙ ap (λ x. Some x) is;
       journal = p.journal;
       known = gaining.begins p.journal;
       pass_is = refl;
       runs_are = refl;
     }))
-    (λ is. subst (NotInterrupted p p runs runs) (sym is) (record {
+    (λ is. subst (NotInterrupted o jobs p p runs runs) (sym is) (record {
       fault_is = e ∙ ap (λ x. Some x) is;
       journal = p.journal;
       known = gaining.begins p.journal;
@@ -199,6 +203,11 @@ interrupted table o jobs held inside mid after first last may entered own worked
           looked =
               subst (λ n. LooksFrom o n worked.receipts (level_count_of o.tree) 0
               (deeds_of worked.did)) cpu worked.looked;
+          ordered =
+              subst₂ (λ n k. RunsOwnFirst o n k worked.receipts worked.did) cpu
+              (entered_with table o held inside mid entered worked.receipts worked.did worked.walks
+              worked.works.piece)
+              (worked.ordered worked.works.piece.before worked.works.piece.had);
         },
       );
     }
@@ -206,13 +215,14 @@ interrupted table o jobs held inside mid after first last may entered own worked
 -- WANT OF MEMORY
 pub stopped : (table : TableId) (o : World) (jobs : ℕ → JobCall → JobReply)
     (held inside mid after : HeldPass) (first last : List Ran) → IsEnterable table o held
-    → HasEntered table o held inside → BreaksOffPass table 1536 inside mid first last
+    → (entered : HasEntered table o held inside) → entered.before.cpu ≡ held.cpu
+    → StopsPass table o jobs 1536 inside mid first last
     → HasClosed table mid after
     → Tells table o jobs held after first last (Err faults.NoMemory)
-stopped table o jobs held inside mid after first last may entered off closed =
+stopped table o jobs held inside mid after first last may entered own off closed =
     let same = gaining.same_pass table held may.pass entered.before may.seated entered.had in
     let rest = subst (IsPassAtRest o) same may.rest in
-    let breaks = off.breaks in
+    let cpu : inside.cpu ≡ entered.before.cpu = entered.cpu ∙ sym own in
     record {
       old = entered.before;
       new = closed.later;
@@ -221,14 +231,17 @@ stopped table o jobs held inside mid after first last may entered off closed =
       told = (
         entered.free,
         record {
-          receipts = breaks.receipts;
-          did = breaks.did;
-          runs = breaks.told;
+          receipts = off.receipts;
+          did = off.did;
+          runs = off.told;
           gained =
-              gained table o held inside mid after entered rest breaks.receipts breaks.did off.walks
-              breaks.piece off.few closed;
-          runs_are = breaks.runs_are;
-          some = breaks.some;
+              gained table o held inside mid after entered rest off.receipts off.did off.walks
+              off.piece off.few closed;
+          runs_are = off.runs_are;
+          stopped =
+              subst₂ (λ n k. IsStopped o jobs n off.did k off.receipts off.told) cpu
+              (entered_with table o held inside mid entered off.receipts off.did off.walks off.piece)
+              (off.stopped off.did (λ d has. has));
         },
       );
     }
@@ -244,7 +257,7 @@ told table o jobs held inside after first last (Ok done) may entered own (mid, w
     interrupted table o jobs held inside mid after first last may entered own worked closed
 told table o jobs held inside after first last (Err e) may entered own (is, (mid, off, closed)) =
     subst (λ f. Tells table o jobs held after first last (Err f)) (sym is)
-    (stopped table o jobs held inside mid after first last may entered off closed)
+    (stopped table o jobs held inside mid after first last may entered own off closed)
 
 -- REFUSED
 pub not_interrupted : (table : TableId) (o : World) (jobs : ℕ → JobCall → JobReply)
@@ -255,21 +268,21 @@ not_interrupted table o jobs held after runs f is = record {
   new = is.before;
   had = is.had;
   has = ap (λ (z : HeldPass). z.seated) is.same ∙ is.had;
-  told = refused is.before runs f is.fault_is;
+  told = refused o jobs is.before runs f is.fault_is;
 }
 
 -- after work a walk is left
 pub work_left : (table : TableId) (o : World) (jobs : ℕ → JobCall → JobReply)
     (held mid : HeldPass) (first last : List Ran) (result : Result (Unit {0}) NoMemory)
     → MatchResult result (λ done. HasWorked table o jobs held mid first last)
-    (λ e. BreaksOffPass table 1536 held mid first last) → AtWork table o [] 1537 held
+    (λ e. StopsPass table o jobs 1536 held mid first last) → AtWork table o [] 1537 held
     → AtWork table o [] 1 mid
 work_left table o jobs held mid first last (Ok done) worked was =
     still_at_work table o [] 1537 1 held mid worked.receipts worked.did worked.walks was
     worked.works.piece (let few = worked.few in omega (arith, few))
 work_left table o jobs held mid first last (Err e) off was =
-    still_at_work table o [] 1537 1 held mid off.breaks.receipts off.breaks.did off.walks was
-    off.breaks.piece (let few = off.few in omega (arith, few))
+    still_at_work table o [] 1537 1 held mid off.receipts off.did off.walks was
+    off.piece (let few = off.few in omega (arith, few))
 
 -- what holds of a result that is Ok, or an error
 pub if_ok : {T E : Type 0} (r : Result T E) (P : T → Type 0) (Q : E → Type 0) (x : T) → r ≡ Ok x

@@ -18,13 +18,15 @@ use Rattle.walk_inactive.specs.shared_rule.declared.parts.Receipt.{Receipt}
 use Rattle.walk_inactive.specs.shared_rule.Passes.{HeldPass, IsPassIn}
 use Rattle.shared_acts.specs.declared.runs.Ran.{Ran}
 use Rattle.shared_acts.specs.Following.{Follows}
-use Rattle.shared_acts.specs.Pieces.{Piece, RanAll, RanSome}
+use Rattle.shared_acts.specs.Pieces.{Piece}
 use Rattle.shared_acts.proofs.Follow.{told_wider}
 use Rattle.shared_acts.proofs.Gaining.{no_piece, piece_then, receipts_then}
 use Rattle.remote_expiry.specs.Running.{ArmsAgain, HasAnsweredJob, HasRunJob, HasToldNone, HasToldRun, IsRunFromBase}
-use Rattle.remote_expiry.specs.Running.{IsRan, call_to}
-use Rattle.remote_expiry.proofs.Running.{AllOf, SomeOf, all_more, all_run, all_wider, some_more}
-use Rattle.remote_expiry.proofs.Running.{some_run, some_skip}
+use Rattle.remote_expiry.specs.Order.{AreArmings}
+use Rattle.remote_expiry.specs.Running.{IsRan, RanAllArming, RanInPart, call_to}
+use Rattle.remote_expiry.specs.Stopping.{AsksAgain, FollowsInPart}
+use Rattle.remote_expiry.proofs.Running.{AllOf, PartOf, all_more, all_run, all_wider, arming_alone}
+use Rattle.remote_expiry.proofs.Running.{armings_behind, part_more, part_run, part_skip, part_wider}
 
 -- A JOB whose reply was done was run
 pub was_run : (table : TableId) (o : World) (jobs : ℕ → JobCall → JobReply) (home : ℕ) (i : Item)
@@ -51,7 +53,8 @@ pub record RunsSoFar (table : TableId) (o : World) (jobs : ℕ → JobCall → J
   pub told : List Ran
   pub piece : Piece table held now receipts did 0
   pub runs_are : runs ≡ before ++ told
-  pub some : SomeOf home items told
+  pub armed : AreArmings receipts
+  pub part : PartOf o jobs home held.cpu (length piece.before.receipts) did items told receipts
   pub all : OnOk ended
       (AllOf o jobs home held.cpu (length piece.before.receipts) did items told receipts)
   pub few : length told ≤ length items
@@ -61,14 +64,15 @@ module _ (table : TableId) (o : World) (jobs : ℕ → JobCall → JobReply) (ho
   -- none yet
   pub no_runs : (p : PassView) → IsPassIn table held p → (done : Unit)
       → RunsSoFar table o jobs home [] held held before before (Ok done)
-  unfolding SomeOf AllOf
+  unfolding PartOf AllOf
   no_runs p is done = record {
     receipts = [];
     did = [];
     told = [];
     piece = no_piece table held p is;
     runs_are = sym (append-nil before);
-    some = refl;
+    armed = tt;
+    part = (refl, refl);
     all = (refl, refl);
     few = omega arith;
   }
@@ -80,32 +84,48 @@ module _ (table : TableId) (o : World) (jobs : ℕ → JobCall → JobReply) (ho
     abbrev first : ℕ
     first = length h.piece.before.receipts
 
-    -- one more that is told, after an answer so far
-    all_told : (ended : Result Unit NoMemory) (x : Ran) (r : HasRunJob table o jobs home i now next x)
-        → OnOk ended (AllOf o jobs home held.cpu first h.did items h.told h.receipts)
-        → OnOk ended (AllOf o jobs home held.cpu first (h.did ++ r.did) (items ++ i ∷ [])
-        (h.told ++ x ∷ []) (h.receipts ++ r.receipts))
-    all_told (Err e) x r was = tt
-    all_told (Ok done) x r was =
-        let wide = h.did ++ r.did in
-        let count = length r.piece.before.receipts in
-        let is : IsRan o jobs home held.cpu count r.did i x =
-        subst (λ n. IsRan o jobs home n count r.did i x) h.piece.cpu r.is in
-        let arms =
-        subst (λ n. ArmsAgain o.clock n i (jobs i.job (call_to o.clock n i)) x.reply r.receipts)
-        h.piece.cpu r.arms in
-        let grown : count ≡ first + length h.receipts =
-        receipts_then table held now next h.receipts r.receipts h.did r.did 0 0 h.piece r.piece in
-        all_more o jobs home held.cpu first wide items i h.told x h.receipts r.receipts
-        (all_wider o jobs home held.cpu first h.did wide items h.told h.receipts
-        (Contains-append_left h.did r.did) was)
-        (record {
-          is = is.is;
-          told = λ place low.
-              told_wider o i.id place r.did wide (jobs i.job (call_to o.clock held.cpu i)) x.reply
-              (Contains-append_right h.did r.did) (is.told place (omega (arith, low, grown)));
-        })
-        arms
+    -- one more that is told, by what was seen up to it
+    module _ (x : Ran) (r : HasRunJob table o jobs home i now next x) where
+      abbrev wide : List Did
+      wide = h.did ++ r.did
+
+      new_run : IsRan o jobs home held.cpu first wide i x
+      new_run =
+          let count = length r.piece.before.receipts in
+          let is : IsRan o jobs home held.cpu count r.did i x =
+          subst (λ n. IsRan o jobs home n count r.did i x) h.piece.cpu r.is in
+          let grown : count ≡ first + length h.receipts =
+          receipts_then table held now next h.receipts r.receipts h.did r.did 0 0 h.piece r.piece in
+          record {
+            is = is.is;
+            told = λ place low.
+                told_wider o i.id place r.did wide (jobs i.job (call_to o.clock held.cpu i)) x.reply
+                (Contains-append_right h.did r.did) (is.told place (omega (arith, low, grown)));
+          }
+
+      new_arms : ArmsAgain o.clock held.cpu i (jobs i.job (call_to o.clock held.cpu i)) x.reply
+          r.receipts
+      new_arms =
+          subst (λ n. ArmsAgain o.clock n i (jobs i.job (call_to o.clock n i)) x.reply r.receipts)
+          h.piece.cpu r.arms
+
+      part_told : PartOf o jobs home held.cpu first wide (items ++ i ∷ []) (h.told ++ x ∷ [])
+          (h.receipts ++ r.receipts)
+      part_told =
+          part_more o jobs home held.cpu first wide items i h.told x h.receipts r.receipts
+          (part_wider o jobs home held.cpu first h.did wide items h.told h.receipts
+          (Contains-append_left h.did r.did) h.part) new_run new_arms
+
+      -- after an answer so far
+      all_told : (ended : Result Unit NoMemory)
+          → OnOk ended (AllOf o jobs home held.cpu first h.did items h.told h.receipts)
+          → OnOk ended (AllOf o jobs home held.cpu first wide (items ++ i ∷ []) (h.told ++ x ∷ [])
+          (h.receipts ++ r.receipts))
+      all_told (Err e) was = tt
+      all_told (Ok done) was =
+          all_more o jobs home held.cpu first wide items i h.told x h.receipts r.receipts
+          (all_wider o jobs home held.cpu first h.did wide items h.told h.receipts
+          (Contains-append_left h.did r.did) was) new_run new_arms
 
     one_told : (x : Ran) (more : List Ran) → HasRunJob table o jobs home i now next x
         → more ≡ runs ++ x ∷ []
@@ -119,22 +139,34 @@ module _ (table : TableId) (o : World) (jobs : ℕ → JobCall → JobReply) (ho
       runs_are =
           is
           ∙ (ap (λ (xs : List Ran). xs ++ x ∷ []) h.runs_are ∙ append_assoc before h.told (x ∷ []));
-      some = some_more home items i h.told x h.some r.is.is;
-      all = all_told ended x r h.all;
+      armed =
+          armings_behind h.receipts r.receipts h.armed
+          (arming_alone o.clock now.cpu i (jobs i.job (call_to o.clock now.cpu i)) x.reply r.receipts
+          r.arms);
+      part = part_told x r;
+      all = all_told x r ended h.all;
       few = (let a = length_push h.told x in let b = length_push items i in let c = h.few in
           omega (arith, a, b, c));
     }
 
     -- and one that isn't
     none_told : (e : NoMemory) (same : List Ran) → Piece table now next [] [] 0 → same ≡ runs
+        → AsksAgain (jobs i.job (call_to o.clock now.cpu i))
         → RunsSoFar table o jobs home (items ++ i ∷ []) held next before same (Err e)
-    none_told e same piece is = record {
+    none_told e same piece is asked = record {
       receipts = h.receipts ++ [];
       did = h.did ++ [];
       told = h.told;
       piece = piece_then table held now next h.receipts [] h.did [] 0 0 h.piece piece;
       runs_are = is ∙ h.runs_are;
-      some = some_skip home items i h.told h.some;
+      armed = armings_behind h.receipts [] h.armed tt;
+      part =
+          subst (PartOf o jobs home held.cpu first (h.did ++ []) (items ++ i ∷ []) h.told)
+          (sym (append-nil h.receipts))
+          (part_skip o jobs home held.cpu first (h.did ++ []) items i h.told h.receipts
+          (part_wider o jobs home held.cpu first h.did (h.did ++ []) items h.told h.receipts
+          (Contains-append_left h.did []) h.part)
+          (subst (λ n. AsksAgain (jobs i.job (call_to o.clock n i))) h.piece.cpu asked));
       all = tt;
       few = (let b = length_push items i in let c = h.few in omega (arith, b, c));
     }
@@ -144,7 +176,7 @@ module _ (table : TableId) (o : World) (jobs : ℕ → JobCall → JobReply) (ho
       (ended told new : Result Unit NoMemory)
       → RunsSoFar table o jobs home items held now before runs ended
       → MatchResult told (λ done. HasToldRun table o jobs home i now next runs later)
-      (λ e. HasToldNone table now next runs later)
+      (λ e. HasToldNone table o jobs i now next runs later)
       → new ≡ result_and ended told → more ≡ items ++ i ∷ []
       → RunsSoFar table o jobs home more held next before later new
   runs_more items more i now next runs later ended told new h has is grown =
@@ -156,17 +188,17 @@ module _ (table : TableId) (o : World) (jobs : ℕ → JobCall → JobReply) (ho
       both : (ended told : Result Unit NoMemory)
           → RunsSoFar table o jobs home items held now before runs ended
           → MatchResult told (λ done. HasToldRun table o jobs home i now next runs later)
-          (λ e. HasToldNone table now next runs later)
+          (λ e. HasToldNone table o jobs i now next runs later)
           → RunsSoFar table o jobs home (items ++ i ∷ []) held next before later
           (result_and ended told)
       both (Ok a) (Ok b) h has =
           one_told items i now next runs (Ok a) h has.run later has.has has.runs_are
       both (Ok a) (Err e) h has =
-          none_told items i now next runs (Ok a) h e later has.piece has.runs_are
+          none_told items i now next runs (Ok a) h e later has.piece has.runs_are has.asked
       both (Err e) (Ok b) h has =
           one_told items i now next runs (Err e) h has.run later has.has has.runs_are
       both (Err e) (Err f) h has =
-          none_told items i now next runs (Err e) h e later has.piece has.runs_are
+          none_told items i now next runs (Err e) h e later has.piece has.runs_are has.asked
 
   -- there is room for the next
   pub has_room : (items : List Item) (index capacity : ℕ) (now : HeldPass) (runs : List Ran)
@@ -182,25 +214,32 @@ module _ (table : TableId) (o : World) (jobs : ℕ → JobCall → JobReply) (ho
   pub all_runs : (items : List Item) (after : HeldPass) (runs : List Ran)
       (ended : Result Unit NoMemory)
       → RunsSoFar table o jobs home items held after before runs ended
-      → MatchResult ended (λ done. RanAll table o jobs home items held after before runs)
-      (λ e. RanSome table home items held after before runs)
-  unfolding AllOf Follows
-  all_runs items after runs (Ok done) h = record {
-    receipts = h.receipts;
-    did = h.did;
-    told = h.told;
-    piece = h.piece;
-    runs_are = h.runs_are;
-    follows = λ class outs place last hands.
-        all_run o jobs home held.cpu class (length h.piece.before.receipts) h.did place items outs []
-        h.receipts h.told [] (omega (arith, last)) hands h.all refl;
-  }
+      → MatchResult ended (λ done. RanAllArming table o jobs home items held after before runs)
+      (λ e. RanInPart table o jobs home items held after before runs)
+  unfolding AllOf Follows PartOf FollowsInPart
+  all_runs items after runs (Ok done) h = (
+    record {
+      receipts = h.receipts;
+      did = h.did;
+      told = h.told;
+      piece = h.piece;
+      runs_are = h.runs_are;
+      follows = λ class outs place last hands.
+          all_run o jobs home held.cpu class (length h.piece.before.receipts) h.did place items outs []
+          h.receipts h.told [] (omega (arith, last)) hands h.all refl;
+    },
+    h.armed,
+  )
   all_runs items after runs (Err e) h = record {
     receipts = h.receipts;
     did = h.did;
     told = h.told;
     piece = h.piece;
     runs_are = h.runs_are;
-    some = λ class outs hands.
-        some_run o jobs home held.cpu class items outs h.receipts h.told hands h.some;
+    armed = h.armed;
+    follows = λ seen wider class outs place last hands.
+        part_run o jobs home held.cpu class (length h.piece.before.receipts) seen place items outs []
+        h.receipts h.told [] (omega (arith, last)) hands
+        (part_wider o jobs home held.cpu (length h.piece.before.receipts) h.did seen items h.told
+        h.receipts wider h.part) refl;
   }

@@ -19,20 +19,24 @@ use Rattle.walk_inactive.specs.shared_rule.declared.parts.Deed.{Deed}
 use Rattle.walk_inactive.specs.shared_rule.declared.parts.Deed.TheVariants as deeds
 use Rattle.walk_inactive.specs.shared_rule.declared.parts.Did.{Did}
 use Rattle.walk_inactive.specs.shared_rule.declared.parts.Receipt.{Receipt}
-use Rattle.walk_inactive.specs.shared_rule.Passes.{HeldPass}
+use Rattle.walk_inactive.specs.shared_rule.declared.parts.PassView.{PassView}
+use Rattle.walk_inactive.specs.shared_rule.Passes.{HeldPass, IsPassIn}
 use Rattle.shared_acts.specs.declared.runs.Ran.{Ran}
 use Rattle.shared_acts.specs.Looks.{HasLookEnded, HasLookedAtGroup, IsClosed, IsLeftAlone, IsServed, IsTried}
 use Rattle.shared_acts.specs.Looks.{LooksFrom, saw}
 use Rattle.shared_acts.specs.Pieces.{Piece, Works, deeds_of}
-use Rattle.shared_acts.specs.Tries.{AtWork, BreaksOffPass}
+use Rattle.shared_acts.specs.Tries.{AtWork}
 use Rattle.remote_expiry.specs.Trying.{BreaksRound, HasClimbedLevels, HasRounds, SeesEnd, SeesNothing}
-use Rattle.remote_expiry.specs.Trying.{TriesOne}
+use Rattle.remote_expiry.specs.Trying.{BeginsFrom, StopsPass, TriesOne}
 use Rattle.walk_rules.specs.Hierarchy.{side}
 use Rattle.walk_inactive.specs.shared_cpus.Pairs.{cpu_place}
 use Rattle.shared_acts.specs.shared_looks.Sights.{LooksBy, slot_looks, state_look}
-use Rattle.shared_acts.proofs.Served.{deeds_behind, idle_work, still_at_work, works_break}
+use Rattle.shared_acts.proofs.Gaining.{receipts_then, same_pass}
+use Rattle.shared_acts.proofs.Served.{deeds_behind, idle_work, still_at_work}
 use Rattle.shared_acts.proofs.Served.{works_then}
+use Rattle.remote_expiry.proofs.Begun.{both_begin}
 use Rattle.remote_expiry.proofs.Counted.{count_below, few_below, more_below}
+use Rattle.remote_expiry.proofs.Stopped.{stops_after}
 
 -- WITHIN: what one list contains another does
 abbrev pub Within : (rs more : List Receipt) → Type 0
@@ -122,6 +126,17 @@ tried_before o looker d did later receipts more tried =
     (tried_among o looker d (deeds_of later) (deeds_of did) [] more (receipts ++ more)
     (within_right receipts more) tried)
 
+-- a piece begins with no fewer receipts than the one before it
+pub later_piece : (table : TableId) (held mid after : HeldPass) (receipts more : List Receipt)
+    (did later : List Did) (walks others : ℕ) (was : Piece table held mid receipts did walks)
+    (then : Piece table mid after more later others) (p : PassView) → IsPassIn table held p
+    → length p.receipts ≤ length then.before.receipts
+later_piece table held mid after receipts more did later walks others was then p seated =
+    let behind = receipts_then table held mid after receipts more did later walks others was then in
+    let first = ap (λ (x : PassView). length x.receipts)
+    (same_pass table held p was.before seated was.had) in
+    omega (arith, behind, first)
+
 -- THE ROUNDS so far: so many CPUs were tried, each once
 pub record RoundsSoFar (table : TableId) (o : World) (jobs : ℕ → JobCall → JobReply) (turns : ℕ)
     (tried : cpus.Cpus) (held now : HeldPass) (first runs : List Ran) : Type 0 where
@@ -132,6 +147,7 @@ pub record RoundsSoFar (table : TableId) (o : World) (jobs : ℕ → JobCall →
   pub counted : turns ≤ count_below tried (length o.cpus)
   pub works : Works table o jobs held now first runs walks receipts did
   pub each : (d : ℕ) → cpus.Contains tried d → IsTried o held.cpu (deeds_of did) receipts d
+  pub begins : BeginsFrom table held did
 
 pub no_round : (table : TableId) (o : World) (jobs : ℕ → JobCall → JobReply) (tried : cpus.Cpus)
     (held : HeldPass) (first : List Ran) → tried ≡ empty → Piece table held held [] [] 0
@@ -147,6 +163,7 @@ no_round table o jobs tried held first none piece = record {
       let on : contains tried d ≡ true = has in
       let off : contains tried d ≡ false = ap (λ s. contains s d) none ∙ contains-empty nat_cmp d in
       absurd (true_false (sym on ∙ off));
+  begins = λ p is. tt;
 }
   where
     true_false : true ≡ false → ⊥
@@ -197,6 +214,11 @@ one_round table o jobs turns next old new held now after first runs last was one
           (λ there.
           tried_behind o held.cpu d was.did one.did was.receipts one.receipts (was.each d there))
           (new_or_old old one.due d (subst (λ s. cpus.Contains s d) one.added has));
+      begins = λ p seated.
+          both_begin (length p.receipts) (length one.works.piece.before.receipts) was.did one.did
+          (later_piece table held now after was.receipts one.receipts was.did one.did was.walks
+          one.walks was.works.piece one.works.piece p seated) (was.begins p seated)
+          (one.begins one.works.piece.before one.works.piece.had);
     }
 
 -- as many as there are CPUs, at most
@@ -222,13 +244,13 @@ round_work table o jobs turns tried held now first runs was many at_work =
 pub rounds_off : (table : TableId) (o : World) (jobs : ℕ → JobCall → JobReply) (turns : ℕ)
     (tried : cpus.Cpus) (held now after : HeldPass) (first runs last : List Ran)
     → RoundsSoFar table o jobs turns tried held now first runs → length o.cpus ≤ 512
-    → BreaksRound table o tried now after runs last → BreaksOffPass table 512 held after first last
+    → BreaksRound table o jobs tried now after runs last → StopsPass table o jobs 512 held after first last
 rounds_off table o jobs turns tried held now after first runs last was many round =
     let d = round.due in
     let n = length o.cpus in
     let one_more = more_below tried d n (not_in tried d round.untried) round.of_run in
     let most = few_below (insert tried d) n in
-    works_break table o jobs held now after first runs last was.walks 1 512 was.receipts was.did
+    stops_after table o jobs held now after first runs last was.walks 1 512 was.receipts was.did
     was.works round.off
     (let a = was.few in let b = was.counted in omega (arith, a, b, one_more, most, many))
 
@@ -271,6 +293,11 @@ rounds_up table o jobs turns level tried held now after first runs last was many
                 subst (λ l. IsTried o held.cpu (deeds_of was.did) l d)
                 (sym (append-nil was.receipts)) (was.each d has);
           };
+      begins = λ p seated.
+          both_begin (length p.receipts) (length sees.piece.before.receipts) was.did sees.did
+          (later_piece table held now after was.receipts [] was.did sees.did was.walks 0
+          was.works.piece sees.piece p seated) (was.begins p seated)
+          (sees.begins sees.piece.before sees.piece.had);
     }
 
 -- a look that ends is so behind other deeds
@@ -316,6 +343,11 @@ rounds_done table o jobs turns level tried held now after first runs last was ma
           (ended_behind o held.cpu level (deeds_of was.did) (deeds_of sees.did)
           (subst (λ n. HasLookEnded o n level (deeds_of sees.did)) same ended))))
           sees.end;
+      begins = λ p seated.
+          both_begin (length p.receipts) (length sees.piece.before.receipts) was.did sees.did
+          (later_piece table held now after was.receipts [] was.did sees.did was.walks 0
+          was.works.piece sees.piece p seated) (was.begins p seated)
+          (sees.begins sees.piece.before sees.piece.had);
     }
 
 -- LOOKS among more: deeds before them, and more receipts
@@ -375,6 +407,7 @@ pub record LevelsSoFar (table : TableId) (o : World) (jobs : ℕ → JobCall →
   pub looks : (rs : List Receipt) (rest : List Deed) → Within receipts rs
       → LooksFrom o held.cpu rs (level_count_of o.tree - level) level rest
       → LooksFrom o held.cpu rs (level_count_of o.tree) 0 (deeds_of did ++ rest)
+  pub begins : BeginsFrom table held did
 
 pub no_level : (table : TableId) (o : World) (jobs : ℕ → JobCall → JobReply) (held : HeldPass)
     (first : List Ran) → Piece table held held [] [] 0
@@ -387,6 +420,7 @@ no_level table o jobs held first piece = record {
   works = idle_work table o jobs held held [] 0 first first refl piece;
   looks = λ rs rest within h.
       subst (λ n. LooksFrom o held.cpu rs n 0 rest) {x = level_count_of o.tree - 0} (omega arith) h;
+  begins = λ p is. tt;
 }
 
 one_lower : (levels level : ℕ) → level < levels → levels - level ≡ suc (levels - suc level)
@@ -429,6 +463,12 @@ one_level table o jobs level next held now after first runs last was low rounds 
           (was.looks rs (deeds_of rounds.did ++ rest) less
           (subst (λ n. LooksFrom o held.cpu rs n level (deeds_of rounds.did ++ rest))
           (sym (one_lower (level_count_of o.tree) level low)) from_here));
+      begins = λ p seated.
+          both_begin (length p.receipts) (length rounds.works.piece.before.receipts) was.did
+          rounds.did
+          (later_piece table held now after was.receipts rounds.receipts was.did rounds.did was.walks
+          rounds.walks was.works.piece rounds.works.piece p seated) (was.begins p seated)
+          (rounds.begins rounds.works.piece.before rounds.works.piece.had);
     }
 
 -- the look has come to its end at a level
@@ -462,6 +502,12 @@ last_level table o jobs level held now after first runs last was low three round
           (was.looks rs (deeds_of rounds.did) (within_left was.receipts rounds.receipts)
           (subst (λ n. LooksFrom o held.cpu rs n level (deeds_of rounds.did))
           (sym (one_lower (level_count_of o.tree) level low)) here));
+      begins = λ p seated.
+          both_begin (length p.receipts) (length rounds.works.piece.before.receipts) was.did
+          rounds.did
+          (later_piece table held now after was.receipts rounds.receipts was.did rounds.did was.walks
+          rounds.walks was.works.piece rounds.works.piece p seated) (was.begins p seated)
+          (rounds.begins rounds.works.piece.before rounds.works.piece.had);
     }
 
 -- a level that the tree has, and the number of levels
@@ -500,10 +546,10 @@ level_work table o jobs level held now first runs was low three at_work =
 pub level_off : (table : TableId) (o : World) (jobs : ℕ → JobCall → JobReply) (level : ℕ)
     (held now after : HeldPass) (first runs last : List Ran)
     → LevelsSoFar table o jobs level held now first runs → level < level_count_of o.tree
-    → level_count_of o.tree ≤ 3 → BreaksOffPass table 512 now after runs last
-    → BreaksOffPass table 1536 held after first last
+    → level_count_of o.tree ≤ 3 → StopsPass table o jobs 512 now after runs last
+    → StopsPass table o jobs 1536 held after first last
 level_off table o jobs level held now after first runs last was low three off =
-    works_break table o jobs held now after first runs last was.walks 512 1536 was.receipts was.did
+    stops_after table o jobs held now after first runs last was.walks 512 1536 was.receipts was.did
     was.works off (let a = was.few in omega (arith, a, low, three))
 
 -- or goes up to the top
@@ -526,4 +572,5 @@ all_levels table o jobs level held now first runs was is three =
           (was.looks was.receipts [] (λ r has. has)
           (subst (λ n. LooksFrom o held.cpu was.receipts n level []) {x = zero} (omega (arith, is))
           none));
+      begins = was.begins;
     }

@@ -2,6 +2,8 @@ pub mod Gaining
 mod Again
 mod Running
 mod JobLoop
+mod Stopped
+mod Begun
 mod Counted
 mod Carried
 mod Levels
@@ -9,3 +11,4 @@ mod Closing
 mod Rounds
 mod Worked
 mod Interrupted
+pub mod Drains

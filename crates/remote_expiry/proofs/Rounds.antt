@@ -24,11 +24,14 @@ use Rattle.shared_acts.specs.declared.runs.Ran.{Ran}
 use Rattle.shared_acts.specs.Interrupts.{walks_by}
 use Rattle.shared_acts.specs.Looks.{IsTried, saw}
 use Rattle.shared_acts.specs.Pieces.{Piece, deeds_of}
-use Rattle.shared_acts.specs.Tries.{BreaksOffPass, HasTried}
-use Rattle.remote_expiry.specs.Trying.{BreaksRound, SeesEnd, SeesNothing, TriesOne}
+use Rattle.shared_acts.specs.Tries.{HasTried}
+use Rattle.remote_expiry.specs.Trying.{BreaksRound, SeesEnd, SeesNothing, StopsPass, TriesOne}
 use Rattle.shared_acts.proofs.Gaining as gaining
-use Rattle.shared_acts.proofs.Served.{idle_work, works_break, works_then}
+use Rattle.shared_acts.proofs.Served.{idle_work, works_then}
+use Rattle.remote_expiry.specs.Order.{BeginsWhere}
+use Rattle.remote_expiry.proofs.Begun.{loads_begin}
 use Rattle.remote_expiry.proofs.Levels.{tried_before}
+use Rattle.remote_expiry.proofs.Stopped.{stops_after}
 
 -- loads as deeds, done when the pass had so many receipts
 abbrev pub loads : (held : ℕ) → List Look → List Did
@@ -111,6 +114,9 @@ sees_nothing table o now level tried held after p is clock shows =
         come = subst (λ n. e.expiry ≤ n) (sym clock) due.come;
         untried = due.untried;
       });
+      begins = λ q seated.
+          subst (λ (x : PassView). BeginsWhere (length x.receipts) (loads (length p.receipts) xs))
+          (gaining.same_pass table held p q is seated) (loads_begin (length p.receipts) xs);
     }
 
 -- NO GROUP is there, or another CPU looks after it
@@ -123,6 +129,7 @@ sees_no_group table o level held after p is none same = record {
       subst (λ (z : HeldPass). Piece table held z [] [] 0) (sym same)
       (gaining.no_piece table held p is);
   end = inl none;
+  begins = λ q seated. tt;
 }
 
 pub sees_others : (table : TableId) (o : World) (level : ℕ) (held after : HeldPass)
@@ -142,7 +149,15 @@ sees_others table o level held after p is others =
         rest = [];
         load = refl;
       });
+      begins = λ q seated.
+          subst (λ (x : PassView). BeginsWhere (length x.receipts) (loads (length p.receipts) xs))
+          (gaining.same_pass table held p q is seated) (loads_begin (length p.receipts) xs);
     }
+
+-- loads with deeds behind them
+pub begins_with : (n : ℕ) (x : Look) (xs : List Look) (did : List Did)
+    → BeginsWhere n (loads n (x ∷ xs) ++ did)
+begins_with n x xs did = omega arith
 
 -- A CPU was due and is tried
 pub due_piece : (table : TableId) (o : World) (now level : ℕ) (tried : cpus.Cpus)
@@ -153,6 +168,16 @@ due_piece table o now level tried held after due p is shows =
     let seen = shows.seen in
     let xs = state_look o seen.group seen.word ∷ slot_looks o seen.group 0 seen.founds in
     (loads (length p.receipts) xs, seen_piece table held after p xs is seen.pass_is)
+
+due_begins : (table : TableId) (o : World) (now level : ℕ) (tried : cpus.Cpus)
+    (held after : HeldPass) (due : CpuId) (p : PassView) (is : IsPassIn table held p)
+    (shows : ShowsDue table o now tried held.cpu level held after due) (did : List Did)
+    → BeginsWhere (length p.receipts)
+    ((due_piece table o now level tried held after due p is shows).0 ++ did)
+unfolding due_piece
+due_begins table o now level tried held after due p is shows did =
+    begins_with (length p.receipts) (state_look o shows.seen.group shows.seen.word)
+    (slot_looks o shows.seen.group 0 shows.seen.founds) did
 
 pub tries_one : (table : TableId) (o : World) (jobs : ℕ → JobCall → JobReply) (now level : ℕ)
     (old new : cpus.Cpus) (held mid after : HeldPass) (first last : List Ran) (due : CpuId)
@@ -180,6 +205,10 @@ tries_one table o jobs now level old new held mid after first last due p is open
       tried =
           tried_before o held.cpu due.0 piece.0 tried.did [] tried.receipts
           (subst (λ n. IsTried o n (deeds_of tried.did) tried.receipts due.0) same tried.tried);
+      begins = λ q seated.
+          subst (λ (x : PassView). BeginsWhere (length x.receipts) (piece.0 ++ tried.did))
+          (gaining.same_pass table held p q is seated)
+          (due_begins table o now level old held mid due p is shows tried.did);
     }
 
 -- or its try was broken off
@@ -187,7 +216,7 @@ pub round_off : (table : TableId) (o : World) (jobs : ℕ → JobCall → JobRep
     (old : cpus.Cpus) (held mid after : HeldPass) (first last : List Ran) (due : CpuId)
     (p : PassView) → IsPassIn table held p → p.opening ≡ o
     → ShowsDue table o now old held.cpu level held mid due
-    → BreaksOffPass table 1 mid after first last → BreaksRound table o old held after first last
+    → StopsPass table o jobs 1 mid after first last → BreaksRound table o jobs old held after first last
 round_off table o jobs now level old held mid after first last due p is opening shows off =
     let piece = due_piece table o now level old held mid due p is shows in
     record {
@@ -197,6 +226,6 @@ round_off table o jobs now level old held mid after first last due p is opening 
           shows.first.fits.untried
           (subst (λ (c : CpuId). cpus.Contains old c.0) (sym shows.cpu_is) has);
       off =
-          works_break table o jobs held mid after first first last 0 1 1 [] piece.0
+          stops_after table o jobs held mid after first first last 0 1 1 [] piece.0
           (idle_work table o jobs held mid piece.0 0 first first refl piece.1) off (omega arith);
     }

@@ -1,5 +1,6 @@
 -- the drains of an interrupt, and the looks behind them
 use Rattle.std.proofs.Common.{◌≡◌, ℕ, ◌+◌, List, ◌++◌, Result, Ok, Err, sym, subst, arith}
+use Rattle.std.proofs.Common.{ap, ◌∙◌, length, refl}
 use Rattle.std.specs.Prelude.{MatchResult}
 use Rattle.atomic_table.specs.Seated.{TableId}
 use Rattle.tm_base.specs.declared.names.Class.{Class}
@@ -14,10 +15,13 @@ use Rattle.walk_inactive.specs.shared_rule.Passes.{HeldPass}
 use Rattle.shared_acts.specs.declared.runs.Ran.{Ran}
 use Rattle.shared_acts.specs.Interrupts.{HasTicked}
 use Rattle.shared_acts.specs.Looks.{LooksFrom}
-use Rattle.shared_acts.specs.Pieces.{Breaks, HasDrained, deeds_of}
-use Rattle.shared_acts.specs.Tries.{BreaksOffPass}
-use Rattle.shared_acts.proofs.Served.{deeds_behind, works_break, works_then}
-use Rattle.remote_expiry.specs.Trying.{HasClimbedLevels, HasDrainedAll, HasWorked}
+use Rattle.shared_acts.specs.Pieces.{deeds_of}
+use Rattle.shared_acts.proofs.Gaining.{receipts_then, same_pass}
+use Rattle.shared_acts.proofs.Served.{deeds_behind, works_then}
+use Rattle.remote_expiry.specs.Order.{BeginsWhere, IsWholeDrain}
+use Rattle.remote_expiry.specs.Trying.{DrainsOwn, HasClimbedLevels, HasDrainedAll, HasWorked}
+use Rattle.remote_expiry.specs.Trying.{StopsPass}
+use Rattle.remote_expiry.proofs.Stopped.{stops_after}
 use Rattle.remote_expiry.proofs.Levels.{Within, looks_behind, within_left, within_right}
 
 -- a drain is among more receipts
@@ -32,25 +36,19 @@ ticked_among cpu class rs more within t = record {
   of_class = t.of_class;
 }
 
--- broken off in a drain
-pub drain_off : (table : TableId) (held after : HeldPass) (first last : List Ran)
-    → Breaks table held after first last 0 → BreaksOffPass table 0 held after first last
-drain_off table held after first last breaks =
-    record { walks = 0; few = omega arith; breaks = breaks }
-
 -- THE DRAINS one behind the other
 module _ (table : TableId) (o : World) (jobs : ℕ → JobCall → JobReply) (held a : HeldPass)
-    (first second : List Ran) (pinned : HasDrained table o jobs Pinned held a first second) where
-  pub second_off : (after : HeldPass) (last : List Ran) → Breaks table a after second last 0
-      → BreaksOffPass table 0 held after first last
+    (first second : List Ran) (pinned : DrainsOwn table o jobs Pinned held a first second) where
+  pub second_off : (after : HeldPass) (last : List Ran) → StopsPass table o jobs 0 a after second last
+      → StopsPass table o jobs 0 held after first last
   second_off after last breaks =
-      works_break table o jobs held a after first second last 0 0 0 pinned.receipts pinned.did
-      pinned.works (drain_off table a after second last breaks) (omega arith)
+      stops_after table o jobs held a after first second last 0 0 0 pinned.receipts pinned.did
+      pinned.works breaks (omega arith)
 
   module _ (b : HeldPass) (third : List Ran)
-      (global : HasDrained table o jobs Global a b second third) where
+      (global : DrainsOwn table o jobs Global a b second third) where
     pub all_three : (after : HeldPass) (last : List Ran)
-        → HasDrained table o jobs Deferrable b after third last
+        → DrainsOwn table o jobs Deferrable b after third last
         → HasDrainedAll table o jobs held after first last
     all_three after last deferrable =
         let rest = global.receipts ++ deferrable.receipts in
@@ -77,6 +75,15 @@ module _ (table : TableId) (o : World) (jobs : ℕ → JobCall → JobReply) (he
               (works_then table o jobs a b after second third last 0 0 global.receipts
               deferrable.receipts global.did deferrable.did global.works deferrable.works);
           drained = by_class rs one two three;
+          pinned = pinned.receipts;
+          global = global.receipts;
+          deferrable = deferrable.receipts;
+          receipts_are = refl;
+          of_pinned = pinned.whole;
+          of_global = subst (λ n. IsWholeDrain n n Global global.receipts) of_a global.whole;
+          of_deferrable =
+              subst (λ n. IsWholeDrain n n Deferrable deferrable.receipts) (of_b ∙ of_a)
+              deferrable.whole;
         }
       where
         by_class : (rs : List Receipt) → HasTicked held.cpu Pinned rs
@@ -86,24 +93,24 @@ module _ (table : TableId) (o : World) (jobs : ℕ → JobCall → JobReply) (he
         by_class rs one two three Global = two
         by_class rs one two three Deferrable = three
 
-    pub third_off : (after : HeldPass) (last : List Ran) → Breaks table b after third last 0
-        → BreaksOffPass table 0 held after first last
+    pub third_off : (after : HeldPass) (last : List Ran) → StopsPass table o jobs 0 b after third last
+        → StopsPass table o jobs 0 held after first last
     third_off after last breaks =
         second_then after last
-        (works_break table o jobs a b after second third last 0 0 0 global.receipts global.did
-        global.works (drain_off table b after third last breaks) (omega arith))
+        (stops_after table o jobs a b after second third last 0 0 0 global.receipts global.did
+        global.works breaks (omega arith))
       where
-        second_then : (after : HeldPass) (last : List Ran) → BreaksOffPass table 0 a after second last
-            → BreaksOffPass table 0 held after first last
+        second_then : (after : HeldPass) (last : List Ran) → StopsPass table o jobs 0 a after second last
+            → StopsPass table o jobs 0 held after first last
         second_then after last off =
-            works_break table o jobs held a after first second last 0 0 0 pinned.receipts pinned.did
+            stops_after table o jobs held a after first second last 0 0 0 pinned.receipts pinned.did
             pinned.works off (omega arith)
 
     pub drained_last : (after : HeldPass) (last : List Ran) (result : Result (Unit {0}) NoMemory)
-        → MatchResult result (λ done. HasDrained table o jobs Deferrable b after third last)
-        (λ e. Breaks table b after third last 0)
+        → MatchResult result (λ done. DrainsOwn table o jobs Deferrable b after third last)
+        (λ e. StopsPass table o jobs 0 b after third last)
         → MatchResult result (λ done. HasDrainedAll table o jobs held after first last)
-        (λ e. BreaksOffPass table 0 held after first last)
+        (λ e. StopsPass table o jobs 0 held after first last)
     drained_last after last (Ok done) deferrable = all_three after last deferrable
     drained_last after last (Err e) breaks = third_off after last breaks
 
@@ -112,9 +119,9 @@ pub worked_last : (table : TableId) (o : World) (jobs : ℕ → JobCall → JobR
     (held mid after : HeldPass) (first now last : List Ran)
     (result : Result (Unit {0}) NoMemory) → HasDrainedAll table o jobs held mid first now
     → MatchResult result (λ done. HasClimbedLevels table o jobs mid after now last)
-    (λ e. BreaksOffPass table 1536 mid after now last)
+    (λ e. StopsPass table o jobs 1536 mid after now last)
     → MatchResult result (λ done. HasWorked table o jobs held after first last)
-    (λ e. BreaksOffPass table 1536 held after first last)
+    (λ e. StopsPass table o jobs 1536 held after first last)
 worked_last table o jobs held mid after first now last (Ok done) drains climbed =
     let same : mid.cpu ≡ held.cpu = drains.works.piece.cpu in
     let rs = drains.receipts ++ climbed.receipts in
@@ -137,7 +144,34 @@ worked_last table o jobs held mid after first now last (Ok done) drains climbed 
           (within_right drains.receipts climbed.receipts)
           (subst (λ n. LooksFrom o n climbed.receipts (level_count_of o.tree) 0
           (deeds_of climbed.did)) same climbed.looked));
+      ordered = λ p seated.
+          let behind : length climbed.works.piece.before.receipts
+          ≡ length drains.works.piece.before.receipts + length drains.receipts =
+          receipts_then table held mid after drains.receipts climbed.receipts drains.did climbed.did 0
+          climbed.walks drains.works.piece climbed.works.piece in
+          let one = same_pass table held drains.works.piece.before p drains.works.piece.had seated in
+          record {
+            pinned = drains.pinned;
+            global = drains.global;
+            deferrable = drains.deferrable;
+            others = climbed.receipts;
+            receipts_are = ap (λ (l : List Receipt). l ++ climbed.receipts) drains.receipts_are;
+            of_pinned = drains.of_pinned;
+            of_global = drains.of_global;
+            of_deferrable = drains.of_deferrable;
+            drained = drains.did;
+            looked = climbed.did;
+            did_are = refl;
+            later =
+                subst (λ n. BeginsWhere n climbed.did)
+                (behind
+                ∙ (λ k. length (one k).receipts + length (drains.receipts_are k)))
+                (climbed.begins climbed.works.piece.before climbed.works.piece.had);
+            looks =
+                subst (λ n. LooksFrom o n climbed.receipts (level_count_of o.tree) 0
+                (deeds_of climbed.did)) same climbed.looked;
+          };
     }
 worked_last table o jobs held mid after first now last (Err e) drains off =
-    works_break table o jobs held mid after first now last 0 1536 1536 drains.receipts drains.did
+    stops_after table o jobs held mid after first now last 0 1536 1536 drains.receipts drains.did
     drains.works off (omega arith)

@@ -17,9 +17,11 @@ use Rattle.walk_inactive.specs.shared_rule.Passes.{HeldPass, IsPassIn}
 use Rattle.walk_inactive.specs.shared_rule.Shows.{BeginsWith}
 use Rattle.shared_acts.specs.declared.runs.Ran.{Ran}
 use Rattle.walk_inactive.specs.shared_table.declared.ready.TheConstants.{MOST_MADE}
-use Rattle.shared_acts.specs.Following.{Follows, RunsOfSome}
+use Rattle.shared_acts.specs.Following.{Follows}
 use Rattle.shared_acts.specs.Looks.{LooksFrom}
 pub use Rattle.shared_acts.specs.Interrupts.{HasTicked, KnowsOwn, most_walks, own_walk, walks_by}
+use Rattle.remote_expiry.specs.Order.{RunsOwnFirst}
+use Rattle.remote_expiry.specs.Stopping.{IsStopped}
 
 -- what a pass has gained in an interrupt, whatever it answers: receipts and deeds at the ends; its
 -- CPU is as idle as before and outside again, no mark is left, and just these walks were begun,
@@ -41,7 +43,8 @@ pub record HasGained (p q : PassView) (receipts : List Receipt) (did : List Did)
 
 -- OK: each base of the CPU was drained; the timers that were handed out are the runs, in order,
 -- with what became of their jobs' replies, by what the pass saw once each was handed out; and the
--- CPU has looked after the others
+-- CPU has looked after the others, once its own bases were drained, pinned, global and deferrable
+-- in this order
 pub record HasInterrupted (o : World) (jobs : ℕ → JobCall → JobReply) (p q : PassView)
     (before after : List Ran) : Type 0 where
   pub receipts : List Receipt
@@ -53,16 +56,20 @@ pub record HasInterrupted (o : World) (jobs : ℕ → JobCall → JobReply) (p q
   pub follows : Follows o jobs p.cpu did (length p.receipts) receipts [] runs
   pub looked :
       LooksFrom o p.cpu receipts (level_count_of o.tree) 0 (map (λ (x : Did). x.deed) did)
+  pub ordered : RunsOwnFirst o p.cpu (length p.receipts) receipts did
 
--- WANT OF MEMORY: the interrupt is closed as after Ok; the runs that are told are of some of the
--- timers that were handed out, in their order
-pub record HasStopped (p q : PassView) (before after : List Ran) : Type 0 where
+-- WANT OF MEMORY: the interrupt is closed as after Ok; what ran before stands in the runs and the
+-- receipts, each with its job's reply; of the drain that found no room nothing went out, or all
+-- that was due did, and then each timer has its run but for those that were to be armed again and
+-- found no room; and nothing went out behind it
+pub record HasStopped (o : World) (jobs : ℕ → JobCall → JobReply) (p q : PassView)
+    (before after : List Ran) : Type 0 where
   pub receipts : List Receipt
   pub did : List Did
   pub runs : List Ran
   pub gained : HasGained p q receipts did
   pub runs_are : after ≡ before ++ runs
-  pub some : RunsOfSome receipts runs
+  pub stopped : IsStopped o jobs p.cpu did (length p.receipts) receipts runs
 
 -- AT REST: a pass of the run, whose CPU isn't inside an interrupt, and has set no mark
 pub record IsPassAtRest (o : World) (p : PassView) : Type 0 where
@@ -91,17 +98,18 @@ pub record IsRefusedBy (p q : PassView) (before after : List Ran) (fault : OpFau
 
 -- REFUSED, or broken off by want of memory: a refusal comes exactly by the pass, and then what the
 -- pass knows of its CPU's journal is all that has changed
-abbrev pub NotInterrupted : (p q : PassView) (before after : List Ran) → OpFault → Type 0
-NotInterrupted p q before after faults.NoMemory =
-    (interrupt_fault p ≡ None) × HasStopped p q before after
-NotInterrupted p q before after faults.Offline = IsRefusedBy p q before after faults.Offline
-NotInterrupted p q before after (faults.Spent made) =
+abbrev pub NotInterrupted : World → (ℕ → JobCall → JobReply) → (p q : PassView)
+    → (before after : List Ran) → OpFault → Type 0
+NotInterrupted o jobs p q before after faults.NoMemory =
+    (interrupt_fault p ≡ None) × HasStopped o jobs p q before after
+NotInterrupted o jobs p q before after faults.Offline = IsRefusedBy p q before after faults.Offline
+NotInterrupted o jobs p q before after (faults.Spent made) =
     IsRefusedBy p q before after (faults.Spent made)
-NotInterrupted p q before after faults.NotActive = ⊥
-NotInterrupted p q before after faults.NotIdle = ⊥
-NotInterrupted p q before after faults.AlreadyOnline = ⊥
-NotInterrupted p q before after faults.LastOnline = ⊥
-NotInterrupted p q before after (faults.Queued cpu) = ⊥
+NotInterrupted o jobs p q before after faults.NotActive = ⊥
+NotInterrupted o jobs p q before after faults.NotIdle = ⊥
+NotInterrupted o jobs p q before after faults.AlreadyOnline = ⊥
+NotInterrupted o jobs p q before after faults.LastOnline = ⊥
+NotInterrupted o jobs p q before after (faults.Queued cpu) = ⊥
 
 -- WHAT AN INTERRUPT TELLS, by the pass before and after
 pub record Tells (table : TableId) (o : World) (jobs : ℕ → JobCall → JobReply)
@@ -113,4 +121,4 @@ pub record Tells (table : TableId) (o : World) (jobs : ℕ → JobCall → JobRe
     pub has : IsPassIn table after new
     pub told : MatchResult result
         (λ done. (interrupt_fault old ≡ None) × HasInterrupted o jobs old new before now)
-        (NotInterrupted old new before now)
+        (NotInterrupted o jobs old new before now)

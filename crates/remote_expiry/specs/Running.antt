@@ -1,5 +1,6 @@
 -- one timer whose job is run, and what is written as it is armed again (no public clause cites it)
 use Rattle.std.specs.Prelude.{◌≡◌, ℕ, ◌+◌, ◌<◌, List, [], ◌∷◌, ◌++◌, Option, Some, None, length}
+use Rattle.std.specs.Prelude.{Contains}
 use Rattle.atomic_table.specs.Seated.{TableId}
 use Rattle.tm_base.specs.declared.faults.OpFault.{OpFault}
 use Rattle.tm_base.specs.declared.faults.OpFault.TheVariants as faults
@@ -19,7 +20,9 @@ use Rattle.shared_acts.specs.declared.runs.Ran.{Ran}
 use Rattle.shared_acts.specs.declared.runs.RanReply.{RanReply}
 use Rattle.shared_acts.specs.declared.runs.RanReply.TheVariants as ran
 use Rattle.shared_acts.specs.Following.{IsHandOutTold}
-use Rattle.shared_acts.specs.Pieces.{Piece}
+use Rattle.shared_acts.specs.Pieces.{HandsOutItems, Piece, RanAll}
+use Rattle.remote_expiry.specs.Order.{AreArmings}
+use Rattle.remote_expiry.specs.Stopping.{AsksAgain, FollowsInPart}
 
 -- the CPU that a refusal to arm names
 abbrev pub holder_told : OpFault → Option CpuId
@@ -101,8 +104,35 @@ pub record HasToldRun (table : TableId) (o : World) (jobs : ℕ → JobCall → 
   pub has : HasRunJob table o jobs home i held after run
   pub runs_are : now ≡ before ++ run ∷ []
 
--- WANT OF MEMORY: nothing was armed, and nothing is told
-pub record HasToldNone (table : TableId) (held after : HeldPass) (before now : List Ran) : Type 0
-  where
-    pub piece : Piece table held after [] [] 0
-    pub runs_are : now ≡ before
+-- NO ROOM for an arming: nothing was armed, and nothing is told, of a timer that was to be armed
+-- again
+pub record HasToldNone (table : TableId) (o : World) (jobs : ℕ → JobCall → JobReply) (i : Item)
+    (held after : HeldPass) (before now : List Ran) : Type 0 where
+  pub piece : Piece table held after [] [] 0
+  pub runs_are : now ≡ before
+  pub asked : AsksAgain (jobs i.job (call_to o.clock held.cpu i))
+
+-- what is seen is so among more
+abbrev pub IsWider : (seen wider : List Did) → Type 0
+IsWider seen wider = (d : Did) → Contains seen d → Contains wider d
+
+-- JOBS RUN, with the receipts of what they asked for: armings alone
+abbrev pub RanAllArming : TableId → World → (ℕ → JobCall → JobReply) → (home : ℕ) → List Item
+    → (held after : HeldPass) → (before now : List Ran) → Type 0
+RanAllArming table o jobs home items held after before now =
+    (ran : RanAll table o jobs home items held after before now) × AreArmings ran.receipts
+
+-- JOBS RUN where memory was wanting for armings: each timer is told, but for those that were to be
+-- armed again and found no room
+pub record RanInPart (table : TableId) (o : World) (jobs : ℕ → JobCall → JobReply) (home : ℕ)
+    (items : List Item) (held after : HeldPass) (before now : List Ran) : Type 0 where
+  pub receipts : List Receipt
+  pub did : List Did
+  pub told : List Ran
+  pub piece : Piece table held after receipts did 0
+  pub runs_are : now ≡ before ++ told
+  pub armed : AreArmings receipts
+  pub follows : (seen : List Did) → IsWider did seen → (class : Class) (outs : List Receipt)
+      (place : ℕ) → place + length outs ≡ length piece.before.receipts →
+      HandsOutItems home held.cpu class items outs →
+      FollowsInPart o jobs held.cpu seen place (outs ++ receipts) [] told

@@ -1,6 +1,7 @@
 -- the rounds of a look, and an interrupt's beginning and end, as the holder of the pass sees them
 -- (no public clause cites it)
 use Rattle.std.specs.Prelude.{◌≡◌, ℕ, ◌<◌, ◌≤◌, ◌⊎◌, Bool, true, false, List, [], ◌∷◌, None, Some}
+use Rattle.std.specs.Prelude.{◌++◌}
 use Rattle.std.specs.Prelude.{length, map, MatchResult, Result}
 use Rattle.std.specs.FinSet.{insert}
 use Rattle.tm_base.specs.CpuSet.{Contains, Cpus}
@@ -13,6 +14,7 @@ use Rattle.atomic_table.specs.Seated.{TableId}
 use Rattle.tm_base.specs.declared.faults.OpFault.{OpFault}
 use Rattle.tm_base.specs.declared.faults.OpFault.TheVariants as faults
 use Rattle.tm_base.specs.declared.names.Class.{Class}
+use Rattle.tm_base.specs.declared.names.Class.TheVariants.{Deferrable, Global, Pinned}
 use Rattle.tree_plan.specs.Paths.{group_at_of, level_count_of}
 use Rattle.core_world.specs.World.{World}
 use Rattle.job_table.specs.declared.jobs.JobCall.{JobCall}
@@ -26,8 +28,29 @@ use Rattle.shared_acts.specs.declared.runs.Ran.{Ran}
 use Rattle.shared_acts.specs.Interrupts.{HasTicked}
 use Rattle.shared_acts.specs.Looks.{HasLookEnded, HasLookedAtGroup, IsTried, LooksFrom, saw}
 use Rattle.shared_acts.specs.Pieces.{PassGains, Piece, Works, deeds_of}
-use Rattle.shared_acts.specs.Tries.{BreaksOffPass, HasClosed}
+use Rattle.shared_acts.specs.Tries.{HasClosed}
+use Rattle.remote_expiry.specs.Order.{BeginsWhere, IsWholeDrain, RunsOwnFirst}
+use Rattle.remote_expiry.specs.Running.{IsWider}
+use Rattle.remote_expiry.specs.Stopping.{IsStopped}
 use Rattle.remote_expiry.specs.Interrupts.{IsPassAtRest, interrupt_fault}
+
+-- WANT OF MEMORY, with at most so many walks begun
+pub record StopsPass (table : TableId) (o : World) (jobs : ℕ → JobCall → JobReply) (most : ℕ)
+    (held after : HeldPass) (before now : List Ran) : Type 0 where
+  pub walks : ℕ
+  pub few : walks ≤ most
+  pub receipts : List Receipt
+  pub did : List Did
+  pub told : List Ran
+  pub piece : Piece table held after receipts did walks
+  pub runs_are : now ≡ before ++ told
+  pub stopped : (seen : List Did) → IsWider did seen →
+      IsStopped o jobs held.cpu seen (length piece.before.receipts) receipts told
+
+-- the first of these deeds was done when the pass had the receipts that it has here, or more
+abbrev pub BeginsFrom : TableId → HeldPass → List Did → Type 0
+BeginsFrom table held did =
+    (p : PassView) → IsPassIn table held p → BeginsWhere (length p.receipts) did
 
 -- ONE ROUND of a look: a CPU of the run that wasn't tried yet was tried, after loads
 pub record TriesOne (table : TableId) (o : World) (jobs : ℕ → JobCall → JobReply)
@@ -42,14 +65,15 @@ pub record TriesOne (table : TableId) (o : World) (jobs : ℕ → JobCall → Jo
   pub few : walks ≤ 1
   pub works : Works table o jobs held after before now walks receipts did
   pub tried : IsTried o held.cpu (deeds_of did) receipts due
+  pub begins : BeginsFrom table held did
 
 -- ONE ROUND that was broken off, as a CPU of the run that wasn't tried yet was being tried
-pub record BreaksRound (table : TableId) (o : World) (old : Cpus) (held after : HeldPass)
-    (before now : List Ran) : Type 0 where
+pub record BreaksRound (table : TableId) (o : World) (jobs : ℕ → JobCall → JobReply) (old : Cpus)
+    (held after : HeldPass) (before now : List Ran) : Type 0 where
   pub due : ℕ
   pub of_run : due < length o.cpus
   pub untried : Contains old due → ⊥
-  pub off : BreaksOffPass table 1 held after before now
+  pub off : StopsPass table o jobs 1 held after before now
 
 -- the last round showed nothing due and untried
 pub record SeesNothing (table : TableId) (o : World) (level : ℕ) (tried : Cpus)
@@ -64,6 +88,7 @@ pub record SeesNothing (table : TableId) (o : World) (level : ℕ) (tried : Cpus
   pub eight : length founds ≡ 8
   pub loads : deeds_of did ≡ map saw (state_look o group word ∷ slot_looks o group 0 founds)
   pub none : NoneFits (IsTakenUp o.clock tried) (events_in founds)
+  pub begins : BeginsFrom table held did
 
 -- or there is no group, or another CPU looks after it
 pub record SeesEnd (table : TableId) (o : World) (level : ℕ) (held after : HeldPass) : Type 0 where
@@ -71,6 +96,7 @@ pub record SeesEnd (table : TableId) (o : World) (level : ℕ) (held after : Hel
   pub piece : Piece table held after [] did 0
   pub end : (group_at_of o.tree held.cpu level ≡ None)
       ⊎ HasLookEnded o held.cpu level (deeds_of did)
+  pub begins : BeginsFrom table held did
 
 -- what a round came to
 abbrev pub IsLookRound : TableId → World → (ℕ → JobCall → JobReply) → (level : ℕ) → (old new : Cpus)
@@ -99,6 +125,7 @@ pub record HasRounds (table : TableId) (o : World) (jobs : ℕ → JobCall → J
   pub few : walks ≤ 512
   pub works : Works table o jobs held after before now walks receipts did
   pub looked : LooksAtLevel o held.cpu level receipts (deeds_of did) further
+  pub begins : BeginsFrom table held did
 
 -- THE LEVELS, from the leaf upwards
 pub record HasClimbedLevels (table : TableId) (o : World) (jobs : ℕ → JobCall → JobReply)
@@ -109,14 +136,31 @@ pub record HasClimbedLevels (table : TableId) (o : World) (jobs : ℕ → JobCal
   pub few : walks ≤ 1536
   pub works : Works table o jobs held after before now walks receipts did
   pub looked : LooksFrom o held.cpu receipts (level_count_of o.tree) 0 (deeds_of did)
+  pub begins : BeginsFrom table held did
 
--- THE DRAINS of the CPU's own bases, and no walk
+-- A DRAIN of an own base of the pass's CPU, with the jobs of what went out
+pub record DrainsOwn (table : TableId) (o : World) (jobs : ℕ → JobCall → JobReply)
+    (class : Class) (held after : HeldPass) (before now : List Ran) : Type 0 where
+  pub receipts : List Receipt
+  pub did : List Did
+  pub works : Works table o jobs held after before now 0 receipts did
+  pub ticked : HasTicked held.cpu class receipts
+  pub whole : IsWholeDrain held.cpu held.cpu class receipts
+
+-- THE DRAINS of the CPU's own bases, in the kernel's order, and no walk
 pub record HasDrainedAll (table : TableId) (o : World) (jobs : ℕ → JobCall → JobReply)
     (held after : HeldPass) (before now : List Ran) : Type 0 where
   pub receipts : List Receipt
   pub did : List Did
   pub works : Works table o jobs held after before now 0 receipts did
   pub drained : (class : Class) → HasTicked held.cpu class receipts
+  pub pinned : List Receipt
+  pub global : List Receipt
+  pub deferrable : List Receipt
+  pub receipts_are : receipts ≡ pinned ++ (global ++ deferrable)
+  pub of_pinned : IsWholeDrain held.cpu held.cpu Pinned pinned
+  pub of_global : IsWholeDrain held.cpu held.cpu Global global
+  pub of_deferrable : IsWholeDrain held.cpu held.cpu Deferrable deferrable
 
 -- ALL WORK of an interrupt
 pub record HasWorked (table : TableId) (o : World) (jobs : ℕ → JobCall → JobReply)
@@ -128,6 +172,8 @@ pub record HasWorked (table : TableId) (o : World) (jobs : ℕ → JobCall → J
   pub works : Works table o jobs held after before now walks receipts did
   pub drained : (class : Class) → HasTicked held.cpu class receipts
   pub looked : LooksFrom o held.cpu receipts (level_count_of o.tree) 0 (deeds_of did)
+  pub ordered : (p : PassView) → IsPassIn table held p →
+      RunsOwnFirst o held.cpu (length p.receipts) receipts did
 
 -- a pass of the run, at rest
 pub record IsEnterable (table : TableId) (o : World) (held : HeldPass) : Type 0 where
@@ -166,5 +212,6 @@ IsExpiryDone table o jobs held after before now result =
     MatchResult result
     (λ done. (mid : HeldPass) × HasWorked table o jobs held mid before now
     × HasClosed table mid after)
-    (λ e. (e ≡ faults.NoMemory) × ((mid : HeldPass) × BreaksOffPass table 1536 held mid before now
+    (λ e. (e ≡ faults.NoMemory)
+    × ((mid : HeldPass) × StopsPass table o jobs 1536 held mid before now
     × HasClosed table mid after))

@@ -3,7 +3,8 @@
 ghost use Rattle.std.specs.Prelude.{◌≡◌, ◌-◌, ◌^◌, ◌≤◌, [], MatchResult};
 ghost use Rattle.tm_base.specs.declared.names.TheConstants.{TIME_LIMIT};
 ghost use Rattle.shared_acts.specs.Handing.{HasHanded};
-ghost use Rattle.shared_acts.specs.Pieces.{Breaks, HasDrained, HeldInside, Piece};
+ghost use Rattle.shared_acts.specs.Pieces.{HeldInside, Piece};
+ghost use Rattle.remote_expiry.specs.Trying.{DrainsOwn, StopsPass};
 
 use crate::jobs::run_all;
 use job_table::Jobs;
@@ -80,9 +81,10 @@ pub(crate) fn drain_own<N: RunName, B: TimerBase, J: Jobs, R: Wait>(
     requires now { now ≡ N.opening.clock }
     requires in_time { now ≤ TIME_LIMIT - 2 ^ 32 }
     ensures { MatchResult result
-        (λ done. HasDrained N.table N.opening (J.replies jobs.now) class pass.old pass.new
+        (λ done. DrainsOwn N.table N.opening (J.replies jobs.now) class pass.old pass.new
         runs.old.runs runs.new.runs)
-        (λ e. Breaks N.table pass.old pass.new runs.old.runs runs.new.runs 0) }
+        (λ e. StopsPass N.table N.opening (J.replies jobs.now) 0 pass.old pass.new
+        runs.old.runs runs.new.runs) }
 {
     let mut items = Vec::new(alloc);
     hand_own(rt, shared, pass, now, class, &mut items, runs)?;

@@ -5,10 +5,10 @@ ghost use Rattle.tm_base.specs.declared.names.TheConstants.{TIME_LIMIT};
 ghost use Rattle.walk_inactive.specs.shared_rule.declared.parts.PassView.{PassView};
 ghost use Rattle.walk_inactive.specs.shared_rule.Passes.{IsOfRun, IsPassIn};
 ghost use Rattle.walk_inactive.specs.shared_table.Begun.{IsFree};
-ghost use Rattle.shared_acts.specs.Tries.{AtWork, BreaksOffPass, HasClosed};
+ghost use Rattle.shared_acts.specs.Tries.{AtWork, HasClosed};
 ghost use Rattle.remote_expiry.specs.Interrupts.{IsPassAtRest, Tells, interrupt_fault_of};
 ghost use Rattle.remote_expiry.specs.Trying.{HasDrainedAll, HasWorked, IsEnterable, IsExpiryDone};
-ghost use Rattle.remote_expiry.specs.Trying.{IsEntered};
+ghost use Rattle.remote_expiry.specs.Trying.{IsEntered, StopsPass};
 
 use crate::draining::drain_own;
 use crate::looking::look_up;
@@ -177,7 +177,8 @@ fn drain_all<N: RunName, B: TimerBase, J: Jobs, R: Wait>(
     ensures { MatchResult result
         (λ done. HasDrainedAll N.table N.opening (J.replies jobs.now) pass.old pass.new
         runs.old.runs runs.new.runs)
-        (λ e. BreaksOffPass N.table 0 pass.old pass.new runs.old.runs runs.new.runs) }
+        (λ e. StopsPass N.table N.opening (J.replies jobs.now) 0 pass.old pass.new
+        runs.old.runs runs.new.runs) }
 {
     drain_own(rt, alloc, shared, pass, now, Class::Pinned, jobs, runs)?;
     drain_own(rt, alloc, shared, pass, now, Class::Global, jobs, runs)?;
@@ -201,7 +202,8 @@ fn work<N: RunName, B: TimerBase, J: Jobs, G: Gate, R: Wait>(
     ensures { MatchResult result
         (λ done. HasWorked N.table N.opening (J.replies jobs.now) pass.old pass.new runs.old.runs
         runs.new.runs)
-        (λ e. BreaksOffPass N.table 1536 pass.old pass.new runs.old.runs runs.new.runs) }
+        (λ e. StopsPass N.table N.opening (J.replies jobs.now) 1536 pass.old pass.new
+        runs.old.runs runs.new.runs) }
 {
     drain_all(rt, alloc, shared, pass, now, jobs, runs)?;
     look_up(rt, alloc, shared, pass, now, jobs, gate, runs)
@@ -233,16 +235,17 @@ fn inside<N: RunName, B: TimerBase, J: Jobs, G: Gate, R: Wait>(
 }
 
 /// The interrupt of the pass's CPU at `now`, the time of the run in jiffies: its own bases are
-/// drained, pinned, global and deferrable (`run_timer_softirq`), then those idle CPUs are looked
-/// after that are due in the groups for which it answers (`tmigr_handle_remote`), and an idle CPU
-/// tells its next event anew. What ran is told in `runs`, in order; a run is told as skipped by the
+/// drained, pinned, global and deferrable in this order (`run_timer_softirq`), then those idle CPUs
+/// are looked after that are due in the groups for which it answers (`tmigr_handle_remote`), and an
+/// idle CPU tells its next event anew. What ran is told in `runs`, in order; a run is told as skipped by the
 /// timer's word as the pass found it after the hand-out of that run, as the job would have had the
 /// timer armed again. `Offline` comes exactly where the CPU is offline, `Spent` exactly where it is
 /// online and too many walks were begun with its pass, and then what the pass knows of its CPU's
-/// journal is all that may change; after `NoMemory` the interrupt is closed as after Ok, and the
-/// runs that are told are of some of the timers that went out, in their order. One walk is begun
-/// for each CPU whose next event is carried upwards, and one more where the CPU itself is idle: at
-/// most 1,537. It waits for the lock of one CPU at a time, and holds none while jobs run.
+/// journal is all that may change; after `NoMemory` the interrupt is closed as after Ok: what ran
+/// before stands in `runs` and the receipts, and of the drain that found no room nothing went out,
+/// or all that was due did, and then each timer has its run but for those that were to be armed
+/// again and found no room. One walk is begun for each CPU whose next event is carried upwards, and
+/// one more where the CPU itself is idle: at most 1,537. It waits for the lock of one CPU at a time, and holds none while jobs run.
 pub fn interrupt<N: RunName, B: TimerBase, J: Jobs, G: Gate, R: Wait>(
     rt: &R,
     alloc: Global,

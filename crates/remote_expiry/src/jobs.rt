@@ -2,9 +2,10 @@
 
 ghost use Rattle.std.specs.Prelude.{◌≡◌, ◌+◌, ◌-◌, ◌^◌, ◌<◌, ◌≤◌, [], All, MatchResult, length};
 ghost use Rattle.tm_base.specs.declared.names.TheConstants.{TIME_LIMIT};
-ghost use Rattle.shared_acts.specs.Pieces.{HeldInside, IsTimerOfRun, Piece, RanAll, RanSome};
+ghost use Rattle.shared_acts.specs.Pieces.{HeldInside, IsTimerOfRun, Piece};
 ghost use Rattle.remote_expiry.specs.Running.{HasAnsweredJob, HasRunJob, HasToldNone, HasToldRun};
-ghost use Rattle.remote_expiry.specs.Running.{holder_told};
+ghost use Rattle.remote_expiry.specs.Running.{RanAllArming, RanInPart, call_to, holder_told};
+ghost use Rattle.remote_expiry.specs.Stopping.{AsksAgain};
 
 use job_table::{JobCall, JobReply, Jobs};
 use shared_acts::{Ran, RanReply, Runs};
@@ -70,7 +71,7 @@ fn answer<N: RunName, B: TimerBase, R: Wait>(
     requires timer { IsTimerOfRun N.opening item.now }
     ensures { MatchResult result
         (HasAnsweredJob N.table N.opening item.now reply pass.old pass.new)
-        (λ e. Piece N.table pass.old pass.new [] [] 0) }
+        (λ e. Piece N.table pass.old pass.new [] [] 0 × AsksAgain reply) }
 {
     match reply {
         JobReply::Done => Ok(RanReply::Done),
@@ -95,7 +96,8 @@ fn run_one<N: RunName, B: TimerBase, J: Jobs, R: Wait>(
     requires timer { IsTimerOfRun N.opening item.now }
     ensures { MatchResult result
         (HasRunJob N.table N.opening (J.replies jobs.now) home.0 item.now pass.old pass.new)
-        (λ e. Piece N.table pass.old pass.new [] [] 0) }
+        (λ e. Piece N.table pass.old pass.new [] [] 0 × AsksAgain (J.replies jobs.now
+        item.now.job (call_to N.opening.clock pass.old.cpu item.now))) }
 {
     let timer = TimerId(item.id as u16);
     let call = JobCall {
@@ -133,7 +135,8 @@ fn run_told<N: RunName, B: TimerBase, J: Jobs, R: Wait>(
     ensures told { MatchResult result
         (λ done. HasToldRun N.table N.opening (J.replies jobs.now) home.0 item.now pass.old
         pass.new runs.old.runs runs.new.runs)
-        (λ e. HasToldNone N.table pass.old pass.new runs.old.runs runs.new.runs) }
+        (λ e. HasToldNone N.table N.opening (J.replies jobs.now) item.now pass.old pass.new
+        runs.old.runs runs.new.runs) }
     ensures capacity { runs.new.capacity ≡ runs.old.capacity }
 {
     let ran = run_one(rt, shared, pass, now, jobs, home, item)?;
@@ -159,9 +162,10 @@ pub(crate) fn run_all<N: RunName, B: TimerBase, J: Jobs, R: Wait>(
     requires timers { All (IsTimerOfRun N.opening) items.now }
     requires room { length runs.old.runs + length items.now ≤ runs.old.capacity }
     ensures { MatchResult result
-        (λ done. RanAll N.table N.opening (J.replies jobs.now) home.0 items.now pass.old pass.new
-        runs.old.runs runs.new.runs)
-        (λ e. RanSome N.table home.0 items.now pass.old pass.new runs.old.runs runs.new.runs) }
+        (λ done. RanAllArming N.table N.opening (J.replies jobs.now) home.0 items.now pass.old
+        pass.new runs.old.runs runs.new.runs)
+        (λ e. RanInPart N.table N.opening (J.replies jobs.now) home.0 items.now pass.old pass.new
+        runs.old.runs runs.new.runs) }
 {
     let mut ended = Ok(());
     for item in items {

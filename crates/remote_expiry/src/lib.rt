@@ -11,4 +11,4 @@ mod serving;
 
 pub use interrupting::interrupt;
 pub use shared_acts::{Ran, RanReply, Runs};
-pub use shared_calls::{arm, cancel};
+pub use shared_calls::{arm, cancel, needs_remote};

@@ -3,8 +3,9 @@
 ghost use Rattle.std.specs.Prelude.{◌≡◌, ℕ, ◌-◌, ◌^◌, ◌≤◌, [], Some, true, MatchResult, length};
 ghost use Rattle.tm_base.specs.declared.names.TheConstants.{TIME_LIMIT};
 ghost use Rattle.tree_plan.specs.Paths.{group_at_of, is_placed_in, level_count_of};
-ghost use Rattle.shared_acts.specs.Tries.{AtWork, BreaksOffPass};
+ghost use Rattle.shared_acts.specs.Tries.{AtWork};
 ghost use Rattle.remote_expiry.specs.Trying.{BreaksRound, HasClimbedLevels, HasRounds, IsLookRound};
+ghost use Rattle.remote_expiry.specs.Trying.{StopsPass};
 
 use crate::serving::serve;
 use job_table::Jobs;
@@ -65,8 +66,8 @@ fn look_once<N: RunName, B: TimerBase, J: Jobs, G: Gate, R: Wait>(
     ensures { MatchResult result
         (IsLookRound N.table N.opening (J.replies jobs.now) level tried.old tried.new
         pass.old pass.new runs.old.runs runs.new.runs)
-        (λ e. BreaksRound N.table N.opening tried.old pass.old pass.new runs.old.runs
-        runs.new.runs) }
+        (λ e. BreaksRound N.table N.opening (J.replies jobs.now) tried.old pass.old pass.new
+        runs.old.runs runs.new.runs) }
 {
     pass.law();
     law_shape(shared.run());
@@ -102,7 +103,8 @@ fn look_at<N: RunName, B: TimerBase, J: Jobs, G: Gate, R: Wait>(
     ensures { MatchResult result
         (HasRounds N.table N.opening (J.replies jobs.now) level pass.old pass.new runs.old.runs
         runs.new.runs)
-        (λ e. BreaksOffPass N.table 512 pass.old pass.new runs.old.runs runs.new.runs) }
+        (λ e. StopsPass N.table N.opening (J.replies jobs.now) 512 pass.old pass.new
+        runs.old.runs runs.new.runs) }
 {
     law_shape(shared.run());
     let mut tried = CpuSet::new();
@@ -136,7 +138,8 @@ pub(crate) fn look_up<N: RunName, B: TimerBase, J: Jobs, G: Gate, R: Wait>(
     ensures { MatchResult result
         (λ done. HasClimbedLevels N.table N.opening (J.replies jobs.now) pass.old pass.new
         runs.old.runs runs.new.runs)
-        (λ e. BreaksOffPass N.table 1536 pass.old pass.new runs.old.runs runs.new.runs) }
+        (λ e. StopsPass N.table N.opening (J.replies jobs.now) 1536 pass.old pass.new
+        runs.old.runs runs.new.runs) }
 {
     law_shape(shared.run());
     for level in 0..shared.run().tree.levels() {

@@ -7,8 +7,9 @@ ghost use Rattle.walk_rules.specs.Hierarchy.{HasGroup};
 ghost use Rattle.walk_inactive.specs.shared_rule.Slots.{IsGrouped};
 ghost use Rattle.walk_inactive.specs.shared_table.Begun.{IsFree};
 ghost use Rattle.shared_acts.specs.Pieces.{Piece};
-ghost use Rattle.shared_acts.specs.Tries.{AtWork, BreaksOffPass, HasLetGo, HasTried, IsRunnable};
+ghost use Rattle.shared_acts.specs.Tries.{AtWork, HasLetGo, HasTried, IsRunnable};
 ghost use Rattle.shared_acts.specs.Tries.{TakesOrLeaves};
+ghost use Rattle.remote_expiry.specs.Trying.{StopsPass};
 
 use crate::jobs::run_all;
 use crate::marking::carry_for;
@@ -154,7 +155,8 @@ pub(crate) fn serve<N: RunName, B: TimerBase, J: Jobs, G: Gate, R: Wait>(
     ensures { MatchResult result
         (λ done. HasTried N.table N.opening (J.replies jobs.now) due.0 pass.old pass.new
         runs.old.runs runs.new.runs)
-        (λ e. BreaksOffPass N.table 1 pass.old pass.new runs.old.runs runs.new.runs) }
+        (λ e. StopsPass N.table N.opening (J.replies jobs.now) 1 pass.old pass.new
+        runs.old.runs runs.new.runs) }
 {
     let mut items = Vec::new(alloc);
     if !take(rt, shared, pass, now, due, gate, &mut items, runs)? {

@@ -324,16 +324,16 @@ module _ (table : TableId) (o : World) where
       }) (subst (IsPassAtRest o) (sym is) at.rest);
     }
 
-    not_stays : (before now : List Ran) (fault : OpFault) → NotInterrupted p q before now fault
-        → IsQuietAt table o k after
-    not_stays before now (faults.Queued cpu) r = absurd r
-    not_stays before now faults.NoMemory r = gained_stays r.1.receipts r.1.did r.1.gained
-    not_stays before now faults.NotActive r = absurd r
-    not_stays before now faults.NotIdle r = absurd r
-    not_stays before now faults.Offline r = refused_stays before now faults.Offline r
-    not_stays before now faults.AlreadyOnline r = absurd r
-    not_stays before now faults.LastOnline r = absurd r
-    not_stays before now (faults.Spent made) r = refused_stays before now (faults.Spent made) r
+    not_stays : (jobs : ℕ → JobCall → JobReply) (before now : List Ran) (fault : OpFault)
+        → NotInterrupted o jobs p q before now fault → IsQuietAt table o k after
+    not_stays jobs before now (faults.Queued cpu) r = absurd r
+    not_stays jobs before now faults.NoMemory r = gained_stays r.1.receipts r.1.did r.1.gained
+    not_stays jobs before now faults.NotActive r = absurd r
+    not_stays jobs before now faults.NotIdle r = absurd r
+    not_stays jobs before now faults.Offline r = refused_stays before now faults.Offline r
+    not_stays jobs before now faults.AlreadyOnline r = absurd r
+    not_stays jobs before now faults.LastOnline r = absurd r
+    not_stays jobs before now (faults.Spent made) r = refused_stays before now (faults.Spent made) r
 
   pub interrupt_stays : (jobs : ℕ → JobCall → JobReply) (held after : HeldPass)
       (before now : List Ran) (r : Result (Unit {0}) OpFault)
@@ -342,7 +342,7 @@ module _ (table : TableId) (o : World) where
       gained_stays k held after at t.old t.new t.had t.has t.told.1.receipts t.told.1.did
       t.told.1.gained
   interrupt_stays jobs held after before now (Err fault) t k at =
-      not_stays k held after at t.old t.new t.had t.has before now fault t.told
+      not_stays k held after at t.old t.new t.had t.has jobs before now fault t.told
 
   -- what the calls ask of a pass that is quiet
   pub rests_first : (k : ℕ) (held : HeldPass) → IsQuietAt table o k held → (p : PassView)

@@ -3,9 +3,11 @@ use Rattle.std.specs.Prelude.{MatchResult}
 use Rattle.std.proofs.lemmas.Result.{err_from_is_err_and}
 use Rattle.wheel_core.specs.declared.item.Item.{Item}
 use Rattle.shared_acts.specs.declared.runs.Ran.{Ran}
-use Rattle.shared_acts.specs.Pieces.{Breaks, HasDrained, RanAll, RanSome}
 use Rattle.shared_acts.proofs.Gaining.{still_inside}
-use Rattle.shared_acts.proofs.OwnDrains.{drained, err_as, none_out}
+use Rattle.shared_acts.proofs.OwnDrains.{err_as}
+use Rattle.remote_expiry.specs.Running.{RanAllArming, RanInPart}
+use Rattle.remote_expiry.specs.Trying.{DrainsOwn, StopsPass}
+use Rattle.remote_expiry.proofs.Stopped.{drained, no_stop}
 use Rattle.remote_expiry.proofs.draining.drain_own.Goals as goal
 
 pub returns-in_err-hand_own : goal.returns-in_err-hand_own
@@ -17,10 +19,11 @@ returns-in_err-hand_own g c =
     let now = c.hand_own.new.runs.runs in
     let e = err_from_is_err_and c.from_residual.result c.from_residual.ensures.1 in
     err_as c.from_residual.result
-    (λ done. HasDrained table g.N.RunName.opening (g.J.Jobs.replies c.args.jobs.now) c.args.class
-    held mid before now) (Breaks table held mid before now 0) e.0 e.1
-    (none_out table held mid before now c.in_err-hand_own.ensures.done
-    c.in_err-hand_own.ensures.runs)
+    (λ done. DrainsOwn table g.N.RunName.opening (g.J.Jobs.replies c.args.jobs.now) c.args.class
+    held mid before now) (StopsPass table g.N.RunName.opening (g.J.Jobs.replies c.args.jobs.now) 0 held
+    mid before now) e.0 e.1
+    (no_stop table g.N.RunName.opening (g.J.Jobs.replies c.args.jobs.now) held mid 0 before now
+    c.in_err-hand_own.ensures.runs c.in_err-hand_own.ensures.done)
 
 pub run_all-requires-clause-inside : goal.run_all-requires-clause-inside
 run_all-requires-clause-inside g c =
@@ -43,11 +46,11 @@ returns g c =
     c.hand_own.new.runs.capacity c.args.runs.now.runs now out home c.run_all.result
     (c.cpu.ensures ∙ out.piece.cpu)
     (subst (λ (xs : List Item). MatchResult c.run_all.result
-    (λ done. RanAll table o jobs home xs mid after c.args.runs.now.runs now)
-    (λ e. RanSome table home xs mid after c.args.runs.now.runs now)) c.deref.ensures.value
+    (λ done. RanAllArming table o jobs home xs mid after c.args.runs.now.runs now)
+    (λ e. RanInPart table o jobs home xs mid after c.args.runs.now.runs now)) c.deref.ensures.value
     (subst (λ (before : List Ran). MatchResult c.run_all.result
-    (λ done. RanAll table o jobs home c.deref.result.now mid after before now)
-    (λ e. RanSome table home c.deref.result.now mid after before now)) c.hand_own.ensures.runs
+    (λ done. RanAllArming table o jobs home c.deref.result.now mid after before now)
+    (λ e. RanInPart table o jobs home c.deref.result.now mid after before now)) c.hand_own.ensures.runs
     c.run_all.ensures))
 
 pub run_all-requires-clause-now : goal.run_all-requires-clause-now

@@ -1,11 +1,10 @@
 use Rattle.std.proofs.Common.{[]}
 use Rattle.std.proofs.lemmas.Result.{err_from_is_err_and}
-use Rattle.shared_acts.specs.Tries.{BreaksOffPass}
 use Rattle.shared_acts.proofs.Gaining.{still_inside}
 use Rattle.shared_acts.proofs.OwnDrains.{err_as}
 use Rattle.shared_acts.proofs.Served.{inside_of}
-use Rattle.remote_expiry.specs.Trying.{HasDrainedAll}
-use Rattle.remote_expiry.proofs.Worked.{drain_off, drained_last, second_off}
+use Rattle.remote_expiry.specs.Trying.{HasDrainedAll, StopsPass}
+use Rattle.remote_expiry.proofs.Worked.{drained_last, second_off}
 use Rattle.remote_expiry.proofs.interrupting.drain_all.Goals as goal
 
 pub drain_own-requires-clause-inside : goal.drain_own-requires-clause-inside
@@ -22,8 +21,8 @@ returns-in_err-drain_own g c =
     let e = err_from_is_err_and c.from_residual.result c.from_residual.ensures.1 in
     err_as c.from_residual.result
     (λ done. HasDrainedAll table g.N.RunName.opening (g.J.Jobs.replies c.args.jobs.now) held after first
-    last) (BreaksOffPass table 0 held after first last) e.0 e.1
-    (drain_off table held after first last c.in_err-drain_own.ensures)
+    last) (StopsPass table g.N.RunName.opening (g.J.Jobs.replies c.args.jobs.now) 0 held
+    after first last) e.0 e.1 c.in_err-drain_own.ensures
 
 pub drain_own-requires-2-clause-inside : goal.drain_own-requires-2-clause-inside
 drain_own-requires-2-clause-inside g c =
@@ -46,7 +45,7 @@ returns-in_err-drain_own-2 g c =
     let last = c.drain_own-2.new.runs.runs in
     let e = err_from_is_err_and c.from_residual-in_err-drain_own-2.result c.from_residual-in_err-drain_own-2.ensures.1 in
     err_as c.from_residual-in_err-drain_own-2.result (λ done. HasDrainedAll table o jobs held after first last)
-    (BreaksOffPass table 0 held after first last) e.0 e.1
+    (StopsPass table o jobs 0 held after first last) e.0 e.1
     (second_off table o jobs held mid first now c.in_ok-drain_own.ensures after last
     c.in_err-drain_own-2.ensures)
 

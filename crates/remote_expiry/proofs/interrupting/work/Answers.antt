@@ -1,9 +1,9 @@
 use Rattle.std.proofs.Common.{[], arith}
 use Rattle.std.proofs.lemmas.Result.{err_from_is_err_and}
-use Rattle.shared_acts.specs.Tries.{BreaksOffPass}
 use Rattle.shared_acts.proofs.OwnDrains.{err_as}
-use Rattle.shared_acts.proofs.Served.{more_off, still_at_work}
-use Rattle.remote_expiry.specs.Trying.{HasWorked}
+use Rattle.shared_acts.proofs.Served.{still_at_work}
+use Rattle.remote_expiry.specs.Trying.{HasWorked, StopsPass}
+use Rattle.remote_expiry.proofs.Stopped.{more_stops}
 use Rattle.remote_expiry.proofs.Worked.{worked_last}
 use Rattle.remote_expiry.proofs.interrupting.work.Goals as goal
 
@@ -17,8 +17,10 @@ returns-in_err-drain_all g c =
     let e = err_from_is_err_and c.from_residual.result c.from_residual.ensures.1 in
     err_as c.from_residual.result
     (λ done. HasWorked table g.N.RunName.opening (g.J.Jobs.replies c.args.jobs.now) held after first
-    last) (BreaksOffPass table 1536 held after first last) e.0 e.1
-    (more_off table held after first last 0 1536 (omega arith) c.in_err-drain_all.ensures)
+    last) (StopsPass table g.N.RunName.opening (g.J.Jobs.replies c.args.jobs.now) 1536 held after
+    first last) e.0 e.1
+    (more_stops table g.N.RunName.opening (g.J.Jobs.replies c.args.jobs.now) held after first last 0
+    1536 (omega arith) c.in_err-drain_all.ensures)
 
 pub look_up-requires-clause-at_work : goal.look_up-requires-clause-at_work
 look_up-requires-clause-at_work g c =

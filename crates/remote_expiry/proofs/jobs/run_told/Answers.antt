@@ -20,4 +20,8 @@ returns-clause-capacity g c =
 pub returns-in_err-ran-clause-told : goal.returns-in_err-ran-clause-told
 returns-in_err-ran-clause-told g c =
     let e = err_from_is_err_and c.from_residual.result c.from_residual.ensures.1 in
-    rw e.1 (record { piece = c.in_err-ran.ensures; runs_are = refl })
+    rw e.1 (record {
+      piece = c.in_err-ran.ensures.0;
+      runs_are = refl;
+      asked = c.in_err-ran.ensures.1;
+    })

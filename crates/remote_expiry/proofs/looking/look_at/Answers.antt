@@ -1,9 +1,8 @@
 use Rattle.std.proofs.Common.{subst, arith}
 use Rattle.std.proofs.lemmas.Result.{err_from_is_err_and}
-use Rattle.shared_acts.specs.Tries.{BreaksOffPass}
 use Rattle.shared_acts.proofs.Gaining.{no_piece}
 use Rattle.shared_acts.proofs.OwnDrains.{err_as}
-use Rattle.remote_expiry.specs.Trying.{HasRounds, IsLookRound}
+use Rattle.remote_expiry.specs.Trying.{HasRounds, IsLookRound, StopsPass}
 use Rattle.remote_expiry.proofs.Levels.{few_rounds, no_round, one_round, round_work, rounds_done}
 use Rattle.remote_expiry.proofs.Levels.{rounds_off, rounds_up}
 use Rattle.remote_expiry.proofs.looking.look_at.Goals as goal
@@ -33,7 +32,7 @@ returns-in_err-look_once g c =
     let last = c.look_once.new.runs.runs in
     let e = err_from_is_err_and c.from_residual.result c.from_residual.ensures.1 in
     err_as c.from_residual.result (HasRounds table o jobs c.args.level held after first last)
-    (BreaksOffPass table 512 held after first last) e.0 e.1
+    (StopsPass table o jobs 512 held after first last) e.0 e.1
     (rounds_off table o jobs c.loop-turn._turn c.loop-turn.tried held c.loop-turn.pass after first
     c.loop-turn.runs.runs last c.loop-turn.invariant c.law_shape.ensures.many
     c.in_err-look_once.ensures)

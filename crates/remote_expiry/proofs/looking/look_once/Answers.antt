@@ -34,7 +34,7 @@ returns-in_err-serve-in-Due g c =
     let e = err_from_is_err_and c.from_residual.result c.from_residual.ensures.1 in
     err_as c.from_residual.result
     (IsLookRound table o jobs c.args.level c.args.tried.now c.add.new.self held after first last)
-    (BreaksRound table o c.args.tried.now held after first last) e.0 e.1
+    (BreaksRound table o jobs c.args.tried.now held after first last) e.0 e.1
     (round_off table o jobs c.args.now c.args.level c.args.tried.now held mid after first last
     c.in-Due.cpu w.pass w.seated w.is.opening c.in-Due.ensures c.in_err-serve-in-Due.ensures)
 

@@ -1,10 +1,9 @@
 use Rattle.std.proofs.Common.{ap, ◌∙◌, arith}
 use Rattle.std.proofs.lemmas.Result.{err_from_is_err_and}
 use Rattle.tree_plan.specs.Paths.{level_count_of}
-use Rattle.shared_acts.specs.Tries.{BreaksOffPass}
 use Rattle.shared_acts.proofs.Gaining.{no_piece}
 use Rattle.shared_acts.proofs.OwnDrains.{err_as}
-use Rattle.remote_expiry.specs.Trying.{HasClimbedLevels}
+use Rattle.remote_expiry.specs.Trying.{HasClimbedLevels, StopsPass}
 use Rattle.remote_expiry.proofs.Levels.{all_levels, below, further_up, last_level, level_off}
 use Rattle.remote_expiry.proofs.Levels.{level_work, no_further, no_level, one_level, up_to}
 use Rattle.remote_expiry.proofs.looking.look_up.Goals as goal
@@ -38,7 +37,7 @@ returns-in_err-look_at g c =
     let levels = c.levels-level-end.ensures ∙ ap level_count_of c.run-2.result.now.fits.shape in
     let e = err_from_is_err_and c.from_residual.result c.from_residual.ensures.1 in
     err_as c.from_residual.result (λ done. HasClimbedLevels table o jobs held after first last)
-    (BreaksOffPass table 1536 held after first last) e.0 e.1
+    (StopsPass table o jobs 1536 held after first last) e.0 e.1
     (level_off table o jobs c.loop-level.level held c.loop-level.pass after first
     c.loop-level.runs.runs last c.loop-level.invariant
     (below c.loop-level.level _ _ levels c.loop-level-test.true) c.law_shape.ensures.low

@@ -2,10 +2,12 @@ use Rattle.std.proofs.Common.{List, [], ◌∷◌, sym, ap, subst}
 use Rattle.std.specs.Prelude.{not}
 use Rattle.std.proofs.lemmas.Result.{err_from_is_err_and}
 use Rattle.wheel_core.specs.declared.item.Item.{Item}
-use Rattle.shared_acts.specs.Tries.{BreaksOffPass, HasTakenTimers, HasTried}
+use Rattle.shared_acts.specs.Tries.{HasTakenTimers, HasTried}
 use Rattle.shared_acts.proofs.OwnDrains.{err_as}
-use Rattle.shared_acts.proofs.Served.{has_left, has_taken, inside_of, no_work, ran_work}
-use Rattle.shared_acts.proofs.Served.{served_either, taken_work, tried_left}
+use Rattle.shared_acts.proofs.Served.{has_left, has_taken, inside_of}
+use Rattle.shared_acts.proofs.Served.{taken_work, tried_left}
+use Rattle.remote_expiry.specs.Trying.{StopsPass}
+use Rattle.remote_expiry.proofs.Stopped.{marked_work, no_stop, tried_either}
 use Rattle.remote_expiry.proofs.serving.serve.Goals as goal
 
 pub returns-in_err-take : goal.returns-in_err-take
@@ -18,8 +20,10 @@ returns-in_err-take g c =
     let e = err_from_is_err_and c.from_residual.result c.from_residual.ensures.1 in
     err_as c.from_residual.result
     (λ done. HasTried table g.N.RunName.opening (g.J.Jobs.replies c.args.jobs.now) c.args.due.0 held
-    after first last) (BreaksOffPass table 1 held after first last) e.0 e.1
-    (no_work table held after 1 first last c.in_err-take.ensures.runs c.in_err-take.ensures.done)
+    after first last) (StopsPass table g.N.RunName.opening (g.J.Jobs.replies c.args.jobs.now) 1 held
+    after first last) e.0 e.1
+    (no_stop table g.N.RunName.opening (g.J.Jobs.replies c.args.jobs.now) held after 1 first last
+    c.in_err-take.ensures.runs c.in_err-take.ensures.done)
 
 pub returns-then-not-branch : goal.returns-then-not-branch
 returns-then-not-branch g c =
@@ -56,7 +60,7 @@ let_go-requires-clause-marked g c =
     let held = c.args.pass.now in
     let mid = c.take.new.pass in
     let items = c.take.new.items.items in
-    ran_work table o (g.J.Jobs.replies c.args.jobs.now) d c.deref.result.now mid
+    marked_work table o (g.J.Jobs.replies c.args.jobs.now) d c.deref.result.now mid
     c.run_all-ended.new.pass c.take.new.runs.runs c.run_all-ended.new.runs.runs
     c.run_all-ended.result
     (taken_work table o d items held mid c.requires.at_work
@@ -75,7 +79,7 @@ returns g c =
     let taken = has_taken table o d items held mid c.in_ok-take.field-0
     (ap not c.if-not-branch.false)
     c.in_ok-take.ensures.done in
-    served_either table o (g.J.Jobs.replies c.args.jobs.now) d c.deref.result.now held mid
+    tried_either table o (g.J.Jobs.replies c.args.jobs.now) d c.deref.result.now held mid
     c.run_all-ended.new.pass c.let_go.new.pass c.args.runs.now.runs c.take.new.runs.runs
     c.run_all-ended.new.runs.runs c.run_all-ended.result c.requires.at_work
     (subst (λ (xs : List Item). HasTakenTimers table o d xs held mid) (sym c.deref.ensures.value) taken)
