@@ -1,6 +1,7 @@
 -- where the path of a CPU goes, and when two trees are the same
-use Rattle.std.proofs.Common.{◌≡◌, ℕ, zero, suc, ◌+◌, ◌-◌, ◌<◌, ◌≤◌, Bool, true, false, List, [], ◌∷◌}
-use Rattle.std.proofs.Common.{◌++◌, Option, Some, None, refl, ap, sym, ◌∙◌, subst, arith, inl, inr}
+use Rattle.std.proofs.Common.{◌≡◌, ℕ, zero, suc, ◌+◌, ◌-◌, ◌<◌, ◌≤◌, Bool, true, false, List}
+use Rattle.std.proofs.Common.{[], ◌∷◌}
+use Rattle.std.proofs.Common.{◌++◌, Option, Some, None, refl, ap, sym, ◌∙◌, arith, inl, inr}
 use Rattle.std.specs.Prelude.{◌==◌, ◌&&◌, ◌||◌, ◌⊎◌, nat_lt, not, option_map}
 use Rattle.std.specs.Option.{option_map_or}
 use Rattle.std.specs.Cmp.{nat_cmp_total}
@@ -10,7 +11,7 @@ use Rattle.std.proofs.lemmas.Bool.Decides.{nat_tests}
 use Rattle.std.proofs.lemmas.List.Folds.{list_any-append}
 use Rattle.tm_base.specs.Children.{of_cpu, of_group}
 use Rattle.tm_base.specs.CpuSet.{Cpus, FitsSet}
-use Rattle.tree_plan.specs.Laws.{EdgeLaws, PathLaws}
+use Rattle.tree_plan.specs.Laws.{EdgeLaws}
 use Rattle.tree_plan.specs.Shape.{IsPlanned, Shape, tree_of}
 use Rattle.tree_plan.specs.Paths.{bit_in, bit_of, child_towards, cpu_count_of, group_at_of}
 use Rattle.tree_plan.specs.Paths.{is_placed_in, parent_of}

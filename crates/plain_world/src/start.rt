@@ -50,8 +50,8 @@ fn new_groups(alloc: Global, tree: &Tree) -> Result<Vec<PlainGroup>, NoMemory>
 }
 
 impl PlainWorld {
-    /// The start of a machine of 1 to 8 nodes with 1 to 64 CPUs each, of which some aren't isolated,
-    /// and of so many timers: every CPU is online and active, and nothing is queued.
+    /// The start of a machine of 1 to 8 nodes with 1 to 64 CPUs each, of which some aren't
+    /// isolated, and of so many timers: every CPU is online and active, and nothing is queued.
     pub fn start(
         alloc: Global,
         nodes: u8,

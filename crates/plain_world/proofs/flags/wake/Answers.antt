@@ -6,5 +6,9 @@ use Rattle.plain_world.proofs.flags.wake.Goals as goal
 pub returns : goal.returns
 returns c =
     status_made c.args.world.now c.set.new.self c.args.cpu.0 _ _
-    (λ i. record (c.status-status.ensures i) { idle = false; wakeup = NEVER; walk = c.begins-walk.ensures i })
+    (λ i. record (c.status-status.ensures i) {
+      idle = false;
+      wakeup = NEVER;
+      walk = c.begins-walk.ensures i;
+    })
     c.set.ensures

@@ -10,7 +10,8 @@ loop-cpu-preserved c k =
     lists_more (contains c.args.set.now) c.loop-cpu.cpu k (lists c.loop-cpu.list.items k) _
     (c.loop-cpu.invariant k)
     (c.in_ok-push_if.ensures k
-    ∙ ap (λ b. lists c.loop-cpu.list.items k || (b && (c.loop-cpu.cpu == k))) c.has-in-loop-cpu.ensures.found)
+    ∙ ap (λ b. lists c.loop-cpu.list.items k || (b && (c.loop-cpu.cpu == k)))
+    c.has-in-loop-cpu.ensures.found)
 
 pub returns : goal.returns
 returns c k =

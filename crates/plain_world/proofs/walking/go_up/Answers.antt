@@ -13,5 +13,6 @@ returns c =
     (λ i. changes.Join (c.side-child.ensures.side i))
     (c.up_next-next.ensures.next
     ∙ (λ i. up_next (c.at_top-top.ensures i)
-    ((c.is_off-more.ensures ∙ ap (λ h. is_none (group_of c.args.world.now h).migrator) c.group_on-group.ensures) i)
+    ((c.is_off-more.ensures
+    ∙ ap (λ h. is_none (group_of c.args.world.now h).migrator) c.group_on-group.ensures) i)
     c.args.walk))

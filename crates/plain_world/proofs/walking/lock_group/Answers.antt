@@ -9,4 +9,5 @@ returns c =
     c.walk_at.ensures
     ∙ walk_moved c.args.world.now c.args.cpu.0 false _ _ _ _ _ _ c.group_on-group.ensures
     (λ i. changes.Lock c.args.cpu.0)
-    (λ i. Some ((c.at_stage-next.ensures.next ∙ ap (at_stage c.args.walk) c.first_sight-stage.ensures) i))
+    (λ i. Some
+    ((c.at_stage-next.ensures.next ∙ ap (at_stage c.args.walk) c.first_sight-stage.ensures) i))

@@ -6,5 +6,6 @@ use Rattle.plain_world.proofs.walking.read_again.Goals as goal
 pub returns : goal.returns
 returns c =
     c.set_walk.ensures
-    ∙ ap (λ m. own c.args.world.now c.args.cpu.0 (with_walk (cpu_of c.args.world.now c.args.cpu.0) m))
+    ∙ ap (λ m. own c.args.world.now c.args.cpu.0
+    (with_walk (cpu_of c.args.world.now c.args.cpu.0) m))
     (λ i. Some (c.swap_next-next.ensures.next i))

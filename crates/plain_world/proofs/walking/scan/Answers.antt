@@ -8,8 +8,10 @@ use Rattle.plain_world.proofs.walking.scan.Goals as goal
 pub returns : goal.returns
 returns c =
     c.set_walk.ensures
-    ∙ ap (λ m. own c.args.world.now c.args.cpu.0 (with_walk (cpu_of c.args.world.now c.args.cpu.0) m))
+    ∙ ap (λ m. own c.args.world.now c.args.cpu.0
+    (with_walk (cpu_of c.args.world.now c.args.cpu.0) m))
     (ap Some (c.scan_next-next.ensures.next
     ∙ (λ i. scan_next ((c.event_of-event.ensures
-    ∙ ap (λ h. event_at (group_of c.args.world.now h).events c.args.k) c.group_below-group.ensures) i)
+    ∙ ap (λ h. event_at (group_of c.args.world.now h).events c.args.k)
+    c.group_below-group.ensures) i)
     c.args.k c.args.walk)))

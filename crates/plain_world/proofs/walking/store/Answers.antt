@@ -9,4 +9,5 @@ returns c =
     c.walk_at.ensures
     ∙ walk_moved c.args.world.now c.args.cpu.0 false _ _ _ _ _ _ c.group_on-group.ensures
     (λ i. changes.Store (c.side-child.ensures.side i) (c.stored_event-event.ensures.event i))
-    (λ i. Some ((c.store_next-next.ensures.next ∙ ap (λ t. store_next t c.args.walk) c.at_top-top.ensures) i))
+    (λ i. Some
+    ((c.store_next-next.ensures.next ∙ ap (λ t. store_next t c.args.walk) c.at_top-top.ensures) i))
