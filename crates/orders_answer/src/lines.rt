@@ -67,7 +67,7 @@ fn push_answerer(text: &mut Vec<u8>, by: Answerer) -> Result<(), NoMemory>
             push_after(text, b"CPU ", u64::from(cpu.0))?;
             push_after(text, b" wakes at ", at)
         }
-        Answerer::Carried => push_words(text, b"a walk or an interrupt under way carries it"),
+        Answerer::Carried => push_words(text, b"a walk or an interrupt is under way"),
         Answerer::Nobody => push_words(text, b"nobody answers"),
     }
 }

@@ -3,7 +3,7 @@
 use tm_base::{CpuId, Jiffy, TimerId};
 
 /// The child by which a group is awake.
-#[derive(Clone, Copy)]
+#[derive(Clone, Copy, PartialEq, Eq)]
 pub enum Leader {
     /// A CPU, of a group at the lowest level.
     Cpu(CpuId),
@@ -12,7 +12,7 @@ pub enum Leader {
 }
 
 /// A group, by its level and its place there.
-#[derive(Clone, Copy)]
+#[derive(Clone, Copy, PartialEq, Eq)]
 pub struct GroupShown {
     pub level: u8,
     pub place: u16,
@@ -21,7 +21,7 @@ pub struct GroupShown {
 }
 
 /// A CPU that is online and idle.
-#[derive(Clone, Copy)]
+#[derive(Clone, Copy, PartialEq, Eq)]
 pub struct SleeperShown {
     pub cpu: CpuId,
     /// When it wakes, in jiffies.
@@ -29,19 +29,19 @@ pub struct SleeperShown {
 }
 
 /// Who answers for a timer.
-#[derive(Clone, Copy)]
+#[derive(Clone, Copy, PartialEq, Eq)]
 pub enum Answerer {
     /// A group was told of it, and its migrators lead to this CPU, which is awake.
     Held { level: u8, place: u16, cpu: CpuId },
     /// This CPU wakes in time.
     Woken { cpu: CpuId, at: Jiffy },
-    /// A walk or an interrupt is under way.
+    /// Neither, but a walk or an interrupt is under way, which may see to it.
     Carried,
     Nobody,
 }
 
 /// A global timer of a CPU that is online and idle.
-#[derive(Clone, Copy)]
+#[derive(Clone, Copy, PartialEq, Eq)]
 pub struct TimerShown {
     pub timer: TimerId,
     pub cpu: CpuId,
