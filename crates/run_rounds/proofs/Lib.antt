@@ -1,3 +1,4 @@
 mod Beginning
+mod Ordering
 mod Telling
 mod Sharing

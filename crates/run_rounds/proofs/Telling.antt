@@ -22,6 +22,7 @@ use Rattle.run_shares.specs.run_story.Shares.{with_written}
 use Rattle.run_shares.specs.Doing.{SawQueued, written_of}
 use Rattle.run_shares.specs.Lines.{ran_line}
 use Rattle.run_shares.specs.Standing.{PassGrows, HasRun, MayAnswer}
+use Rattle.run_rounds.proofs.Ordering.{own_first}
 use Rattle.run_shares.proofs.Growing.{grown_none, grown_within}
 use Rattle.run_shares.proofs.Running.{runs_told, ticked_told}
 use Rattle.run_shares.proofs.Stands.{stands_more}
@@ -74,6 +75,8 @@ module _ (table : TableId) (o : World) (now : ℕ) (jobs : Replies) (held after 
       let told : TellsInterrupt (SawQueued o h.did) jobs o.clock p.cpu (map written_of h.receipts)
       (map (ran_line o.clock (cpu_id p.cpu)) h.runs) = record {
         drained = λ class. ticked_told p.cpu class h.receipts (h.drained class);
+        ordered =
+            own_first o p.cpu (length p.receipts) h.receipts h.did h.ordered;
         runs =
             runs_told o jobs p.cpu h.did (length p.receipts) h.receipts [] h.runs h.follows;
       } in

@@ -89,6 +89,7 @@ pub interrupt_more : (a b : Queues) (jobs : Replies) (now cpu : ℕ) (wrote : Li
     → TellsInterrupt b jobs now cpu wrote told
 interrupt_more a b jobs now cpu wrote told known h = record {
   drained = h.drained;
+  ordered = h.ordered;
   runs = runs_more a b jobs now cpu wrote [] told known h.runs;
 }
 

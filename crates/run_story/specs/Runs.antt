@@ -1,7 +1,9 @@
 -- what a CPU's interrupt tells of what it wrote: a line for each timer that it was handed, and the
 -- armings that their jobs asked for
-use Rattle.std.specs.Prelude.{◌≡◌, ℕ, ◌+◌, List, [], ◌∷◌, ◌++◌, Contains}
+use Rattle.std.specs.Prelude.{◌≡◌, ◌⊎◌, ℕ, ◌+◌, List, [], ◌∷◌, ◌++◌, Contains}
+use Rattle.std.specs.List.{AllByRecursion}
 use Rattle.tm_base.specs.declared.names.Class.{Class}
+use Rattle.tm_base.specs.declared.names.Class.TheVariants.{Deferrable, Global, Pinned}
 use Rattle.cpu_bases.specs.declared.entry.Act.{Act}
 use Rattle.cpu_bases.specs.declared.entry.Act.TheVariants.{Armed, Cancelled, Handed, MovedIn}
 use Rattle.cpu_bases.specs.declared.entry.Act.TheVariants.{MovedOut, Ticked}
@@ -128,10 +130,33 @@ pub record HasTickedWriting (cpu : ℕ) (class : Class) (wrote : List WrittenEnt
   pub act : drain.entry.act ≡ Ticked
   pub of_class : drain.entry.class ≡ class
 
--- AN INTERRUPT: what its CPU wrote, with a drain of each of its own bases, and the lines that tell
--- it
+-- what a CPU wrote as it drained its own base of a class: entries of that base, up to its being
+-- drained, and armings
+abbrev pub IsOfOwnBase : (cpu : ℕ) → Class → WrittenEntry → Type 0
+IsOfOwnBase cpu class x =
+    (x.entry.act ≡ Armed) ⊎ ((x.home ≡ cpu) × (x.entry.class ≡ class))
+
+pub record DrainsOwnBase (cpu : ℕ) (class : Class) (wrote : List WrittenEntry) : Type 0 where
+  pub ticked : HasTickedWriting cpu class wrote
+  pub each : AllByRecursion (IsOfOwnBase cpu class) wrote
+
+-- ITS OWN TIMERS FIRST: a CPU drained its own pinned base, then its global one, then its deferrable
+-- one, and then comes what it wrote for others
+pub record WritesOwnFirst (cpu : ℕ) (wrote : List WrittenEntry) : Type 0 where
+  pub pinned : List WrittenEntry
+  pub global : List WrittenEntry
+  pub deferrable : List WrittenEntry
+  pub others : List WrittenEntry
+  pub wrote_is : wrote ≡ (pinned ++ (global ++ deferrable)) ++ others
+  pub of_pinned : DrainsOwnBase cpu Pinned pinned
+  pub of_global : DrainsOwnBase cpu Global global
+  pub of_deferrable : DrainsOwnBase cpu Deferrable deferrable
+
+-- AN INTERRUPT: what its CPU wrote, with a drain of each of its own bases before all else, and the
+-- lines that tell it
 pub record TellsInterrupt (queues : Queues) (jobs : Replies) (now cpu : ℕ)
     (wrote : List WrittenEntry)
     (told : List Line) : Type 0 where
   pub drained : (class : Class) → HasTickedWriting cpu class wrote
+  pub ordered : WritesOwnFirst cpu wrote
   pub runs : TellsRuns queues jobs now cpu wrote [] told
