@@ -1,0 +1,4 @@
+mod Leaders
+mod Scans
+mod TopLaws
+mod Wakers
