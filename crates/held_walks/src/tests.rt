@@ -129,7 +129,11 @@ fn rises_past<R: Threads + Wait + Sync>(
     let answered = (tally.rested, tally.woken) == if wakes { (0, 2) } else { (1, 1) };
     let stand = is_active(&core, CpuId(8)) == wakes && is_active(&core, CpuId(9));
     let right = gate.call.met() && answered && stand && agrees(&core);
-    Ok(if right { Some(gate.rose.load(Ordering::SeqCst)) } else { None })
+    Ok(if right {
+        Some(gate.rose.load(Ordering::SeqCst))
+    } else {
+        None
+    })
 }
 
 // Whether the two met so, and all of that was right.
@@ -155,7 +159,9 @@ fn a_cpu_wakes_while_another_one_is_held_between_leaf_and_top(rt: HostRuntime) -
 // so the leaf has one that is awake, and CPU 9 goes no further. (`tmigr_active_up`: a walk goes on
 // where the group was without a migrator.)
 #[test]
-fn a_cpu_that_is_held_before_it_joins_a_group_has_not_joined_it(rt: HostRuntime) -> Result<(), Fail> {
+fn a_cpu_that_is_held_before_it_joins_a_group_has_not_joined_it(
+    rt: HostRuntime,
+) -> Result<(), Fail> {
     let wake = Turn::Wake(CpuId(8));
     for (level, rose) in [(0, 1), (1, 0)] {
         let found = rises_past(&rt, rt.alloc(), wake, level, Point::BeforeUp)?;

@@ -8,8 +8,8 @@ use crate::asking::{
     may_reevaluate, may_release, may_take, may_time, may_wake,
 };
 use crate::asking_timers::{may_arm, may_cancel, may_hand, may_move, may_tick, may_walk};
-use plain_world::PlainWorld;
 use core_world::Step;
+use plain_world::PlainWorld;
 
 fn is_enabled(world: &PlainWorld, step: Step) -> bool
     ensures { IsTrue result ↔ Enabled world.now step }

@@ -8,8 +8,8 @@ ghost use Rattle.core_world.specs.Covered.{live_expiry, machine_of};
 ghost use Rattle.core_world.specs.World.{group_of};
 ghost use Rattle.orders_world.specs.Seeking.{GoesThrough, IsAsleepAt};
 
-use plain_world::PlainWorld;
 use event_queue::Event;
+use plain_world::PlainWorld;
 use tm_base::{CpuId, GroupId, Jiffy};
 
 /// When an event comes that isn't ignored, in jiffies.
