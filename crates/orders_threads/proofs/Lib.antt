@@ -2,3 +2,4 @@ mod Tests
 mod Steps
 mod Runs
 mod LedLaws
+mod WantLaws
