@@ -3,3 +3,4 @@ mod Steps
 mod Runs
 mod LedLaws
 mod WantLaws
+mod Explored
