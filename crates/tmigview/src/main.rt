@@ -1,9 +1,11 @@
-//! The program tmigview: its words, standard input and standard output, and its exit status.
+//! The program tmigview: its words, a file or standard input, standard output, and its exit status.
 #![tactic(auto)]
 
+use linux_view::{READ_FAULT, WRITE_FAULT};
 use std::alloc::AllocError;
+use std::io::Read;
 use std::process::ExitCode;
-use std::{env, io};
+use std::{env, fs, io};
 use tm_io::{StdSink, StdSource};
 use view_main::{NO_MEMORY, run_views};
 
@@ -17,13 +19,55 @@ fn words(rt: &HostRuntime) -> Result<Vec<String>, AllocError> {
     }
 }
 
-/// Runs the program.
-fn run(rt: &HostRuntime) -> Result<u8, AllocError> {
-    let alloc = rt.alloc();
-    let words = words(rt)?;
-    let mut source = StdSource::new(rt.reader());
+/// Whether a word takes the next one for its value.
+fn takes_value(word: &str) -> bool {
+    word == "--from" || word == "--to" || word == "--cpus"
+}
+
+/// Where the last word stands that names a file: behind the command, no option, and no option's
+/// value.
+fn file_in(words: &[String]) -> Option<usize> {
+    let mut found = None;
+    let mut is_value = true;
+    for (at, word) in words.iter().enumerate() {
+        let word = word.as_str();
+        if !is_value && !word.starts_with("--") {
+            found = Some(at);
+        }
+        is_value = takes_value(word);
+    }
+    found
+}
+
+/// Runs the program on what a reader gives.
+fn run_on<R: Read + Drop>(rt: &HostRuntime, words: &[String], reader: R) -> u8 {
+    let mut source = StdSource::new(reader);
     let mut sink = StdSink::new(io::writer(rt));
-    Ok(run_views(alloc, &words, &mut source, &mut sink))
+    run_views(rt.alloc(), words, &mut source, &mut sink)
+}
+
+/// Says that a file can't be read.
+fn refuse(rt: &HostRuntime, file: &str) -> u8 {
+    match println!(rt; "tmigview: {file} could not be read") {
+        Ok(()) => READ_FAULT,
+        Err(_) => WRITE_FAULT,
+    }
+}
+
+/// Runs the program: on the file that its words name, else on standard input.
+fn run(rt: &HostRuntime) -> Result<u8, AllocError> {
+    let mut words = words(rt)?;
+    let Some(at) = file_in(&words) else {
+        return Ok(run_on(rt, &words, rt.reader()));
+    };
+    if at >= words.len() {
+        return Ok(run_on(rt, &words, rt.reader()));
+    }
+    let file = words.remove(at);
+    match fs::open(rt, file.as_str()) {
+        Ok(reader) => Ok(run_on(rt, &words, reader)),
+        Err(_) => Ok(refuse(rt, file.as_str())),
+    }
 }
 
 fn main(rt: HostRuntime) -> ExitCode {
