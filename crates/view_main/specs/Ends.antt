@@ -17,7 +17,7 @@ abbrev pub IsAnswer : Command → (bytes text : List ℕ) → (status : ℕ) →
 IsAnswer (commands.Chart look) bytes text status = IsDrawing look bytes text status
 IsAnswer commands.Explain bytes text status = IsTelling bytes text status
 IsAnswer commands.All bytes text status = IsAllTold bytes text status
-IsAnswer (commands.Stat rows) bytes text status = IsCounting rows bytes text status
+IsAnswer (commands.Stat form) bytes text status = IsCounting form bytes text status
 IsAnswer commands.Other bytes text status = ⊥
 
 -- WHAT A COMMAND WRITES of the source, which went from old to new
@@ -44,8 +44,8 @@ ViewsBy (commands.Chart look) words from to old new status =
     Runs (commands.Chart look) from to old new status
 ViewsBy commands.Explain words from to old new status = Runs commands.Explain from to old new status
 ViewsBy commands.All words from to old new status = Runs commands.All from to old new status
-ViewsBy (commands.Stat rows) words from to old new status =
-    Runs (commands.Stat rows) from to old new status
+ViewsBy (commands.Stat form) words from to old new status =
+    Runs (commands.Stat form) from to old new status
 ViewsBy commands.Other words from to old new status = Reads words from to old new status
 
 -- WHAT THE PROGRAM DOES

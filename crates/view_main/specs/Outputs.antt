@@ -1,5 +1,5 @@
 -- what a command writes of its input
-use Rattle.std.specs.Prelude.{◌≡◌, ℕ, Bool, List, [], Some, None, if◌then◌else◌}
+use Rattle.std.specs.Prelude.{◌≡◌, ℕ, List, Some, None, if◌then◌else◌}
 use Rattle.tm_report.specs.declared.lines.Line.{Line}
 use Rattle.report_reader.specs.declared.faults.ReportFault.{ReportFault}
 use Rattle.report_reader.specs.Reader.{IsFirstFault, IsReportOf}
@@ -21,6 +21,7 @@ use Rattle.view_main.specs.declared.words.Look.{Look}
 use Rattle.tm_script.specs.declared.syntax.Script.{Script}
 use Rattle.tm_script.specs.Faults.{fault_of}
 use Rattle.tm_script.specs.Grammar.{Spells as SpellsScript}
+use Rattle.view_stat.specs.declared.telling.Form.{Form}
 use Rattle.view_stat.specs.Telling.{IsTold as IsStatTold}
 use Rattle.view_main.specs.Refusals.{back_text, report_text, script_text, steps_text}
 
@@ -66,11 +67,11 @@ pub data IsTelling (bytes text : List ℕ) (status : ℕ) : Type 0 where
 
 -- WHAT `stat` WRITES: what was counted in the play of the script that the bytes spell; or they
 -- spell none, and the first fault is told
-pub data IsCounting (rows : Bool) (bytes text : List ℕ) (status : ℕ) : Type 0 where
+pub data IsCounting (form : Form) (bytes text : List ℕ) (status : ℕ) : Type 0 where
   scripted : (script : Script) → SpellsScript bytes script →
-      IsStatTold rows script text status → IsCounting rows bytes text status
+      IsStatTold form script text status → IsCounting form bytes text status
   unscripted : (fault : ScriptFault) → fault_of bytes ≡ Some fault → text ≡ script_text fault →
-      status ≡ NO_TRACE → IsCounting rows bytes text status
+      status ≡ NO_TRACE → IsCounting form bytes text status
 
 -- WHAT `linux --all` WRITES: all that is wrong with the trace that the bytes are
 pub record IsAllTold (bytes text : List ℕ) (status : ℕ) : Type 0 where

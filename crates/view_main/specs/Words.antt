@@ -9,6 +9,8 @@ use Rattle.tm_base.specs.declared.names.CpuId.{CpuId}
 use Rattle.view_chart.specs.declared.charting.Choice.{Choice}
 use Rattle.view_main.specs.declared.words.Awaited.{Awaited}
 use Rattle.view_main.specs.declared.words.Awaited.TheVariants as awaits
+use Rattle.view_stat.specs.declared.telling.Form.{Form}
+use Rattle.view_stat.specs.declared.telling.Form.TheVariants as forms
 use Rattle.view_main.specs.declared.words.Command.{Command}
 use Rattle.view_main.specs.declared.words.Command.TheVariants as commands
 use Rattle.view_main.specs.declared.words.Look.{Look}
@@ -141,27 +143,29 @@ is_all (word ∷ option ∷ []) =
     bytes_eq (string_bytes word) (codes "linux") && bytes_eq (string_bytes option) (codes "--all")
 is_all (word ∷ option ∷ other ∷ more) = false
 
--- the word `stat`
-abbrev pub is_stat : List (String Global) → Bool
-is_stat [] = false
-is_stat (word ∷ []) = bytes_eq (string_bytes word) (codes "stat")
-is_stat (word ∷ other ∷ more) = false
+-- the form of what is counted that an option asks for
+abbrev pub form_in : (option : List ℕ) → Option Form
+form_in option =
+    if bytes_eq option (codes "--rows") then Some forms.Rows
+    else (if bytes_eq option (codes "--wakeups") then Some forms.Wakeups else None)
 
--- the two words `stat --rows`
-abbrev pub is_stat_rows : List (String Global) → Bool
-is_stat_rows [] = false
-is_stat_rows (word ∷ []) = false
-is_stat_rows (word ∷ option ∷ []) =
-    bytes_eq (string_bytes word) (codes "stat") && bytes_eq (string_bytes option) (codes "--rows")
-is_stat_rows (word ∷ option ∷ other ∷ more) = false
+-- the form of what is counted that the words `stat` and an option ask for
+abbrev pub form_of : List (String Global) → Option Form
+form_of [] = None
+form_of (word ∷ []) =
+    if bytes_eq (string_bytes word) (codes "stat") then Some forms.Columns else None
+form_of (word ∷ option ∷ []) =
+    if bytes_eq (string_bytes word) (codes "stat") then form_in (string_bytes option) else None
+form_of (word ∷ option ∷ other ∷ more) = None
+
+-- a command that counts in this form, which may be none
+abbrev pub stat_with : Option Form → Command
+stat_with None = commands.Other
+stat_with (Some form) = commands.Stat form
 
 -- what words say that are none of a chart or of a trace of steps
 abbrev pub other_command : List (String Global) → Command
-other_command words =
-    if is_all words then commands.All
-    else (if is_stat words then commands.Stat false
-    else (if is_stat_rows words then commands.Stat true
-    else commands.Other))
+other_command words = if is_all words then commands.All else stat_with (form_of words)
 
 -- WHAT THE PROGRAM'S WORDS SAY
 abbrev pub command_of : List (String Global) → Command

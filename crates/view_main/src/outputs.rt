@@ -19,7 +19,7 @@ use tm_report::Line;
 use tm_script::{ReadScript, Script, read_script};
 use trace_explain::{ReadTrace, Trace, Verdict, explain, read_trace};
 use view_chart::{NoChart, chart};
-use view_stat::tell_stat;
+use view_stat::{Form, tell_stat};
 use view_text::text_chart;
 
 /// A text, and the status where all of it is written.
@@ -107,11 +107,11 @@ pub(crate) fn tell(alloc: Global, bytes: &[u8]) -> Result<Output, NoMemory>
 }
 
 /// What `stat` writes of a script.
-fn count_script(alloc: Global, rows: bool, script: &Script) -> Result<Output, NoMemory>
+fn count_script(alloc: Global, form: Form, script: &Script) -> Result<Output, NoMemory>
     requires { IsScript script.now }
-    ensures { IfOk result (λ o. IsStatTold rows script.now o.text.items o.status) }
+    ensures { IfOk result (λ o. IsStatTold form script.now o.text.items o.status) }
 {
-    let told = tell_stat(alloc, rows, script)?;
+    let told = tell_stat(alloc, form, script)?;
     Ok(Output {
         text: told.text,
         status: told.status,
@@ -119,11 +119,11 @@ fn count_script(alloc: Global, rows: bool, script: &Script) -> Result<Output, No
 }
 
 /// What `stat` writes of these bytes.
-pub(crate) fn count(alloc: Global, rows: bool, bytes: &[u8]) -> Result<Output, NoMemory>
-    ensures { IfOk result (λ o. IsCounting rows bytes.now o.text.items o.status) }
+pub(crate) fn count(alloc: Global, form: Form, bytes: &[u8]) -> Result<Output, NoMemory>
+    ensures { IfOk result (λ o. IsCounting form bytes.now o.text.items o.status) }
 {
     match read_script(alloc, bytes) {
-        Ok(script) => count_script(alloc, rows, &script),
+        Ok(script) => count_script(alloc, form, &script),
         Err(ReadScript::Refused(fault)) => Ok(Output {
             text: script_refused(alloc, fault)?,
             status: NO_TRACE,

@@ -35,7 +35,7 @@ fn answer(alloc: Global, command: Command, bytes: &[u8]) -> Result<Output, NoMem
         Command::Chart(look) => draw(alloc, look, bytes),
         Command::Explain => tell(alloc, bytes),
         Command::All => tell_all(alloc, bytes),
-        Command::Stat(rows) => count(alloc, rows, bytes),
+        Command::Stat(form) => count(alloc, form, bytes),
         Command::Other => Err(NoMemory),
     }
 }

@@ -5,14 +5,15 @@ ghost use Rattle.std.specs.List.{position};
 ghost use Rattle.std.specs.Str.{bytes_eq};
 ghost use Rattle.text_words.specs.Numbers.{number_of};
 ghost use Rattle.view_main.specs.Words.{awaiting, both, chart_with, chosen, command_of, cpu_in};
-ghost use Rattle.view_main.specs.Words.{cpus_in, first_options, is_all, is_stat, is_stat_rows};
-ghost use Rattle.view_main.specs.Words.{look_of, looking, other_command};
+ghost use Rattle.view_main.specs.Words.{cpus_in, first_options, form_in, form_of, is_all};
+ghost use Rattle.view_main.specs.Words.{look_of, looking, other_command, stat_with};
 ghost use Rattle.view_main.specs.Words.{option_in, options_from, take_word, with_cpus};
 ghost use Rattle.view_main.specs.Words.{with_from, with_option, with_to};
 
 use text_words::read_number;
 use tm_base::CpuId;
 use view_chart::Choice;
+use view_stat::Form;
 
 /// CPUs have numbers below this.
 pub const CPU_NUMBERS: u64 = 65_536;
@@ -60,8 +61,8 @@ pub enum Command {
     Explain,
     /// All misfits of a kernel's trace are told.
     All,
-    /// What happens in a script's play is counted, in rows for scripts or in columns for people.
-    Stat(bool),
+    /// What happens in a script's play is counted, in this form.
+    Stat(Form),
     /// The words are those of a kernel's trace, or no command.
     Other,
 }
@@ -295,23 +296,37 @@ fn is_all(words: &[String]) -> bool
     }
 }
 
-/// Whether the words ask for what is counted, in columns.
-fn is_stat(words: &[String]) -> bool
-    ensures { result ≡ is_stat words.now }
+/// The form of what is counted that an option asks for.
+fn form_in(option: &[u8]) -> Option<Form>
+    ensures { result ≡ form_in option.now }
+{
+    if option == b"--rows".as_slice() {
+        return Some(Form::Rows);
+    }
+    if option == b"--wakeups".as_slice() {
+        return Some(Form::Wakeups);
+    }
+    None
+}
+
+/// The form of what is counted that the words ask for.
+fn form_of(words: &[String]) -> Option<Form>
+    ensures { result ≡ form_of words.now }
 {
     match words {
-        [word] => is_word(word, b"stat"),
-        _ => false,
+        [word] if is_word(word, b"stat") => Some(Form::Columns),
+        [word, option] if is_word(word, b"stat") => form_in(option.as_bytes()),
+        _ => None,
     }
 }
 
-/// Whether the words ask for what is counted, in rows.
-fn is_stat_rows(words: &[String]) -> bool
-    ensures { result ≡ is_stat_rows words.now }
+/// A command that counts in this form, which may be none.
+fn stat_with(form: Option<Form>) -> Command
+    ensures { result ≡ stat_with form }
 {
-    match words {
-        [word, option] => is_word(word, b"stat") && is_word(option, b"--rows"),
-        _ => false,
+    match form {
+        Some(form) => Command::Stat(form),
+        None => Command::Other,
     }
 }
 
@@ -322,13 +337,7 @@ fn other_command(words: &[String]) -> Command
     if is_all(words) {
         return Command::All;
     }
-    if is_stat(words) {
-        return Command::Stat(false);
-    }
-    if is_stat_rows(words) {
-        return Command::Stat(true);
-    }
-    Command::Other
+    stat_with(form_of(words))
 }
 
 /// What the program's words say.

@@ -3,7 +3,9 @@ use Rattle.std.proofs.Common.{◌≡◌, ℕ, zero, suc, ◌+◌, ◌-◌, ◌<�
 use Rattle.play_rules.specs.Rules.{Rules}
 use Rattle.view_counts.specs.declared.counts.CpuCounts.{CpuCounts}
 use Rattle.view_counts.specs.Counts.{at_cpu, lived}
-use Rattle.view_stat.specs.Watched.{all_lived, groups_led, led}
+use Rattle.view_counts.specs.declared.wakeups.Reason.{Reason}
+use Rattle.view_counts.specs.Wakeups.{with_reason}
+use Rattle.view_stat.specs.Watched.{Dues, all_lived, all_reasons, groups_led, led, reason_of}
 
 below : (n i : ℕ) → i < n → n - i ≡ suc (n - (i + 1))
 below n i low = omega arith
@@ -36,3 +38,14 @@ module _ {S : Type 0} (r : Rules S) (w : S) where
       → all_lived r (n - i) i w jiffies ks ≡ ks
   unfolding all_lived
   lived_end n i jiffies ks high = rw (past n i high) refl
+
+  pub reasons_more : (due : Dues S) (n i : ℕ) (xs : List Reason) → i < n
+      → all_reasons r due (n - i) i w xs
+      ≡ all_reasons r due (n - (i + 1)) (i + 1) w (with_reason i (reason_of r due w i) xs)
+  unfolding all_reasons
+  reasons_more due n i xs low = rw (below n i low) refl
+
+  pub reasons_end : (due : Dues S) (n i : ℕ) (xs : List Reason) → n ≤ i
+      → all_reasons r due (n - i) i w xs ≡ xs
+  unfolding all_reasons
+  reasons_end due n i xs high = rw (past n i high) refl

@@ -1,5 +1,5 @@
 -- WHAT `stat` COUNTS: the counts that a script's play on the core leaves, where it is watched
-use Rattle.std.specs.Prelude.{◌≡◌, ℕ, Bool, false, List, None, Some, nat_le}
+use Rattle.std.specs.Prelude.{◌≡◌, ℕ, Bool, false, List, [], None, Some, nat_le}
 use Rattle.std.specs.Prelude.{option_map, replicate}
 use Rattle.std.specs.Option.{option_map_or}
 use Rattle.wheel_core.specs.PlainBase.{least}
@@ -19,6 +19,9 @@ use Rattle.core_world.specs.World.{World, cpu_of}
 use Rattle.core_machine.specs.step_play.Rules.StepRules.{step_rules}
 use Rattle.core_machine.specs.step_play.SamePlay.{core_start}
 use Rattle.view_counts.specs.Counts.{no_counts}
+use Rattle.view_counts.specs.Wakeups.{counted as counted_wakeups}
+use Rattle.view_counts.specs.declared.wakeups.Reason.TheVariants as reasons
+use Rattle.view_counts.specs.declared.wakeups.Wakeup.{Wakeup}
 use Rattle.view_counts.specs.declared.counts.Cause.TheVariants as causes
 use Rattle.view_counts.specs.declared.counts.CpuCounts.{CpuCounts}
 use Rattle.view_stat.specs.Watched.{Watched, watched_rules}
@@ -39,20 +42,34 @@ watched_start script = record {
   world = core_start script;
   cpus = replicate (cpu_count script) no_counts;
   interrupt = record { idle = false; cause = causes.Nothing; queued = 0 };
+  reasons = replicate (cpu_count script) reasons.NoWakeup;
+  wakeups = [];
 }
 
 -- THE MOMENTS of a script's play on a core that is watched
 abbrev pub watched_turns : Replies → Script → List (Turn (Watched World))
 watched_turns jobs script = script_turns jobs core_rules script (watched_start script)
 
--- THE COUNTS after its last moment, by ascending CPU
-abbrev pub counts_of : Replies → Script → List CpuCounts
-counts_of jobs script = (last_state (watched_start script) (watched_turns jobs script)).cpus
+-- the core after its last moment, with what was counted
+abbrev pub watched_end : Replies → Script → Watched World
+watched_end jobs script = last_state (watched_start script) (watched_turns jobs script)
 
--- the counts of a script's play, of which each job is in the table and the work below its limit
+-- THE WAKEUPS of its play, in the order in which they were
+abbrev pub wakeups_of : Replies → Script → List Wakeup
+wakeups_of jobs script = (watched_end jobs script).wakeups
+
+-- THE COUNTS after its last moment, by ascending CPU: the wakeups that are counted are those that
+-- are listed
+abbrev pub counts_of : Replies → Script → List CpuCounts
+counts_of jobs script =
+    counted_wakeups (watched_end jobs script).cpus (wakeups_of jobs script)
+
+-- the counts and the wakeups of a script's play, of which each job is in the table and the work
+-- below its limit
 pub record IsCounted (jobs : Replies) (table : ℕ) (script : Script) (cpus : List CpuCounts)
-    : Type 0 where
+    (wakeups : List Wakeup) : Type 0 where
   pub counts : cpus ≡ counts_of jobs script
+  pub wakeups_are : wakeups ≡ wakeups_of jobs script
   pub known : first_unknown_job table script.moments ≡ None
   pub within : spent_at (work_limit script.version) 0 (watched_turns jobs script) ≡ None
 

@@ -1,22 +1,31 @@
 -- A PLAY THAT IS WATCHED: the rules of a machine, with counts beside its state. Each rule does to
--- the machine what it does, and five of them count: as time goes by, as an interrupt begins and
--- ends, and as a CPU is taken and let go
+-- the machine what it does, and six of them count: as time goes by, as an interrupt begins, drains
+-- and ends, and as a CPU is taken and let go
 use Rattle.std.specs.Prelude.{ℕ, zero, suc, ◌+◌, ◌-◌, ◌==◌, ◌&&◌, not, Bool, true, false, List}
-use Rattle.std.specs.Prelude.{if◌then◌else◌, option_map}
+use Rattle.std.specs.Prelude.{◌++◌, [], ◌∷◌, Option, Some, None, if◌then◌else◌, option_map}
+use Rattle.std.specs.Ordering.{nat_cmp}
+use Rattle.std.specs.FinSet as set
 use Rattle.tm_base.specs.declared.names.Class.{Class}
 use Rattle.tm_base.specs.declared.names.Class.TheVariants.{Pinned, Global, Deferrable}
 use Rattle.play_rules.specs.Rules.{Drained, Moved, Placed, Rules}
 use Rattle.view_counts.specs.declared.counts.Cause.{Cause}
 use Rattle.view_counts.specs.declared.counts.Cause.TheVariants as causes
 use Rattle.view_counts.specs.declared.counts.CpuCounts.{CpuCounts}
-use Rattle.view_counts.specs.Counts.{at_cpu, lived, ran_for, run_by, woke}
+use Rattle.view_counts.specs.declared.wakeups.Reason.{Reason}
+use Rattle.view_counts.specs.declared.wakeups.Reason.TheVariants as reasons
+use Rattle.view_counts.specs.declared.wakeups.Wakeup.{Wakeup}
+use Rattle.view_counts.specs.Counts.{at_cpu, lived, ran_for, run_by, slept}
+use Rattle.view_counts.specs.Wakeups.{last_for, wakeup_at, with_reason}
 use Rattle.view_stat.specs.declared.interrupt.Interrupt.{Interrupt}
 
--- the machine's state, what was counted of each CPU, and the interrupt that is under way
+-- the machine's state, what was counted of each CPU, the interrupt that is under way, what stood
+-- behind the wakeup of each CPU before the moment, and the wakeups so far
 pub record Watched (S : Type 0) : Type 0 where
   pub world : S
   pub cpus : List CpuCounts
   pub interrupt : Interrupt
+  pub reasons : List Reason
+  pub wakeups : List Wakeup
 
 -- whether the first timer of a class on a CPU is due
 abbrev pub Dues : (S : Type 0) → Type 0
@@ -38,19 +47,49 @@ abbrev pub for_more : (count : ℕ) → Interrupt → Interrupt
 for_more zero i = i
 for_more (suc n) i = record i { cause = also_for_others i.cause }
 
--- an interrupt that found its CPU idle was a wakeup
-abbrev pub waking : (idle : Bool) → (c : ℕ) → Cause → List CpuCounts → List CpuCounts
-waking false c cause ks = ks
-waking true c cause ks = at_cpu c (woke cause) ks
+-- with an interrupt that found its CPU idle its sleep is over
+abbrev pub waking : (idle : Bool) → (c : ℕ) → List CpuCounts → List CpuCounts
+waking false c ks = ks
+waking true c ks = at_cpu c slept ks
+
+-- .. and it counts as a wakeup for what it ran
+abbrev pub woken_for_it : (idle : Bool) → Cause → List Wakeup → List Wakeup
+woken_for_it false cause ws = ws
+woken_for_it true cause ws = last_for cause ws
+
+-- an interrupt drains its CPU's pinned timers first
+abbrev pub is_pinned : Class → Bool
+is_pinned Pinned = true
+is_pinned Global = false
+is_pinned Deferrable = false
+
+-- A WAKEUP IS LISTED as an interrupt that found its CPU idle drains its first timers
+abbrev pub listed : (idle : Bool) → Class → (at c : ℕ) → List Reason → List Wakeup → List Wakeup
+listed idle class at c xs ws = if idle && is_pinned class then ws ++ wakeup_at at c xs ∷ [] else ws
 
 module _ {S : Type 0} where
   -- the machine in another state, with the same counts
   abbrev pub put : Watched S → S → Watched S
-  put s w = record { world = w; cpus = s.cpus; interrupt = s.interrupt }
+  put s w = record {
+    world = w;
+    cpus = s.cpus;
+    interrupt = s.interrupt;
+    reasons = s.reasons;
+    wakeups = s.wakeups;
+  }
 
-  -- what was drained, armed and moved, with the same counts
-  abbrev pub put_drained : Watched S → Drained S → Drained (Watched S)
-  put_drained s d = record { items = d.items; state = put s d.state }
+  -- what was drained, with a wakeup that is listed
+  abbrev pub put_drained : Watched S → (at home : ℕ) → Class → Drained S → Drained (Watched S)
+  put_drained s at home class d = record {
+    items = d.items;
+    state = record {
+      world = d.state;
+      cpus = s.cpus;
+      interrupt = s.interrupt;
+      reasons = s.reasons;
+      wakeups = listed s.interrupt.idle class at home s.reasons s.wakeups;
+    };
+  }
 
   -- what was armed, with the same counts
   abbrev pub put_placed : Watched S → Placed S → Placed (Watched S)
@@ -68,7 +107,34 @@ module _ {S : Type 0} where
       else (if due w c Deferrable then causes.Deferrable
       else causes.Nothing))
 
+  -- what stands behind a wakeup for which no timer of the CPU's own is due, where the top group's
+  -- first event is of this CPU
+  abbrev pub event_reason : Dues S → S → Option ℕ → Reason
+  event_reason due w None = reasons.Gone
+  event_reason due w (Some d) =
+      if due w d Global then reasons.TopEvent (record { 0 = d })
+      else reasons.GoneTimer (record { 0 = d })
+
   module _ (r : Rules S) where
+    -- WHAT STANDS BEHIND A WAKEUP of CPU c: a timer of its own that is due, or the first event that
+    -- is due in the top group of its path
+    abbrev pub waking_reason : Dues S → S → (c : ℕ) → Reason
+    waking_reason due w c =
+        if due w c Pinned then reasons.OwnPinned
+        else (if due w c Global then reasons.OwnGlobal
+        else event_reason due w (r.named w c (r.levels w - 1) set.empty))
+
+    -- .. if it sleeps and has an interrupt now
+    abbrev pub reason_of : Dues S → S → (c : ℕ) → Reason
+    reason_of due w c =
+        if r.is_idle w c && r.has_interrupt w c then waking_reason due w c else reasons.NoWakeup
+
+    -- what stands behind the wakeups of n CPUs from CPU c on
+    unfoldable pub all_reasons : Dues S → (n c : ℕ) → S → List Reason → List Reason
+    all_reasons due zero c w xs = xs
+    all_reasons due (suc n) c w xs =
+        all_reasons due n (c + 1) w (with_reason c (reason_of due w c) xs)
+
     -- MIGRATOR: of how many groups a CPU is, from this level on upwards, n levels at most
     unfoldable pub led : (n c level : ℕ) → S → ℕ
     led zero c level w = 0
@@ -86,12 +152,16 @@ module _ {S : Type 0} where
         all_lived n (c + 1) w jiffies
         (at_cpu c (lived (r.is_online w c) (r.is_idle w c) jiffies (groups_led w c)) ks)
 
-    -- TIME: the clock comes to a moment, and each CPU was until then what it was after the last
-    abbrev pub passed : (now : ℕ) → Watched S → Watched S
-    passed now s = record {
+    -- TIME: the clock comes to a moment, and each CPU was until then what it was after the last; and
+    -- before anything happens in the moment there is something behind each wakeup
+    abbrev pub passed : Dues S → (now : ℕ) → Watched S → Watched S
+    passed due now s = record {
       world = r.at_clock now s.world;
       cpus = all_lived (r.cpus s.world) 0 s.world (now - r.clock s.world) s.cpus;
       interrupt = s.interrupt;
+      reasons =
+          all_reasons due (r.cpus (r.at_clock now s.world)) 0 (r.at_clock now s.world) s.reasons;
+      wakeups = s.wakeups;
     }
 
     -- AN INTERRUPT BEGINS: whether it finds its CPU idle, and what is due there
@@ -104,6 +174,8 @@ module _ {S : Type 0} where
         cause = own_cause due s.world c;
         queued = 0;
       };
+      reasons = s.reasons;
+      wakeups = s.wakeups;
     }
 
     -- A CPU IS TAKEN: so many timers are queued on it
@@ -112,6 +184,8 @@ module _ {S : Type 0} where
       world = r.taken s.world c d;
       cpus = s.cpus;
       interrupt = record s.interrupt { queued = r.count_queued s.world d };
+      reasons = s.reasons;
+      wakeups = s.wakeups;
     }
 
   module _ (r : Rules S) where
@@ -123,6 +197,8 @@ module _ {S : Type 0} where
       world = r.let_go s.world c d;
       cpus = ran_some c d count s.cpus;
       interrupt = for_more count s.interrupt;
+      reasons = s.reasons;
+      wakeups = s.wakeups;
     }
 
     -- A CPU IS LET GO
@@ -134,8 +210,10 @@ module _ {S : Type 0} where
     abbrev pub over : Watched S → (c : ℕ) → Watched S
     over s c = record {
       world = r.ended s.world c;
-      cpus = waking s.interrupt.idle c s.interrupt.cause s.cpus;
+      cpus = waking s.interrupt.idle c s.cpus;
       interrupt = s.interrupt;
+      reasons = s.reasons;
+      wakeups = woken_for_it s.interrupt.idle s.interrupt.cause s.wakeups;
     }
 
 -- THE RULES OF A MACHINE THAT IS WATCHED
@@ -150,10 +228,11 @@ watched_rules r due = record {
   is_placed = λ s c. r.is_placed s.world c;
   wakeup = λ s c. r.wakeup s.world c;
   queued = λ s timer. r.queued s.world timer;
-  at_clock = passed r;
+  at_clock = passed r due;
   has_interrupt = λ s c. r.has_interrupt s.world c;
   next_interrupt = λ s. r.next_interrupt s.world;
-  drained = λ s home class runner. put_drained s (r.drained s.world home class runner);
+  drained = λ s home class runner.
+      put_drained s (r.clock s.world) home class (r.drained s.world home class runner);
   armed = λ s c a. put_placed s (r.armed s.world c a);
   cancelled = λ s home a. put s (r.cancelled s.world home a);
   entered = begun r due;

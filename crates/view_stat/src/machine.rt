@@ -1,32 +1,39 @@
 //! A core that plays while it is watched.
 
-ghost use Rattle.std.specs.Prelude.{◌≡◌, ◌<◌, ◌-◌, false, length, nat_le};
+ghost use Rattle.std.specs.Prelude.{◌≡◌, ◌<◌, ◌-◌, OnErr, OnOk, false, length, nat_le};
 ghost use Rattle.std.specs.Option.{option_map_or};
 ghost use Rattle.core_machine.specs.step_play.Rules.StepRules.{step_rules};
 ghost use Rattle.view_counts.specs.Counts.{at_cpu, lived};
 ghost use Rattle.view_stat.specs.Watched.{all_lived, also_for_others, for_more, groups_led, led};
-ghost use Rattle.view_stat.specs.Watched.{own_cause, ran_some};
+ghost use Rattle.view_stat.specs.Watched.{is_pinned, listed, own_cause, ran_some};
 ghost use Rattle.view_stat.specs.Stats.{is_due};
 
+use crate::foreseeing::foresee_all;
 use crate::interrupt::Interrupt;
 use core_machine::Player;
 use core_machine::readings::looks_after;
 use play_rules::{Answerer, Arming, Cancelling, Mover, PlayMachine, Queued};
 use tm_base::{Class, CpuId, CpuSet, Jiffy, NoMemory, TimerId};
-use view_counts::{Cause, CpuCounts, lived_at, ran_for_at, run_by_at, woke_at};
+use view_counts::{
+    Cause, CpuCounts, Reason, Wakeup, last_was_for, lived_at, note_wakeup, ran_for_at, run_by_at,
+    slept_at,
+};
 use wheel_base::WheelBase;
 use wheel_core::{Item, TimerBase};
 
-/// A core in play, with what was counted of its CPUs.
+/// A core in play, with what was counted of its CPUs, what stood behind their wakeups before the
+/// moment, and all wakeups so far.
 #[derive(Drop)]
 pub struct Watching {
     pub player: Player<WheelBase>,
     pub cpus: Vec<CpuCounts>,
     pub interrupt: Interrupt,
+    pub reasons: Vec<Reason>,
+    pub wakeups: Vec<Wakeup>,
 }
 
 /// Whether the first timer of a class on a CPU is due.
-fn is_due(player: &Player<WheelBase>, cpu: CpuId, class: Class) -> bool
+pub(crate) fn is_due(player: &Player<WheelBase>, cpu: CpuId, class: Class) -> bool
     requires { cpu.0 < length player.now.cpus }
     ensures { result ≡ is_due player.now cpu.0 class }
 {
@@ -128,6 +135,38 @@ fn for_more(count: usize, interrupt: Interrupt) -> Interrupt
     }
 }
 
+/// An interrupt drains its CPU's pinned timers first.
+fn is_pinned(class: Class) -> bool
+    ensures { result ≡ is_pinned class }
+{
+    match class {
+        Class::Pinned => true,
+        Class::Global => false,
+        Class::Deferrable => false,
+    }
+}
+
+/// A wakeup is listed as an interrupt that found its CPU idle drains its first timers. Want of
+/// memory leaves the list as before.
+fn list_wakeup(
+    wakeups: &mut Vec<Wakeup>,
+    idle: bool,
+    class: Class,
+    at: Jiffy,
+    cpu: CpuId,
+    reasons: &[Reason],
+) -> Result<(), NoMemory>
+    ensures ok { OnOk result
+        (wakeups.new.items ≡ listed idle class at cpu.0 reasons.now wakeups.old.items) }
+    ensures err { OnErr result (wakeups.new.items ≡ wakeups.old.items) }
+{
+    if idle && is_pinned(class) {
+        note_wakeup(wakeups, at, cpu, reasons)
+    } else {
+        Ok(())
+    }
+}
+
 /// A CPU ran so many timers of another.
 fn ran_some(cpus: &mut Vec<CpuCounts>, cpu: CpuId, other: CpuId, count: usize)
     ensures { cpus.new.items ≡ ran_some cpu.0 other.0 count cpus.old.items }
@@ -147,7 +186,13 @@ impl PlayMachine for Watching {
 
     ghost rules = { watched_rules step_rules is_due };
 
-    ghost world = { λ w. record { world = w.player; cpus = w.cpus.items; interrupt = w.interrupt } };
+    ghost world = { λ w. record {
+      world = w.player;
+      cpus = w.cpus.items;
+      interrupt = w.interrupt;
+      reasons = w.reasons.items;
+      wakeups = w.wakeups.items;
+    } };
 
     ghost Fit = { λ ph s. InPlay ph s.world };
 
@@ -194,6 +239,7 @@ impl PlayMachine for Watching {
     fn set_clock(&mut self, now: Jiffy) {
         live_all(&self.player, &mut self.cpus, now - self.player.clock());
         self.player.set_clock(now);
+        foresee_all(&self.player, &mut self.reasons);
     }
 
     fn has_interrupt(&self, cpu: CpuId) -> bool {
@@ -205,7 +251,17 @@ impl PlayMachine for Watching {
     }
 
     fn drain(&mut self, home: CpuId, class: Class, runner: CpuId) -> Result<Vec<Item>, NoMemory> {
-        self.player.drain(home, class, runner)
+        let idle = self.interrupt.idle;
+        let at = self.player.clock();
+        let before = self.wakeups.as_slice().len();
+        list_wakeup(&mut self.wakeups, idle, class, at, home, &self.reasons)?;
+        match self.player.drain(home, class, runner) {
+            Ok(items) => Ok(items),
+            Err(NoMemory) => {
+                self.wakeups.truncate(before);
+                Err(NoMemory)
+            }
+        }
     }
 
     fn arm(&mut self, cpu: CpuId, arming: Arming) -> Result<Jiffy, NoMemory> {
@@ -262,7 +318,8 @@ impl PlayMachine for Watching {
     fn end(&mut self, cpu: CpuId) {
         self.player.end(cpu);
         if self.interrupt.idle {
-            woke_at(&mut self.cpus, cpu, self.interrupt.cause);
+            slept_at(&mut self.cpus, cpu);
+            last_was_for(&mut self.wakeups, self.interrupt.cause);
         }
     }
 
@@ -316,14 +373,5 @@ impl PlayMachine for Watching {
 
     fn cover_of(&self, cpu: CpuId) -> Option<Answerer> {
         self.player.cover_of(cpu)
-    }
-}
-
-impl Watching {
-    /// What was counted.
-    pub fn into_counts(self) -> Vec<CpuCounts>
-        ensures { result.items ≡ self.cpus.items }
-    {
-        self.cpus
     }
 }

@@ -5,6 +5,7 @@ ghost use Rattle.tm_script.specs.Grammar.{IsScript};
 ghost use Rattle.tm_script.specs.Texts.{cpu_count};
 ghost use Rattle.core_machine.specs.step_play.Rules.Seen.{InPlay, resting};
 ghost use Rattle.view_counts.specs.Counts.{no_counts};
+ghost use Rattle.view_counts.specs.Wakeups.{counted};
 ghost use Rattle.view_stat.specs.Stats.{IsCounted, IsUncounted, watched_start};
 
 use crate::interrupt::Interrupt;
@@ -17,13 +18,27 @@ use play_rules::PlayMachine;
 use std::alloc::Global;
 use tm_base::NoMemory;
 use tm_script::Script;
-use view_counts::{Cause, CpuCounts, none_counted};
+use view_counts::{Cause, CpuCounts, Reason, Wakeup, count_wakeups, none_counted};
+
+/// Nothing stands behind a wakeup of so many CPUs.
+fn no_reasons(alloc: Global, cpus: u16) -> Result<Vec<Reason>, NoMemory>
+    ensures { IfOk result (λ reasons. reasons.items ≡ replicate cpus Reason.NoWakeup) }
+{
+    let mut reasons = Vec::new(alloc);
+    reasons.resize(usize::from(cpus), Reason::NoWakeup)?;
+    Ok(reasons)
+}
 
 /// The core at the start of a script, of which nothing was counted.
 fn watched(alloc: Global, script: &Script) -> Result<Watching, NoMemory>
     requires { IsScript script.now }
-    ensures start { IfOk result (λ w. record { world = w.player; cpus = w.cpus.items; interrupt = w.interrupt }
-        ≡ watched_start script.now) }
+    ensures start { IfOk result (λ w. record {
+      world = w.player;
+      cpus = w.cpus.items;
+      interrupt = w.interrupt;
+      reasons = w.reasons.items;
+      wakeups = w.wakeups.items;
+    } ≡ watched_start script.now) }
     ensures in_play { IfOk result (λ w. InPlay resting w.player) }
 {
     let core = start_core(alloc, script)?;
@@ -37,21 +52,45 @@ fn watched(alloc: Global, script: &Script) -> Result<Watching, NoMemory>
             cause: Cause::Nothing,
             queued: 0,
         },
+        reasons: no_reasons(alloc, count)?,
+        wakeups: Vec::new(alloc),
     })
 }
 
+/// What was counted of the CPUs of a play, by ascending CPU, and its wakeups, in order.
+#[derive(Drop)]
+pub struct Stats {
+    pub cpus: Vec<CpuCounts>,
+    pub wakeups: Vec<Wakeup>,
+}
+
+/// What was counted of a play that has ended.
+fn stats_of(watching: Watching) -> Stats
+    ensures cpus { result.cpus.items ≡ counted watching.cpus.items watching.wakeups.items }
+    ensures wakeups { result.wakeups.items ≡ watching.wakeups.items }
+{
+    let Watching {
+        mut cpus,
+        wakeups,
+        ..
+    } = watching;
+    count_wakeups(&mut cpus, &wakeups);
+    Stats { cpus, wakeups }
+}
+
 /// Plays a script on the core of its start, and answers what was counted of each CPU, by ascending
-/// CPU. The refusals are those of `core_plays::summary`.
-pub fn stat<J: Jobs>(alloc: Global, script: &Script, jobs: &J) -> Result<Vec<CpuCounts>, DriveFault>
+/// CPU, and the wakeups that were. The refusals are those of `core_plays::summary`.
+pub fn stat<J: Jobs>(alloc: Global, script: &Script, jobs: &J) -> Result<Stats, DriveFault>
     requires { IsScript script.now }
-    ensures counted { IfOk result (λ cpus.
-        IsCounted (J.replies jobs.now) (J.count jobs.now) script.now cpus.items) }
+    ensures counted { IfOk result (λ stats.
+        IsCounted (J.replies jobs.now) (J.count jobs.now) script.now
+        stats.cpus.items stats.wakeups.items) }
     ensures fault { IfErr result
         (IsUncounted (J.replies jobs.now) (J.count jobs.now) script.now) }
 {
     let mut watching = watched(alloc, script)?;
     match play_unheard(&mut watching, script, jobs) {
-        Ok(_counts) => Ok(watching.into_counts()),
+        Ok(_counts) => Ok(stats_of(watching)),
         Err(fault) => {
             drop(watching);
             Err(fault)

@@ -11,7 +11,7 @@ use std::alloc::Global;
 use text_words::{push_bytes, push_number};
 use tm_base::{Jiffy, NoMemory};
 use tm_script::Script;
-use view_counts::{CpuCounts, print_columns, print_rows};
+use view_counts::{CpuCounts, Wakeup, print_columns, print_rows, print_wakeups};
 
 /// All was counted.
 pub const COUNTED: u8 = 0;
@@ -29,19 +29,31 @@ pub struct Told {
     pub status: u8,
 }
 
-/// What was counted, in rows or in columns.
+/// In which form a play's counts are written.
+#[derive(Clone, Copy)]
+pub enum Form {
+    /// A line for each CPU, in columns for people.
+    Columns,
+    /// A row for each CPU, in words and numbers for scripts.
+    Rows,
+    /// A line for each wakeup.
+    Wakeups,
+}
+
+/// What was counted, in a form.
 fn counts_told(
     alloc: Global,
-    rows: bool,
+    form: Form,
     end: Jiffy,
     cpus: &[CpuCounts],
+    wakeups: &[Wakeup],
 ) -> Result<Vec<u8>, NoMemory>
-    ensures { IfOk result (λ text. text.items ≡ counts_told rows end cpus.now) }
+    ensures { IfOk result (λ text. text.items ≡ counts_told form end cpus.now wakeups.now) }
 {
-    if rows {
-        print_rows(alloc, end, cpus)
-    } else {
-        print_columns(alloc, cpus)
+    match form {
+        Form::Columns => print_columns(alloc, cpus),
+        Form::Rows => print_rows(alloc, end, cpus),
+        Form::Wakeups => print_wakeups(alloc, wakeups),
     }
 }
 
@@ -71,15 +83,15 @@ fn spent(alloc: Global, count: u32) -> Result<Vec<u8>, NoMemory>
     Ok(text)
 }
 
-/// Counts what happens in a script's play, with the program's jobs, and writes it in rows for
-/// scripts or in columns for people; or why nothing was counted.
-pub fn tell_stat(alloc: Global, rows: bool, script: &Script) -> Result<Told, NoMemory>
+/// Counts what happens in a script's play, with the program's jobs, and writes it in a form; or why
+/// nothing was counted.
+pub fn tell_stat(alloc: Global, form: Form, script: &Script) -> Result<Told, NoMemory>
     requires { IsScript script.now }
-    ensures { IfOk result (λ told. IsTold rows script.now told.text.items told.status) }
+    ensures { IfOk result (λ told. IsTold form script.now told.text.items told.status) }
 {
     match stat(alloc, script, &StandardJobs) {
-        Ok(cpus) => Ok(Told {
-            text: counts_told(alloc, rows, script.end, &cpus)?,
+        Ok(stats) => Ok(Told {
+            text: counts_told(alloc, form, script.end, &stats.cpus, &stats.wakeups)?,
             status: COUNTED,
         }),
         Err(DriveFault::BadJob { line, job }) => Ok(Told {

@@ -1,6 +1,6 @@
 //! What is counted in plays whose numbers are worked out by hand.
 
-use crate::tell_stat;
+use crate::{Form, tell_stat};
 use std::alloc::Global;
 use std::test::Fail;
 use tm_script::read_script;
@@ -10,7 +10,7 @@ fn rows_of(alloc: Global, bytes: &[u8]) -> Option<Vec<u8>> {
     let Ok(script) = read_script(alloc, bytes) else {
         return None;
     };
-    match tell_stat(alloc, true, &script) {
+    match tell_stat(alloc, Form::Rows, &script) {
         Ok(told) => Some(told.text),
         Err(_) => None,
     }
