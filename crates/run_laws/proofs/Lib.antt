@@ -1,0 +1,9 @@
+mod Built
+mod Alikes
+mod Homes
+mod Drains
+mod Interrupts
+mod HandOuts
+mod Told
+mod Rounds
+mod Turns

@@ -1,0 +1,2 @@
+pub mod Work
+pub use Rattle.wheel_core.specs as wheel_core
