@@ -1,3 +1,4 @@
+mod Alike
 mod Bases
 mod Paths
 mod Results

@@ -1,22 +1,21 @@
--- where the path of a CPU goes, and when two trees are the same
+-- where the path of a CPU goes, and the CPUs of a set as a list
 use Rattle.std.proofs.Common.{◌≡◌, ℕ, zero, suc, ◌+◌, ◌-◌, ◌<◌, ◌≤◌, Bool, true, false, List}
 use Rattle.std.proofs.Common.{[], ◌∷◌}
 use Rattle.std.proofs.Common.{◌++◌, Option, Some, None, refl, ap, sym, ◌∙◌, arith, inl, inr}
 use Rattle.std.specs.Prelude.{◌==◌, ◌&&◌, ◌||◌, ◌⊎◌, nat_lt, not, option_map}
 use Rattle.std.specs.Option.{option_map_or}
-use Rattle.std.specs.Cmp.{nat_cmp_total}
-use Rattle.std.specs.FinSet.{contains, same_set, nat_cmp-IsAntisymmetric}
+use Rattle.std.specs.FinSet.{contains}
 use Rattle.std.proofs.lemmas.Bool.{cases_Bool, le-ltb}
 use Rattle.std.proofs.lemmas.Bool.Decides.{nat_tests}
 use Rattle.std.proofs.lemmas.List.Folds.{list_any-append}
 use Rattle.tm_base.specs.Children.{of_cpu, of_group}
 use Rattle.tm_base.specs.CpuSet.{Cpus, FitsSet}
 use Rattle.tree_plan.specs.Laws.{EdgeLaws}
-use Rattle.tree_plan.specs.Shape.{IsPlanned, Shape, tree_of}
+use Rattle.tree_plan.specs.Shape.{Shape}
 use Rattle.tree_plan.specs.Paths.{bit_in, bit_of, child_towards, cpu_count_of, group_at_of}
 use Rattle.tree_plan.specs.Paths.{is_placed_in, parent_of}
 use Rattle.walk_rules.specs.Hierarchy.{side}
-use Rattle.plain_world.specs.Planned.{IsListOf, lists}
+use Rattle.plain_world.specs.Planned.{lists}
 
 -- no CPU past the last one is placed
 pub past_unplaced : (t : Shape) (c : ℕ) → cpu_count_of t ≤ c → is_placed_in t c ≡ false
@@ -79,12 +78,3 @@ lists_all cpus n c listed fits all is = elim (cases_Bool (contains cpus c)) [
   | inl here ↦ let low = fits c here in grind (arith, nat_tests)
   | inr out ↦ grind (arith, nat_tests)
 ]
-
--- two trees that were planned for one machine
-pub same_planned : (s t : Shape) (xs ys : List ℕ) → IsListOf s.isolated xs → IsPlanned s
-    → IsListOf t.isolated ys → IsPlanned t → s.nodes ≡ t.nodes → s.cpus ≡ t.cpus → xs ≡ ys → s ≡ t
-same_planned s t xs ys of_s plan_s of_t plan_t nodes cpus same =
-    let isolated : s.isolated ≡ t.isolated =
-    same_set nat_cmp_total nat_cmp-IsAntisymmetric s.isolated t.isolated
-    (λ q. of_s q ∙ (ap (λ zs. lists zs q) same ∙ sym (of_t q))) in
-    plan_s.tree ∙ ((λ i. tree_of (nodes i) (cpus i) (isolated i)) ∙ sym plan_t.tree)

@@ -54,15 +54,6 @@ each_and_past P w n d all before past = elim (cases_lt d n) [
   | inr high ↦ subst (λ y. P y d) (sym (cpu_past w d (omega (arith, high, all)))) past
 ]
 
--- two CPUs that are the same, one further along two lists
-pub same_more : (a b : List CpuRecord) (n k : ℕ) (x y : CpuRecord) → n < length a → n < length b
-    → x ≡ get_or a n x → y ≡ get_or b n y → x ≡ y
-    → ((j : ℕ) → j < n → get_or a j no_cpu ≡ get_or b j no_cpu) → k < n + 1
-    → get_or a k no_cpu ≡ get_or b k no_cpu
-same_more a b n k x y in_a in_b of_a of_b same before low =
-    one_more_each (λ j. get_or a j no_cpu ≡ get_or b j no_cpu) n k low before
-    (cpu_read a n n x refl in_a of_a ∙ (same ∙ sym (cpu_read b n n y refl in_b of_b)))
-
 -- copies of one more CPU
 pub copied_more : (cpus : List CpuRecord) (i : ℕ) (d : CpuRecord) (xs : List CpuRecord)
     (x : CpuRecord) → i < length cpus → xs ≡ take i cpus → x ≡ get_or cpus i d

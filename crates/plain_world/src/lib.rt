@@ -11,6 +11,8 @@ mod lack;
 mod planned;
 mod queueing;
 mod readers;
+mod same;
+mod same_walk;
 mod stale;
 mod start;
 mod steps;

@@ -16,10 +16,10 @@ use tree_plan::{Tree, law_edges, law_paths, plan};
 /// The tree of a machine, with what it was planned for.
 #[derive(Drop)]
 pub struct PlannedTree {
-    nodes: u8,
-    cpus: u8,
+    pub(crate) nodes: u8,
+    pub(crate) cpus: u8,
     /// The isolated CPUs in ascending order.
-    isolated: Vec<u16>,
+    pub(crate) isolated: Vec<u16>,
     tree: Tree,
 }
 
