@@ -1,3 +1,6 @@
+mod Counted
+mod Dues
 mod Joined
 mod Lifts
 mod Loops
+mod Unwatched

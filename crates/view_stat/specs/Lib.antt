@@ -1,3 +1,4 @@
 pub mod Watched
 pub mod Stats
+pub mod Laws
 pub mod Telling

@@ -3,10 +3,12 @@
 -- and ends, and as a CPU is taken and let go
 use Rattle.std.specs.Prelude.{ℕ, zero, suc, ◌+◌, ◌-◌, ◌==◌, ◌&&◌, not, Bool, true, false, List}
 use Rattle.std.specs.Prelude.{◌++◌, [], ◌∷◌, Option, Some, None, if◌then◌else◌, option_map}
-use Rattle.std.specs.Ordering.{nat_cmp}
 use Rattle.std.specs.FinSet as set
 use Rattle.tm_base.specs.declared.names.Class.{Class}
 use Rattle.tm_base.specs.declared.names.Class.TheVariants.{Pinned, Global, Deferrable}
+use Rattle.wheel_core.specs.declared.item.Item.{Item}
+use Rattle.play_rules.specs.Moments.{Turn}
+use Rattle.play_rules.specs.Parts.{Played}
 use Rattle.play_rules.specs.Rules.{Drained, Moved, Placed, Rules}
 use Rattle.view_counts.specs.declared.counts.Cause.{Cause}
 use Rattle.view_counts.specs.declared.counts.Cause.TheVariants as causes
@@ -31,21 +33,42 @@ pub record Watched (S : Type 0) : Type 0 where
 abbrev pub Dues : (S : Type 0) → Type 0
 Dues S = S → (c : ℕ) → Class → Bool
 
--- an interrupt that ran timers of others is for them, unless it is for pinned or global ones of
--- its own CPU
-abbrev pub also_for_others : Cause → Cause
-also_for_others causes.Pinned = causes.Pinned
-also_for_others causes.Global = causes.Global
-also_for_others cause = causes.Others
+-- what a hand-out is for: timers of other CPUs, or the CPU's own of a class
+abbrev pub cause_of : (of_others : Bool) → Class → Cause
+cause_of true class = causes.Others
+cause_of false Pinned = causes.Pinned
+cause_of false Global = causes.Global
+cause_of false Deferrable = causes.Deferrable
+
+-- a deferrable timer wakes nobody, so behind one those of other CPUs count
+abbrev pub behind_deferrable : Cause → Cause
+behind_deferrable causes.Others = causes.Others
+behind_deferrable cause = causes.Deferrable
+
+-- WHAT A WAKEUP IS FOR: the first hand-out in it counts. An interrupt hands out pinned timers of its
+-- own CPU first, then global, then deferrable ones, then those of other CPUs
+abbrev pub also_for : (more cause : Cause) → Cause
+also_for more causes.Nothing = more
+also_for more causes.Deferrable = behind_deferrable more
+also_for more causes.Pinned = causes.Pinned
+also_for more causes.Global = causes.Global
+also_for more causes.Others = causes.Others
+
+-- whether anything is handed out
+abbrev pub hands_out : List Item → Bool
+hands_out [] = false
+hands_out (item ∷ items) = true
+
+-- A HAND-OUT says what the interrupt is for, and none changes nothing: so an interrupt is for nothing
+-- exactly where nothing is handed out in it
+abbrev pub handed : (some of_others : Bool) → Class → Interrupt → Interrupt
+handed false of_others class i = i
+handed true of_others class i =
+    record i { cause = also_for (cause_of of_others class) i.cause }
 
 -- CPU d is let go, of which CPU c ran so many timers
 abbrev pub ran_some : (c d count : ℕ) → List CpuCounts → List CpuCounts
 ran_some c d count ks = at_cpu d (run_by count) (at_cpu c (ran_for count) ks)
-
--- what the interrupt is for, where so many timers of others were run
-abbrev pub for_more : (count : ℕ) → Interrupt → Interrupt
-for_more zero i = i
-for_more (suc n) i = record i { cause = also_for_others i.cause }
 
 -- with an interrupt that found its CPU idle its sleep is over
 abbrev pub waking : (idle : Bool) → (c : ℕ) → List CpuCounts → List CpuCounts
@@ -78,14 +101,23 @@ module _ {S : Type 0} where
     wakeups = s.wakeups;
   }
 
-  -- what was drained, with a wakeup that is listed
-  abbrev pub put_drained : Watched S → (at home : ℕ) → Class → Drained S → Drained (Watched S)
-  put_drained s at home class d = record {
+  -- a part of a play that was watched, without what was counted: its lines, its work, its state
+  abbrev pub unwatched : Played (Watched S) → Played S
+  unwatched p = record { lines = p.lines; work = p.work; state = p.state.world }
+
+  -- .. and a moment
+  abbrev pub unwatched_turn : Turn (Watched S) → Turn S
+  unwatched_turn t = record { at = t.at; played = unwatched t.played }
+
+  -- what was drained, with a wakeup that is listed, and what the interrupt is for
+  abbrev pub put_drained : Watched S → (at home : ℕ) → Class → (runner : ℕ) → Drained S →
+      Drained (Watched S)
+  put_drained s at home class runner d = record {
     items = d.items;
     state = record {
       world = d.state;
       cpus = s.cpus;
-      interrupt = s.interrupt;
+      interrupt = handed (hands_out d.items) (not (home == runner)) class s.interrupt;
       reasons = s.reasons;
       wakeups = listed s.interrupt.idle class at home s.reasons s.wakeups;
     };
@@ -98,14 +130,6 @@ module _ {S : Type 0} where
   -- what moved, with the same counts
   abbrev pub put_moved : Watched S → Moved S → Moved (Watched S)
   put_moved s m = record { mover = m.mover; state = put s m.state }
-
-  -- WHAT A WAKEUP IS FOR, by what is due on the CPU as its interrupt begins
-  abbrev pub own_cause : Dues S → S → (c : ℕ) → Cause
-  own_cause due w c =
-      if due w c Pinned then causes.Pinned
-      else (if due w c Global then causes.Global
-      else (if due w c Deferrable then causes.Deferrable
-      else causes.Nothing))
 
   -- what stands behind a wakeup for which no timer of the CPU's own is due, where the top group's
   -- first event is of this CPU
@@ -164,16 +188,12 @@ module _ {S : Type 0} where
       wakeups = s.wakeups;
     }
 
-    -- AN INTERRUPT BEGINS: whether it finds its CPU idle, and what is due there
-    abbrev pub begun : Dues S → Watched S → (c : ℕ) → Watched S
-    begun due s c = record {
+    -- AN INTERRUPT BEGINS: whether it finds its CPU idle; it is for nothing yet
+    abbrev pub begun : Watched S → (c : ℕ) → Watched S
+    begun s c = record {
       world = r.entered s.world c;
       cpus = s.cpus;
-      interrupt = record {
-        idle = r.is_idle s.world c;
-        cause = own_cause due s.world c;
-        queued = 0;
-      };
+      interrupt = record { idle = r.is_idle s.world c; cause = causes.Nothing; queued = 0 };
       reasons = s.reasons;
       wakeups = s.wakeups;
     }
@@ -196,7 +216,7 @@ module _ {S : Type 0} where
     let_go_where false s c d count = record {
       world = r.let_go s.world c d;
       cpus = ran_some c d count s.cpus;
-      interrupt = for_more count s.interrupt;
+      interrupt = s.interrupt;
       reasons = s.reasons;
       wakeups = s.wakeups;
     }
@@ -232,10 +252,10 @@ watched_rules r due = record {
   has_interrupt = λ s c. r.has_interrupt s.world c;
   next_interrupt = λ s. r.next_interrupt s.world;
   drained = λ s home class runner.
-      put_drained s (r.clock s.world) home class (r.drained s.world home class runner);
+      put_drained s (r.clock s.world) home class runner (r.drained s.world home class runner);
   armed = λ s c a. put_placed s (r.armed s.world c a);
   cancelled = λ s home a. put s (r.cancelled s.world home a);
-  entered = begun r due;
+  entered = begun r;
   looks_after = λ s c level. r.looks_after s.world c level;
   named = λ s c level tried. r.named s.world c level tried;
   takes = λ s c d. r.takes s.world c d;

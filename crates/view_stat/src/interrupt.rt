@@ -7,7 +7,7 @@ use view_counts::Cause;
 pub struct Interrupt {
     /// Whether it found its CPU idle.
     pub idle: bool,
-    /// What it is for, as far as is known.
+    /// What it is for, by what was handed out in it so far.
     pub cause: Cause,
     /// How many timers were queued on the CPU that it has taken.
     pub queued: usize,

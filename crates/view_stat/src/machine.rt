@@ -2,10 +2,11 @@
 
 ghost use Rattle.std.specs.Prelude.{◌≡◌, ◌<◌, ◌-◌, OnErr, OnOk, false, length, nat_le};
 ghost use Rattle.std.specs.Option.{option_map_or};
-ghost use Rattle.core_machine.specs.step_play.Rules.StepRules.{step_rules};
+ghost use Rattle.core_machine.specs.step_play.Rules.StepRules.{items_due, step_rules};
 ghost use Rattle.view_counts.specs.Counts.{at_cpu, lived};
-ghost use Rattle.view_stat.specs.Watched.{all_lived, also_for_others, for_more, groups_led, led};
-ghost use Rattle.view_stat.specs.Watched.{is_pinned, listed, own_cause, ran_some};
+ghost use Rattle.view_stat.specs.Watched.{all_lived, also_for, behind_deferrable, cause_of};
+ghost use Rattle.view_stat.specs.Watched.{groups_led, handed, hands_out, is_pinned, led, listed};
+ghost use Rattle.view_stat.specs.Watched.{ran_some};
 ghost use Rattle.view_stat.specs.Stats.{is_due};
 
 use crate::foreseeing::foresee_all;
@@ -44,21 +45,12 @@ pub(crate) fn is_due(player: &Player<WheelBase>, cpu: CpuId, class: Class) -> bo
     }
 }
 
-/// What a wakeup of a CPU is for, by what is due on it.
-fn own_cause(player: &Player<WheelBase>, cpu: CpuId) -> Cause
-    requires { cpu.0 < length player.now.cpus }
-    ensures { result ≡ own_cause is_due player.now cpu.0 }
+/// Whether a drain hands anything out.
+fn hands_out(player: &Player<WheelBase>, home: CpuId, class: Class) -> bool
+    requires { home.0 < length player.now.cpus }
+    ensures { result ≡ hands_out (items_due player.now home.0 class) }
 {
-    if is_due(player, cpu, Class::Pinned) {
-        return Cause::Pinned;
-    }
-    if is_due(player, cpu, Class::Global) {
-        return Cause::Global;
-    }
-    if is_due(player, cpu, Class::Deferrable) {
-        return Cause::Deferrable;
-    }
-    Cause::Nothing
+    is_due(player, home, class)
 }
 
 /// Of how many groups a CPU is migrator, from its leaf upwards.
@@ -111,26 +103,52 @@ fn live_all(player: &Player<WheelBase>, cpus: &mut Vec<CpuCounts>, jiffies: u64)
     }
 }
 
-/// What an interrupt is for that ran timers of others.
-fn also_for_others(cause: Cause) -> Cause
-    ensures { result ≡ also_for_others cause }
+/// What a hand-out is for: timers of other CPUs, or the CPU's own of a class.
+fn cause_of(of_others: bool, class: Class) -> Cause
+    ensures { result ≡ cause_of of_others class }
 {
-    match cause {
-        Cause::Pinned => Cause::Pinned,
-        Cause::Global => Cause::Global,
-        _ => Cause::Others,
+    if of_others {
+        return Cause::Others;
+    }
+    match class {
+        Class::Pinned => Cause::Pinned,
+        Class::Global => Cause::Global,
+        Class::Deferrable => Cause::Deferrable,
     }
 }
 
-/// What an interrupt is for that ran so many timers of others.
-fn for_more(count: usize, interrupt: Interrupt) -> Interrupt
-    ensures { result ≡ for_more count interrupt }
+/// What counts behind deferrable timers, which wake nobody: those of other CPUs.
+fn behind_deferrable(more: Cause) -> Cause
+    ensures { result ≡ behind_deferrable more }
 {
-    if count == 0 {
+    match more {
+        Cause::Others => Cause::Others,
+        _ => Cause::Deferrable,
+    }
+}
+
+/// What an interrupt is for in which a further hand-out comes.
+fn also_for(more: Cause, cause: Cause) -> Cause
+    ensures { result ≡ also_for more cause }
+{
+    match cause {
+        Cause::Nothing => more,
+        Cause::Deferrable => behind_deferrable(more),
+        Cause::Pinned => Cause::Pinned,
+        Cause::Global => Cause::Global,
+        Cause::Others => Cause::Others,
+    }
+}
+
+/// What an interrupt is for that has handed out some timers, or none.
+fn handed(some: bool, of_others: bool, class: Class, interrupt: Interrupt) -> Interrupt
+    ensures { result ≡ handed some of_others class interrupt }
+{
+    if !some {
         return interrupt;
     }
     Interrupt {
-        cause: also_for_others(interrupt.cause),
+        cause: also_for(cause_of(of_others, class), interrupt.cause),
         ..interrupt
     }
 }
@@ -255,6 +273,8 @@ impl PlayMachine for Watching {
         let at = self.player.clock();
         let before = self.wakeups.as_slice().len();
         list_wakeup(&mut self.wakeups, idle, class, at, home, &self.reasons)?;
+        let some = hands_out(&self.player, home, class);
+        self.interrupt = handed(some, home.0 != runner.0, class, self.interrupt);
         match self.player.drain(home, class, runner) {
             Ok(items) => Ok(items),
             Err(NoMemory) => {
@@ -274,11 +294,10 @@ impl PlayMachine for Watching {
 
     fn enter(&mut self, cpu: CpuId) {
         let idle = self.player.is_idle(cpu);
-        let cause = own_cause(&self.player, cpu);
         self.player.enter(cpu);
         self.interrupt = Interrupt {
             idle,
-            cause,
+            cause: Cause::Nothing,
             queued: 0,
         };
     }
@@ -312,7 +331,6 @@ impl PlayMachine for Watching {
         }
         let count = self.interrupt.queued.saturating_sub(left);
         ran_some(&mut self.cpus, cpu, other, count);
-        self.interrupt = for_more(count, self.interrupt);
     }
 
     fn end(&mut self, cpu: CpuId) {

@@ -6,9 +6,11 @@ ghost use Rattle.tm_script.specs.Texts.{cpu_count};
 ghost use Rattle.core_machine.specs.step_play.Rules.Seen.{InPlay, resting};
 ghost use Rattle.view_counts.specs.Counts.{no_counts};
 ghost use Rattle.view_counts.specs.Wakeups.{counted};
-ghost use Rattle.view_stat.specs.Stats.{IsCounted, IsUncounted, watched_start};
+ghost use Rattle.view_stat.specs.Stats.{IsCounted, IsCountedOn, IsMachineFor, IsUncounted};
+ghost use Rattle.view_stat.specs.Stats.{IsUncountedOn, watched_start};
 
 use crate::interrupt::Interrupt;
+use crate::laws::law_watched;
 use crate::machine::Watching;
 use core_machine::Player;
 use core_plays::start_core;
@@ -29,19 +31,19 @@ fn no_reasons(alloc: Global, cpus: u16) -> Result<Vec<Reason>, NoMemory>
     Ok(reasons)
 }
 
-/// The core at the start of a script, of which nothing was counted.
-fn watched(alloc: Global, script: &Script) -> Result<Watching, NoMemory>
-    requires { IsScript script.now }
+/// The core at the start on a script's machine, of which nothing was counted.
+fn watched(alloc: Global, machine: &Script) -> Result<Watching, NoMemory>
+    requires { IsScript machine.now }
     ensures start { IfOk result (λ w. record {
       world = w.player;
       cpus = w.cpus.items;
       interrupt = w.interrupt;
       reasons = w.reasons.items;
       wakeups = w.wakeups.items;
-    } ≡ watched_start script.now) }
+    } ≡ watched_start machine.now) }
     ensures in_play { IfOk result (λ w. InPlay resting w.player) }
 {
-    let core = start_core(alloc, script)?;
+    let core = start_core(alloc, machine)?;
     let player = Player::new(alloc, core);
     let count = player.cpus();
     Ok(Watching {
@@ -78,8 +80,34 @@ fn stats_of(watching: Watching) -> Stats
     Stats { cpus, wakeups }
 }
 
-/// Plays a script on the core of its start, and answers what was counted of each CPU, by ascending
-/// CPU, and the wakeups that were. The refusals are those of `core_plays::summary`.
+/// Plays a script on the core of a machine's start, and answers what was counted of each CPU, by
+/// ascending CPU, and the wakeups that were. The refusals are those of `core_plays::summary`.
+pub fn stat_on<J: Jobs>(
+    alloc: Global,
+    machine: &Script,
+    script: &Script,
+    jobs: &J,
+) -> Result<Stats, DriveFault>
+    requires script { IsScript script.now }
+    requires machine { IsMachineFor script.now machine.now }
+    ensures counted { IfOk result (λ stats.
+        IsCountedOn (J.replies jobs.now) (J.count jobs.now) machine.now script.now
+        stats.cpus.items stats.wakeups.items) }
+    ensures fault { IfErr result
+        (IsUncountedOn (J.replies jobs.now) (J.count jobs.now) machine.now script.now) }
+{
+    law_watched();
+    let mut watching = watched(alloc, machine)?;
+    match play_unheard(&mut watching, script, jobs) {
+        Ok(_counts) => Ok(stats_of(watching)),
+        Err(fault) => {
+            drop(watching);
+            Err(fault)
+        }
+    }
+}
+
+/// Plays a script on the core of its own start, and answers what was counted as `stat_on` does.
 pub fn stat<J: Jobs>(alloc: Global, script: &Script, jobs: &J) -> Result<Stats, DriveFault>
     requires { IsScript script.now }
     ensures counted { IfOk result (λ stats.
@@ -88,12 +116,5 @@ pub fn stat<J: Jobs>(alloc: Global, script: &Script, jobs: &J) -> Result<Stats, 
     ensures fault { IfErr result
         (IsUncounted (J.replies jobs.now) (J.count jobs.now) script.now) }
 {
-    let mut watching = watched(alloc, script)?;
-    match play_unheard(&mut watching, script, jobs) {
-        Ok(_counts) => Ok(stats_of(watching)),
-        Err(fault) => {
-            drop(watching);
-            Err(fault)
-        }
-    }
+    stat_on(alloc, script, script, jobs)
 }
