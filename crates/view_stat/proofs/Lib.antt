@@ -3,4 +3,5 @@ mod Dues
 mod Joined
 mod Lifts
 mod Loops
+mod Tree
 mod Unwatched

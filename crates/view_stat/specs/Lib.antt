@@ -1,4 +1,6 @@
 pub mod Watched
 pub mod Stats
 pub mod Laws
+pub mod Alone
 pub mod Telling
+pub mod Comparing

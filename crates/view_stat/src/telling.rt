@@ -59,7 +59,7 @@ fn counts_told(
 
 /// A line names a job that there isn't.
 #[tactic(auto, using(crate::proofs::Joined::onto), unfolding(crate::specs::Telling::unknown_text))]
-fn unknown(alloc: Global, line: u32, job: u8) -> Result<Vec<u8>, NoMemory>
+pub(crate) fn unknown(alloc: Global, line: u32, job: u8) -> Result<Vec<u8>, NoMemory>
     ensures { IfOk result (λ text. text.items ≡ unknown_text line job) }
 {
     let mut text = Vec::new(alloc);
@@ -73,7 +73,7 @@ fn unknown(alloc: Global, line: u32, job: u8) -> Result<Vec<u8>, NoMemory>
 
 /// The work has reached its limit.
 #[tactic(auto, using(crate::proofs::Joined::onto), unfolding(crate::specs::Telling::spent_text))]
-fn spent(alloc: Global, count: u32) -> Result<Vec<u8>, NoMemory>
+pub(crate) fn spent(alloc: Global, count: u32) -> Result<Vec<u8>, NoMemory>
     ensures { IfOk result (λ text. text.items ≡ spent_text count) }
 {
     let mut text = Vec::new(alloc);
