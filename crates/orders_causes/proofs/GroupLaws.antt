@@ -1,5 +1,5 @@
 -- a tree without groups
-use Rattle.std.proofs.Common.{◌≡◌, ℕ, ap, length}
+use Rattle.std.proofs.Common.{◌≡◌, ℕ, ap}
 use Rattle.std.proofs.lemmas.List.{nil_from_length}
 use Rattle.tree_plan.specs.Shape.{Shape}
 use Rattle.tree_plan.specs.Paths.{level_count_of, level_in, level_of, place_in, place_of}
