@@ -21,7 +21,8 @@ use Rattle.linux_shown.specs.Pieces.{children_below, count_text, known_expiry, p
 unfoldable pub led_text : Option ℕ → ℕ → List ℕ
 led_text None active = codes "asleep"
 led_text (Some migrator) active =
-    codes "active, with children" ++ children_below 8 active ++ count_text (codes " and migrator ") migrator
+    codes "active, with children" ++ children_below 8 active
+    ++ count_text (codes " and migrator ") migrator
 
 -- a group's state
 unfoldable pub word_text : Option Word → List ℕ
@@ -121,7 +122,8 @@ state_fact c = cpu_head c.cpu ++ awake_text c.active
 
 -- a CPU's event in its leaf
 unfoldable pub event_fact : CpuSeen → List ℕ
-event_fact c = cpu_head c.cpu ++ known_expiry (codes ": its event in its leaf: ") c.event ++ codes "\n"
+event_fact c =
+    cpu_head c.cpu ++ known_expiry (codes ": its event in its leaf: ") c.event ++ codes "\n"
 
 -- the wakeup that a CPU's walk has found
 unfoldable pub found_fact : CpuSeen → List ℕ

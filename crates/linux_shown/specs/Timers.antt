@@ -57,7 +57,8 @@ timer_facts s (Softirq vec) = []
 
 -- what the rule wanted of it
 unfoldable pub timer_wanted : TimerEvent → List ℕ
-timer_wanted (Armed a) = codes "  wanted: the bucket that the wheel gives it, from a clock of its base\n"
+timer_wanted (Armed a) =
+    codes "  wanted: the bucket that the wheel gives it, from a clock of its base\n"
 timer_wanted (Removed pointer) = []
 timer_wanted (Ran e) =
     codes "  wanted: a bucket no later than baseclk, and its own CPU, or a run for that one\n"

@@ -1,5 +1,5 @@
 -- what a rule wanted of a line
-use Rattle.std.specs.Prelude.{ℕ, ◌==◌, ◌&&◌, not, nat_lt, Bool, true, false, List, ◌++◌, codes}
+use Rattle.std.specs.Prelude.{ℕ, ◌==◌, ◌&&◌, not, nat_lt, List, ◌++◌, codes}
 use Rattle.std.specs.Prelude.{Option, Some, None, if◌then◌else◌}
 use Rattle.tm_base.specs.declared.names.CpuId.{CpuId}
 use Rattle.group_word.specs.declared.state.GroupState.{GroupState}
@@ -49,7 +49,7 @@ plain_wanted rules.Rest =
 plain_wanted rules.Told =
     codes "  wanted: with this line, a migrator above it that is awake, or a wakeup by then\n"
 plain_wanted rules.Timer =
-    codes "  wanted: its bucket by the wheel, and a run once its base has come to that, for its CPU\n"
+    codes "  wanted: its bucket by the wheel, and a run once its base has come to that\n"
 
 -- the state that an exchange makes
 abbrev pub made_of : Option GroupState → Exchange → Option GroupState
@@ -90,7 +90,7 @@ step_wanted Closed = codes "  wanted: tmigr_cpu_active, or an exchange at its le
 step_wanted (Rising next) = going_wanted next
 step_wanted (Falling next) = going_wanted next
 step_wanted Ending =
-    codes "  wanted: the end of the walk (tmigr_cpu_idle, tmigr_cpu_offline, tmigr_cpu_unavailable)\n"
+    codes "  wanted: the end of the walk (tmigr_cpu_idle, or the CPU leaves)\n"
 step_wanted (Hung next) = codes "  wanted: an exchange on that group, or at its leaf\n"
 
 -- .. of a CPU that wrote this

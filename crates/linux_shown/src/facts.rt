@@ -3,7 +3,8 @@
 ghost use Rattle.std.specs.Prelude.{◌≡◌, ◌++◌, OnOk};
 ghost use Rattle.linux_shown.specs.Facts.{above_text, awake_text, below_text, cpu_edge_facts};
 ghost use Rattle.linux_shown.specs.Facts.{cpu_head, duty_fact, edge_facts, event_fact};
-ghost use Rattle.linux_shown.specs.Facts.{event_facts, found_fact, found_facts, goes_on, going_text};
+ghost use Rattle.linux_shown.specs.Facts.{event_facts, found_fact, found_facts, goes_on};
+ghost use Rattle.linux_shown.specs.Facts.{going_text};
 ghost use Rattle.linux_shown.specs.Facts.{group_edge_facts, group_edge_of, group_event_fact};
 ghost use Rattle.linux_shown.specs.Facts.{group_event_facts};
 ghost use Rattle.linux_shown.specs.Facts.{late_text, leaf_text, led_text, node_text};

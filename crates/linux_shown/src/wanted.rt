@@ -46,8 +46,9 @@ pub fn plain_wanted(rule: Rule) -> &'static [u8]
         Rule::Told =>
             b"  wanted: with this line, a migrator above it that is awake, or a wakeup by \
               then\n",
-        Rule::Timer => b"  wanted: its bucket by the wheel, and a run once its base has come to \
-              that, for its CPU\n",
+        Rule::Timer => {
+            b"  wanted: its bucket by the wheel, and a run once its base has come to that\n"
+        }
     }
 }
 
@@ -138,8 +139,7 @@ fn step_wanted(walk: Walk) -> &'static [u8]
         Walk::Closed => b"  wanted: tmigr_cpu_active, or an exchange at its leaf\n",
         Walk::Rising(next) => going_wanted(next),
         Walk::Falling(next) => going_wanted(next),
-        Walk::Ending => b"  wanted: the end of the walk (tmigr_cpu_idle, tmigr_cpu_offline, \
-              tmigr_cpu_unavailable)\n",
+        Walk::Ending => b"  wanted: the end of the walk (tmigr_cpu_idle, or the CPU leaves)\n",
         Walk::Hung(_) => b"  wanted: an exchange on that group, or at its leaf\n",
     }
 }

@@ -4,7 +4,10 @@ use Rattle.linux_shown.proofs.names.next_part.Given as goal
 
 abbrev pub invariant-loop-word : goal.invariant-loop-word
 invariant-loop-word l =
-    record { same : parts_of l.left ≡ parts_of l.fn.bytes; within : length l.left ≤ length l.fn.bytes }
+    record {
+      same : parts_of l.left ≡ parts_of l.fn.bytes;
+      within : length l.left ≤ length l.fn.bytes;
+    }
 
 abbrev pub decreases-loop-word : goal.decreases-loop-word
 decreases-loop-word l = length l.left
