@@ -1,5 +1,5 @@
 -- what of a report can't be drawn
-use Rattle.std.specs.Prelude.{ℕ, ◌==◌, nat_lt, List, [], ◌++◌, codes, length, Option, Some}
+use Rattle.std.specs.Prelude.{ℕ, ◌==◌, nat_lt, List, ◌++◌, codes, length, Option, Some}
 use Rattle.std.specs.Prelude.{None, if◌then◌else◌}
 use Rattle.std.specs.Fmt.{decimal}
 use Rattle.tm_base.specs.declared.names.CpuId.{CpuId}
