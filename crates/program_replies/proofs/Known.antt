@@ -1,5 +1,5 @@
 -- what is known of an input by its replies
-use Rattle.std.proofs.Common.{◌≢◌, ℕ, List, ◌∙◌, ap, refl, sym}
+use Rattle.std.proofs.Common.{◌≢◌, ℕ, List, ◌∙◌, ap, arith, refl, sym}
 use Rattle.std.specs.Prelude.{option_map}
 use Rattle.std.proofs.lemmas.Option.{none-some}
 use Rattle.play_rules.specs.Interrupts.{Replies}
@@ -112,7 +112,9 @@ module _ (jobs : Replies) (table : ℕ) where
       → EndsBy jobs table command input → SpendsBy jobs table command input count → ⊥
   never_spends commands.Play input count ends spends = stays_below input count ends spends
   never_spends commands.Run (inputs.Script script) count ends spends =
-      ends.within count spends.text spends.broken_off
+      let early = ends.early in
+      let late = spends.late in
+      omega (arith, early, late)
   never_spends commands.Run (inputs.Trace trace) count ends spends = ends
   never_spends commands.Run (inputs.Works works) count ends spends = ends
   never_spends commands.Tree input count ends spends = stays_below input count ends spends

@@ -1,5 +1,5 @@
 -- what a command makes of its input
-use Rattle.std.specs.Prelude.{◌≡◌, ℕ, ◌+◌, ◌*◌, ◌≤◌, List, [], Option, Some, None, option_map}
+use Rattle.std.specs.Prelude.{◌≡◌, ℕ, ◌+◌, ◌*◌, ◌<◌, ◌≤◌, List, [], Option, Some, None, option_map}
 use Rattle.tm_base.specs.declared.limits.TheConstants.{WORK_LIMIT_V1}
 use Rattle.tm_script.specs.declared.syntax.Script.{Script}
 use Rattle.tm_script.specs.Texts.{cpu_count, script_text}
@@ -69,17 +69,19 @@ pub record CanEnd (jobs : Replies) (table : ℕ) (input : Input) : Type 0 where
   pub within : spent_by jobs input ≡ None
 
 -- the run of the input is broken off at this count, as it is printed: every job is in the table,
--- and the text is that of a story that is broken off there
+-- and the text is that of a story that is broken off there; so the script's end comes late enough
+-- for its CPUs and timers to come to the limit of work
 pub record BreaksRunOff (jobs : Replies) (table count : ℕ) (script : Script) : Type 0 where
   pub known : first_unknown_job table script.moments ≡ None
   pub text : List ℕ
   pub broken_off : BreaksStory jobs script count [] text
+  pub late : EndsLate (inputs.Script script)
 
--- every job of the script is in the table, and the work of each of its stories stays below the
--- limit
-pub record CanRun (jobs : Replies) (table : ℕ) (script : Script) : Type 0 where
+-- every job of the script is in the table, and its end comes too soon for its CPUs and timers to
+-- come to the limit of work
+pub record CanRun (table : ℕ) (script : Script) : Type 0 where
   pub known : first_unknown_job table script.moments ≡ None
-  pub within : (count : ℕ) (text : List ℕ) → BreaksStory jobs script count [] text → ⊥
+  pub early : script.end * (1 + cpu_count script + script.timers) < work_limit script.version
 
 -- A COMMAND'S WORK is broken off at this count
 abbrev pub SpendsBy : Replies → (table : ℕ) → Command → Input → (count : ℕ) → Type 0
@@ -88,7 +90,7 @@ SpendsBy jobs table command input count = SpendsWork jobs table input count
 
 -- .. and stays below its limit
 abbrev pub EndsBy : Replies → (table : ℕ) → Command → Input → Type 0
-EndsBy jobs table Run input = OfScript (CanRun jobs table) input
+EndsBy jobs table Run input = OfScript (CanRun table) input
 EndsBy jobs table command input = CanEnd jobs table input
 
 -- the text is that of a story of the script, which was run to its end; the story's last moment

@@ -6,4 +6,5 @@ pub mod day_text;
 mod replies;
 mod words;
 
+pub use run_moments::{Core, Rounded};
 pub use words::reply_to;

@@ -17,6 +17,7 @@ use crate::replies::{check_trace, draw_tree, play_deep, play_delayed, play_scrip
 use job_table::Jobs;
 use play_driver::DriveFault;
 use program_texts::{Command, Form, Input, Recipe, Reply, read_command, read_input};
+use run_laws::law_story_work;
 use run_moments::{Core, Rounded, run_by};
 use std::alloc::Global;
 use tm_base::{CpuSet, MOST_BYTES, NoMemory};
@@ -39,6 +40,7 @@ fn run_script<J: Jobs, F: Fn(Core<WheelBase>, &CpuSet, &[Op]) -> Rounded>(
         (IsReplyTo (J.replies jobs.now) (J.count jobs.now) Command.Run
         (Input.Script script.now)) }
 {
+    law_story_work();
     let mut report = Report::new(alloc);
     match run_by(alloc, script, jobs, round, &mut report) {
         Ok(core) => {

@@ -3,8 +3,8 @@
 ghost use Rattle.std.specs.Prelude.{◌≢◌, ◌≡◌, ◌⊎◌, IfOk, None, Some};
 ghost use Rattle.std.specs.Thread.{IsSync};
 ghost use Rattle.tm_io.specs.Seen.{SourceFailed, SourceUnbroken};
-ghost use Rattle.run_moments.specs.story.Asked.{AsksRound};
-ghost use Rattle.run_moments.specs.story.Rounds.{IsRound};
+ghost use Rattle.program_replies.specs.story.Asked.{AsksRound};
+ghost use Rattle.program_replies.specs.story.Rounds.{IsRound};
 ghost use Rattle.program_texts.specs.Words.{Reads, program_command_of};
 ghost use Rattle.program_texts.specs.Ends.{SinkBreaks};
 ghost use Rattle.program_texts.specs.Statuses.{IsEither, IsStatus};
@@ -16,12 +16,11 @@ ghost use Rattle.program_replies.specs.Causes.{IsFine, IsJobUnknown, IsScriptRef
 ghost use Rattle.program_replies.specs.Causes.{IsTraceRefused, IsWorkSpent, IsWorksRefused};
 
 use job_table::Jobs;
-use program_replies::reply_to;
+use program_replies::{Core, Rounded, reply_to};
 use program_texts::{
     Command, DONE, JOB_UNKNOWN, NO_MEMORY, READ_FAULT, Recipe, SCRIPT_REFUSED, Status, TOO_LONG,
     TRACE_REFUSED, USAGE, WORK_SPENT, WORKS_REFUSED, WRITE_FAULT, write_reply,
 };
-use run_moments::{Core, Rounded};
 use run_rounds::round;
 use std::alloc::Global;
 use std::sync::Wait;
