@@ -1,23 +1,22 @@
 -- a queue that is new, that gets room, and whose timers come and go by their keys
-use Rattle.std.proofs.Common.{◌≡◌, ◌≢◌, ℕ, ◌+◌, ◌-◌, ◌^◌, ◌<◌, ◌≤◌, max, Bool, true, false, leb}
+use Rattle.std.proofs.Common.{◌≡◌, ℕ, ◌+◌, ◌-◌, ◌^◌, ◌<◌, ◌≤◌, max, leb}
 use Rattle.std.proofs.Common.{List, [], ◌∷◌, Option, Some, None, length, refl, ap, ◌∙◌, sym, subst}
 use Rattle.std.proofs.Common.{inl, inr, arith}
-use Rattle.std.specs.Prelude.{◌==◌, IsSome, count_by, is_some, option_map, slice_index_or}
-use Rattle.std.specs.List.{All, Contains}
-use Rattle.std.proofs.lemmas.Bool.{both_ways, cases_Bool, cond-true, cond-false, eq-eqb, eqb-false, eqb-true}
+use Rattle.std.specs.Prelude.{◌==◌, count_by, is_some, option_map, slice_index_or}
+use Rattle.std.specs.List.{Contains}
+use Rattle.std.proofs.lemmas.Bool.{cases_Bool, cond-true, cond-false, eq-eqb, eqb-false, eqb-true}
 use Rattle.std.proofs.lemmas.Bool.{leb-true}
-use Rattle.std.proofs.lemmas.List.{append-nil}
 use Rattle.std.proofs.lemmas.List.Elements.{All-nil, Contains-append_left, Contains-append_right, Contains-push}
 use Rattle.std.proofs.lemmas.Option.{none-some, same_Some}
 use Rattle.slab.specs.Slab.{Slab, Updates, get, slab_len}
 use Rattle.wheel_core.specs.declared.item.Item.{Item}
-use Rattle.wheel_core.specs.PlainBase.{FitsWheel, IsSound, NoneBehind, NoneSooner, RoomyBase, added}
+use Rattle.wheel_core.specs.PlainBase.{FitsWheel, IsSound, NoneBehind, RoomyBase}
 use Rattle.wheel_core.specs.PlainBase.{item_of, least, oldest_of, on_plain, removed, reserved, without}
 use Rattle.wheel_core.proofs.Ids.{item_queued, length-without}
 use Rattle.wheel_core.proofs.Leasts.{least_below, least_later, least_none}
 use Rattle.timer_queue.specs.declared.key.Key.{Key}
 use Rattle.timer_queue.specs.declared.timer.Timer.{Timer}
-use Rattle.timer_queue.specs.declared.timer.TheConstants.{LAST_TICK, MOST_TIMERS}
+use Rattle.timer_queue.specs.declared.timer.TheConstants.{MOST_TIMERS}
 use Rattle.timer_queue.specs.Queues.{HasMoment, asked, numbered}
 use Rattle.timer_queue.specs.Kept.{AreTied, KeepsQueue, queue_of, room_of}
 use Rattle.timer_queue.proofs.Slots.{at_key, numbered_is, numbered_same}

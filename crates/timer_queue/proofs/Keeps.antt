@@ -1,15 +1,14 @@
 -- what a queue keeps, as a timer comes, goes and is looked at
-use Rattle.std.proofs.Common.{◌≡◌, ◌≢◌, ℕ, ◌+◌, ◌-◌, ◌^◌, ◌<◌, ◌≤◌, max, List, [], ◌∷◌, ◌++◌, length}
+use Rattle.std.proofs.Common.{◌≡◌, ℕ, ◌+◌, ◌-◌, ◌^◌, ◌<◌, ◌≤◌, max, [], ◌∷◌, ◌++◌, length}
 use Rattle.std.proofs.Common.{Option, Some, None, refl, ap, ◌∙◌, sym, subst, inl, inr, arith}
 use Rattle.std.proofs.Common.{length-append}
-use Rattle.std.specs.Prelude.{◌==◌, count_by, is_some, option_map, slice_index_or}
+use Rattle.std.specs.Prelude.{count_by, is_some, slice_index_or}
 use Rattle.std.proofs.lemmas.Bool.{cases_eq}
 use Rattle.std.proofs.lemmas.Option.{none-some, same_Some}
 use Rattle.slab.specs.Slab.{Slab, Updates, get, slab_len}
 use Rattle.wheel_core.specs.declared.item.Item.{Item}
-use Rattle.wheel_core.specs.PlainBase.{FitsWheel, IsSound, NoneBehind, NoneSooner, RoomyBase, added}
+use Rattle.wheel_core.specs.PlainBase.{IsSound, NoneBehind, NoneSooner, RoomyBase, added}
 use Rattle.wheel_core.specs.PlainBase.{item_added, item_of, on_plain, without}
-use Rattle.wheel_core.specs.WheelExpiry.{wheel_expiry_of}
 use Rattle.wheel_core.proofs.Ids.{gone_without, item_holds, item_of-push, item_of-pushed}
 use Rattle.wheel_core.proofs.Ids.{item_of-without, length-without, sound_without}
 use Rattle.wheel_core.proofs.Levels.{wheel_keeps_time}
@@ -20,7 +19,7 @@ use Rattle.timer_queue.specs.declared.timer.TheConstants.{LAST_TICK}
 use Rattle.timer_queue.specs.Queues.{Asked, IsLawfulTimer, latest, numbered}
 use Rattle.timer_queue.specs.Kept.{AreTied, IsTied, KeepsQueue, KeepsTimer, filed}
 use Rattle.timer_queue.proofs.Times.{on_time}
-use Rattle.timer_queue.proofs.Slots.{Stands, at_key, numbered_is, stands}
+use Rattle.timer_queue.proofs.Slots.{at_key, numbered_is, stands}
 
 module _ {T : Type 0} where
   -- TIES

@@ -1,8 +1,8 @@
 -- the moment of a timer, and what was promised of it
-use Rattle.std.proofs.Common.{◌≡◌, ℕ, ◌+◌, ◌-◌, ◌*◌, ◌/◌, ◌^◌, ◌<◌, ◌≤◌, max, inl, inr, refl, arith}
+use Rattle.std.proofs.Common.{◌≡◌, ℕ, ◌+◌, ◌-◌, ◌*◌, ◌/◌, ◌<◌, ◌≤◌, max, inl, inr, arith}
 use Rattle.std.proofs.lemmas.Bool.{cases_lt}
 use Rattle.std.proofs.lemmas.Bool.Decides.{nat_tests}
-use Rattle.wheel_core.specs.WheelExpiry.{cutoff, granularity, granule_end, greatest_timeout}
+use Rattle.wheel_core.specs.WheelExpiry.{cutoff, granule_end, greatest_timeout}
 use Rattle.wheel_core.specs.WheelExpiry.{wheel_expiry_of}
 use Rattle.wheel_core.proofs.Levels.{ends, wheel_keeps_time}
 use Rattle.timer_queue.specs.declared.timer.TheConstants.{LAST_TICK}

@@ -1,7 +1,7 @@
 -- one turn of a queue: a timer out of the wheel and its slot, and in anew
-use Rattle.std.proofs.Common.{◌≡◌, ◌≢◌, ℕ, ◌+◌, ◌-◌, ◌^◌, ◌<◌, ◌≤◌, max, min, List, Option, Some, None}
+use Rattle.std.proofs.Common.{◌≡◌, ℕ, ◌+◌, ◌-◌, ◌^◌, ◌<◌, ◌≤◌, max, min, Option, Some, None}
 use Rattle.std.proofs.Common.{length, refl, ap, ◌∙◌, sym, subst, inl, inr, arith}
-use Rattle.std.specs.Prelude.{◌==◌, option_map, slice_index_or}
+use Rattle.std.specs.Prelude.{◌==◌, option_map}
 use Rattle.std.proofs.lemmas.Bool.{cases_Bool, cases_eq, cond-true, cond-false}
 use Rattle.std.proofs.lemmas.Bool.Decides.{nat_tests}
 use Rattle.std.proofs.lemmas.List.Elements.{All-weaker}
@@ -17,9 +17,9 @@ use Rattle.wheel_core.proofs.Plain.{clock-forwarded_le, none_behind, none_sooner
 use Rattle.timer_queue.specs.declared.key.Key.{Key}
 use Rattle.timer_queue.specs.declared.timer.Timer.{Timer}
 use Rattle.timer_queue.specs.declared.timer.TheConstants.{LAST_TICK}
-use Rattle.timer_queue.specs.Queues.{Asked, Queue, asked, entry, latest, numbered}
+use Rattle.timer_queue.specs.Queues.{Queue, asked, latest, numbered}
 use Rattle.timer_queue.specs.Kept.{IsTied, KeepsQueue, KeepsTimer, filed, queue_of, room_of}
-use Rattle.timer_queue.specs.Turns.{GoesOn, GoesOut, IsKept, IsTurn, PutsAnew, Rests, left, weight}
+use Rattle.timer_queue.specs.Turns.{GoesOn, GoesOut, IsTurn, PutsAnew, Rests, weight}
 use Rattle.timer_queue.proofs.Times.{later}
 use Rattle.timer_queue.proofs.Slots.{numbered_is, numbered_same, others_kept, updates_twice}
 use Rattle.timer_queue.proofs.Keeps.{held_timer, keeps_filed, keeps_moved, keeps_removed, latest_bound}

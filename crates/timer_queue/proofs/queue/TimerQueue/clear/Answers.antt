@@ -1,5 +1,5 @@
-use Rattle.std.proofs.Common.{◌≡◌, ◌+◌, ◌≤◌, arith}
-use Rattle.timer_queue.proofs.Calls.{keeps_empty, no_key}
+use Rattle.std.proofs.Common.{arith}
+use Rattle.timer_queue.proofs.Calls.{keeps_empty}
 use Rattle.timer_queue.proofs.queue.TimerQueue.clear.Goals as goal
 
 pub invariant_of-self : goal.invariant_of-self
