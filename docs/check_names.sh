@@ -21,7 +21,7 @@
 #                                         docs/FORMATS.md the block behind '`examples/NAME.tmig`': it has each line of the
 #                                         script and of the report, in order
 # - ```rust                               in docs/USE.md below a heading '## crate': the block's lines stand, one after the
-#                                         other, in crates/crate/src/tests.rt
+#                                         other, in a file of crates/crate/src
 # - `NAME` first in a row                 in examples/README.md: it is one of examples/, and each of examples/ is named there
 #
 # docs/DEFINITIONS.md is printed from the definitions, by docs/print_definitions.sh, which has a check of its own.
@@ -247,16 +247,15 @@ def check_pictures():
 
 
 def check_uses():
-    """Each block of code of docs/USE.md stands in the tests of the crate of its heading."""
+    """Each block of code of docs/USE.md stands in a file of the crate of its heading."""
     path = "docs/USE.md"
     text = read(path)
     for part in re.finditer(r"^## (\w+)\n(.*?)(?=^## |\Z)", text, re.M | re.S):
-        tests = f"crates/{part[1]}/src/tests.rt"
-        lines = [it.strip() for it in read(tests).split("\n")] if os.path.isfile(tests) else []
+        files = [[it.strip() for it in read(path).split("\n")] for path in glob.glob(f"crates/{part[1]}/src/**/*.rt", recursive=True)]
         for it in re.finditer(r"^```rust\n(.*?)\n```$", part[2], re.M | re.S):
             block = [line.strip() for line in it[1].split("\n")]
-            if not any(lines[at : at + len(block)] == block for at in range(len(lines))):
-                fault(path, line_of(text, part.start(2) + it.start()), f"{tests} hasn't these lines")
+            if not any(lines[at : at + len(block)] == block for lines in files for at in range(len(lines))):
+                fault(path, line_of(text, part.start(2) + it.start()), f"no file of crates/{part[1]}/src has these lines")
 
 
 def check_examples():
