@@ -1,0 +1,2 @@
+mod GatherLaws
+mod SeenLaws
