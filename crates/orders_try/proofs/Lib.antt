@@ -1,0 +1,6 @@
+mod FitLaws
+mod Gathers
+mod Joins
+mod LeadLaws
+mod MakeLaws
+mod TryLaws
