@@ -1,6 +1,5 @@
 mod FitLaws
 mod Gathers
 mod Joins
-mod LeadLaws
 mod MakeLaws
 mod TryLaws
