@@ -1,4 +1,4 @@
-//! The program tmigview: its words, a file or standard input, standard output, and its exit status.
+//! The program tmigview: its words, files or standard input, standard output, and its exit status.
 #![tactic(auto)]
 
 use linux_view::{READ_FAULT, WRITE_FAULT};
@@ -7,7 +7,7 @@ use std::io::Read;
 use std::process::ExitCode;
 use std::{env, fs, io};
 use tm_io::{StdSink, StdSource};
-use view_main::{NO_MEMORY, run_views};
+use view_main::{NO_MEMORY, is_pair, run_pair, run_views};
 
 /// The words after the program's name. Words that aren't UTF-8 are no command, and neither are no
 /// words.
@@ -46,6 +46,14 @@ fn run_on<R: Read + Drop>(rt: &HostRuntime, words: &[String], reader: R) -> u8 {
     run_views(rt.alloc(), words, &mut source, &mut sink)
 }
 
+/// Runs the program on what two readers give.
+fn run_two<R: Read + Drop>(rt: &HostRuntime, first: R, second: R) -> u8 {
+    let mut first = StdSource::new(first);
+    let mut second = StdSource::new(second);
+    let mut sink = StdSink::new(io::writer(rt));
+    run_pair(rt.alloc(), &mut first, &mut second, &mut sink)
+}
+
 /// Says that a file can't be read.
 fn refuse(rt: &HostRuntime, file: &str) -> u8 {
     match println!(rt; "tmigview: {file} could not be read") {
@@ -54,9 +62,26 @@ fn refuse(rt: &HostRuntime, file: &str) -> u8 {
     }
 }
 
-/// Runs the program: on the file that its words name, else on standard input.
+/// Runs the program on two files.
+fn run_on_two(rt: &HostRuntime, first: &str, second: &str) -> u8 {
+    let Ok(one) = fs::open(rt, first) else {
+        return refuse(rt, first);
+    };
+    let Ok(two) = fs::open(rt, second) else {
+        return refuse(rt, second);
+    };
+    run_two(rt, one, two)
+}
+
+/// Runs the program: on two files where its words are `stat` and two names, on the file that they
+/// name, else on standard input.
 fn run(rt: &HostRuntime) -> Result<u8, AllocError> {
     let mut words = words(rt)?;
+    if let [_, first, second] = words.as_slice() {
+        if is_pair(&words) {
+            return Ok(run_on_two(rt, first.as_str(), second.as_str()));
+        }
+    }
     let Some(at) = file_in(&words) else {
         return Ok(run_on(rt, &words, rt.reader()));
     };

@@ -9,7 +9,7 @@ use Rattle.linux_view.specs.Ends.{IsEnd, Reads}
 use Rattle.linux_view.specs.Texts.{read_fault_line, too_long_line}
 use Rattle.view_main.specs.declared.words.Command.{Command}
 use Rattle.view_main.specs.declared.words.Command.TheVariants as commands
-use Rattle.view_main.specs.Outputs.{IsAllTold, IsCounting, IsDrawing, IsTelling}
+use Rattle.view_main.specs.Outputs.{IsAllTold, IsAloneCounting, IsCounting, IsDrawing, IsTelling}
 use Rattle.view_main.specs.Words.{command_of}
 
 -- what a command writes of its input
@@ -18,6 +18,7 @@ IsAnswer (commands.Chart look) bytes text status = IsDrawing look bytes text sta
 IsAnswer commands.Explain bytes text status = IsTelling bytes text status
 IsAnswer commands.All bytes text status = IsAllTold bytes text status
 IsAnswer (commands.Stat form) bytes text status = IsCounting form bytes text status
+IsAnswer commands.Alone bytes text status = IsAloneCounting bytes text status
 IsAnswer commands.Other bytes text status = ⊥
 
 -- WHAT A COMMAND WRITES of the source, which went from old to new
@@ -46,6 +47,7 @@ ViewsBy commands.Explain words from to old new status = Runs commands.Explain fr
 ViewsBy commands.All words from to old new status = Runs commands.All from to old new status
 ViewsBy (commands.Stat form) words from to old new status =
     Runs (commands.Stat form) from to old new status
+ViewsBy commands.Alone words from to old new status = Runs commands.Alone from to old new status
 ViewsBy commands.Other words from to old new status = Reads words from to old new status
 
 -- WHAT THE PROGRAM DOES

@@ -2,3 +2,4 @@ pub mod Words
 pub mod Refusals
 pub mod Outputs
 pub mod Ends
+pub mod Pairs

@@ -1,5 +1,5 @@
 -- what is told of an input that can't be read
-use Rattle.std.specs.Prelude.{ℕ, List, ◌++◌, codes}
+use Rattle.std.specs.Prelude.{ℕ, List, [], ◌++◌, codes}
 use Rattle.std.specs.Fmt.{decimal}
 use Rattle.report_reader.specs.declared.faults.Kind.{Kind}
 use Rattle.report_reader.specs.declared.faults.Kind.TheVariants as causes
@@ -7,6 +7,7 @@ use Rattle.report_reader.specs.declared.faults.ReportFault.{ReportFault}
 use Rattle.tm_script.specs.declared.faults.Kind.{Kind as FaultKind}
 use Rattle.tm_script.specs.declared.faults.Kind.TheVariants as kinds
 use Rattle.tm_script.specs.declared.faults.ScriptFault.{ScriptFault}
+use Rattle.view_hints.specs.Hints.{script_hint, steps_hint}
 
 -- what is wrong with a line of a report
 abbrev pub cause_text : Kind → List ℕ
@@ -33,10 +34,20 @@ kind_text kinds.OutOfOrder = codes " kind 4: the numbers don't ascend\n"
 kind_text kinds.NoEnd = codes " kind 5: the end is missing\n"
 kind_text kinds.TooManyLines = codes " kind 6: there are too many lines\n"
 
--- the text where the input is no script
-unfoldable pub script_text : ScriptFault → List ℕ
-script_text fault = codes "script refused line " ++ (decimal fault.line ++ kind_text fault.kind)
+-- what is said of a line at fault besides; where there are too many lines nothing may stand there
+abbrev pub hint_for : FaultKind → (hint : List ℕ) → List ℕ
+hint_for kinds.TooManyLines hint = []
+hint_for kind hint = hint
+
+-- the text where the input is no script: the line at fault and its kind, and below it the line
+-- itself and what may stand there
+unfoldable pub script_text : (bytes : List ℕ) → ScriptFault → List ℕ
+script_text bytes fault =
+    codes "script refused line " ++ (decimal fault.line
+    ++ (kind_text fault.kind ++ hint_for fault.kind (script_hint bytes fault.line)))
 
 -- the text where the input is no trace of steps
-unfoldable pub steps_text : ScriptFault → List ℕ
-steps_text fault = codes "trace refused line " ++ (decimal fault.line ++ kind_text fault.kind)
+unfoldable pub steps_text : (bytes : List ℕ) → ScriptFault → List ℕ
+steps_text bytes fault =
+    codes "trace refused line " ++ (decimal fault.line
+    ++ (kind_text fault.kind ++ hint_for fault.kind (steps_hint bytes fault.line)))

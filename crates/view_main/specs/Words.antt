@@ -1,5 +1,5 @@
 -- what the program's words say
-use Rattle.std.specs.Prelude.{ℕ, ◌+◌, ◌==◌, ◌&&◌, nat_lt, Bool, true, false, length, List, []}
+use Rattle.std.specs.Prelude.{ℕ, ◌+◌, ◌==◌, ◌&&◌, nat_lt, Bool, true, false, List, []}
 use Rattle.std.specs.Prelude.{◌∷◌, codes, take, drop}
 use Rattle.std.specs.Prelude.{Option, Some, None, if◌then◌else◌, String, string_bytes, bytes_eq}
 use Rattle.std.specs.List.{position}
@@ -143,6 +143,14 @@ is_all (word ∷ option ∷ []) =
     bytes_eq (string_bytes word) (codes "linux") && bytes_eq (string_bytes option) (codes "--all")
 is_all (word ∷ option ∷ other ∷ more) = false
 
+-- the two words `stat --alone`
+abbrev pub is_alone : List (String Global) → Bool
+is_alone [] = false
+is_alone (word ∷ []) = false
+is_alone (word ∷ option ∷ []) =
+    bytes_eq (string_bytes word) (codes "stat") && bytes_eq (string_bytes option) (codes "--alone")
+is_alone (word ∷ option ∷ other ∷ more) = false
+
 -- the form of what is counted that an option asks for
 abbrev pub form_in : (option : List ℕ) → Option Form
 form_in option =
@@ -165,7 +173,14 @@ stat_with (Some form) = commands.Stat form
 
 -- what words say that are none of a chart or of a trace of steps
 abbrev pub other_command : List (String Global) → Command
-other_command words = if is_all words then commands.All else stat_with (form_of words)
+other_command words =
+    if is_all words then commands.All
+    else (if is_alone words then commands.Alone else stat_with (form_of words))
+
+-- what the words behind `explain` say
+abbrev pub explain_with : List (String Global) → Command
+explain_with [] = commands.Explain
+explain_with (word ∷ more) = commands.Other
 
 -- WHAT THE PROGRAM'S WORDS SAY
 abbrev pub command_of : List (String Global) → Command
@@ -173,6 +188,5 @@ command_of [] = commands.Other
 command_of (word ∷ rest) =
     if bytes_eq (string_bytes word) (codes "chart") then
     chart_with (options_from first_options rest)
-    else (if bytes_eq (string_bytes word) (codes "explain") && (length (word ∷ rest) == 1) then
-    commands.Explain
+    else (if bytes_eq (string_bytes word) (codes "explain") then explain_with rest
     else other_command (word ∷ rest))

@@ -5,9 +5,11 @@ ghost use Rattle.view_chart.specs.Charts.{IsRefusal, back_from};
 ghost use Rattle.trace_text.specs.Texts.{IsTrace};
 ghost use Rattle.tm_script.specs.Grammar.{IsScript};
 ghost use Rattle.view_stat.specs.Telling.{IsTold as IsStatTold};
-ghost use Rattle.view_main.specs.Outputs.{IsAllTold, IsCounting, IsDrawing, IsDrawn, IsTelling};
-ghost use Rattle.view_main.specs.Outputs.{IsTold};
+ghost use Rattle.view_stat.specs.Comparing.{IsAloneTold};
+ghost use Rattle.view_main.specs.Outputs.{IsAllTold, IsAloneCounting, IsCounting, IsDrawing};
+ghost use Rattle.view_main.specs.Outputs.{IsDrawn, IsDrawnIn, IsTelling, IsTold};
 ghost use Rattle.view_main.specs.Outputs.{drawing_of, status_told};
+ghost use Rattle.view_windows.specs.Windows.{window_fault};
 
 use crate::refusals::{back_refused, report_refused, script_refused, steps_refused};
 use crate::words::Look;
@@ -19,8 +21,9 @@ use tm_report::Line;
 use tm_script::{ReadScript, Script, read_script};
 use trace_explain::{ReadTrace, Trace, Verdict, explain, read_trace};
 use view_chart::{NoChart, chart};
-use view_stat::{Form, tell_stat};
+use view_stat::{Form, tell_alone, tell_stat};
 use view_text::text_chart;
+use view_windows::{window_fault, window_refused};
 
 /// A text, and the status where all of it is written.
 #[derive(Drop)]
@@ -42,9 +45,9 @@ fn drawing_of(alloc: Global, look: Look, lines: &[Line]) -> Result<Vec<u8>, NoCh
     }
 }
 
-/// What `chart` writes of these lines.
-fn draw_lines(alloc: Global, look: Look, lines: &[Line]) -> Result<Output, NoMemory>
-    ensures { IfOk result (λ o. IsDrawn look lines.now o.text.items o.status) }
+/// What `chart` writes of lines of which something is chosen.
+fn draw_window(alloc: Global, look: Look, lines: &[Line]) -> Result<Output, NoMemory>
+    ensures { IfOk result (λ o. IsDrawnIn look lines.now o.text.items o.status) }
 {
     match drawing_of(alloc, look, lines) {
         Ok(text) => Ok(Output { text, status: FITS }),
@@ -53,6 +56,19 @@ fn draw_lines(alloc: Global, look: Look, lines: &[Line]) -> Result<Output, NoMem
             status: NO_TRACE,
         }),
         Err(NoChart::NoMemory) => Err(NoMemory),
+    }
+}
+
+/// What `chart` writes of these lines.
+fn draw_lines(alloc: Global, look: Look, lines: &[Line]) -> Result<Output, NoMemory>
+    ensures { IfOk result (λ o. IsDrawn look lines.now o.text.items o.status) }
+{
+    match window_fault(look.choice, lines) {
+        Some(fault) => Ok(Output {
+            text: window_refused(alloc, fault)?,
+            status: NO_TRACE,
+        }),
+        None => draw_window(alloc, look, lines),
     }
 }
 
@@ -99,7 +115,7 @@ pub(crate) fn tell(alloc: Global, bytes: &[u8]) -> Result<Output, NoMemory>
     match read_trace(alloc, bytes) {
         Ok(trace) => tell_trace(alloc, &trace),
         Err(ReadTrace::Refused(fault)) => Ok(Output {
-            text: steps_refused(alloc, fault)?,
+            text: steps_refused(alloc, bytes, fault)?,
             status: NO_TRACE,
         }),
         Err(ReadTrace::NoMemory) => Err(NoMemory),
@@ -125,7 +141,33 @@ pub(crate) fn count(alloc: Global, form: Form, bytes: &[u8]) -> Result<Output, N
     match read_script(alloc, bytes) {
         Ok(script) => count_script(alloc, form, &script),
         Err(ReadScript::Refused(fault)) => Ok(Output {
-            text: script_refused(alloc, fault)?,
+            text: script_refused(alloc, bytes, fault)?,
+            status: NO_TRACE,
+        }),
+        Err(ReadScript::NoMemory) => Err(NoMemory),
+    }
+}
+
+/// What `stat --alone` writes of a script.
+fn count_script_alone(alloc: Global, script: &Script) -> Result<Output, NoMemory>
+    requires { IsScript script.now }
+    ensures { IfOk result (λ o. IsAloneTold script.now o.text.items o.status) }
+{
+    let told = tell_alone(alloc, script)?;
+    Ok(Output {
+        text: told.text,
+        status: told.status,
+    })
+}
+
+/// What `stat --alone` writes of these bytes.
+pub(crate) fn count_alone(alloc: Global, bytes: &[u8]) -> Result<Output, NoMemory>
+    ensures { IfOk result (λ o. IsAloneCounting bytes.now o.text.items o.status) }
+{
+    match read_script(alloc, bytes) {
+        Ok(script) => count_script_alone(alloc, &script),
+        Err(ReadScript::Refused(fault)) => Ok(Output {
+            text: script_refused(alloc, bytes, fault)?,
             status: NO_TRACE,
         }),
         Err(ReadScript::NoMemory) => Err(NoMemory),

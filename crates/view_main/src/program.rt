@@ -6,7 +6,7 @@ ghost use Rattle.view_main.specs.Ends.{IsAnswer, IsOutput, Runs, Views};
 ghost use Rattle.view_main.specs.Words.{command_of};
 ghost use Rattle.view_main.specs.declared.words.Command.TheVariants as commands;
 
-use crate::outputs::{Output, count, draw, tell, tell_all};
+use crate::outputs::{Output, count, count_alone, draw, tell, tell_all};
 use crate::words::{Command, command_of};
 use linux_view::{
     MOST_TRACE_BYTES, NO_MEMORY, READ_FAULT, TOO_LONG, WRITE_FAULT, read_fault_text, run_view,
@@ -18,7 +18,7 @@ use tm_base::NoMemory;
 use tm_io::{ReadFault, Sink, Source, WriteCause, read_all, write_all};
 
 /// An output of these bytes.
-fn output_of(alloc: Global, bytes: &[u8], status: u8) -> Result<Output, NoMemory>
+pub(crate) fn output_of(alloc: Global, bytes: &[u8], status: u8) -> Result<Output, NoMemory>
     ensures text { IfOk result (λ o. o.text.items ≡ bytes.now) }
     ensures status { IfOk result (λ o. o.status ≡ status) }
 {
@@ -36,6 +36,7 @@ fn answer(alloc: Global, command: Command, bytes: &[u8]) -> Result<Output, NoMem
         Command::Explain => tell(alloc, bytes),
         Command::All => tell_all(alloc, bytes),
         Command::Stat(form) => count(alloc, form, bytes),
+        Command::Alone => count_alone(alloc, bytes),
         Command::Other => Err(NoMemory),
     }
 }
@@ -59,7 +60,7 @@ fn output_for<S: Source>(
 
 /// Writes an output, and answers the status that says how that went: the output's own where all of
 /// it was written.
-fn write_output<K: Sink>(sink: &mut K, output: &Output) -> u8
+pub(crate) fn write_output<K: Sink>(sink: &mut K, output: &Output) -> u8
     ensures { IsEnd output.now.text.items output.now.status
         (K.seen sink.old) (K.seen sink.new) result }
 {
@@ -90,7 +91,7 @@ fn run_command<S: Source, K: Sink>(
 
 /// Does all that the program does: `chart` draws a report, `explain` tells a trace of steps,
 /// `linux --all` tells all that is wrong with a kernel's trace, `stat` counts what happens in a
-/// script's play, and what other words say is
+/// script's play, `stat --alone` also in the same without the hierarchy, and what other words say is
 /// `linux_view::run_view`. It reads the source to its end, writes the answer at the end, and
 /// answers the exit status.
 pub fn run_views<S: Source, K: Sink>(
@@ -109,5 +110,6 @@ pub fn run_views<S: Source, K: Sink>(
         Command::Explain => run_command(alloc, command, source, sink),
         Command::All => run_command(alloc, command, source, sink),
         Command::Stat(_) => run_command(alloc, command, source, sink),
+        Command::Alone => run_command(alloc, command, source, sink),
     }
 }

@@ -1,14 +1,16 @@
 //! What is told of an input that can't be read.
 
 ghost use Rattle.std.specs.Prelude.{◌≡◌, IfOk};
-ghost use Rattle.view_main.specs.Refusals.{back_text, cause_text, kind_text, report_text};
-ghost use Rattle.view_main.specs.Refusals.{script_text, steps_text};
+ghost use Rattle.view_main.specs.Refusals.{back_text, cause_text, hint_for, kind_text};
+ghost use Rattle.view_main.specs.Refusals.{report_text, script_text, steps_text};
+ghost use Rattle.view_hints.specs.Hints.{script_hint, steps_hint};
 
 use report_reader::{Kind, ReportFault};
 use std::alloc::Global;
 use text_words::{push_bytes, push_number};
 use tm_base::NoMemory;
 use tm_script::ScriptFault;
+use view_hints::{script_hint, steps_hint};
 
 /// What is wrong with a line of a report.
 fn cause_text(kind: Kind) -> &'static [u8]
@@ -59,26 +61,61 @@ fn kind_text(kind: tm_script::Kind) -> &'static [u8]
     }
 }
 
+/// What is said of the line of a script that is at fault: itself, and what may stand there. Where
+/// there are too many lines nothing may.
+fn script_hint_for(alloc: Global, bytes: &[u8], fault: ScriptFault) -> Result<Vec<u8>, NoMemory>
+    ensures { IfOk result (λ text. text.items
+        ≡ hint_for fault.kind (script_hint bytes.now fault.line)) }
+{
+    match fault.kind {
+        tm_script::Kind::TooManyLines => Ok(Vec::new(alloc)),
+        _ => script_hint(alloc, bytes, fault.line),
+    }
+}
+
+/// .. and of the line of a trace of steps.
+fn steps_hint_for(alloc: Global, bytes: &[u8], fault: ScriptFault) -> Result<Vec<u8>, NoMemory>
+    ensures { IfOk result (λ text. text.items
+        ≡ hint_for fault.kind (steps_hint bytes.now fault.line)) }
+{
+    match fault.kind {
+        tm_script::Kind::TooManyLines => Ok(Vec::new(alloc)),
+        _ => steps_hint(alloc, bytes, fault.line),
+    }
+}
+
 /// A text that is no script.
 #[tactic(auto, using(crate::proofs::Joined::onto), unfolding(crate::specs::Refusals::script_text))]
-pub(crate) fn script_refused(alloc: Global, fault: ScriptFault) -> Result<Vec<u8>, NoMemory>
-    ensures { IfOk result (λ text. text.items ≡ script_text fault) }
+pub(crate) fn script_refused(
+    alloc: Global,
+    bytes: &[u8],
+    fault: ScriptFault,
+) -> Result<Vec<u8>, NoMemory>
+    ensures { IfOk result (λ text. text.items ≡ script_text bytes.now fault) }
 {
+    let hint = script_hint_for(alloc, bytes, fault)?;
     let mut text = Vec::new(alloc);
     push_bytes(&mut text, b"script refused line ")?;
     push_number(&mut text, u64::from(fault.line))?;
     push_bytes(&mut text, kind_text(fault.kind))?;
+    push_bytes(&mut text, &hint)?;
     Ok(text)
 }
 
 /// A text that is no trace of steps.
 #[tactic(auto, using(crate::proofs::Joined::onto), unfolding(crate::specs::Refusals::steps_text))]
-pub(crate) fn steps_refused(alloc: Global, fault: ScriptFault) -> Result<Vec<u8>, NoMemory>
-    ensures { IfOk result (λ text. text.items ≡ steps_text fault) }
+pub(crate) fn steps_refused(
+    alloc: Global,
+    bytes: &[u8],
+    fault: ScriptFault,
+) -> Result<Vec<u8>, NoMemory>
+    ensures { IfOk result (λ text. text.items ≡ steps_text bytes.now fault) }
 {
+    let hint = steps_hint_for(alloc, bytes, fault)?;
     let mut text = Vec::new(alloc);
     push_bytes(&mut text, b"trace refused line ")?;
     push_number(&mut text, u64::from(fault.line))?;
     push_bytes(&mut text, kind_text(fault.kind))?;
+    push_bytes(&mut text, &hint)?;
     Ok(text)
 }

@@ -1,15 +1,14 @@
 //! The words of a command.
 
-ghost use Rattle.std.specs.Prelude.{◌≡◌, ◌<◌, ◌==◌, IfSome, length, string_bytes};
+ghost use Rattle.std.specs.Prelude.{◌≡◌, ◌<◌, ◌==◌, IfSome, length};
 ghost use Rattle.std.specs.List.{position};
-ghost use Rattle.std.specs.Str.{bytes_eq};
 ghost use Rattle.text_words.specs.Numbers.{number_of};
 ghost use Rattle.view_main.specs.Words.{awaiting, both, chart_with, chosen, command_of, cpu_in};
-ghost use Rattle.view_main.specs.Words.{cpus_in, first_options, form_in, form_of, is_all};
-ghost use Rattle.view_main.specs.Words.{look_of, looking, other_command, stat_with};
-ghost use Rattle.view_main.specs.Words.{option_in, options_from, take_word, with_cpus};
-ghost use Rattle.view_main.specs.Words.{with_from, with_option, with_to};
+ghost use Rattle.view_main.specs.Words.{cpus_in, first_options, look_of, looking, option_in};
+ghost use Rattle.view_main.specs.Words.{options_from, take_word, with_cpus, with_from};
+ghost use Rattle.view_main.specs.Words.{with_option, with_to};
 
+use crate::forms::{explain_with, is_word, other_command};
 use text_words::read_number;
 use tm_base::CpuId;
 use view_chart::Choice;
@@ -63,6 +62,8 @@ pub enum Command {
     All,
     /// What happens in a script's play is counted, in this form.
     Stat(Form),
+    /// .. and in the play of the same script without the hierarchy.
+    Alone,
     /// The words are those of a kernel's trace, or no command.
     Other,
 }
@@ -279,67 +280,6 @@ fn chart_with(look: Option<Look>) -> Command
     }
 }
 
-/// Whether a word is this one.
-fn is_word(word: &String, name: &[u8]) -> bool
-    ensures { result ≡ bytes_eq (string_bytes word.now) name.now }
-{
-    word.as_bytes() == name
-}
-
-/// Whether the words ask for all misfits of a kernel's trace.
-fn is_all(words: &[String]) -> bool
-    ensures { result ≡ is_all words.now }
-{
-    match words {
-        [word, option] => is_word(word, b"linux") && is_word(option, b"--all"),
-        _ => false,
-    }
-}
-
-/// The form of what is counted that an option asks for.
-fn form_in(option: &[u8]) -> Option<Form>
-    ensures { result ≡ form_in option.now }
-{
-    if option == b"--rows".as_slice() {
-        return Some(Form::Rows);
-    }
-    if option == b"--wakeups".as_slice() {
-        return Some(Form::Wakeups);
-    }
-    None
-}
-
-/// The form of what is counted that the words ask for.
-fn form_of(words: &[String]) -> Option<Form>
-    ensures { result ≡ form_of words.now }
-{
-    match words {
-        [word] if is_word(word, b"stat") => Some(Form::Columns),
-        [word, option] if is_word(word, b"stat") => form_in(option.as_bytes()),
-        _ => None,
-    }
-}
-
-/// A command that counts in this form, which may be none.
-fn stat_with(form: Option<Form>) -> Command
-    ensures { result ≡ stat_with form }
-{
-    match form {
-        Some(form) => Command::Stat(form),
-        None => Command::Other,
-    }
-}
-
-/// What words say that are none of a chart or of a trace of steps.
-fn other_command(words: &[String]) -> Command
-    ensures { result ≡ other_command words.now }
-{
-    if is_all(words) {
-        return Command::All;
-    }
-    stat_with(form_of(words))
-}
-
 /// What the program's words say.
 pub(crate) fn command_of(words: &[String]) -> Command
     ensures { result ≡ command_of words.now }
@@ -350,8 +290,8 @@ pub(crate) fn command_of(words: &[String]) -> Command
     if is_word(&words[0], b"chart") {
         return chart_with(read_options(&words[1..]));
     }
-    if is_word(&words[0], b"explain") && words.len() == 1 {
-        return Command::Explain;
+    if is_word(&words[0], b"explain") {
+        return explain_with(&words[1..]);
     }
     other_command(words)
 }

@@ -61,3 +61,16 @@ returns-in-Stat g c =
     (g.S.Source.seen c.run_command-in-Stat.new.source) (g.K.Sink.seen c.args.sink.now)
     (g.K.Sink.seen c.run_command-in-Stat.new.sink) c.run_command-in-Stat.result)
     c.in-Stat.is c.run_command-in-Stat.ensures)
+
+pub returns-in-Alone : goal.returns-in-Alone
+returns-in-Alone g c =
+    subst
+    (λ command. ViewsBy command c.args.words.now (g.S.Source.seen c.args.source.now)
+    (g.S.Source.seen c.run_command-in-Alone.new.source) (g.K.Sink.seen c.args.sink.now)
+    (g.K.Sink.seen c.run_command-in-Alone.new.sink) c.run_command-in-Alone.result)
+    c.in-Alone.ensures
+    (subst
+    (λ command. Runs command (g.S.Source.seen c.args.source.now)
+    (g.S.Source.seen c.run_command-in-Alone.new.source) (g.K.Sink.seen c.args.sink.now)
+    (g.K.Sink.seen c.run_command-in-Alone.new.sink) c.run_command-in-Alone.result)
+    c.in-Alone.is c.run_command-in-Alone.ensures)
