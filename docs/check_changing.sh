@@ -69,6 +69,12 @@ def silent_in(text, enum):
     return list(dict.fromkeys(found))
 
 
+def is_of(source, enum, crates):
+    """Whether a file that names an enum means that of these crates: it imports none of that name from elsewhere."""
+    it = re.search(rf"^use (\w+)::[^;]*\b{enum}\b", source, re.M)
+    return not it or it[1] in ("crate", "super", *crates)
+
+
 def cited(text):
     """The files that a text cites, each with the names behind it."""
     for it in re.finditer(r"`(\w+/(?:src|proofs)(?:/[\w./]+)?)(?::\s+([^`]+))?`", text):
@@ -83,6 +89,8 @@ def check_section(title, text):
         for path in sorted(glob.glob(f"crates/{one}/src/**/*.rt", recursive=True)):
             source = read(path)
             if not re.search(rf"\b{enum}::", source) or os.path.basename(path) == "tests.rt":
+                continue
+            if not is_of(source, enum, above([crate])):
                 continue
             file = path.removeprefix("crates/")
             functions = silent_in(source, enum)

@@ -2,6 +2,7 @@
 #![tactic(auto)]
 
 use linux_view::{READ_FAULT, WRITE_FAULT};
+use orders_view::run_orders;
 use std::alloc::AllocError;
 use std::io::Read;
 use std::process::ExitCode;
@@ -21,7 +22,15 @@ fn words(rt: &HostRuntime) -> Result<Vec<String>, AllocError> {
 
 /// Whether a word takes the next one for its value.
 fn takes_value(word: &str) -> bool {
-    word == "--from" || word == "--to" || word == "--cpus"
+    ["--from", "--to", "--cpus", "--rule", "--show", "--states"].contains(&word)
+}
+
+/// Whether the words are those of a case's orders.
+fn is_orders(words: &[String]) -> bool {
+    match words {
+        [command, ..] => command.as_str() == "orders",
+        [] => false,
+    }
 }
 
 /// Where the last word stands that names a file: behind the command, no option, and no option's
@@ -43,6 +52,9 @@ fn file_in(words: &[String]) -> Option<usize> {
 fn run_on<R: Read + Drop>(rt: &HostRuntime, words: &[String], reader: R) -> u8 {
     let mut source = StdSource::new(reader);
     let mut sink = StdSink::new(io::writer(rt));
+    if is_orders(words) {
+        return run_orders(rt.alloc(), words, &mut source, &mut sink);
+    }
     run_views(rt.alloc(), words, &mut source, &mut sink)
 }
 
