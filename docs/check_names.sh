@@ -262,7 +262,7 @@ def check_examples():
     path = "examples/README.md"
     part = "".join(re.findall(r"^\| `.*?\|", read(path), re.M))
     named = set(re.findall(r"`([a-z][a-z0-9-]*)`", part))
-    shown = glob.glob("examples/*.report") + glob.glob("examples/*.verdict")
+    shown = [it for kind in ("report", "verdict", "found") for it in glob.glob(f"examples/*.{kind}")]
     there = {os.path.splitext(os.path.basename(it))[0] for it in shown}
     for name in sorted(named ^ there):
         fault(path, 1, f"examples/ and this page don't both have {name}")
