@@ -67,9 +67,9 @@ fn cancel(rt: &HostRuntime, desk: &mut Desk, word: &str) -> anyhow::Result<()> {
     Ok(())
 }
 
-/// Prints what is due. A turn of the loop has one timer fewer.
+/// Prints what is due.
 fn print_due(rt: &HostRuntime, desk: &mut Desk) -> anyhow::Result<()> {
-    while let Some((key, expires, text)) = desk.queue.pop_due(desk.now) {
+    for (key, expires, text) in desk.queue.due(desk.now) {
         println!(rt; "{expires}: {text} (timer {})", key.number())?;
     }
     Ok(())

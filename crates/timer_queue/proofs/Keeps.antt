@@ -18,7 +18,7 @@ use Rattle.timer_queue.specs.declared.timer.Timer.{Timer}
 use Rattle.timer_queue.specs.declared.timer.TheConstants.{LAST_TICK}
 use Rattle.timer_queue.specs.Queues.{Asked, IsLawfulTimer, latest, numbered}
 use Rattle.timer_queue.specs.Kept.{AreTied, IsTied, KeepsQueue, KeepsTimer, filed}
-use Rattle.timer_queue.proofs.Times.{on_time}
+use Rattle.timer_queue.proofs.Times.{late_by_le, on_time}
 use Rattle.timer_queue.proofs.Slots.{at_key, numbered_is, stands}
 
 module _ {T : Type 0} where
@@ -232,7 +232,8 @@ module _ {T : Type 0} where
   timer_bound clock issued timer own in_time =
       let armed = own.armed in
       let expires = own.expires in
-      omega (arith, armed, expires, in_time)
+      let late = late_by_le (timer.expires - timer.armed) in
+      omega (arith, armed, expires, in_time, late)
 
   pub latest_bound : (wheel : RoomyBase) (timers : Slab (Timer T)) (issued : ℕ) (key : Key)
       (a : Asked T) → KeepsQueue wheel timers issued → at_key timers key ≡ Some a

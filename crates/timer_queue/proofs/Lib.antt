@@ -4,3 +4,4 @@ pub mod Keeps
 pub mod Left
 pub mod Turns
 pub mod Calls
+mod Dues

@@ -1,3 +1,4 @@
 pub mod Queues
 pub mod Kept
 pub mod Turns
+pub mod Due

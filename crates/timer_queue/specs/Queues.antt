@@ -1,13 +1,13 @@
 -- a queue of timers as its callers see it: a map from keys to asked ticks and values, under a clock
 use Rattle.std.specs.Prelude.{◌≡◌, ◌≢◌, ◌⊎◌, ℕ, ◌+◌, ◌-◌, ◌*◌, ◌/◌, ◌^◌, ◌<◌, ◌≤◌, ◌==◌, max}
 use Rattle.std.specs.Prelude.{List, Option, Some, None, if◌then◌else◌, option_map, is_some}
-use Rattle.std.specs.Prelude.{count_by, slice_index_or}
+use Rattle.std.specs.Prelude.{count_by, false, nat_le, slice_index_or}
 use Rattle.timer_queue.specs.declared.error.QueueError.{QueueError}
 use Rattle.timer_queue.specs.declared.error.QueueError.TheVariants.{NoMemory, PastReach, KeysSpent}
 use Rattle.timer_queue.specs.declared.error.QueueError.TheVariants.{NoTimer}
 use Rattle.timer_queue.specs.declared.key.Key.{Key}
 use Rattle.timer_queue.specs.declared.timer.Timer.{Timer}
-use Rattle.timer_queue.specs.declared.timer.TheConstants.{LAST_TICK}
+use Rattle.timer_queue.specs.declared.timer.TheConstants.{EXACT_TICKS, LAST_TICK}
 
 -- the timers in their slots, the clock in ticks, how many keys were given out, and how many timers
 -- there is memory for
@@ -23,10 +23,15 @@ pub record Asked (T : Type 0) : Type 0 where
   pub latest : ℕ
   pub value : T
 
--- the latest tick at which a timer goes out that was put in at a clock: late by at most 8 in 63 of
--- the way; one for the past goes out at the clock
+-- how late a timer is at most that asks for so many ticks past the clock: by nothing where they are
+-- few, and else by 8 in 63 of the way
+unfoldable pub late_by : (ticks : ℕ) → ℕ
+late_by ticks = if nat_le ticks EXACT_TICKS then 0 else 8 * ticks / 63
+
+-- the latest tick at which a timer goes out that was put in at a clock; one for the past goes out
+-- at the clock
 abbrev pub latest : (armed expires : ℕ) → ℕ
-latest armed expires = max armed expires + 8 * (expires - armed) / 63
+latest armed expires = max armed expires + late_by (expires - armed)
 
 module _ {T : Type 0} where
   -- what a timer stands for that is put in at a clock
@@ -91,6 +96,13 @@ module _ {T : Type 0} where
   IsReason PastReach expires queue = (LAST_TICK < expires) ⊎ (LAST_TICK < queue.clock)
   IsReason KeysSpent expires queue = queue.issued ≡ 2 ^ 64 - 1
   IsReason NoTimer expires queue = ⊥
+
+  -- a reset is refused with this error for this reason
+  abbrev pub IsResetReason : QueueError → Key → (expires : ℕ) → Queue T → Type 0
+  IsResetReason NoMemory key expires queue = ⊥
+  IsResetReason PastReach key expires queue = (LAST_TICK < expires) ⊎ (LAST_TICK < queue.clock)
+  IsResetReason KeysSpent key expires queue = ⊥
+  IsResetReason NoTimer key expires queue = is_some (entry queue key) ≡ false
 
   -- no timer is past its latest tick at this one
   abbrev pub NoneLate : (now : ℕ) → Queue T → Type 0

@@ -1,4 +1,4 @@
--- one turn of a queue: cited by no public clause
+-- one turn of a queue, and what a timer that went out, or none, says of it
 use Rattle.std.specs.Prelude.{◌≡◌, ℕ, ◌+◌, ◌-◌, ◌<◌, ◌≤◌, min, max, None, Option, Some, List, []}
 use Rattle.std.specs.Prelude.{◌∷◌}
 use Rattle.timer_queue.specs.declared.key.Key.{Key}

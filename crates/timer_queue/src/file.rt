@@ -13,6 +13,7 @@ use wheel_core::{TimerBase, wheel_expiry};
 
 /// Puts a timer into a vacant slot and the wheel, and answers the slot. Its moment is what the
 /// wheel gives.
+#[inline(always)]
 pub(crate) fn file<T>(wheel: &mut WheelBase, timers: &mut Slab<Timer<T>>, timer: Timer<T>) -> u32
     requires room { HasRoomFor timers.old 1 }
     requires slots { HasSlot timers.old }
@@ -53,6 +54,7 @@ pub(crate) fn file<T>(wheel: &mut WheelBase, timers: &mut Slab<Timer<T>>, timer:
 }
 
 /// Brings the clock back to the least wheel expiry, where that is behind.
+#[inline(always)]
 pub(crate) fn settle(wheel: &mut WheelBase)
     requires in_time { wheel.old.plain.clock < 2 ^ 64 - 1 }
     ensures items { wheel.new.plain.items ≡ wheel.old.plain.items }

@@ -1,12 +1,12 @@
 //! The queue.
 
-ghost use Rattle.std.specs.Prelude.{◌≡◌, ℕ, ◌+◌, ◌-◌, ◌^◌, ◌<◌, ◌≤◌, min, max, None, Some, true};
+ghost use Rattle.std.specs.Prelude.{◌≡◌, ℕ, ◌+◌, ◌-◌, ◌^◌, ◌<◌, ◌≤◌, ◌==◌, min, max, None, Some};
 ghost use Rattle.std.specs.Prelude.{[], IfErr, IfNone, IfOk, IfSome, IsOk, OnErr, OnOk, OnSome};
-ghost use Rattle.std.specs.Prelude.{is_some, option_map};
+ghost use Rattle.std.specs.Prelude.{is_some, option_map, true};
 ghost use Rattle.wheel_core.specs.PlainBase.{NoneBehind};
 ghost use Rattle.timer_queue.specs.Queues.{Asked, CanInsert, CanReset, HasMoment, IsEntry};
-ghost use Rattle.timer_queue.specs.Queues.{IsLawful, IsReason, KeptBut, KeptIssued, NoneDue};
-ghost use Rattle.timer_queue.specs.Queues.{NoneLate};
+ghost use Rattle.timer_queue.specs.Queues.{IsLawful, IsReason, IsResetReason, KeptBut, KeptIssued};
+ghost use Rattle.timer_queue.specs.Queues.{NoneDue, NoneLate};
 ghost use Rattle.timer_queue.specs.Queues.{NoneSooner, NotAfter, asked_of, count, entry, value_of};
 ghost use Rattle.timer_queue.specs.Turns.{IsTurned};
 
@@ -25,7 +25,8 @@ use wheel_core::TimerBase;
 /// and the values, under a clock.
 ///
 /// A timer goes out never before the tick that it asks for. It goes out in that tick where the tick
-/// is at most 62 ahead of the clock as it is put in, and else later by at most 8 in 63 of the way.
+/// is at most [`EXACT_TICKS`](crate::EXACT_TICKS) ahead of the clock as it is put in, and else
+/// later by at most 8 in 63 of the way.
 /// No call has a condition, and none but `with_capacity`, `reserve`, and `insert` into a full queue
 /// takes memory.
 #[derive(Drop)]
@@ -94,7 +95,8 @@ impl<T> TimerQueue<T> {
 
     /// Whether no timer is queued.
     pub fn is_empty(&self) -> bool
-        ensures { result ≡ true → (key : Key) → entry self.now key ≡ None }
+        ensures counted { result ≡ (count self.now == 0) }
+        ensures empty { result ≡ true → (key : Key) → entry self.now key ≡ None }
     {
         self.timers.is_empty()
     }
@@ -267,6 +269,7 @@ impl<T> TimerQueue<T> {
         ensures accepts { is_some (entry self.old key) ≡ true → CanReset expires self.old
             → IsOk result }
         ensures refused { OnErr result (self.new ≡ self.old) }
+        ensures why { IfErr result (λ error. IsResetReason error key expires self.old) }
     {
         if !self.contains(key) {
             return Err(QueueError::NoTimer);

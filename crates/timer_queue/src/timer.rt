@@ -4,6 +4,9 @@
 /// milliseconds that is 4,459 years.
 pub const LAST_TICK: u64 = (1 << 47) - 2;
 
+/// A timer that asks for at most so many ticks past the clock goes out in the very tick: 63.
+pub const EXACT_TICKS: u64 = 63;
+
 /// For how many timers memory may be taken: 2^32.
 pub const MOST_TIMERS: usize = 1 << 32;
 

@@ -1,4 +1,4 @@
-use Rattle.std.proofs.Common.{◌+◌, ◌-◌, ap, subst, sym, ◌∙◌, arith}
+use Rattle.std.proofs.Common.{◌+◌, ap, subst, sym, ◌∙◌, arith}
 use Rattle.timer_queue.specs.Queues.{CanInsert, Queue}
 use Rattle.timer_queue.proofs.Keeps.{keeps_filed}
 use Rattle.timer_queue.proofs.Calls.{roomy}

@@ -1,4 +1,4 @@
-use Rattle.std.proofs.Common.{◌+◌, ◌-◌, ◌≤◌, ap, sym, ◌∙◌, arith, rules}
+use Rattle.std.proofs.Common.{◌+◌, ◌≤◌, ap, sym, ◌∙◌, arith, rules}
 use Rattle.wheel_core.specs.PlainBase.{RoomyBase}
 use Rattle.timer_queue.specs.declared.timer.TheConstants.{LAST_TICK}
 use Rattle.timer_queue.specs.Queues.{Queue}

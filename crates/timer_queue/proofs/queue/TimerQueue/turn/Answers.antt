@@ -1,4 +1,4 @@
-use Rattle.std.proofs.Common.{◌+◌, min, ap, subst, ◌∙◌, sym, arith}
+use Rattle.std.proofs.Common.{◌+◌, ap, subst, ◌∙◌, sym, arith}
 use Rattle.wheel_core.specs.PlainBase.{NoneBehind, RoomyBase, forwarded, on_plain}
 use Rattle.timer_queue.specs.Kept.{queue_of}
 use Rattle.timer_queue.specs.Turns.{GoesOut, PutsAnew, Rests}
