@@ -1,9 +1,12 @@
-//! Times the nine-level wheel. With no words it does nothing; with any word it writes a line for
-//! each measurement: `WheelBase SIZE COLUMN NANOSECONDS COUNT`.
+//! Times the nine-level wheel, and the queue over it. With no words it does nothing; with any word
+//! it writes a line for each measurement: `WheelBase SIZE COLUMN NANOSECONDS COUNT`, and the same
+//! with `TimerQueue`.
 #![tactic(auto)]
 
 ghost use Rattle.std.specs.Prelude.{◌≡◌, ◌+◌, ◌^◌, ◌<◌, ◌≤◌, [], length, false};
 ghost use Rattle.wheel_core.specs.PlainBase.{NoneBehind};
+
+mod queue;
 
 use std::env;
 use std::time::Instant;
@@ -12,6 +15,9 @@ use wheel_core::TimerBase;
 
 /// The time, in jiffies, at which the timers are armed.
 const START: u64 = 1000;
+
+/// The jiffies in which all timers expire.
+const JIFFIES: u32 = 600;
 
 /// The rounds of each measurement.
 const ROUNDS: u32 = 9;
@@ -230,12 +236,13 @@ fn warm(rt: &HostRuntime, work: &Work) -> anyhow::Result<WheelBase> {
 /// Writes a measurement.
 fn tell(
     rt: &HostRuntime,
+    queue: &str,
     size: usize,
     column: &str,
     nanos: u128,
     count: u64,
 ) -> anyhow::Result<()> {
-    println!(rt; "WheelBase {size} {column} {nanos} {count}")?;
+    println!(rt; "{queue} {size} {column} {nanos} {count}")?;
     Ok(())
 }
 
@@ -245,10 +252,24 @@ fn arms_and_cancels(rt: &HostRuntime, work: &Work) -> anyhow::Result<()> {
     let mut base = warm(rt, work)?;
     let from = Instant::now(rt)?;
     arm(&mut base, &work.delays)?;
-    tell(rt, size, "arm", from.elapsed(rt)?.as_nanos(), size as u64)?;
+    tell(
+        rt,
+        "WheelBase",
+        size,
+        "arm",
+        from.elapsed(rt)?.as_nanos(),
+        size as u64,
+    )?;
     let from = Instant::now(rt)?;
     let cancelled = cancel_all(&mut base, &work.order);
-    tell(rt, size, "cancel", from.elapsed(rt)?.as_nanos(), cancelled)
+    tell(
+        rt,
+        "WheelBase",
+        size,
+        "cancel",
+        from.elapsed(rt)?.as_nanos(),
+        cancelled,
+    )
 }
 
 /// Lets timers expire.
@@ -256,9 +277,10 @@ fn expiries(rt: &HostRuntime, work: &Work) -> anyhow::Result<()> {
     let mut base = warm(rt, work)?;
     arm(&mut base, &work.delays)?;
     let from = Instant::now(rt)?;
-    let ran = expire_all(&mut base, 600);
+    let ran = expire_all(&mut base, JIFFIES);
     tell(
         rt,
+        "WheelBase",
         work.delays.len(),
         "expiry",
         from.elapsed(rt)?.as_nanos(),
@@ -277,6 +299,7 @@ fn steady_mix(rt: &HostRuntime, work: &Work) -> anyhow::Result<()> {
     let ran = steady(&mut base, &work.delays, &mut out, 501, 4501)?;
     tell(
         rt,
+        "WheelBase",
         work.delays.len(),
         "steady",
         from.elapsed(rt)?.as_nanos(),
@@ -295,6 +318,7 @@ fn timeout_mix(rt: &HostRuntime, work: &Work) -> anyhow::Result<()> {
     let done = timeouts(&mut base, work, 200_000);
     tell(
         rt,
+        "WheelBase",
         work.delays.len(),
         "timeout",
         from.elapsed(rt)?.as_nanos(),
@@ -313,6 +337,7 @@ fn main(rt: HostRuntime) -> anyhow::Result<()> {
             expiries(&rt, &work)?;
             steady_mix(&rt, &work)?;
             timeout_mix(&rt, &work)?;
+            queue::measure(&rt, &work)?;
         }
     }
     Ok(())
