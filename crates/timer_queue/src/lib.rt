@@ -13,3 +13,6 @@ pub use error::{QueueError, Refused};
 pub use key::Key;
 pub use queue::TimerQueue;
 pub use timer::{EXACT_TICKS, LAST_TICK, MOST_TIMERS};
+
+#[cfg(test)]
+mod tests;
