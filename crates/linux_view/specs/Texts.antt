@@ -29,8 +29,10 @@ use Rattle.linux_all.specs.linux_rules.declared.judge.Verdict.TheVariants.{Fits,
 -- the text where the words are no command
 abbrev pub usage_line : List ℕ
 usage_line =
-    codes "usage: tmigview linux [--all] < TRACE | explain < STEPS | stat [--rows | --wakeups] "
-    ++ codes "< SCRIPT | chart [--text] [--covers] [--from J] [--to J] [--cpus A-B] < REPORT\n"
+    codes "usage: tmigview linux [--all] < TRACE | orders [--rule NAME] [--show N] [--states N] "
+    ++ (codes "< CASE | explain < STEPS | stat [--rows | --wakeups | --alone] < SCRIPT "
+    ++ (codes "| stat SCRIPT SCRIPT | chart [--text] [--covers] [--from J] [--to J] [--cpus A-B] "
+    ++ codes "< REPORT\n"))
 
 -- .. where the source failed
 abbrev pub read_fault_line : List ℕ

@@ -32,8 +32,9 @@ const POINTER_DIGITS: u8 = 16;
 pub fn usage_text() -> &'static [u8]
     ensures { result.now ≡ usage_line }
 {
-    b"usage: tmigview linux [--all] < TRACE | explain < STEPS | stat [--rows | --wakeups] \
-      < SCRIPT | chart [--text] [--covers] [--from J] [--to J] [--cpus A-B] < REPORT\n"
+    b"usage: tmigview linux [--all] < TRACE | orders [--rule NAME] [--show N] [--states N] \
+      < CASE | explain < STEPS | stat [--rows | --wakeups | --alone] < SCRIPT \
+      | stat SCRIPT SCRIPT | chart [--text] [--covers] [--from J] [--to J] [--cpus A-B] < REPORT\n"
 }
 
 /// That the source failed.

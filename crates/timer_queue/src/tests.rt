@@ -29,9 +29,9 @@ fn a_timer_goes_out_in_the_tick_that_the_rule_of_the_levels_gives(
     Ok(())
 }
 
-// What a map from keys to ticks and values answers.
+// Keys count from 0, by hand.
 #[test]
-fn each_call_answers_as_a_map_does(rt: HostRuntime) -> Result<(), Fail> {
+fn a_key_names_its_own_timer_and_no_later_one(rt: HostRuntime) -> Result<(), Fail> {
     let mut queue = TimerQueue::with_capacity(rt.alloc(), 2)?;
     assert!(rt; queue.is_empty() && queue.next_expiry().is_none());
     let tea = queue.insert(20, 'a')?;
@@ -46,6 +46,15 @@ fn each_call_answers_as_a_map_does(rt: HostRuntime) -> Result<(), Fail> {
     assert!(rt; late.slot() == tea.slot() && queue.contains(late));
     assert_eq!(rt; queue.cancel(tea), None);
     assert!(rt; queue.reset(tea, 40) == Err(QueueError::NoTimer) && !queue.contains(tea));
+    Ok(())
+}
+
+// Timers for 10 and 15 go out by 15, the sooner one first.
+#[test]
+fn what_is_due_goes_out_in_order_and_nothing_sooner(rt: HostRuntime) -> Result<(), Fail> {
+    let mut queue = TimerQueue::with_capacity(rt.alloc(), 2)?;
+    let cake = queue.insert(30, 'b')?;
+    let late = queue.insert(10, 'c')?;
     queue.reset(cake, 15)?;
     assert_eq!(rt;
         (queue.expires(cake), queue.next_expiry()),
@@ -59,6 +68,13 @@ fn each_call_answers_as_a_map_does(rt: HostRuntime) -> Result<(), Fail> {
         out.as_slice(),
         [(late, 10, 'c'), (cake, 15, 'b')].as_slice()
     );
+    Ok(())
+}
+
+#[test]
+fn a_queue_that_is_cleared_is_empty_and_keeps_its_clock(rt: HostRuntime) -> Result<(), Fail> {
+    let mut queue = TimerQueue::with_capacity(rt.alloc(), 1)?;
+    assert_eq!(rt; queue.pop_due(15), None);
     queue.insert(0, 'd')?;
     queue.clear();
     assert!(rt; queue.is_empty() && queue.clock() >= 15);
